@@ -1,0 +1,5 @@
+pub mod GoFiles
+pub mod Packages
+pub mod ReportText
+pub mod Statuses
+pub mod Told

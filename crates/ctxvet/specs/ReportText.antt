@@ -1,0 +1,54 @@
+-- The printed report of a package: a line for each diagnostic, in their order, and then the verdict.
+-- Each line is ended by byte 10.
+use Rattle.std.specs.Prelude.{ℕ, Bool, true, false, List, [], ◌++◌, Some, None, Option, slice_get, string_bytes, flat_map, decimal, codes}
+use Rattle.lexer.specs.declared.source.Source.{Source}
+use Rattle.judge.specs.declared.report.Code.{Code}
+use Rattle.judge.specs.declared.report.Code.TheVariants.{LeftOut, Discarded, Overwritten, NotCalled, TooMany}
+use Rattle.judge.specs.declared.report.Diagnostic.{Diagnostic}
+use Rattle.judge.specs.declared.report.PackageReport.{PackageReport}
+use Rattle.lexer.specs.Place.{line_of, column_of}
+
+-- the number of a code
+abbrev pub number_of : Code → List ℕ
+number_of LeftOut = codes "LC02"
+number_of Discarded = codes "LC03"
+number_of Overwritten = codes "LC04"
+number_of NotCalled = codes "LC05"
+number_of TooMany = codes "LC12"
+
+-- what a code says
+abbrev pub text_of : Code → List ℕ
+text_of LeftOut = codes "left out: first path"
+text_of Discarded = codes "cancel function discarded"
+text_of Overwritten = codes "overwritten before it is called"
+text_of NotCalled = codes "may not have been called at this return"
+text_of TooMany = codes "too many tracked variables"
+
+-- a source's name and its text; a source that is not there has the name `-` and no text
+abbrev pub name_of : Option Source → List ℕ
+name_of None = codes "-"
+name_of (Some source) = string_bytes source.name
+
+abbrev pub bytes_of : Option Source → List ℕ
+bytes_of None = []
+bytes_of (Some source) = source.bytes.items
+
+-- `FILE:LINE:COLUMN: CODE NAME TEXT`, of a diagnostic and its source
+abbrev pub line_in : Option Source → Diagnostic → List ℕ
+line_in source d = name_of source ++ (codes ":" ++ (decimal (line_of (bytes_of source) d.offset) ++ (codes ":"
+    ++ (decimal (column_of (bytes_of source) d.offset) ++ (codes ": " ++ (number_of d.code ++ (codes " "
+    ++ (string_bytes d.name ++ (codes " " ++ (text_of d.code ++ codes "\n"))))))))))
+
+-- the line of a diagnostic of a package with these sources
+abbrev pub diagnostic_line : List Source → Diagnostic → List ℕ
+diagnostic_line sources d = line_in (slice_get sources d.file) d
+
+-- `yes` or `no`
+abbrev pub verdict_text : Bool → List ℕ
+verdict_text true = codes "yes"
+verdict_text false = codes "no"
+
+-- the whole report of a package with these sources
+abbrev pub report_text : List Source → PackageReport → List ℕ
+report_text sources report = flat_map (diagnostic_line sources) report.diagnostics.items
+    ++ (verdict_text report.yes ++ (codes " " ++ (string_bytes report.path ++ codes "\n")))

@@ -1,0 +1,17 @@
+//! The words `PATH=DIR` of the command line.
+
+ghost use Rattle.std.specs.Prelude.{ℕ, List, IfSome, IfNone};
+ghost use Rattle.ctxvet.specs.Packages.{IsPackageWord};
+
+/// The two parts of such a word around its first `=`: a package's import path and its folder. `None`
+/// where there is no `=` or a part is empty.
+pub fn split_word(word: &str) -> Option<(&str, &str)>
+    ensures split { IfSome result (λ p. IsPackageWord word.now p.0.now p.1.now) }
+    ensures none { IfNone result ((path folder : List ℕ) → IsPackageWord word.now path folder → ⊥) }
+{
+    let (path, folder) = word.split_once('=')?;
+    if path.is_empty() || folder.is_empty() {
+        return None;
+    }
+    Some((path, folder))
+}

@@ -1,0 +1,82 @@
+//! The text of a report.
+
+ghost use Rattle.std.specs.Prelude.{◌≡◌, ◌++◌, IfOk, OnOk, string_bytes};
+ghost use Rattle.ctxvet.specs.ReportText.{number_of, text_of, verdict_text, diagnostic_line, report_text};
+
+use crate::position::place_in;
+use judge::{Code, Diagnostic, PackageReport};
+use lexer::{Place, Source};
+use std::alloc::{AllocError, Global};
+
+/// The number of a code, as the report prints it.
+pub fn number_of(code: Code) -> &'static str
+    ensures { result.now ≡ number_of code }
+{
+    match code {
+        Code::LeftOut => "LC02",
+        Code::Discarded => "LC03",
+        Code::Overwritten => "LC04",
+        Code::NotCalled => "LC05",
+        Code::TooMany => "LC12",
+    }
+}
+
+/// What a code says, as the report prints it.
+pub fn text_of(code: Code) -> &'static str
+    ensures { result.now ≡ text_of code }
+{
+    match code {
+        Code::LeftOut => "left out: first path",
+        Code::Discarded => "cancel function discarded",
+        Code::Overwritten => "overwritten before it is called",
+        Code::NotCalled => "may not have been called at this return",
+        Code::TooMany => "too many tracked variables",
+    }
+}
+
+/// The report of a package with these sources: a line for each diagnostic, `FILE:LINE:COLUMN: CODE
+/// NAME TEXT`, and then `yes PATH` or `no PATH`. Each line is ended by byte 10. A diagnostic of a file
+/// that is not among the sources stands at `-:1:1`, so that none is lost.
+pub fn text_of_report(
+    alloc: Global,
+    sources: &[Source],
+    report: &PackageReport,
+) -> Result<String, AllocError>
+    ensures { IfOk result (λ text. string_bytes text ≡ report_text sources.now report.now) }
+{
+    let mut text = String::new(alloc);
+    for diagnostic in &report.diagnostics {
+        push_line(&mut text, sources, diagnostic)?;
+    }
+    let verdict = verdict_of(report.yes);
+    let path = &report.path;
+    writeln!(text, "{verdict} {path}")?;
+    Ok(text)
+}
+
+fn verdict_of(yes: bool) -> &'static str
+    ensures { result.now ≡ verdict_text yes }
+{
+    if yes { "yes" } else { "no" }
+}
+
+/// Adds the line of a diagnostic.
+fn push_line(
+    text: &mut String,
+    sources: &[Source],
+    diagnostic: &Diagnostic,
+) -> Result<(), AllocError>
+    ensures { OnOk result
+        (string_bytes text.new ≡ string_bytes text.old ++ diagnostic_line sources.now diagnostic.now) }
+{
+    let offset = diagnostic.offset as usize;
+    let (file, at) = match sources.get(diagnostic.file) {
+        Some(source) => (source.name.as_str(), place_in(source, offset)),
+        None => ("-", Place { line: 1, column: 1 }),
+    };
+    let Place { line, column } = at;
+    let code = number_of(diagnostic.code);
+    let name = &diagnostic.name;
+    let what = text_of(diagnostic.code);
+    writeln!(text, "{file}:{line}:{column}: {code} {name} {what}")
+}

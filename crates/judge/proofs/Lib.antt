@@ -1,0 +1,10 @@
+pub mod Steps
+pub mod Members
+pub mod Paths
+pub mod Locals
+pub mod Names
+pub mod Cancels
+pub mod Exact
+pub mod Order
+pub mod Reports
+pub mod Overwrites

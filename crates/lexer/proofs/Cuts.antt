@@ -1,0 +1,82 @@
+-- A text has one cut, and what a step adds to it.
+use Rattle.std.proofs.Common.{◌≡◌, ℕ, zero, suc, ◌+◌, List, [], ◌∷◌, ◌++◌, take, drop, Option, None, refl, sym, ap, ◌∙◌, subst, arith, append_assoc}
+use Rattle.std.specs.Prelude.{All, IsFalse}
+use Rattle.std.proofs.lemmas.List.{append-nil}
+use Rattle.std.proofs.lemmas.List.Elements.{All-push}
+use Rattle.lexer.specs.declared.token.Token.{Token}
+use Rattle.lexer.specs.declared.pieces.Piece.{Piece}
+use Rattle.lexer.specs.Pieces.{Reads}
+use Rattle.lexer.specs.Cut.{CanBegin, IsLongest, Cut, is_comment}
+use Rattle.lexer.specs.Semicolons.{tokens_from, tokens_at, due_behind, semicolon}
+use Rattle.lexer.proofs.Shapes.{one_shape, nonempty}
+
+-- one piece is the longest
+pub one_longest : (p q : Piece) (text : List ℕ) → IsLongest p text → IsLongest q text → p ≡ q
+one_longest p q text a b =
+    let e : p.size ≡ q.size = omega (arith, a.longest q b.begins, b.longest p a.begins) in
+    let s : p.shape ≡ q.shape = one_shape p.shape q.shape (take p.size text) a.begins.reads (subst (λ n. Reads q.shape (take n text)) (sym e) b.begins.reads) in
+    λ i. record { shape = s i; size = e i }
+
+take_none : (n : ℕ) → take {A = ℕ} n [] ≡ []
+take_none zero = refl
+take_none (suc n) = refl
+
+-- nothing can begin where the text has ended
+pub nothing_at_end : (p : Piece) → CanBegin p [] → ⊥
+nothing_at_end p h = nonempty p.shape (subst (Reads p.shape) (take_none p.size) h.reads)
+
+-- a whole cut goes on from each cut of the text's beginning
+pub cut_split : (text : List ℕ) (ps : List Piece) (rest : List ℕ) (qs : List Piece) → Cut text ps rest → Cut text qs [] → (rs : List Piece) × (qs ≡ ps ++ rs) × Cut rest rs []
+unfolding Cut
+cut_split text [] rest qs c d = (qs, refl, subst (λ t. Cut t qs []) c d)
+cut_split text (p ∷ ps) rest [] c d =
+    absurd (nothing_at_end p (subst (λ t. CanBegin p t) d c.0.begins))
+cut_split text (p ∷ ps) rest (q ∷ qs) c d =
+    let e : p ≡ q = one_longest p q text c.0 d.0 in
+    let r = cut_split (drop p.size text) ps rest qs c.1 (subst (λ x. Cut (drop x.size text) qs []) (sym e) d.1) in
+    (r.0, ap (λ x. x ∷ qs) (sym e) ∙ ap (λ l. p ∷ l) r.1, r.2)
+
+cut_end : (rs : List Piece) → Cut [] rs [] → rs ≡ []
+unfolding Cut
+cut_end [] c = refl
+cut_end (p ∷ ps) c = absurd (nothing_at_end p c.0.begins)
+
+pub one_cut : (text : List ℕ) (ps qs : List Piece) → Cut text ps [] → Cut text qs [] → qs ≡ ps
+one_cut text ps qs c d =
+    let r = cut_split text ps [] qs c d in
+    r.1 ∙ (ap (λ l. ps ++ l) (cut_end r.0 r.2) ∙ append-nil ps)
+
+-- one piece more
+pub cut_more : (text : List ℕ) (ps : List Piece) (rest : List ℕ) (p : Piece) → Cut text ps rest → IsLongest p rest → Cut text (ps ++ p ∷ []) (drop p.size rest)
+unfolding Cut
+cut_more text [] rest p c h = (subst (IsLongest p) (sym c) h, ap (drop p.size) c)
+cut_more text (q ∷ ps) rest p c h = (c.0, cut_more (drop q.size text) ps rest p c.1 h)
+
+-- how far the lexer has come: the pieces so far, of which none is a comment, and the tokens so far with those to come
+pub record IsRead (text rest : List ℕ) (at : ℕ) (due : Option ℕ) (tokens : List Token) : Type 0 where
+  pub pieces : List Piece
+  pub cut : Cut text pieces rest
+  pub plain : All (λ p. IsFalse (is_comment p.shape)) pieces
+  pub to_come : (qs : List Piece) → tokens_from 0 None (pieces ++ qs) ≡ tokens ++ tokens_from at due qs
+
+pub read_none : (text : List ℕ) → IsRead text text 0 None []
+unfolding Cut
+read_none text = record { pieces = []; cut = refl; plain = λ k d h. absurd (omega arith); to_come = λ qs. refl }
+
+pub read_more : (text rest : List ℕ) (at : ℕ) (due : Option ℕ) (tokens : List Token) (p : Piece) → IsRead text rest at due tokens → IsLongest p rest → IsFalse (is_comment p.shape) → IsRead text (drop p.size rest) (at + p.size) (due_behind p.shape (at + p.size) due) (tokens ++ tokens_at p.shape at (at + p.size) due)
+unfolding tokens_from
+read_more text rest at due tokens p r h plain =
+    record {
+      pieces = r.pieces ++ p ∷ [];
+      cut = cut_more text r.pieces rest p r.cut h;
+      plain = All-push (λ q. IsFalse (is_comment q.shape)) r.pieces p r.plain plain;
+      to_come = λ qs.
+          let next = at + p.size in
+          ap (tokens_from 0 None) (append_assoc r.pieces (p ∷ []) qs)
+          ∙ (r.to_come (p ∷ qs) ∙ sym (append_assoc tokens (tokens_at p.shape at next due) (tokens_from next (due_behind p.shape next due) qs)));
+    }
+
+-- at the end of the text
+pub read_all : (text : List ℕ) (at : ℕ) (due : Option ℕ) (tokens : List Token) → (r : IsRead text [] at due tokens) → tokens ++ semicolon due ≡ tokens_from 0 None r.pieces
+unfolding tokens_from
+read_all text at due tokens r = sym (r.to_come []) ∙ ap (tokens_from 0 None) (append-nil r.pieces)

@@ -1,0 +1,28 @@
+-- What is known of a cancel variable after a list of events: it is unset, or open (it holds a cancel
+-- function that was not called), or safe (its function was called, or its call is saved for the return).
+-- Each variable runs by itself. (The documentation of package context: the cancel function must be called.)
+use Rattle.std.specs.Prelude.{ℕ, if◌then◌else◌, List, [], ◌∷◌}
+use Rattle.meaning.specs.Scopes.{Local, same_local}
+use Rattle.meaning.specs.Code.{Event, other, obtains, calls, defers_call, returns_here, Occurrence}
+
+pub data Class : Type 0 where
+  unset : Class
+  opened : Class
+  safe : Class
+
+-- the class of v behind an event, where it was k before
+abbrev pub change : Local → Event → Class → Class
+change v other k = k
+change v (obtains u at) k = if same_local u v then opened else k
+change v (calls u) k = if same_local u v then safe else k
+change v (defers_call u) k = if same_local u v then safe else k
+change v returns_here k = k
+
+-- the class of v behind a list of events, where it was k before
+abbrev pub class_behind : Local → Class → List Occurrence → Class
+class_behind v k [] = k
+class_behind v k (o ∷ t) = class_behind v (change v o.event k) t
+
+-- the class of v behind a list of a body's events
+abbrev pub class_after : Local → List Occurrence → Class
+class_after v t = class_behind v unset t

@@ -1,0 +1,10 @@
+pub mod Grammar
+pub mod Scopes
+pub mod Code
+pub mod Lists
+pub mod Classes
+pub mod Faults
+pub mod FirstPath
+pub mod World
+pub mod Steps
+pub mod Runs

@@ -1,0 +1,2 @@
+//! What the parts of ctxvet are to find: definitions and laws. It runs nothing.
+#![tactic(auto)]

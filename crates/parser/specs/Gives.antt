@@ -1,0 +1,14 @@
+-- What a function of the parser returns, compared with the reading of the same tokens. Where memory runs
+-- out nothing is said.
+use Rattle.std.specs.Prelude.{◌≡◌, Option, Some, None, Result, Ok, Err}
+use Rattle.parser.specs.declared.stop.Stop.{Stop}
+use Rattle.parser.specs.declared.stop.Stop.TheVariants.{OffPath, Memory}
+
+abbrev pub Stops : {Y : Type 0} → Stop → Option Y → Type 0
+Stops OffPath read = read ≡ None
+Stops Memory read = Unit {0}
+
+-- what was returned, seen by view, is what was read
+abbrev pub Gives : {X Y : Type 0} → (X → Y) → Result X Stop → Option Y → Type 0
+Gives view (Ok x) read = read ≡ Some (view x)
+Gives view (Err e) read = Stops e read

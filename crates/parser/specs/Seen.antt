@@ -1,0 +1,16 @@
+-- The reading as the program's functions give it.
+use Rattle.std.specs.Prelude.{List, Some}
+use Rattle.lexer.specs.declared.token.Token.{Token}
+use Rattle.tree.specs.declared.statement.Block.{Block}
+use Rattle.tree.specs.Syntax.{Identifier, Expressions}
+use Rattle.tree.specs.View.{block_syntax}
+use Rattle.reader.specs.Reading.{Read}
+use Rattle.reader.specs.Reader.{Braced, names_as_expressions}
+
+-- a block: its statements and the span of its braces
+abbrev pub braced_syntax : Block → Braced
+braced_syntax b = record { statements = block_syntax b; braces = b.span }
+
+-- the names in the parentheses of a call are expressions
+abbrev pub as_arguments : List Identifier × List Token → Read Expressions
+as_arguments names = Some (names_as_expressions names.0, names.1)

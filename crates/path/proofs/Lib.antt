@@ -1,0 +1,9 @@
+pub mod Lists
+pub mod Texts
+pub mod Mentions
+pub mod Gathering
+pub mod Statements
+pub mod Elements
+pub mod Bindings
+pub mod Tests
+pub mod Seen

@@ -1,0 +1,14 @@
+pub mod Blocks
+pub mod Calls
+pub mod Complete
+pub mod Expressions
+pub mod Functions
+pub mod Lengths
+pub mod Nested
+pub mod Parameters
+pub mod Shorter
+pub mod Simple
+pub mod Sound
+pub mod Statements
+pub mod Steps
+pub mod Taken

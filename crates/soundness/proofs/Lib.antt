@@ -1,0 +1,10 @@
+pub mod Membership
+pub mod Simulation
+pub mod Locals
+pub mod Sources
+pub mod Contexts
+pub mod Invariant
+pub mod Theorem
+pub mod ExampleRuns
+pub mod ExampleFaults
+pub mod Adequacy

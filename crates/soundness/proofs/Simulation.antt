@@ -1,0 +1,58 @@
+-- What code does by small moves is one of its lists.
+use Rattle.std.proofs.Common.{◌≡◌, ◌≢◌, List, [], ◌∷◌, ◌++◌, Option, Some, None, refl, sym, ap, ◌∙◌, append_assoc}
+use Rattle.meaning.specs.Code.{Occurrence, Way, Code, skip, does, leave, then_code, either, repeats, up_to}
+use Rattle.meaning.specs.Lists.{Exit, stopped, falls, leaves, Lists, not_begun, skipped, done, just_done, left, ends_in_first, goes_on, in_first, in_second, ends_in_turn, turns_again, arrives, passes, Reaches}
+use Rattle.meaning.specs.Steps.{Moves, happens, first_moves, first_is_done, first_leaves, picks_first, picks_second, turns, inside, gets_there, goes_past, gets_out}
+
+-- a list with the event of a move before it
+abbrev pub with_move : Option Occurrence → List Occurrence → List Occurrence
+with_move None u = u
+with_move (Some o) u = o ∷ u
+
+with_move-append : (o : Option Occurrence) (t u : List Occurrence) → with_move o (t ++ u) ≡ with_move o t ++ u
+with_move-append None t u = refl
+with_move-append (Some o) t u = refl
+
+pub stopped≢falls : stopped ≢ falls
+stopped≢falls e = cc
+
+leaves≢falls : (w : Way) → leaves w ≢ falls
+leaves≢falls w e = cc
+
+falls≢leaves : (w : Way) → falls ≢ leaves w
+falls≢leaves w e = cc
+
+stopped≢leaves : (w : Way) → stopped ≢ leaves w
+stopped≢leaves w e = cc
+
+leaves-inj : (w v : Way) → leaves w ≡ leaves v → w ≡ v
+leaves-inj w v e = cc
+
+-- a code can stop at once behind a move
+pub simulates : (c d : Code) (o : Option Occurrence) (u : List Occurrence) (x : Exit) → Moves c o d → Lists d u x → Lists c (with_move o u) x
+simulates c d o u x happens (not_begun) = just_done
+simulates c d o u x happens (skipped) = done
+simulates c d o u x (first_moves {a} {b} {rest} m) (not_begun) = ends_in_first (simulates a rest o [] stopped m not_begun) stopped≢falls
+simulates c d o u x (first_moves {a} {b} {rest} m) (ends_in_first l n) = ends_in_first (simulates a rest o u x m l) n
+simulates c d o u x (first_moves {a} {b} {rest} m) (goes_on {t = t} {u = v} l k e) = goes_on (simulates a rest o t falls m l) k (ap (with_move o) e ∙ with_move-append o t v)
+simulates c d o u x (first_is_done) l = goes_on skipped l refl
+simulates c d o u x (first_leaves {w}) (not_begun) = not_begun
+simulates c d o u x (first_leaves {w}) (left) = ends_in_first left (leaves≢falls w)
+simulates c d o u x (picks_first) l = in_first l
+simulates c d o u x (picks_second) l = in_second l
+simulates c d o u x (turns {a}) (not_begun) = not_begun
+simulates c d o u x (turns {a}) (ends_in_first l n) = ends_in_turn l n
+simulates c d o u x (turns {a}) (goes_on l k e) = turns_again l k e
+simulates c d o u x (inside {w} {a} {rest} m) (not_begun) = passes (simulates a rest o [] stopped m not_begun) (stopped≢leaves w)
+simulates c d o u x (inside {w} {a} {rest} m) (arrives l) = arrives (simulates a rest o u (leaves w) m l)
+simulates c d o u x (inside {w} {a} {rest} m) (passes l n) = passes (simulates a rest o u x m l) n
+simulates c d o u x (gets_there {w}) (not_begun) = not_begun
+simulates c d o u x (gets_there {w}) (skipped) = arrives left
+simulates c d o u x (goes_past {w} {v} n) (not_begun) = not_begun
+simulates c d o u x (goes_past {w} {v} n) (left) = passes left (λ e. n (sym (leaves-inj v w e)))
+simulates c d o u x (gets_out {w}) (not_begun) = not_begun
+simulates c d o u x (gets_out {w}) (skipped) = passes skipped (falls≢leaves w)
+
+-- the first of some events can come at once behind a move, where the code goes on
+pub stops-behind_move : (c d : Code) (o : Occurrence) → Moves c (Some o) d → Lists c (o ∷ []) stopped
+stops-behind_move c d o m = simulates c d (Some o) [] stopped m not_begun
