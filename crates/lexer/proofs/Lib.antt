@@ -1,8 +1,14 @@
+pub mod Bounds
+pub mod Comments
 pub mod Cuts
 pub mod Groups
 pub mod Lines
 pub mod Literals
 pub mod Longest
+pub mod Names
+pub mod Outcomes
 pub mod Shapes
 pub mod Spelled
+pub mod Starts
+pub mod Steps
 pub mod Whole

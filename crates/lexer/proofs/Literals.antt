@@ -110,7 +110,7 @@ at_quote : (P : ℕ → Type 0) (b : ℕ) → is_quote b ≡ true → P 34 → P
 at_quote P b h x y z =
     ⊎_elim (λ c. ⊎_elim (λ e. subst P (sym e) x) (λ e. subst P (sym e) y) c) (λ e. subst P (sym e) z) (quote_is b h)
 
-quote_group : (b : ℕ) → is_quote b ≡ true → group_of b ≡ Quotes
+pub quote_group : (b : ℕ) → is_quote b ≡ true → group_of b ≡ Quotes
 unfolding group_of
 quote_group b h = at_quote (λ n. group_of n ≡ Quotes) b h refl refl refl
 
@@ -226,7 +226,7 @@ reads_operator RawText bytes h e = absurd (false≢true h)
 reads_operator Rune bytes h e = absurd (false≢true h)
 reads_operator k bytes h e = e
 
-opens_in : (n : ℕ) (text : List ℕ) → n ≤ length text → opens_comment (take n text) ≡ true → opens_comment text ≡ true
+pub opens_in : (n : ℕ) (text : List ℕ) → n ≤ length text → opens_comment (take n text) ≡ true → opens_comment text ≡ true
 opens_in n text within h =
     ⊎_elim
     (λ (long : 1 < n).

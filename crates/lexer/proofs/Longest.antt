@@ -51,7 +51,7 @@ word_token bytes word =
     ⊎_elim (name_token bytes word) (λ (h : (is_keyword (keyword_of bytes) ≡ true) × (bytes ≡ spelling (keyword_of bytes))). token_of_keyword (keyword_of bytes) bytes h.0 h.1) (keyword_spelled bytes)
 
 -- ASCII letters and digits are a word
-bytes_word : (bytes : List ℕ) → 0 < length bytes → IsAscii bytes → is_ascii_letter (get_or bytes 0 0) ≡ true → ((i : ℕ) → 0 < i → i < length bytes → is_ascii_word (get_or bytes i 0) ≡ true) → IsWord bytes
+pub bytes_word : (bytes : List ℕ) → 0 < length bytes → IsAscii bytes → is_ascii_letter (get_or bytes 0 0) ≡ true → ((i : ℕ) → 0 < i → i < length bytes → is_ascii_word (get_or bytes i 0) ≡ true) → IsWord bytes
 bytes_word [] size ascii first others = absurd (omega arith)
 bytes_word (b ∷ bs) size ascii first others =
     record {
@@ -62,7 +62,7 @@ bytes_word (b ∷ bs) size ascii first others =
       goes_on = All-from_get_or (λ c. IsTrue (is_letter c || is_digit c)) bs 0 (λ i l. word_char (get_or bs i 0) (ascii (suc i)) ∙ others (suc i) (omega arith) (omega arith));
     }
 
-reads_word : (bytes : List ℕ) → IsWord bytes → Reads (Lexeme (keyword_of bytes)) bytes
+pub reads_word : (bytes : List ℕ) → IsWord bytes → Reads (Lexeme (keyword_of bytes)) bytes
 unfolding Reads
 reads_word bytes word = word_token bytes word
 

@@ -186,7 +186,7 @@ nonempty_spelling k h e =
     let none : 0 ≡ length (spelling k) = ap length e in
     absurd (omega arith)
 
-nonempty_word : IsWord [] → ⊥
+pub nonempty_word : IsWord [] → ⊥
 nonempty_word w =
     absurd (omega (arith, ap length w.encoded, length-append (encode_utf8 w.first) (encode_utf8_all w.others), length-encode w.first, (len_utf8_bounds w.first).0))
 

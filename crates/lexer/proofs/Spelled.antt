@@ -71,6 +71,23 @@ unfolding is_keyword is_spelled
 keyword_is_spelled Identifier = refl
 keyword_is_spelled _ = refl
 
+-- a keyword begins with a letter
+pub keyword_letter : (k : TokenKind) → cond (is_keyword k) (is_ascii_letter (get_or (spelling k) 0 0)) true ≡ true
+unfolding spelling is_keyword
+keyword_letter Identifier = refl
+keyword_letter _ = refl
+
+-- the last byte of a spelling is ASCII
+abbrev pub last : List ℕ → ℕ
+last [] = 0
+last (b ∷ []) = b
+last (b ∷ c ∷ bs) = last (c ∷ bs)
+
+pub spelling_last : (k : TokenKind) → ltb (last (spelling k)) 128 ≡ true
+unfolding spelling
+spelling_last Identifier = refl
+spelling_last _ = refl
+
 -- no byte of a spelling is 0
 abbrev pub are_nonzero : List ℕ → Bool
 are_nonzero [] = true
@@ -137,7 +154,7 @@ cond_same : (t : Bool) (x y : ℕ) → (t ≡ true → x ≡ y) → cond t x y �
 cond_same true x y h = h refl
 cond_same false x y h = refl
 
-ltb_lt : (a b : ℕ) → ltb a b ≡ true → a < b
+pub ltb_lt : (a b : ℕ) → ltb a b ≡ true → a < b
 ltb_lt a b h = search rules
 
 pub operator_longest : (k : TokenKind) (b c d : ℕ) → is_operator k ≡ true → get_or (spelling k) 0 0 ≡ b → (1 < length (spelling k) → get_or (spelling k) 1 0 ≡ c) → (2 < length (spelling k) → get_or (spelling k) 2 0 ≡ d) → fits (operator_of b c d) (length (spelling k)) ≡ true

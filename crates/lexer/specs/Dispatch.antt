@@ -104,3 +104,10 @@ closing quote escaped size (b ∷ bs) =
     else (if escaped then closing quote false (size + 1) bs
     else (if b == quote then Some (size + 1)
     else closing quote (escapes quote b) (size + 1) bs))
+
+-- the size of a block comment of which `size` bytes are read and the others come, if it is ended
+unfoldable pub comment_end : ℕ → List ℕ → Option ℕ
+comment_end size [] = None
+comment_end size (b ∷ []) = None
+comment_end size (b ∷ c ∷ bs) =
+    if b == 42 && c == 47 then Some (size + 2) else comment_end (size + 1) (c ∷ bs)

@@ -1,5 +1,6 @@
 pub mod Cut
 pub mod Dispatch
+pub mod Faults
 pub mod Letters
 pub mod Pieces
 pub mod Place

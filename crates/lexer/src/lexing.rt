@@ -45,7 +45,7 @@ fn is_ascii_text(bytes: &[u8]) -> bool
 }
 
 /// Appends the semicolon that is due where a line ends, if one is: at the end of the token before.
-fn end_line(tokens: &mut Vec<Token>, due: Option<u32>) -> Result<(), AllocError>
+pub fn end_line(tokens: &mut Vec<Token>, due: Option<u32>) -> Result<(), AllocError>
     ensures { OnOk result (tokens.new.items ≡ tokens.old.items ++ semicolon due) }
 {
     if let Some(end) = due {
@@ -60,7 +60,7 @@ fn end_line(tokens: &mut Vec<Token>, due: Option<u32>) -> Result<(), AllocError>
 
 /// Appends what a piece from `start` to `end` adds to the tokens.
 /// `due` is the end of a token that wants a semicolon if its line ends; returned is what is due behind the piece.
-fn add_piece(
+pub fn add_piece(
     tokens: &mut Vec<Token>,
     shape: Shape,
     start: u32,

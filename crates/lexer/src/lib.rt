@@ -4,6 +4,8 @@
 //! longest that can begin at its place (`Cut`, `Pieces`), and the ends of lines insert semicolons (`Semicolons`).
 #![tactic(auto)]
 
+pub mod fault;
+mod full;
 mod lexing;
 mod operators;
 mod pieces;
@@ -12,6 +14,8 @@ pub mod source;
 pub mod token;
 mod words;
 
+pub use fault::LexFault;
+pub use full::{lex, one_outcome};
 pub use lexing::{one_cut, plain};
 pub use position::place;
 pub use source::{Place, Source};

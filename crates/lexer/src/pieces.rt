@@ -55,14 +55,14 @@ fn is_word_byte(byte: u8) -> bool
 }
 
 /// Whether `byte` is a space, a tab or a carriage return.
-fn is_space(byte: u8) -> bool
+pub fn is_space(byte: u8) -> bool
     ensures { result ≡ is_space byte }
 {
     byte == b' ' || byte == b'\t' || byte == b'\r'
 }
 
 /// Whether `byte` begins a string, a rune or a raw string.
-fn is_quote(byte: u8) -> bool
+pub fn is_quote(byte: u8) -> bool
     ensures { result ≡ is_quote byte }
 {
     byte == b'"' || byte == b'\'' || byte == b'`'
@@ -80,7 +80,7 @@ fn quote_kind(quote: u8) -> TokenKind
 }
 
 /// Whether a number begins with these two bytes.
-fn starts_number(first: u8, second: u8) -> bool
+pub fn starts_number(first: u8, second: u8) -> bool
     ensures { result ≡ starts_number first second }
 {
     first.is_ascii_digit() || (first == b'.' && second.is_ascii_digit())
@@ -126,7 +126,7 @@ fn word_size(text: &[u8]) -> usize
 }
 
 /// The size of the number at the start of a text.
-fn number_size(text: &[u8]) -> usize
+pub fn number_size(text: &[u8]) -> usize
     requires { 0 < length text.now }
     ensures in_range { result ≤ length text.now }
     ensures nonempty { 0 < result }
@@ -182,7 +182,7 @@ fn quoted_size(text: &[u8]) -> Option<usize>
 }
 
 /// Whether a comment opens at the start of the text.
-fn opens_comment(text: &[u8]) -> bool
+pub fn opens_comment(text: &[u8]) -> bool
     ensures { result ≡ opens_comment text.now }
 {
     let second = byte_at(text, 1);
@@ -190,7 +190,7 @@ fn opens_comment(text: &[u8]) -> bool
 }
 
 /// The string, raw string or rune at the start of a text, or `None` where it is not ended.
-fn quoted(text: &[u8]) -> Option<Piece>
+pub fn quoted(text: &[u8]) -> Option<Piece>
     requires nonempty { 0 < length text.now }
     requires quote { IsTrue (is_quote (slice_index text.now 0)) }
     ensures some { IfSome result (λ p. IsLongest p text.now × IsFalse (is_comment p.shape)) }

@@ -1,4 +1,4 @@
-use crate::{Place, Source, place, plain};
+use crate::{LexFault, Place, Source, lex, place, plain};
 use std::alloc::Global;
 use std::test::Fail;
 
@@ -72,6 +72,64 @@ fn counts_lines(rt: HostRuntime) -> Result<(), Fail> {
     for (offset, line, column) in [(0, 1, 1), (2, 1, 3), (3, 2, 1), (4, 3, 1), (6, 3, 3)] {
         assert!(rt; offset <= text.bytes.len());
         assert_eq!(rt; place(&text, offset), Place { line, column });
+    }
+    Ok(())
+}
+
+#[test]
+fn cuts_any_text(rt: HostRuntime) -> Result<(), Fail> {
+    let alloc = rt.alloc();
+    for (text, wanted) in [
+        (
+            "x /* a\nb */ y",
+            "Identifier 0-1;Semicolon 1-1;Identifier 12-13;Semicolon 13-13;",
+        ),
+        (
+            "x /* a */ y // c",
+            "Identifier 0-1;Identifier 10-11;Semicolon 11-11;",
+        ),
+        (
+            "\u{feff}\u{e9}\u{660}=1",
+            "Identifier 3-7;Assign 7-8;Number 8-9;Semicolon 9-9;",
+        ),
+        ("/*/ */", ""),
+    ] {
+        let mut shown = String::new(alloc);
+        for token in &lex(alloc, &source(alloc, text)?)? {
+            let kind = token.kind;
+            let start = token.start;
+            let end = token.end;
+            write!(shown, "{kind:?} {start}-{end};")?;
+        }
+        assert_eq!(rt; shown.as_str(), wanted, "at {text:?}");
+    }
+    Ok(())
+}
+
+#[test]
+fn finds_faults(rt: HostRuntime) -> Result<(), Fail> {
+    let alloc = rt.alloc();
+    for (text, wanted) in [
+        ("a \"b\\\n\"", LexFault::UnclosedString(2)),
+        ("a `b", LexFault::UnclosedString(2)),
+        ("a /*/", LexFault::UnclosedComment(2)),
+        ("'a", LexFault::UnclosedRune(0)),
+        ("a\u{feff}", LexFault::UnknownCharacter(1)),
+        ("\u{feff}\u{feff}", LexFault::UnknownCharacter(3)),
+        ("\"\0", LexFault::Nul(1)),
+    ] {
+        let found = lex(alloc, &source(alloc, text)?);
+        assert!(rt; found.is_err(), "at {text:?}");
+        if let Err(fault) = found {
+            assert_eq!(rt; fault, wanted, "at {text:?}");
+        }
+    }
+    let broken = Source {
+        name: String::new(alloc),
+        bytes: Vec::from_slice(alloc, b"a\xc3(")?,
+    };
+    if let Err(fault) = lex(alloc, &broken) {
+        assert_eq!(rt; fault, LexFault::NotUtf8(1));
     }
     Ok(())
 }
