@@ -1,5 +1,5 @@
 -- One more file joins those that were read.
-use Rattle.std.proofs.Common.{◌≡◌, ℕ, true, List, [], ◌++◌, Some, None, Option, IfSome, option_to_list, string_bytes, All}
+use Rattle.std.proofs.Common.{◌≡◌, ℕ, true, List, [], ◌++◌, Some, None, Option, IfSome, option_to_list, string_bytes}
 use Rattle.std.proofs.lemmas.List.Elements.{All-same, All-append, All-push, All-nil}
 use Rattle.lexer.specs.declared.source.Source.{Source}
 use Rattle.ctxvet.specs.GoFiles.{is_go_file, source_name, AreSourcesOf}

@@ -1,5 +1,5 @@
 -- Names that end in something, and words that are split at their first `=`.
-use Rattle.std.proofs.Common.{◌≡◌, ◌≢◌, ℕ, ◌<◌, Bool, true, false, not, ◌&&◌, ◌==◌, List, [], codes, if◌then◌else◌, length, get_or, All, Some, None, Option, Bor, refl, sym, ◌∙◌, ap, rules, arith}
+use Rattle.std.proofs.Common.{◌≡◌, ◌≢◌, ℕ, ◌<◌, Bool, true, false, not, ◌&&◌, ◌==◌, List, [], codes, if◌then◌else◌, length, Some, None, Option, Bor, ◌∙◌, ap, rules}
 use Rattle.std.proofs.lemmas.List.Elements.{All-get_or, All-from_get_or}
 use Rattle.std.proofs.lemmas.Str.Pattern.{IsSplitOnceResult, split_after, split_parts}
 use Rattle.ctxvet.specs.Packages.{IsPackageWord}

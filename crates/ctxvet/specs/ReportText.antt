@@ -3,21 +3,35 @@
 use Rattle.std.specs.Prelude.{ℕ, Bool, true, false, List, [], ◌++◌, Some, None, Option, slice_get, string_bytes, flat_map, decimal, codes}
 use Rattle.lexer.specs.declared.source.Source.{Source}
 use Rattle.judge.specs.declared.report.Code.{Code}
-use Rattle.judge.specs.declared.report.Code.TheVariants.{LeftOut, Discarded, Overwritten, NotCalled, TooMany}
+use Rattle.judge.specs.declared.report.TextFault.{TextFault}
+use Rattle.judge.specs.declared.report.TextFault.TheVariants.{NotUtf8, Nul, UnclosedString, UnclosedComment, UnclosedRune, UnknownCharacter, TooLong}
+use Rattle.judge.specs.declared.report.Code.TheVariants.{Unreadable, LeftOut, Discarded, Overwritten, NotCalled, TooMany}
 use Rattle.judge.specs.declared.report.Diagnostic.{Diagnostic}
 use Rattle.judge.specs.declared.report.PackageReport.{PackageReport}
 use Rattle.lexer.specs.Place.{line_of, column_of}
 
 -- the number of a code
 abbrev pub number_of : Code → List ℕ
+number_of (Unreadable why) = codes "LC01"
 number_of LeftOut = codes "LC02"
 number_of Discarded = codes "LC03"
 number_of Overwritten = codes "LC04"
 number_of NotCalled = codes "LC05"
 number_of TooMany = codes "LC12"
 
+-- why a file has no tokens
+abbrev pub text_of_fault : TextFault → List ℕ
+text_of_fault NotUtf8 = codes "not UTF-8"
+text_of_fault Nul = codes "NUL byte"
+text_of_fault UnclosedString = codes "string not ended"
+text_of_fault UnclosedComment = codes "comment not ended"
+text_of_fault UnclosedRune = codes "rune not ended"
+text_of_fault UnknownCharacter = codes "character of no token"
+text_of_fault TooLong = codes "file over 1 MiB"
+
 -- what a code says
 abbrev pub text_of : Code → List ℕ
+text_of (Unreadable why) = text_of_fault why
 text_of LeftOut = codes "left out: first path"
 text_of Discarded = codes "cancel function discarded"
 text_of Overwritten = codes "overwritten before it is called"

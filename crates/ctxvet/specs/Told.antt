@@ -5,7 +5,7 @@ use Rattle.std.specs.Io.KnownBytes.{Appends}
 use Rattle.lexer.specs.declared.source.Source.{Source}
 use Rattle.tree.specs.Syntax.{Function, SourceFile}
 use Rattle.meaning.specs.Runs.{IsQuietFunction}
-use Rattle.judge.specs.Report.{line_of, IsReportOf, IsJudged, left_out_lines}
+use Rattle.judge.specs.Report.{line_of, IsReportOf, IsJudged, AreUnjudgedLines}
 use Rattle.judge.specs.declared.report.PackageReport.{PackageReport}
 use Rattle.ctxvet.specs.GoFiles.{AreSourcesOf}
 use Rattle.ctxvet.specs.Packages.{IsPackageWord}
@@ -17,7 +17,7 @@ pub record IsJudgement (path : List ℕ) (sources : List Source) (report : Packa
   pub verdict : IsTrue report.yes ↔ (report.diagnostics.items ≡ [])
   pub judged : (file : SourceFile) → IsJudged path sources file → IsReportOf file (map line_of report.diagnostics.items)
   pub quiet : (file : SourceFile) → IsJudged path sources file → IsTrue report.yes → (f : Function) → Contains file.functions f → IsQuietFunction f
-  pub left_out : ((file : SourceFile) → IsJudged path sources file → ⊥) → map line_of report.diagnostics.items ≡ left_out_lines 0 sources
+  pub unjudged : ((file : SourceFile) → IsJudged path sources file → ⊥) → AreUnjudgedLines 0 sources (map line_of report.diagnostics.items)
 
 -- of the package of this word the report was written, with this verdict, to a writer that held old and
 -- holds new

@@ -1,34 +1,27 @@
 //! What can go wrong outside the judgement.
 
 use std::alloc::{AllocError, AllocFailed};
-use std::fmt;
 use std::io::{self, ErrorKind, Write};
+use thiserror::Error;
 
 /// Why a run ends without a whole report. Each is told in one line.
-#[derive(Debug, PartialEq, Eq, Drop)]
+#[derive(Debug, PartialEq, Eq, Drop, Error)]
 pub enum Fault {
     /// A word of the command line is not UTF-8.
+    #[error("word is not UTF-8")]
     WordNotText,
     /// The word has no `=`, or nothing before or after its first one.
+    #[error("bad package: {0}")]
     BadPackage(String),
     /// The folder can't be listed, or the file can't be read or is no file.
+    #[error("cannot read: {0}")]
     CannotRead(String),
     /// The report could not be written.
+    #[error("cannot write: standard output")]
     CannotWrite,
     /// A growth of memory was refused.
+    #[error("out of memory")]
     OutOfMemory,
-}
-
-impl fmt::Display for Fault {
-    fn fmt<W: fmt::Write>(&self, f: &mut fmt::Formatter<W>) -> fmt::Result {
-        match self {
-            Fault::WordNotText => write!(f, "word is not UTF-8"),
-            Fault::BadPackage(word) => write!(f, "bad package: {word}"),
-            Fault::CannotRead(name) => write!(f, "cannot read: {name}"),
-            Fault::CannotWrite => write!(f, "cannot write: standard output"),
-            Fault::OutOfMemory => write!(f, "out of memory"),
-        }
-    }
 }
 
 impl From<AllocError> for Fault {

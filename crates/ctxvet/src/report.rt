@@ -1,10 +1,10 @@
 //! The text of a report.
 
 ghost use Rattle.std.specs.Prelude.{◌≡◌, ◌++◌, IfOk, OnOk, string_bytes};
-ghost use Rattle.ctxvet.specs.ReportText.{number_of, text_of, verdict_text, diagnostic_line, report_text};
+ghost use Rattle.ctxvet.specs.ReportText.{number_of, text_of_fault, text_of, verdict_text, diagnostic_line, report_text};
 
 use crate::position::place_in;
-use judge::{Code, Diagnostic, PackageReport};
+use judge::{Code, Diagnostic, PackageReport, TextFault};
 use lexer::{Place, Source};
 use std::alloc::{AllocError, Global};
 
@@ -13,6 +13,7 @@ pub fn number_of(code: Code) -> &'static str
     ensures { result.now ≡ number_of code }
 {
     match code {
+        Code::Unreadable(_) => "LC01",
         Code::LeftOut => "LC02",
         Code::Discarded => "LC03",
         Code::Overwritten => "LC04",
@@ -26,11 +27,27 @@ pub fn text_of(code: Code) -> &'static str
     ensures { result.now ≡ text_of code }
 {
     match code {
+        Code::Unreadable(why) => text_of_fault(why),
         Code::LeftOut => "left out: first path",
         Code::Discarded => "cancel function discarded",
         Code::Overwritten => "overwritten before it is called",
         Code::NotCalled => "may not have been called at this return",
         Code::TooMany => "too many tracked variables",
+    }
+}
+
+/// Why a file has no tokens, as the report prints it.
+fn text_of_fault(why: TextFault) -> &'static str
+    ensures { result.now ≡ text_of_fault why }
+{
+    match why {
+        TextFault::NotUtf8 => "not UTF-8",
+        TextFault::Nul => "NUL byte",
+        TextFault::UnclosedString => "string not ended",
+        TextFault::UnclosedComment => "comment not ended",
+        TextFault::UnclosedRune => "rune not ended",
+        TextFault::UnknownCharacter => "character of no token",
+        TextFault::TooLong => "file over 1 MiB",
     }
 }
 

@@ -11,8 +11,10 @@ use Rattle.meaning.specs.Scopes.{is_among, Local, text_of, declares_nothing, dec
 use Rattle.meaning.specs.Code.{Binding, binding_of, bindings_at, bindings_in, bindings_in_else, is_same_as, is_obtained, cancels_of}
 use Rattle.meaning.specs.FirstPath.{IsOneMaker, HasPathNames}
 use Rattle.judge.specs.Walk.{name_bound, bound_at, bound_in, bound_in_else}
-use Rattle.judge.proofs.Members.{contains_nil, contains_one_is}
-use Rattle.judge.proofs.Locals.{local_differs, unique_local, distinct_parts, obtained_by, obtained_by_none, filter_none}
+use Rattle.meaning.proofs.Membership.{contains_nil}
+use Rattle.soundness.proofs.Sources.{obtained_by}
+use Rattle.judge.proofs.Members.{contains_one_is}
+use Rattle.judge.proofs.Locals.{local_differs, unique_local, distinct_parts, obtained_by_none, filter_none}
 use Rattle.judge.proofs.Names.{NameIs, is_blank_name, is_declared, NamesAre, Named_at, Named_in, Named_else, binding_is, declared_local, declared_later, declared_now, DeclaredIn, BindingsIn, part, parameters, free, in_part, has_binding, bound_is}
 
 -- what a binding gives its function to

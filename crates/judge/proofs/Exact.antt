@@ -12,7 +12,8 @@ use Rattle.meaning.specs.Classes.{Class, unset, opened, safe, class_behind}
 use Rattle.meaning.specs.Faults.{discarded, not_called, too_many, Fault, most_tracked, IsFaultOf, at_blank, at_many, at_binding, at_return, IsFaultIn}
 use Rattle.meaning.specs.FirstPath.{IsOneMaker, ArePathStatements, ArePathFunctions, HasPathNames, HasPathShape, HasPathFileNames}
 use Rattle.judge.specs.Walk.{fault_at, entry, name_discarded, discarded_at, discarded_in, discarded_in_else, bound_in, after_in, found_in, if_open, found_of, found_for, found_by, found_in_function, found_in_functions}
-use Rattle.judge.proofs.Members.{contains_nil, contains_here, contains_there, contains_cases, contains_one, contains_one_is}
+use Rattle.meaning.proofs.Membership.{contains_nil, contains_here, contains_there, contains_cases}
+use Rattle.judge.proofs.Members.{contains_one, contains_one_is}
 use Rattle.judge.proofs.Names.{NamesAre, Named_at, Named_in, Named_else, binding_is, part, free, has_binding, named_body, agrees_in}
 use Rattle.judge.proofs.Cancels.{local_key, name_key, cancel_keys}
 use Rattle.judge.proofs.Paths.{Judged, IsBad, bad_return, bad_binding, Has, judged_body}

@@ -8,7 +8,8 @@ use Rattle.meaning.specs.Scopes.{same_text, is_among, Local, same_local, covers,
 use Rattle.meaning.specs.Code.{is_same_as, is_obtained, is_listed, Binding}
 use Rattle.meaning.specs.Scopes.{bound_local}
 use Rattle.meaning.specs.FirstPath.{local_text, AreDistinct, NoneAmong, reserved_names}
-use Rattle.judge.proofs.Members.{contains_nil, contains_here, contains_there, contains_cases, same_text_is, same_text_of, same_local_itself}
+use Rattle.meaning.proofs.Membership.{contains_nil, contains_here, contains_there, contains_cases}
+use Rattle.meaning.proofs.SameNames.{same_text_is, same_text_of, same_local_itself}
 
 pub text_differs : (xs ys : List ℕ) → (xs ≡ ys → ⊥) → same_text xs ys ≡ false
 text_differs xs ys h =
@@ -125,15 +126,7 @@ listed (x ∷ cs) v h =
       | inr h' ↦ if_either (same_local x v) (is_listed cs v) (listed cs v h')
     ]
 
--- some binding gives it a cancel function, or none does
-pub obtained_by : (ds : List Local) (bs : List Binding) (b : Binding) (d : Local) → Contains bs b → bound_local ds b.second ≡ Some d → is_obtained ds bs d ≡ true
-obtained_by ds [] b d h e = absurd (contains_nil b h)
-obtained_by ds (x ∷ bs) b d h e =
-    elim (contains_cases x b bs h) [
-      | inl p ↦ ap (λ c. if c then true else is_obtained ds bs d) (ap (λ z. is_same_as d (bound_local ds z.second)) p ∙ ap (is_same_as d) e ∙ same_local_itself d)
-      | inr h' ↦ if_either (is_same_as d (bound_local ds x.second)) (is_obtained ds bs d) (obtained_by ds bs b d h' e)
-    ]
-
+-- no binding gives it a cancel function
 pub obtained_by_none : (ds : List Local) (bs : List Binding) (d : Local) → ((b : Binding) → Contains bs b → is_same_as d (bound_local ds b.second) ≡ false) → is_obtained ds bs d ≡ false
 obtained_by_none ds [] d h = refl
 obtained_by_none ds (x ∷ bs) d h =

@@ -10,7 +10,9 @@ use Rattle.meaning.specs.Scopes.{same_text, is_blank, is_among, Local, same_loca
 use Rattle.meaning.specs.Code.{through_import, maker_of, Binding, bound_from, binding_of, bindings_at, bindings_in, bindings_in_else, is_listed, if_listed, call_event, defer_event, obtain_event, binding_event, called_by}
 use Rattle.meaning.specs.FirstPath.{IsMaker, IsPair, IsOneMaker, IsPathStatement, ArePathStatements, IsPathElse, Use, is_called, is_deferred, is_used, Mention, used, expression_mentions, expressions_mentions, assigned_by, mentions_in, mentions_at, mentions_in_else, type_mentions, mentions_of, HasPathNames}
 use Rattle.judge.specs.Walk.{is_named, called_name}
-use Rattle.judge.proofs.Members.{contains_nil, contains_here, contains_there, contains_cases, contains_one, same_text_is, same_text_of}
+use Rattle.meaning.proofs.Membership.{contains_nil, contains_here, contains_there, contains_cases}
+use Rattle.meaning.proofs.SameNames.{same_text_is, same_text_of}
+use Rattle.judge.proofs.Members.{contains_one}
 use Rattle.judge.proofs.Locals.{text_differs, local_differs, unique_local, not_reserved, declaration_none, declaration_found, declaration_text, declared_here_found, listed}
 use Rattle.judge.proofs.Paths.{quiet_other, quiet_obtain, quiet_call, quiet_defer, DefineIs, binds, binds_another, CallIs, is_call, is_defer, is_no_call, Agrees_at, Agrees_in, Agrees_else}
 

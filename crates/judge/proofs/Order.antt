@@ -8,10 +8,12 @@ use Rattle.std.proofs.lemmas.Bool.{and_parts, eqb-true}
 use Rattle.std.proofs.lemmas.List.Sorted.{Contains-permutation, IsPermutation-sym}
 use Rattle.std.proofs.lemmas.List.Kept.{AllPairs-cons, IsStrictlySortedBy-dedup, Any-dedup, Contains-from_dedup}
 use Rattle.std.proofs.lemmas.List.Elements.{All-map, All-weaker, All-from_recursion}
-use Rattle.judge.proofs.Members.{contains_nil, contains_here, contains_there, contains_cases}
-use Rattle.std.specs.Prelude.{nat_eq}
+use Rattle.meaning.proofs.Membership.{contains_map, contains_unmap}
+use Rattle.std.specs.Prelude.{nat_eq, ◌==◌, if◌then◌else◌}
 use Rattle.std.specs.declared.cmp.Ordering.TheVariants.{the_data as Ordering, Less, Equal, Greater}
 use Rattle.std.specs.Cmp.Lexicographic.{slice_cmp, on_texts, texts_ties, same_text}
+use Rattle.judge.specs.contracts.report.TextFaultOrd.TheImpl as text_fault_ord
+use Rattle.judge.specs.contracts.report.TextFaultPartialEq.TheImpl as text_fault_eq
 use Rattle.judge.specs.contracts.report.CodeOrd.TheImpl as code_ord
 use Rattle.judge.specs.contracts.report.DiagnosticOrd.TheImpl as diagnostic_ord
 use Rattle.judge.specs.contracts.report.CodePartialEq.TheImpl as code_eq
@@ -19,70 +21,116 @@ use Rattle.judge.specs.contracts.report.DiagnosticPartialEq.TheImpl as diagnosti
 use Rattle.std.specs.Cmp.{IsTotalOrder, IsEquivalence, then_total, on_total, nat_cmp_total, unsigned_ties, both_tied, eq_by_cmp_equiv}
 use Rattle.std.proofs.Common.{true}
 use Rattle.judge.specs.declared.report.Code.{Code}
-use Rattle.judge.specs.declared.report.Code.TheVariants.{LeftOut, Discarded, Overwritten, NotCalled, TooMany}
+use Rattle.judge.specs.declared.report.TextFault.{TextFault}
+use Rattle.judge.specs.declared.report.TextFault.TheVariants.{NotUtf8, Nul, UnclosedString, UnclosedComment, UnclosedRune, UnknownCharacter, TooLong}
+use Rattle.judge.specs.declared.report.Code.TheVariants.{Unreadable, LeftOut, Discarded, Overwritten, NotCalled, TooMany}
 use Rattle.judge.specs.declared.report.Diagnostic.{Diagnostic}
-use Rattle.judge.specs.Report.{Line, line_of, code_number, TextPrecedes, Precedes}
+use Rattle.judge.specs.Report.{Line, line_of, text_fault_rank, code_rank, TextPrecedes, Precedes}
 
-code_table : (x y : Code) → (code_ord.ghosts).cmp x y ≡ nat_cmp (code_number x) (code_number y)
+fault_table : (x y : TextFault) → (text_fault_ord.ghosts).cmp x y ≡ nat_cmp (text_fault_rank x) (text_fault_rank y)
+fault_table NotUtf8 NotUtf8 = refl
+fault_table NotUtf8 _ = refl
+fault_table Nul NotUtf8 = refl
+fault_table Nul _ = refl
+fault_table UnclosedString NotUtf8 = refl
+fault_table UnclosedString _ = refl
+fault_table UnclosedComment NotUtf8 = refl
+fault_table UnclosedComment _ = refl
+fault_table UnclosedRune NotUtf8 = refl
+fault_table UnclosedRune _ = refl
+fault_table UnknownCharacter NotUtf8 = refl
+fault_table UnknownCharacter _ = refl
+fault_table TooLong NotUtf8 = refl
+fault_table TooLong _ = refl
+
+code_table : (x y : Code) → (code_ord.ghosts).cmp x y ≡ nat_cmp (code_rank x) (code_rank y)
+code_table (Unreadable x) (Unreadable y) = fault_table x y
+code_table (Unreadable NotUtf8) LeftOut = refl
+code_table (Unreadable _) LeftOut = refl
+code_table (Unreadable NotUtf8) Discarded = refl
+code_table (Unreadable _) Discarded = refl
+code_table (Unreadable NotUtf8) Overwritten = refl
+code_table (Unreadable _) Overwritten = refl
+code_table (Unreadable NotUtf8) NotCalled = refl
+code_table (Unreadable _) NotCalled = refl
+code_table (Unreadable NotUtf8) TooMany = refl
+code_table (Unreadable _) TooMany = refl
+code_table LeftOut (Unreadable NotUtf8) = refl
+code_table LeftOut (Unreadable _) = refl
 code_table LeftOut LeftOut = refl
-code_table LeftOut Discarded = refl
-code_table LeftOut Overwritten = refl
-code_table LeftOut NotCalled = refl
-code_table LeftOut TooMany = refl
+code_table LeftOut _ = refl
+code_table Discarded (Unreadable NotUtf8) = refl
+code_table Discarded (Unreadable _) = refl
 code_table Discarded LeftOut = refl
-code_table Discarded Discarded = refl
-code_table Discarded Overwritten = refl
-code_table Discarded NotCalled = refl
-code_table Discarded TooMany = refl
+code_table Discarded _ = refl
+code_table Overwritten (Unreadable NotUtf8) = refl
+code_table Overwritten (Unreadable _) = refl
 code_table Overwritten LeftOut = refl
-code_table Overwritten Discarded = refl
-code_table Overwritten Overwritten = refl
-code_table Overwritten NotCalled = refl
-code_table Overwritten TooMany = refl
+code_table Overwritten _ = refl
+code_table NotCalled (Unreadable NotUtf8) = refl
+code_table NotCalled (Unreadable _) = refl
 code_table NotCalled LeftOut = refl
-code_table NotCalled Discarded = refl
-code_table NotCalled Overwritten = refl
-code_table NotCalled NotCalled = refl
-code_table NotCalled TooMany = refl
+code_table NotCalled _ = refl
+code_table TooMany (Unreadable NotUtf8) = refl
+code_table TooMany (Unreadable _) = refl
 code_table TooMany LeftOut = refl
-code_table TooMany Discarded = refl
-code_table TooMany Overwritten = refl
-code_table TooMany NotCalled = refl
-code_table TooMany TooMany = refl
+code_table TooMany _ = refl
 
-code_tie : (x y : Code) → (code_eq.ghosts).eq x y ≡ nat_eq (code_number x) (code_number y)
+fault_tie : (x y : TextFault) → (text_fault_eq.ghosts).eq x y ≡ nat_eq (text_fault_rank x) (text_fault_rank y)
+fault_tie NotUtf8 NotUtf8 = refl
+fault_tie NotUtf8 _ = refl
+fault_tie Nul NotUtf8 = refl
+fault_tie Nul _ = refl
+fault_tie UnclosedString NotUtf8 = refl
+fault_tie UnclosedString _ = refl
+fault_tie UnclosedComment NotUtf8 = refl
+fault_tie UnclosedComment _ = refl
+fault_tie UnclosedRune NotUtf8 = refl
+fault_tie UnclosedRune _ = refl
+fault_tie UnknownCharacter NotUtf8 = refl
+fault_tie UnknownCharacter _ = refl
+fault_tie TooLong NotUtf8 = refl
+fault_tie TooLong _ = refl
+
+code_tie : (x y : Code) → (code_eq.ghosts).eq x y ≡ nat_eq (code_rank x) (code_rank y)
+code_tie (Unreadable x) (Unreadable y) = fault_tie x y
+code_tie (Unreadable NotUtf8) LeftOut = refl
+code_tie (Unreadable _) LeftOut = refl
+code_tie (Unreadable NotUtf8) Discarded = refl
+code_tie (Unreadable _) Discarded = refl
+code_tie (Unreadable NotUtf8) Overwritten = refl
+code_tie (Unreadable _) Overwritten = refl
+code_tie (Unreadable NotUtf8) NotCalled = refl
+code_tie (Unreadable _) NotCalled = refl
+code_tie (Unreadable NotUtf8) TooMany = refl
+code_tie (Unreadable _) TooMany = refl
+code_tie LeftOut (Unreadable NotUtf8) = refl
+code_tie LeftOut (Unreadable _) = refl
 code_tie LeftOut LeftOut = refl
-code_tie LeftOut Discarded = refl
-code_tie LeftOut Overwritten = refl
-code_tie LeftOut NotCalled = refl
-code_tie LeftOut TooMany = refl
+code_tie LeftOut _ = refl
+code_tie Discarded (Unreadable NotUtf8) = refl
+code_tie Discarded (Unreadable _) = refl
 code_tie Discarded LeftOut = refl
-code_tie Discarded Discarded = refl
-code_tie Discarded Overwritten = refl
-code_tie Discarded NotCalled = refl
-code_tie Discarded TooMany = refl
+code_tie Discarded _ = refl
+code_tie Overwritten (Unreadable NotUtf8) = refl
+code_tie Overwritten (Unreadable _) = refl
 code_tie Overwritten LeftOut = refl
-code_tie Overwritten Discarded = refl
-code_tie Overwritten Overwritten = refl
-code_tie Overwritten NotCalled = refl
-code_tie Overwritten TooMany = refl
+code_tie Overwritten _ = refl
+code_tie NotCalled (Unreadable NotUtf8) = refl
+code_tie NotCalled (Unreadable _) = refl
 code_tie NotCalled LeftOut = refl
-code_tie NotCalled Discarded = refl
-code_tie NotCalled Overwritten = refl
-code_tie NotCalled NotCalled = refl
-code_tie NotCalled TooMany = refl
+code_tie NotCalled _ = refl
+code_tie TooMany (Unreadable NotUtf8) = refl
+code_tie TooMany (Unreadable _) = refl
 code_tie TooMany LeftOut = refl
-code_tie TooMany Discarded = refl
-code_tie TooMany Overwritten = refl
-code_tie TooMany NotCalled = refl
-code_tie TooMany TooMany = refl
+code_tie TooMany _ = refl
 
 -- lines in the order of files, offsets, codes and names
 abbrev line_cmp : Line → Line → Ordering
-line_cmp a b = ordering_then (nat_cmp a.file b.file) (ordering_then (nat_cmp a.offset b.offset) (ordering_then (nat_cmp (code_number a.code) (code_number b.code)) (slice_cmp nat_cmp a.name b.name)))
+line_cmp a b = ordering_then (nat_cmp a.file b.file) (ordering_then (nat_cmp a.offset b.offset) (ordering_then (nat_cmp (code_rank a.code) (code_rank b.code)) (slice_cmp nat_cmp a.name b.name)))
 
 line_total : IsTotalOrder line_cmp
-line_total = then_total (on_total (λ x. x.file) nat_cmp_total) (then_total (on_total (λ x. x.offset) nat_cmp_total) (then_total (on_total (λ x. code_number x.code) nat_cmp_total) (on_texts (λ x. x.name))))
+line_total = then_total (on_total (λ x. x.file) nat_cmp_total) (then_total (on_total (λ x. x.offset) nat_cmp_total) (then_total (on_total (λ x. code_rank x.code) nat_cmp_total) (on_texts (λ x. x.name))))
 
 as_lines : (a b : Diagnostic) → (diagnostic_ord.ghosts).cmp a b ≡ line_cmp (line_of a) (line_of b)
 as_lines a b =
@@ -98,32 +146,32 @@ ties a b =
 diagnostic_equiv : IsEquivalence (diagnostic_eq.ghosts).eq
 diagnostic_equiv = subst IsEquivalence (λ i a b. sym (ties a b) i) (eq_by_cmp_equiv diagnostic_total)
 
+-- the code of a rank
+abbrev code_at : ℕ → Code
+code_at n =
+    if n == 0 then Unreadable NotUtf8
+    else (if n == 1 then Unreadable Nul
+    else (if n == 2 then Unreadable UnclosedString
+    else (if n == 3 then Unreadable UnclosedComment
+    else (if n == 4 then Unreadable UnclosedRune
+    else (if n == 5 then Unreadable UnknownCharacter
+    else (if n == 6 then Unreadable TooLong
+    else (if n == 7 then LeftOut
+    else (if n == 8 then Discarded
+    else (if n == 9 then Overwritten
+    else (if n == 10 then NotCalled else TooMany))))))))))
+
+ranked_back : (x : Code) → code_at (code_rank x) ≡ x
+ranked_back (Unreadable NotUtf8) = refl
+ranked_back (Unreadable _) = refl
+ranked_back LeftOut = refl
+ranked_back _ = refl
+
+rank_same : (x y : Code) → code_rank x ≡ code_rank y → x ≡ y
+rank_same x y e = sym (ranked_back x) ∙ ap code_at e ∙ ranked_back y
+
 code_same : (x y : Code) → (code_eq.ghosts).eq x y ≡ true → x ≡ y
-code_same LeftOut LeftOut e = refl
-code_same LeftOut Discarded e = cc
-code_same LeftOut Overwritten e = cc
-code_same LeftOut NotCalled e = cc
-code_same LeftOut TooMany e = cc
-code_same Discarded LeftOut e = cc
-code_same Discarded Discarded e = refl
-code_same Discarded Overwritten e = cc
-code_same Discarded NotCalled e = cc
-code_same Discarded TooMany e = cc
-code_same Overwritten LeftOut e = cc
-code_same Overwritten Discarded e = cc
-code_same Overwritten Overwritten e = refl
-code_same Overwritten NotCalled e = cc
-code_same Overwritten TooMany e = cc
-code_same NotCalled LeftOut e = cc
-code_same NotCalled Discarded e = cc
-code_same NotCalled Overwritten e = cc
-code_same NotCalled NotCalled e = refl
-code_same NotCalled TooMany e = cc
-code_same TooMany LeftOut e = cc
-code_same TooMany Discarded e = cc
-code_same TooMany Overwritten e = cc
-code_same TooMany NotCalled e = cc
-code_same TooMany TooMany e = refl
+code_same x y e = rank_same x y (eqb-true (code_rank x) (code_rank y) (sym (code_tie x y) ∙ e))
 
 tied_lines : (a b : Diagnostic) → (diagnostic_eq.ghosts).eq a b ≡ true → line_of a ≡ line_of b
 tied_lines a b e =
@@ -152,33 +200,6 @@ text_precedes (x ∷ xs) (y ∷ ys) e =
       | inr l ↦ inr (ranked x y Equal (sym l.0), text_precedes xs ys l.1)
     ]
 
-number_same : (x y : Code) → code_number x ≡ code_number y → x ≡ y
-number_same LeftOut LeftOut e = refl
-number_same LeftOut Discarded e = absurd (omega arith)
-number_same LeftOut Overwritten e = absurd (omega arith)
-number_same LeftOut NotCalled e = absurd (omega arith)
-number_same LeftOut TooMany e = absurd (omega arith)
-number_same Discarded LeftOut e = absurd (omega arith)
-number_same Discarded Discarded e = refl
-number_same Discarded Overwritten e = absurd (omega arith)
-number_same Discarded NotCalled e = absurd (omega arith)
-number_same Discarded TooMany e = absurd (omega arith)
-number_same Overwritten LeftOut e = absurd (omega arith)
-number_same Overwritten Discarded e = absurd (omega arith)
-number_same Overwritten Overwritten e = refl
-number_same Overwritten NotCalled e = absurd (omega arith)
-number_same Overwritten TooMany e = absurd (omega arith)
-number_same NotCalled LeftOut e = absurd (omega arith)
-number_same NotCalled Discarded e = absurd (omega arith)
-number_same NotCalled Overwritten e = absurd (omega arith)
-number_same NotCalled NotCalled e = refl
-number_same NotCalled TooMany e = absurd (omega arith)
-number_same TooMany LeftOut e = absurd (omega arith)
-number_same TooMany Discarded e = absurd (omega arith)
-number_same TooMany Overwritten e = absurd (omega arith)
-number_same TooMany NotCalled e = absurd (omega arith)
-number_same TooMany TooMany e = refl
-
 precedes : (a b : Line) → line_cmp a b ≡ Less → Precedes a b
 precedes a b e =
     elim (then_less _ _ e) [
@@ -190,8 +211,8 @@ precedes a b e =
           | inr m ↦ inr (
             ranked a.offset b.offset Equal (sym m.0),
             elim (then_less _ _ m.1) [
-              | inl n ↦ inl (ranked (code_number a.code) (code_number b.code) Less (sym n))
-              | inr n ↦ inr (number_same a.code b.code (ranked (code_number a.code) (code_number b.code) Equal (sym n.0)), text_precedes a.name b.name n.1)
+              | inl n ↦ inl (ranked (code_rank a.code) (code_rank b.code) Less (sym n))
+              | inr n ↦ inr (rank_same a.code b.code (ranked (code_rank a.code) (code_rank b.code) Equal (sym n.0)), text_precedes a.name b.name n.1)
             ],
           )
         ],
@@ -204,28 +225,6 @@ strictly [] h = λ i j d l k. absurd (omega (arith, k))
 strictly (x ∷ xs) h =
     AllPairs-cons Precedes (line_of x) (map line_of xs) (All-map (Precedes (line_of x)) line_of xs (All-weaker (λ y. (diagnostic_ord.ghosts).cmp x y ≡ Less) (λ y. Precedes (line_of x) (line_of y)) (λ y e. precedes (line_of x) (line_of y) (sym (as_lines x y) ∙ e)) xs (All-from_recursion (λ y. (diagnostic_ord.ghosts).cmp x y ≡ Less) xs h.0))) (strictly xs h.1)
 
--- members of a mapped list
-pub contains_map : {A B : Type 0} (f : A → B) (xs : List A) (x : A) → Contains xs x → Contains (map f xs) (f x)
-contains_map f [] x h = absurd (contains_nil x h)
-contains_map f (a ∷ xs) x h =
-    elim (contains_cases a x xs h) [
-      | inl p ↦ subst (λ z. Contains (f a ∷ map f xs) (f z)) p (contains_here (f a) (map f xs))
-      | inr g ↦ contains_there (f a) (f x) (map f xs) (contains_map f xs x g)
-    ]
-
-pub record Preimage {A B : Type 0} (f : A → B) (xs : List A) (y : B) : Type 0 where
-  pub element : A
-  pub among : Contains xs element
-  pub same : f element ≡ y
-
-pub contains_map_is : {A B : Type 0} (f : A → B) (xs : List A) (y : B) → Contains (map f xs) y → Preimage f xs y
-contains_map_is f [] y h = absurd (contains_nil y h)
-contains_map_is f (a ∷ xs) y h =
-    elim (contains_cases (f a) y (map f xs) h) [
-      | inl p ↦ record { element = a; among = contains_here a xs; same = p }
-      | inr g ↦ let s = contains_map_is f xs y g in record { element = s.element; among = contains_there a s.element xs s.among; same = s.same }
-    ]
-
 -- sorted, and each line once
 module _ (items sorted : List Diagnostic) (moved : IsPermutation items sorted) where
   pub once_sorted : IsSorted (diagnostic_ord.ghosts).cmp sorted → AllPairs Precedes (map line_of (dedup (diagnostic_eq.ghosts).eq sorted))
@@ -233,13 +232,13 @@ module _ (items sorted : List Diagnostic) (moved : IsPermutation items sorted) w
 
   pub once_complete : (x : Line) → Contains (map line_of items) x → Contains (map line_of (dedup (diagnostic_eq.ghosts).eq sorted)) x
   once_complete x h =
-      let s = contains_map_is line_of items x h in
-      let any = Any-dedup diagnostic_equiv sorted s.element (Contains-permutation items sorted s.element moved s.among) in
+      let s = contains_unmap line_of items x h in
+      let any = Any-dedup diagnostic_equiv sorted s.0 (Contains-permutation items sorted s.0 moved s.1) in
       let kept = contains_map line_of (dedup (diagnostic_eq.ghosts).eq sorted) any.1 (any.0, any.2, any.3) in
-      subst (λ l. Contains (map line_of (dedup (diagnostic_eq.ghosts).eq sorted)) l) (sym (tied_lines s.element any.1 any.4) ∙ s.same) kept
+      subst (λ l. Contains (map line_of (dedup (diagnostic_eq.ghosts).eq sorted)) l) (sym (tied_lines s.0 any.1 any.4) ∙ s.2) kept
 
   pub once_sound : (x : Line) → Contains (map line_of (dedup (diagnostic_eq.ghosts).eq sorted)) x → Contains (map line_of items) x
   once_sound x h =
-      let s = contains_map_is line_of (dedup (diagnostic_eq.ghosts).eq sorted) x h in
-      let g = Contains-permutation sorted items s.element (IsPermutation-sym items sorted moved) (Contains-from_dedup (diagnostic_eq.ghosts).eq sorted s.element s.among) in
-      subst (λ l. Contains (map line_of items) l) s.same (contains_map line_of items s.element g)
+      let s = contains_unmap line_of (dedup (diagnostic_eq.ghosts).eq sorted) x h in
+      let g = Contains-permutation sorted items s.0 (IsPermutation-sym items sorted moved) (Contains-from_dedup (diagnostic_eq.ghosts).eq sorted s.0 s.1) in
+      subst (λ l. Contains (map line_of items) l) s.2 (contains_map line_of items s.0 g)

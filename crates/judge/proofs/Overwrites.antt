@@ -11,7 +11,9 @@ use Rattle.meaning.specs.Faults.{discarded, overwritten, not_called, too_many, F
 use Rattle.meaning.specs.FirstPath.{local_text, AreDistinct, ArePathStatements, HasPathNames, HasPathShape, HasPathFileNames}
 use Rattle.judge.specs.declared.pass.Classes.{Classes}
 use Rattle.judge.specs.Walk.{fault_at, name_bound, name_discarded, bound_at, bound_in, bound_in_else, discarded_at, discarded_in, discarded_in_else, is_named, called_name, obtained, called, entry, after_define, after_at, after_in, after_in_else, if_open, found_define, found_at, found_in, found_in_else, found_of, found_by}
-use Rattle.judge.proofs.Members.{contains_nil, contains_one_is, same_text_is, same_text_of}
+use Rattle.meaning.proofs.Membership.{contains_nil}
+use Rattle.meaning.proofs.SameNames.{same_text_is, same_text_of}
+use Rattle.judge.proofs.Members.{contains_one_is}
 use Rattle.judge.proofs.Locals.{text_differs, neither}
 use Rattle.judge.proofs.Names.{not_blank}
 use Rattle.judge.proofs.Cancels.{local_key, name_key}

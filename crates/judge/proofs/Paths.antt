@@ -2,6 +2,8 @@
 -- walk over the statements finds them.
 use Rattle.std.proofs.Common.{◌≡◌, ◌⊎◌, ℕ, ◌-◌, List, [], ◌∷◌, ◌++◌, Contains, refl, sym, ap, ◌∙◌, subst, inl, inr, append_assoc, append-nil}
 use Rattle.std.specs.Prelude.{Bool, true, false, ◌||◌, if◌then◌else◌, IsTrue, Option, Some, None, slice_get}
+use Rattle.std.proofs.lemmas.Bool.{or_left, or_right, or_cases}
+use Rattle.std.proofs.lemmas.List.{same_from_push}
 use Rattle.std.proofs.lemmas.List.Elements.{Contains-append_left, Contains-append_right, Contains-append_cases}
 use Rattle.tree.specs.Syntax.{Identifier, Statement, define_statement, expression_statement, defer_statement, if_statement, block_statement, return_statement, Otherwise, no_else, else_block, Statements, no_statement, statement_and, Function}
 use Rattle.meaning.specs.Scopes.{same_text, Local, same_local, locals_of}
@@ -12,7 +14,9 @@ use Rattle.meaning.specs.Classes.{Class, unset, opened, safe, change, class_behi
 use Rattle.meaning.specs.Faults.{overwritten, not_called, Fault}
 use Rattle.judge.specs.declared.pass.Classes.{Classes}
 use Rattle.judge.specs.Walk.{fault_at, is_named, called_name, obtained, called, joined, nowhere, entry, after_define, after_at, after_in, after_in_else, if_open, found_define, found_at, found_in, found_in_else}
-use Rattle.judge.proofs.Members.{contains_nil, contains_one, contains_one_is, snoc_nil, snoc_one, split_snoc, same_local_itself, or_left, or_right, or_cases}
+use Rattle.meaning.proofs.Membership.{contains_nil}
+use Rattle.meaning.proofs.SameNames.{same_local_itself}
+use Rattle.judge.proofs.Members.{contains_one, contains_one_is, snoc_nil, split_snoc}
 
 abbrev has : Classes → Class → Bool
 has k unset = k.unset
@@ -212,7 +216,7 @@ module _ (v : Local) (o : Occurrence) (k j : Classes) (f : List Fault) where
         elim (does_stops l) [
           | inl e ↦ absurd (snoc_nil t o' e)
           | inr e ↦
-              let s = snoc_one t o' o e in
+              let s = same_from_push t [] o' o e in
               let now : Has k opened = subst (λ p. Has k p) (sym (ap (class_behind v q) s.0) ∙ is_open) h in
               bad x now (subst (λ p. IsBad v p x) s.1 b)
         ];

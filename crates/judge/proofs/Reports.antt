@@ -3,22 +3,21 @@ use Rattle.std.proofs.Common.{◌≡◌, ℕ, List, [], ◌∷◌, length, get_o
 use Rattle.tree.specs.Syntax.{Function, SourceFile}
 use Rattle.meaning.specs.Runs.{IsQuietFunction}
 use Rattle.soundness.proofs.Theorem.{quiet_without_faults}
-use Rattle.judge.proofs.Members.{contains_nil}
+use Rattle.meaning.proofs.Membership.{contains_nil, contains_map, contains_unmap}
 use Rattle.meaning.specs.FirstPath.{IsOnPath}
 use Rattle.meaning.specs.Faults.{Finding, discarded, overwritten, not_called, too_many}
 use Rattle.judge.specs.Report.{Line, code_of, fault_line, Precedes, IsReportOf, IsPathCode}
 use Rattle.judge.proofs.Overwrites.{never_overwritten}
 use Rattle.judge.specs.Walk.{found_in_functions}
 use Rattle.judge.proofs.Exact.{file_complete, file_sound}
-use Rattle.judge.proofs.Order.{contains_map, contains_map_is}
 
 pub report_of : (text : List ℕ) (file : SourceFile) (lines : List Line) → IsOnPath text file → AllPairs Precedes lines → ((x : Line) → Contains (map fault_line (found_in_functions file.functions)) x → Contains lines x) → ((x : Line) → Contains lines x → Contains (map fault_line (found_in_functions file.functions)) x) → IsReportOf file lines
 report_of text file lines h sorted complete sound = record {
   sorted = sorted;
   complete = λ x g. complete (fault_line x) (contains_map fault_line (found_in_functions file.functions) x (file_complete file h.shape h.names x g));
   sound = λ line g.
-      let s = contains_map_is fault_line (found_in_functions file.functions) line (sound line g) in
-      (s.element, file_sound file h.shape h.names s.element s.among, sym s.same);
+      let s = contains_unmap fault_line (found_in_functions file.functions) line (sound line g) in
+      (s.0, file_sound file h.shape h.names s.0 s.1, sym s.2);
 }
 
 pub alone : {A : Type 0} (xs : List A) (x : A) → length xs ≡ 1 → get_or xs 0 x ≡ x → xs ≡ x ∷ []

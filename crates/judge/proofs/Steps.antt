@@ -1,5 +1,5 @@
 -- What a list of findings is behind several steps.
-use Rattle.std.proofs.Common.{◌≡◌, ℕ, zero, suc, ◌+◌, ◌<◌, List, [], ◌∷◌, ◌++◌, map, drop, length, refl, sym, ap, ◌∙◌, append_assoc, append-nil, add-one, arith}
+use Rattle.std.proofs.Common.{◌≡◌, ℕ, zero, suc, ◌+◌, ◌<◌, ◌≤◌, List, [], ◌∷◌, ◌++◌, map, drop, length, get_or, subst, refl, sym, ap, ◌∙◌, append_assoc, append-nil, add-one, arith}
 use Rattle.std.proofs.lemmas.List.{map-append}
 use Rattle.std.proofs.lemmas.Bool.{ne_eqb}
 use Rattle.std.specs.Prelude.{Bool, true, false, ◌&&◌, ◌==◌, if◌then◌else◌}
@@ -10,7 +10,7 @@ use Rattle.tree.specs.View.{expressions_syntax}
 use Rattle.meaning.specs.Scopes.{same_text}
 use Rattle.meaning.specs.Faults.{Fault}
 use Rattle.lexer.specs.declared.source.Source.{Source}
-use Rattle.judge.specs.Report.{Line, line_of, fault_line, left_out_line, left_out_lines}
+use Rattle.judge.specs.Report.{Line, line_of, fault_line, IsUnjudgedLine, AreUnjudgedLines}
 use Rattle.judge.specs.Walk.{Adds, line_if, names_bare, is_named, called_name}
 use Rattle.judge.specs.declared.report.Diagnostic.{Diagnostic}
 
@@ -44,18 +44,32 @@ calls_bare v bare (name_expression n) (x ∷ es) span e = ap (λ b. b && same_te
 calls_bare v bare (selector_expression f n) es span e = refl
 calls_bare v bare (call_expression f others s) es span e = refl
 
-left_out_from : (n m : ℕ) (ss : List Source) → n < length ss → left_out_lines m (drop n ss) ≡ left_out_line m ∷ left_out_lines (suc m) (drop (suc n) ss)
-left_out_from n m [] l = absurd (omega (arith, l))
-left_out_from zero m (s ∷ ss) l = refl
-left_out_from (suc n) m (s ∷ ss) l = left_out_from n m ss (omega (arith, l))
+-- the lines so far are those of the first n files: what adds the lines of the others completes them
+abbrev pub AreFirstLines : ℕ → List Source → List Line → Type 0
+AreFirstLines n ss lines = (rest : List Line) → AreUnjudgedLines n (drop n ss) rest → AreUnjudgedLines 0 ss (lines ++ rest)
 
--- one more file is left out
-pub left_out_next : (before after : List Diagnostic) (d : Diagnostic) (n : ℕ) (ss : List Source) (all : List Line) → n < length ss → line_of d ≡ left_out_line n → after ≡ before ++ d ∷ [] → map line_of before ++ left_out_lines n (drop n ss) ≡ all → map line_of after ++ left_out_lines (n + 1) (drop (n + 1) ss) ≡ all
-left_out_next before after d n ss all l e f g =
-    ap (λ k. map line_of after ++ left_out_lines k (drop k ss)) (add-one n)
-    ∙ ap (λ x. map line_of x ++ left_out_lines (suc n) (drop (suc n) ss)) f
-    ∙ ap (λ x. x ++ left_out_lines (suc n) (drop (suc n) ss)) (map-append line_of before (d ∷ []))
-    ∙ append_assoc (map line_of before) (line_of d ∷ []) (left_out_lines (suc n) (drop (suc n) ss))
-    ∙ ap (λ x. map line_of before ++ x ∷ left_out_lines (suc n) (drop (suc n) ss)) e
-    ∙ ap (λ x. map line_of before ++ x) (sym (left_out_from n n ss l))
-    ∙ g
+line_before : (n file : ℕ) (ss : List Source) (s : Source) (line : Line) (rest : List Line) → n < length ss → get_or ss n s ≡ s → IsUnjudgedLine file s line → AreUnjudgedLines (suc file) (drop (suc n) ss) rest → AreUnjudgedLines file (drop n ss) (line ∷ rest)
+line_before n file [] s line rest l e h others = absurd (omega (arith, l))
+line_before zero file (x ∷ ss) s line rest l e h others = (subst (λ y. IsUnjudgedLine file y line) (sym e) h, others)
+line_before (suc n) file (x ∷ ss) s line rest l e h others = line_before n file ss s line rest (omega (arith, l)) e h others
+
+-- one more file has its line
+pub unjudged_next : (before after : List Diagnostic) (d : Diagnostic) (n : ℕ) (ss : List Source) (s : Source) → n < length ss → get_or ss n s ≡ s → IsUnjudgedLine n s (line_of d) → after ≡ before ++ d ∷ [] → AreFirstLines n ss (map line_of before) → AreFirstLines (n + 1) ss (map line_of after)
+unjudged_next before after d n ss s l e h f first = λ rest others.
+    let next : AreUnjudgedLines (suc n) (drop (suc n) ss) rest = subst (λ k. AreUnjudgedLines k (drop k ss) rest) (add-one n) others in
+    let whole = first (line_of d ∷ rest) (line_before n n ss s (line_of d) rest l e h next) in
+    let same : map line_of after ++ rest ≡ map line_of before ++ line_of d ∷ rest = ap (λ x. map line_of x ++ rest) f ∙ ap (λ x. x ++ rest) (map-append line_of before (d ∷ [])) ∙ append_assoc (map line_of before) (line_of d ∷ []) rest in
+    subst (AreUnjudgedLines 0 ss) (sym same) whole
+
+pub unjudged_none : (items : List Diagnostic) (ss : List Source) → items ≡ [] → AreFirstLines 0 ss (map line_of items)
+unjudged_none items ss e = subst (λ ds. AreFirstLines 0 ss (map line_of ds)) (sym e) (λ rest others. others)
+
+drop_whole : (ss : List Source) (n : ℕ) → length ss ≤ n → drop n ss ≡ []
+drop_whole [] zero l = refl
+drop_whole [] (suc n) l = refl
+drop_whole (s ∷ ss) zero l = absurd (omega (arith, l))
+drop_whole (s ∷ ss) (suc n) l = drop_whole ss n (omega (arith, l))
+
+pub unjudged_end : (n : ℕ) (ss : List Source) (lines : List Line) → length ss ≤ n → AreFirstLines n ss lines → AreUnjudgedLines 0 ss lines
+unjudged_end n ss lines l first =
+    subst (AreUnjudgedLines 0 ss) (append-nil lines) (first [] (subst (λ xs. AreUnjudgedLines n xs []) (sym (drop_whole ss n l)) tt))

@@ -1,4 +1,4 @@
-//! What is said of a package of the first path: its diagnostics and its verdict.
+//! What is said of a package: its diagnostics and its verdict.
 #![tactic(auto)]
 
 mod bindings;
@@ -8,4 +8,4 @@ mod pass;
 pub mod report;
 
 pub use check::check_first;
-pub use report::{Code, Diagnostic, PackageReport};
+pub use report::{Code, Diagnostic, PackageReport, TextFault};

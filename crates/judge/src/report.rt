@@ -1,8 +1,22 @@
 //! The types of a report.
 
+/// Why a file has no tokens (`lexer::lex`).
+#[derive(Clone, Copy, Debug, PartialEq, Eq, PartialOrd, Ord)]
+pub enum TextFault {
+    NotUtf8,
+    Nul,
+    UnclosedString,
+    UnclosedComment,
+    UnclosedRune,
+    UnknownCharacter,
+    TooLong,
+}
+
 /// What a diagnostic says. In the order of the codes' numbers.
 #[derive(Clone, Copy, Debug, PartialEq, Eq, PartialOrd, Ord)]
 pub enum Code {
+    /// LC01: the file has no tokens.
+    Unreadable(TextFault),
     /// LC02: the file is off the first path.
     LeftOut,
     /// LC03: a cancel function is given the name `_`.

@@ -1,3 +1,4 @@
+pub mod Answered
 pub mod Bounds
 pub mod Comments
 pub mod Cuts
@@ -7,6 +8,7 @@ pub mod Literals
 pub mod Longest
 pub mod Names
 pub mod Outcomes
+pub mod Prefixes
 pub mod Shapes
 pub mod Spelled
 pub mod Starts

@@ -1,5 +1,5 @@
 -- A column is no further than the offset.
-use Rattle.std.proofs.Common.{ℕ, ◌+◌, ◌<◌, ◌≤◌, not, List, length, take, reverse, arith}
+use Rattle.std.proofs.Common.{ℕ, ◌+◌, ◌≤◌, not, List, take, reverse, arith}
 use Rattle.std.proofs.lemmas.List.{length-take, length-reverse}
 use Rattle.std.proofs.lemmas.List.Sums.{prefix_len-le-length}
 use Rattle.lexer.specs.Place.{is_newline, column_of}

@@ -18,7 +18,7 @@ fits_at (suc i) c = is_letter c || is_digit c
 abbrev pub FitsWord : List ℕ → Type 0
 FitsWord cs = (i : ℕ) → i < length cs → fits_at i (get_or cs i 0) ≡ true
 
-word_fits : (first : ℕ) (others : List ℕ) → is_letter first ≡ true → All (λ c. IsTrue (is_letter c || is_digit c)) others → FitsWord (first ∷ others)
+pub word_fits : (first : ℕ) (others : List ℕ) → is_letter first ≡ true → All (λ c. IsTrue (is_letter c || is_digit c)) others → FitsWord (first ∷ others)
 word_fits first others letter more zero l = letter
 word_fits first others letter more (suc i) l = more i 0 (omega arith)
 
@@ -34,7 +34,7 @@ fits_word (c ∷ cs) bytes l h e =
     }
 
 -- two lists of characters that begin one text
-diverge : (ys ds : List ℕ) (c : ℕ) (r t : List ℕ) → encode_utf8_all ys ++ (encode_utf8 c ++ r) ≡ encode_utf8_all ds ++ t → (length (encode_utf8_all ds) ≤ length (encode_utf8_all ys)) ⊎ ((es : List ℕ) × (ds ≡ ys ++ c ∷ es))
+pub diverge : (ys ds : List ℕ) (c : ℕ) (r t : List ℕ) → encode_utf8_all ys ++ (encode_utf8 c ++ r) ≡ encode_utf8_all ds ++ t → (length (encode_utf8_all ds) ≤ length (encode_utf8_all ys)) ⊎ ((es : List ℕ) × (ds ≡ ys ++ c ∷ es))
 diverge ys [] c r t e = inl (omega arith)
 diverge [] (d ∷ ds) c r t e =
     let s = encode_same c d r (encode_utf8_all ds ++ t) (e ∙ append_assoc (encode_utf8 d) (encode_utf8_all ds) t) in

@@ -25,7 +25,7 @@ use Rattle.lexer.proofs.Comments.{comment_reads}
 use Rattle.lexer.proofs.Bounds.{piece_boundary}
 
 -- a keyword is a word
-word_small : (b : ℕ) → is_ascii_word b ≡ true → b < 128
+pub word_small : (b : ℕ) → is_ascii_word b ≡ true → b < 128
 word_small b h = grind (arith, nat_tests)
 
 keyword_ascii : (k : TokenKind) → is_keyword k ≡ true → IsAscii (spelling k)
@@ -91,7 +91,7 @@ no_word_from text most n within word =
     nonempty_word (subst (λ m. IsWord (take m text)) zero_n word)
 
 -- a text that begins with no word
-one_ascii : (b : ℕ) → b < 128 → IsAscii (b ∷ [])
+pub one_ascii : (b : ℕ) → b < 128 → IsAscii (b ∷ [])
 one_ascii b small zero = small
 one_ascii b small (suc i) = omega arith
 

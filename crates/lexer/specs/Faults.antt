@@ -1,6 +1,7 @@
 -- Why a text has no tokens, and where: the fault that is named first.
 -- A text that is too long has that fault; else one that is not UTF-8, else one with a NUL; else the cut stops at a place
--- where nothing can begin, and its first byte says what is not ended there.
+-- where nothing can begin, and what stands there says whether a string, a rune or a comment is not ended, or whether
+-- no token has the character.
 -- (The Go specification, "Source code representation" and "Lexical elements".)
 use Rattle.std.specs.Prelude.{◌≡◌, ◌≢◌, ℕ, ◌+◌, ◌<◌, ◌≤◌, Bool, ◌||◌, ◌==◌, if◌then◌else◌, IsTrue, IsFalse, List, [], length, drop, slice_index, sum_by}
 use Rattle.std.specs.Str.{IsUtf8, IsValidUpTo}
@@ -52,3 +53,7 @@ IsFault text OutOfMemory = ⊥
 -- a text that has tokens has no fault
 abbrev pub OneOutcome : Type 0
 OneOutcome = (text : List ℕ) (ts : List Token) (f : LexFault) → IsTokens text ts → IsFault text f → ⊥
+
+-- a text has at most one fault
+abbrev pub OneFault : Type 0
+OneFault = (text : List ℕ) (f g : LexFault) → IsFault text f → IsFault text g → f ≡ g

@@ -31,6 +31,10 @@ pub record IsPlain (text : List ℕ) : Type 0 where
   pub ascii : IsAscii text
   pub no_comment : (pieces : List Piece) → IsCutInto text pieces → All (λ p. IsFalse (is_comment p.shape)) pieces
 
+-- a text is cut in one way at most
+abbrev pub OneCut : Type 0
+OneCut = (text : List ℕ) (ps qs : List Piece) → IsCutInto text ps → IsCutInto text qs → ps ≡ qs
+
 -- a text has at most one list of tokens
 abbrev pub OneTokenList : Type 0
 OneTokenList = (text : List ℕ) (ts us : List Token) → IsTokens text ts → IsTokens text us → ts ≡ us

@@ -1,7 +1,7 @@
 //! The tokens of any source, or its first fault (the Go specification, "Source code representation" and
 //! "Lexical elements").
 
-ghost use Rattle.std.specs.Prelude.{◌≡◌, ◌≢◌, ◌≤◌, ◌<◌, ◌&&◌, ◌||◌, ◌==◌, ◌+◌, ℕ, length, take, drop, slice_index, IfOk, IfErr, IfSome, IfNone, IsTrue};
+ghost use Rattle.std.specs.Prelude.{List, ◌≡◌, ◌≢◌, ◌≤◌, ◌<◌, ◌&&◌, ◌||◌, ◌==◌, ◌+◌, ℕ, length, take, drop, slice_index, IfOk, IfErr, IsErr, IfSome, IfNone, IsTrue};
 ghost use Rattle.lexer.specs.Letters.{is_letter, is_digit};
 ghost use Rattle.lexer.specs.Pieces.{IsWord, has_newline};
 ghost use Rattle.lexer.specs.Dispatch.{comment_end};
@@ -10,18 +10,22 @@ ghost use Rattle.lexer.specs.declared.pieces.Piece.{Piece};
 ghost use Rattle.lexer.specs.declared.pieces.Shape.TheVariants.{LineComment};
 ghost use Rattle.std.specs.Str.{IsUtf8, IsCharBoundary};
 ghost use Rattle.lexer.specs.Tokens.{IsTokens, mark_size};
-ghost use Rattle.lexer.specs.Faults.{IsFault, OneOutcome, stop_of};
+ghost use Rattle.lexer.specs.Faults.{IsFault, stop_of};
+ghost use Rattle.lexer.specs.declared.fault.LexFault.{LexFault};
 ghost use Rattle.lexer.specs.declared.fault.LexFault.TheVariants.{OutOfMemory};
+ghost use Rattle.lexer.specs.declared.token.Token.{Token};
 
 use crate::fault::LexFault;
 use crate::lexing::{LIMIT, add_piece, end_line};
 use crate::operators::{lexeme, operator};
 use crate::pieces::{
-    Piece, Shape, byte_at, is_quote, is_space, number_size, opens_comment, quoted, starts_number,
+    Piece, Shape, byte_at, is_letter as is_ascii_letter, is_quote, is_space, number_size,
+    opens_comment, quoted, starts_number, word_size as ascii_word_size,
 };
 use crate::source::Source;
 use crate::token::{Token, TokenKind};
 use crate::words::word_kind;
+use memchr::memchr;
 use std::alloc::Global;
 use unicode::properties::GeneralCategory;
 
@@ -63,8 +67,8 @@ fn goes_on(c: char, behind: bool) -> bool
     is_letter(c) || (behind && is_digit(c))
 }
 
-/// The size of the word at the start of a text, or 0 where it begins with no letter.
-fn word_size(text: &str) -> usize
+/// The size of the word at the start of a text, by its characters, or 0 where it begins with no letter.
+fn any_word_size(text: &str) -> usize
     requires { length text.now ≤ 1_048_576 }
     ensures in_range { result ≤ length text.now }
     ensures word { 0 < result → IsWord (take result text.now) }
@@ -80,6 +84,27 @@ fn word_size(text: &str) -> usize
     size
 }
 
+/// The size of the word at the start of a text, or 0 where it begins with no letter.
+/// Where ASCII stands behind its ASCII letters and digits, those are the word, and nothing is decoded.
+fn word_size(text: &str) -> usize
+    requires { length text.now ≤ 1_048_576 }
+    ensures in_range { result ≤ length text.now }
+    ensures word { 0 < result → IsWord (take result text.now) }
+    ensures longest { (n : ℕ) → n ≤ length text.now → IsWord (take n text.now) → n ≤ result }
+{
+    let bytes = text.as_bytes();
+    let first = byte_at(bytes, 0);
+    if is_ascii_letter(first) {
+        let size = ascii_word_size(bytes);
+        if byte_at(bytes, size).is_ascii() {
+            return size;
+        }
+    } else if first.is_ascii() {
+        return 0;
+    }
+    any_word_size(text)
+}
+
 /// The size of the line comment at the start of a text.
 fn line_comment_size(text: &[u8]) -> usize
     requires { 2 ≤ length text.now }
@@ -87,11 +112,10 @@ fn line_comment_size(text: &[u8]) -> usize
     ensures one_line { (i : ℕ) → 2 ≤ i → i < result → slice_index text.now i ≢ 10 }
     ensures stops { result < length text.now → slice_index text.now result ≡ 10 }
 {
-    let mut size = 2;
-    while size < text.len() && text[size] != b'\n' {
-        size += 1;
+    match memchr(b'\n', &text[2..]) {
+        Some(inner) => inner + 2,
+        None => text.len(),
     }
-    size
 }
 
 /// Whether `*/` stands at `at`.
@@ -259,6 +283,25 @@ fn lex_text(alloc: Global, text: &str) -> Result<Vec<Token>, LexFault>
     Ok(tokens)
 }
 
+/// The tokens of a source's bytes, or its first fault.
+fn lex_bytes(alloc: Global, bytes: &[u8]) -> Result<Vec<Token>, LexFault>
+    ensures ok { IfOk result (λ v. IsTokens bytes.now v.items) }
+    ensures err { IfErr result (λ f. f ≢ OutOfMemory → IsFault bytes.now f) }
+{
+    if bytes.len() > LIMIT {
+        return Err(LexFault::TooLong);
+    }
+    match str::from_utf8(bytes) {
+        Err(fault) => Err(LexFault::NotUtf8(fault.valid_up_to() as u32)),
+        Ok(text) => {
+            if let Some(at) = memchr(0, bytes) {
+                return Err(LexFault::Nul(at as u32));
+            }
+            lex_text(alloc, text)
+        }
+    }
+}
+
 /// The tokens of a source, in order, with inserted semicolons.
 ///
 /// # Errors
@@ -267,23 +310,10 @@ fn lex_text(alloc: Global, text: &str) -> Result<Vec<Token>, LexFault>
 pub fn lex(alloc: Global, source: &Source) -> Result<Vec<Token>, LexFault>
     ensures ok { IfOk result (λ v. IsTokens source.now.bytes.items v.items) }
     ensures err { IfErr result (λ f. f ≢ OutOfMemory → IsFault source.now.bytes.items f) }
-{
-    let bytes: &[u8] = &source.bytes;
-    if bytes.len() > LIMIT {
-        return Err(LexFault::TooLong);
-    }
-    match str::from_utf8(bytes) {
-        Err(fault) => Err(LexFault::NotUtf8(fault.valid_up_to() as u32)),
-        Ok(text) => {
-            if let Some(at) = bytes.iter().position(|byte| *byte == 0) {
-                return Err(LexFault::Nul(at as u32));
-            }
-            lex_text(alloc, text)
-        }
-    }
-}
 
-/// A law, with nothing to run: a text that has tokens has no fault.
-pub fn one_outcome()
-    ensures { OneOutcome }
-{}
+    // So a source that has tokens gives just these, and one that has a fault gives just that, want of memory aside.
+    ensures tokens { (ts : List Token) → IsTokens source.now.bytes.items ts → IfOk result (λ v. v.items ≡ ts) × IfErr result (λ f. f ≡ OutOfMemory) }
+    ensures fault { (g : LexFault) → IsFault source.now.bytes.items g → IsErr result × IfErr result (λ f. f ≢ OutOfMemory → f ≡ g) }
+{
+    lex_bytes(alloc, &source.bytes)
+}

@@ -3,7 +3,7 @@
 
 ghost use Rattle.std.specs.Prelude.{◌≡◌, ◌++◌, ◌≤◌, ◌<◌, ◌↔◌, length, List, All, IfOk, OnOk, IfNone, IfSome, IsTrue};
 ghost use Rattle.lexer.specs.Semicolons.{ends_statement, semicolon, tokens_at, due_behind};
-ghost use Rattle.lexer.specs.Tokens.{IsTokens, IsPlain, OneTokenList};
+ghost use Rattle.lexer.specs.Tokens.{IsTokens, IsPlain};
 ghost use Rattle.lexer.specs.declared.token.Token.{Token};
 
 use crate::pieces::{Shape, next_piece};
@@ -128,8 +128,3 @@ pub fn plain(alloc: Global, source: &Source) -> Result<Option<Vec<Token>>, Alloc
 {
     tokens_of(alloc, &source.bytes)
 }
-
-/// A law, with nothing to run: a text has at most one list of tokens.
-pub fn one_cut()
-    ensures { OneTokenList }
-{}

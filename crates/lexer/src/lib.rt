@@ -6,6 +6,7 @@
 
 pub mod fault;
 mod full;
+mod laws;
 mod lexing;
 mod operators;
 mod pieces;
@@ -15,8 +16,9 @@ pub mod token;
 mod words;
 
 pub use fault::LexFault;
-pub use full::{lex, one_outcome};
-pub use lexing::{one_cut, plain};
+pub use full::lex;
+pub use laws::{one_cut, one_fault, one_outcome, one_token_list};
+pub use lexing::plain;
 pub use position::place;
 pub use source::{Place, Source};
 pub use token::{Token, TokenKind};

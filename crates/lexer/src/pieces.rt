@@ -41,7 +41,7 @@ pub fn byte_at(text: &[u8], at: usize) -> u8
 }
 
 /// Whether `byte` is an ASCII letter or `_`.
-fn is_letter(byte: u8) -> bool
+pub fn is_letter(byte: u8) -> bool
     ensures { result ≡ is_ascii_letter byte }
 {
     byte.is_ascii_alphabetic() || byte == b'_'
@@ -111,7 +111,7 @@ fn goes_on(hexadecimal: bool, previous: u8, byte: u8) -> bool
 }
 
 /// The size of the word at the start of a text, whose first byte is a letter.
-fn word_size(text: &[u8]) -> usize
+pub fn word_size(text: &[u8]) -> usize
     requires { 0 < length text.now }
     ensures in_range { result ≤ length text.now }
     ensures nonempty { 0 < result }

@@ -1,21 +1,30 @@
-use crate::{LexFault, Place, Source, lex, place, plain};
-use std::alloc::Global;
+//! Texts with the tokens and faults that are expected of them: no proof sees whether the definitions say what is meant.
+
+mod faults;
+mod memory;
+mod places;
+mod spellings;
+mod tokens;
+
+use crate::{LexFault, Source, Token, lex, plain};
+use std::alloc::{AllocError, Global};
+use std::process::Abort;
 use std::test::Fail;
 
-fn source(alloc: Global, text: &str) -> Result<Source, Fail> {
+/// A source of these bytes.
+fn source(alloc: Global, bytes: &[u8]) -> Result<Source, AllocError> {
     Ok(Source {
         name: String::from_str(alloc, "a.go")?,
-        bytes: Vec::from_slice(alloc, text.as_bytes())?,
+        bytes: Vec::from_slice(alloc, bytes)?,
     })
 }
 
-/// The tokens as `KIND start-end`, or `none`.
-fn shown(alloc: Global, text: &str) -> Result<String, Fail> {
-    let text = source(alloc, text)?;
+/// The tokens as `KIND start-end;`, or the fault.
+fn shown(alloc: Global, found: Result<Vec<Token>, LexFault>) -> Result<String, Fail> {
     let mut shown = String::new(alloc);
-    match plain(alloc, &text)? {
-        None => shown.push_str("none")?,
-        Some(tokens) => {
+    match found {
+        Err(fault) => write!(shown, "{fault:?}")?,
+        Ok(tokens) => {
             for token in &tokens {
                 let kind = token.kind;
                 let start = token.start;
@@ -27,109 +36,34 @@ fn shown(alloc: Global, text: &str) -> Result<String, Fail> {
     Ok(shown)
 }
 
-#[test]
-fn cuts_tokens(rt: HostRuntime) -> Result<(), Fail> {
+/// Expects of `lex` that it gives for a text what is wanted.
+fn expect(rt: &(impl AllocGlobal + Abort), text: &[u8], wanted: &str) -> Result<(), Fail> {
     let alloc = rt.alloc();
-    for (text, wanted) in [
-        ("", ""),
-        (
-            "1e+2+x",
-            "Number 0-4;Plus 4-5;Identifier 5-6;Semicolon 6-6;",
-        ),
-        ("0x1e+2", "Number 0-4;Plus 4-5;Number 5-6;Semicolon 6-6;"),
-        (
-            "a&^=b",
-            "Identifier 0-1;AndNotAssign 1-4;Identifier 4-5;Semicolon 5-5;",
-        ),
-        ("x\r\n+\r\n", "Identifier 0-1;Semicolon 1-1;Plus 3-4;"),
-        (
-            "return  \n}",
-            "ReturnKeyword 0-6;Semicolon 6-6;RightBrace 9-10;Semicolon 10-10;",
-        ),
-        (
-            "x...5",
-            "Identifier 0-1;Ellipsis 1-4;Number 4-5;Semicolon 5-5;",
-        ),
-        ("x..5", "Identifier 0-1;Dot 1-2;Number 2-4;Semicolon 4-4;"),
-        ("\"a\\\"b\"", "Text 0-6;Semicolon 6-6;"),
-        ("`a\n\\`'\\''", "RawText 0-5;Rune 5-9;Semicolon 9-9;"),
-        ("\"a\\\n\"", "none"),
-        ("x // c", "none"),
-        ("x /* a", "none"),
-        ("\u{e9}", "none"),
-        ("#", "none"),
-        ("`", "none"),
-    ] {
-        let shown = shown(alloc, text)?;
-        assert_eq!(rt; shown.as_str(), wanted, "at {text:?}");
+    let found = shown(alloc, lex(alloc, &source(alloc, text)?))?;
+    let start = text[..text.len().min(40)].escape_ascii();
+    assert_eq!(rt; found.as_str(), wanted, "at {start}");
+    Ok(())
+}
+
+/// Expects of a plain text that `lex` and `plain` give the tokens that are wanted.
+fn expect_plain(rt: &(impl AllocGlobal + Abort), text: &str, wanted: &str) -> Result<(), Fail> {
+    expect(rt, text.as_bytes(), wanted)?;
+    let alloc = rt.alloc();
+    let found = plain(alloc, &source(alloc, text.as_bytes())?)?;
+    assert!(rt; found.is_some(), "at {text:?}");
+    if let Some(tokens) = found {
+        let found = shown(alloc, Ok(tokens))?;
+        assert_eq!(rt; found.as_str(), wanted, "at {text:?}");
     }
     Ok(())
 }
 
-#[test]
-fn counts_lines(rt: HostRuntime) -> Result<(), Fail> {
-    let text = source(rt.alloc(), "ab\n\ncd")?;
-    for (offset, line, column) in [(0, 1, 1), (2, 1, 3), (3, 2, 1), (4, 3, 1), (6, 3, 3)] {
-        assert!(rt; offset <= text.bytes.len());
-        assert_eq!(rt; place(&text, offset), Place { line, column });
-    }
-    Ok(())
-}
-
-#[test]
-fn cuts_any_text(rt: HostRuntime) -> Result<(), Fail> {
+/// Expects of a text that is not plain that `lex` alone gives what is wanted.
+fn expect_other(rt: &(impl AllocGlobal + Abort), text: &[u8], wanted: &str) -> Result<(), Fail> {
+    expect(rt, text, wanted)?;
     let alloc = rt.alloc();
-    for (text, wanted) in [
-        (
-            "x /* a\nb */ y",
-            "Identifier 0-1;Semicolon 1-1;Identifier 12-13;Semicolon 13-13;",
-        ),
-        (
-            "x /* a */ y // c",
-            "Identifier 0-1;Identifier 10-11;Semicolon 11-11;",
-        ),
-        (
-            "\u{feff}\u{e9}\u{660}=1",
-            "Identifier 3-7;Assign 7-8;Number 8-9;Semicolon 9-9;",
-        ),
-        ("/*/ */", ""),
-    ] {
-        let mut shown = String::new(alloc);
-        for token in &lex(alloc, &source(alloc, text)?)? {
-            let kind = token.kind;
-            let start = token.start;
-            let end = token.end;
-            write!(shown, "{kind:?} {start}-{end};")?;
-        }
-        assert_eq!(rt; shown.as_str(), wanted, "at {text:?}");
-    }
-    Ok(())
-}
-
-#[test]
-fn finds_faults(rt: HostRuntime) -> Result<(), Fail> {
-    let alloc = rt.alloc();
-    for (text, wanted) in [
-        ("a \"b\\\n\"", LexFault::UnclosedString(2)),
-        ("a `b", LexFault::UnclosedString(2)),
-        ("a /*/", LexFault::UnclosedComment(2)),
-        ("'a", LexFault::UnclosedRune(0)),
-        ("a\u{feff}", LexFault::UnknownCharacter(1)),
-        ("\u{feff}\u{feff}", LexFault::UnknownCharacter(3)),
-        ("\"\0", LexFault::Nul(1)),
-    ] {
-        let found = lex(alloc, &source(alloc, text)?);
-        assert!(rt; found.is_err(), "at {text:?}");
-        if let Err(fault) = found {
-            assert_eq!(rt; fault, wanted, "at {text:?}");
-        }
-    }
-    let broken = Source {
-        name: String::new(alloc),
-        bytes: Vec::from_slice(alloc, b"a\xc3(")?,
-    };
-    if let Err(fault) = lex(alloc, &broken) {
-        assert_eq!(rt; fault, LexFault::NotUtf8(1));
-    }
+    let found = plain(alloc, &source(alloc, text)?)?;
+    let start = text[..text.len().min(40)].escape_ascii();
+    assert!(rt; found.is_none(), "at {start}");
     Ok(())
 }

@@ -1,7 +1,7 @@
 -- What is known of a cancel variable after a list of events: it is unset, or open (it holds a cancel
 -- function that was not called), or safe (its function was called, or its call is saved for the return).
 -- Each variable runs by itself. (The documentation of package context: the cancel function must be called.)
-use Rattle.std.specs.Prelude.{ℕ, if◌then◌else◌, List, [], ◌∷◌}
+use Rattle.std.specs.Prelude.{if◌then◌else◌, List, [], ◌∷◌}
 use Rattle.meaning.specs.Scopes.{Local, same_local}
 use Rattle.meaning.specs.Code.{Event, other, obtains, calls, defers_call, returns_here, Occurrence}
 

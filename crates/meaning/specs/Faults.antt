@@ -5,7 +5,7 @@
 --  - A variable may not have been called at a return where some list of events reaches the return with
 --    the variable open. Falling off the end is a return at the body's last brace.
 -- (The documentation of package context: the cancel function must be called on all paths.)
-use Rattle.std.specs.Prelude.{◌≡◌, ℕ, ◌≤◌, IsTrue, List, length, Contains, slice_get, Some, codes}
+use Rattle.std.specs.Prelude.{◌≡◌, ℕ, ◌≤◌, IsTrue, List, length, Contains, slice_get, Some}
 use Rattle.tree.specs.Syntax.{Function, SourceFile}
 use Rattle.meaning.specs.Scopes.{is_blank, Local, same_local, locals_of}
 use Rattle.meaning.specs.Code.{obtains, returns_here, Occurrence, Binding, bindings_in, cancels_of, body_code}

@@ -4,7 +4,7 @@
 -- and no comment or character past ASCII. And: no two functions have one name; no name but `_` is declared
 -- twice in a function; nothing is called `context`, `panic` or `recover`, and the last two are not used;
 -- a local is used only in its scope; and the second name of a binding only as `c()` and `defer c()`.
-use Rattle.std.specs.Prelude.{◌≡◌, ◌≢◌, ℕ, ◌≤◌, ◌<◌, Bool, true, false, if◌then◌else◌, List, [], ◌∷◌, ◌++◌, map, Contains, codes}
+use Rattle.std.specs.Prelude.{◌≡◌, ◌≢◌, ℕ, ◌≤◌, ◌<◌, false, if◌then◌else◌, List, [], ◌∷◌, ◌++◌, map, Contains, codes}
 use Rattle.lexer.specs.Tokens.{IsPlain}
 use Rattle.tree.specs.Syntax.{Identifier, Expression, name_expression, selector_expression, call_expression, Expressions, no_expression, expression_and, Statement, define_statement, expression_statement, defer_statement, if_statement, block_statement, return_statement, Otherwise, no_else, else_block, Statements, no_statement, statement_and, Parameter, Function, ImportDeclaration, SourceFile}
 use Rattle.meaning.specs.Grammar.{IsTreeOf}

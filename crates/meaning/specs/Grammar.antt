@@ -3,7 +3,7 @@
 -- missing, empty statements and trailing commas leave nothing in the tree. A semicolon may be missing
 -- before `}`. (The Go specification, "Source file organization", "Function declarations",
 -- "Blocks", "Statements", "Calls", "Selectors"; the forms of the first path.)
-use Rattle.std.specs.Prelude.{◌≡◌, ℕ, ◌-◌, ◌+◌, ◌≤◌, ◌⊎◌, List, [], ◌∷◌, ◌++◌, slice_range}
+use Rattle.std.specs.Prelude.{◌≡◌, ℕ, ◌-◌, ◌+◌, ◌≤◌, ◌⊎◌, List, [], ◌∷◌, slice_range}
 use Rattle.lexer.specs.declared.token.Token.{Token}
 use Rattle.lexer.specs.declared.token.TokenKind.{TokenKind}
 use Rattle.lexer.specs.declared.token.TokenKind.TheVariants.{Identifier as identifier_kind, Text, PackageKeyword, ImportKeyword, FuncKeyword, DeferKeyword, IfKeyword, ElseKeyword, ReturnKeyword, Define, LeftParenthesis, RightParenthesis, LeftBrace, RightBrace, Comma, Semicolon, Dot}

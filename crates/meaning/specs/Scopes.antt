@@ -6,7 +6,7 @@
 -- "Blank identifier", "Short variable declarations".)
 use Rattle.std.specs.Prelude.{ℕ, ◌+◌, Bool, true, false, ◌&&◌, nat_lt, nat_le, ◌==◌, if◌then◌else◌, List, [], ◌∷◌, ◌++◌, map, Option, Some, None}
 use Rattle.tree.specs.declared.span.Span.{Span}
-use Rattle.tree.specs.Syntax.{Identifier, Expression, name_expression, selector_expression, call_expression, Expressions, no_expression, expression_and, Statement, define_statement, expression_statement, defer_statement, if_statement, block_statement, return_statement, Otherwise, no_else, else_block, Statements, no_statement, statement_and, Parameter, Function}
+use Rattle.tree.specs.Syntax.{Identifier, Statement, define_statement, expression_statement, defer_statement, if_statement, block_statement, return_statement, Otherwise, no_else, else_block, Statements, no_statement, statement_and, Parameter, Function}
 
 -- two texts are the same
 abbrev pub same_text : List ℕ → List ℕ → Bool

@@ -6,8 +6,8 @@
 use Rattle.std.specs.Prelude.{◌≡◌, ◌≢◌, ℕ, Bool, List, [], ◌∷◌, Option, Some, None}
 use Rattle.tree.specs.Syntax.{Function}
 use Rattle.meaning.specs.Scopes.{Local}
-use Rattle.meaning.specs.Code.{Event, other, obtains, calls, defers_call, returns_here, Occurrence, Way, Code, skip, does, leave, then_code, either, repeats, up_to, body_code}
-use Rattle.meaning.specs.World.{ContextState, Stage, runs, exits, Value, Saved, saved_call, Frame, World, put_at, with_stack, Ends, CallOf, held, IsEarlier, made, obtaining, empty_world}
+use Rattle.meaning.specs.Code.{other, obtains, calls, defers_call, returns_here, Occurrence, Way, Code, skip, does, leave, then_code, either, repeats, up_to, body_code}
+use Rattle.meaning.specs.World.{ContextState, runs, exits, Value, Saved, saved_call, Frame, World, put_at, with_stack, Ends, CallOf, held, IsEarlier, made, obtaining, empty_world}
 
 -- Code goes on by one event, or by none, to what is left of it.
 pub data Moves : Code → Option Occurrence → Code → Type 0 where

@@ -25,8 +25,8 @@ on_path text tokens file sound plain cut read names =
 
 -- and the tree of a text on the path is read
 pub read_again : (text : List ℕ) (tokens : List Token) (file : SourceFile) → IsComplete → IsOneCut → IsTokens text tokens → IsOnPath text file → file_at text tokens ≡ Some file
-read_again text tokens file complete one_cut cut path =
-    subst (λ (ts : List Token). file_at text ts ≡ Some file) (one_cut text path.tree.tokens tokens path.tree.cut cut) (complete text path.tree.tokens file path.tree.spelled path.tree.shallow path.shape)
+read_again text tokens file complete one_token_list cut path =
+    subst (λ (ts : List Token). file_at text ts ≡ Some file) (one_token_list text path.tree.tokens tokens path.tree.cut cut) (complete text path.tree.tokens file path.tree.spelled path.tree.shallow path.shape)
 
 pub not_both : {A : Type 0} (o : Option A) (x : A) → o ≡ None → o ≡ Some x → ⊥
 not_both o x none some =

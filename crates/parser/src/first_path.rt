@@ -7,7 +7,7 @@ ghost use Rattle.meaning.specs.FirstPath.{IsOnPath};
 
 use crate::declarations::read_file;
 use crate::stop::Stop;
-use lexer::{Source, one_cut, plain};
+use lexer::{Source, one_token_list, plain};
 use path::has_path_names;
 use reader::{reads_all_that_is_spelled, reads_what_is_spelled};
 use std::alloc::{AllocError, Global};
@@ -21,7 +21,7 @@ pub fn first(alloc: Global, source: &Source) -> Result<Option<File>, AllocError>
     ensures only { (file : SourceFile) → IsOnPath source.now.bytes.items file → IfOk result (λ o. IsSomeAnd o (λ f. file_syntax f ≡ file)) }
 {
     // The laws that the proof rests on; they run nothing.
-    one_cut();
+    one_token_list();
     reads_what_is_spelled();
     reads_all_that_is_spelled();
     let Some(tokens) = plain(alloc, source)? else {

@@ -9,8 +9,9 @@ use Rattle.meaning.specs.Code.{Binding, through_import, maker_of, bound_from, bi
 use Rattle.meaning.specs.FirstPath.{Mention, IsPair, IsMaker, IsOneMaker, IsPathStatement, ArePathStatements, IsPathElse, mentions_of, local_text, reserved_names, unused_names, NoneAmong, AreDistinct, HasPathNames}
 use Rattle.path.specs.Gathered.{Scope, scope_of, scopes_of, second_text, seconds_at, seconds_in, seconds_in_else}
 use Rattle.path.specs.Rules.{scope_text, KeepsRules}
-use Rattle.path.proofs.Texts.{same_text-Decides, apart_first}
-use Rattle.path.proofs.Elements.{contains_map, contains_unmap}
+use Rattle.meaning.proofs.Membership.{contains_map, contains_unmap}
+use Rattle.meaning.proofs.SameNames.{same_text_of}
+use Rattle.path.proofs.Texts.{apart_first}
 
 -- no local has a name that nothing may have
 abbrev pub AreFree : List Local → Type 0
@@ -27,7 +28,7 @@ declaration_none (d ∷ ds) n free is =
 
 maker_found : (ds : List Local) (n m : Identifier) → AreFree ds → n.text ≡ codes "context" → m.text ≡ codes "WithCancel" → cond (same_text n.text (codes "context") && same_text m.text (codes "WithCancel")) (through_import (declaration_of ds n) m.text) None ≡ Some m.text
 maker_found ds n m free is named =
-    (λ i. cond ((same_text-Decides n.text (codes "context")).1 is i && (same_text-Decides m.text (codes "WithCancel")).1 named i) (through_import (declaration_none ds n free is i) m.text) None)
+    (λ i. cond (same_text_of n.text (codes "context") is i && same_text_of m.text (codes "WithCancel") named i) (through_import (declaration_none ds n free is i) m.text) None)
 
 maker_of_path : (ds : List Local) (e : Expression) → AreFree ds → IsMaker e → (m : List ℕ) × (maker_of ds e ≡ Some m)
 maker_of_path ds (call_expression (selector_expression (name_expression n) m) (expression_and (name_expression a) no_expression) span) free h = (m.text, maker_found ds n m free h.0 h.1)

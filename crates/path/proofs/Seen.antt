@@ -8,7 +8,7 @@ use Rattle.std.proofs.lemmas.List.Sorted.{list_any-IsPermutation}
 use Rattle.meaning.specs.Scopes.{same_text, is_among}
 use Rattle.meaning.specs.FirstPath.{AreDistinct}
 use Rattle.path.specs.Rules.{text_now}
-use Rattle.path.proofs.Texts.{same_text_is, is_among-swap, or_is_cond, distinct_before}
+use Rattle.path.proofs.Texts.{same_text_as_bytes, is_among-swap, or_is_cond, distinct_before}
 
 -- the texts of the first turns
 abbrev pub texts_before : List (Bor (List ℕ)) → ℕ → List (List ℕ)
@@ -26,7 +26,7 @@ texts_all texts i d h =
 pub seen_more : (old new : List (Bor (List ℕ))) (k : Bor (List ℕ)) (texts : List (List ℕ)) → IsPermutation (k ∷ old) new → ((t : Bor (List ℕ)) → list_any (λ x. bytes_eq t.now x.now) old ≡ is_among t.now texts) → (t : Bor (List ℕ)) → list_any (λ x. bytes_eq t.now x.now) new ≡ is_among t.now (texts ++ (k.now ∷ []))
 seen_more old new k texts same h t =
     sym (list_any-IsPermutation (λ x. bytes_eq t.now x.now) (k ∷ old) new same)
-    ∙ (λ i. sym (same_text_is t.now k.now) i || h t i)
+    ∙ (λ i. sym (same_text_as_bytes t.now k.now) i || h t i)
     ∙ sym (or_is_cond (same_text t.now k.now) (is_among t.now texts))
     ∙ is_among-swap t.now (k.now ∷ []) texts
 

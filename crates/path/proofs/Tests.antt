@@ -4,23 +4,15 @@ use Rattle.std.specs.Prelude.{Contains}
 use Rattle.std.specs.List.{list_all}
 use Rattle.std.proofs.lemmas.List.Elements.{All-contains, All-weaker, All-contains_itself}
 use Rattle.std.proofs.lemmas.List.Sums.{AllPass-from_list_all, list_all-from_AllPass}
-use Rattle.std.proofs.lemmas.Bool.{false≢true, leb-true, le-leb}
+use Rattle.std.proofs.lemmas.Bool.{false≢true, leb-true, le-leb, and_parts, and_from}
 use Rattle.std.proofs.lemmas.Bool.Decides.{Decides-and, Decides-ltb}
-use Rattle.path.proofs.Texts.{same_text-Decides}
+use Rattle.meaning.proofs.SameNames.{same_text_is, same_text_of}
 use Rattle.path.proofs.Elements.{among_from_contains, contains_from_among}
 use Rattle.tree.specs.Syntax.{Identifier}
 use Rattle.path.specs.Gathered.{Scope}
 use Rattle.path.specs.Rules.{MayDeclare, scope_text, none_of, allows, is_allowed, all_allowed, may_use, all_may_use, KeepsRules}
 use Rattle.meaning.specs.Scopes.{same_text, is_blank, is_among}
 use Rattle.meaning.specs.FirstPath.{Use, is_called, is_deferred, is_used, Mention, mention_text, AreDistinct, NoneAmong, reserved_names, unused_names}
-
-both_true : (a b : Bool) → (a && b) ≡ true → (a ≡ true) × (b ≡ true)
-both_true true true e = (refl, refl)
-both_true true false e = cc
-both_true false b e = cc
-
-and_true : (a b : Bool) → a ≡ true → b ≡ true → (a && b) ≡ true
-and_true a b e f = λ i. e i && f i
 
 not_true : (a : Bool) → not a ≡ true → a ≡ false
 not_true true e = cc
@@ -34,8 +26,8 @@ pub none_among : (forbidden ts : List (List ℕ)) → (none_of forbidden ts ≡ 
 none_among forbidden [] = (λ e. tt, λ e. refl)
 none_among forbidden (t ∷ ts) =
     let rest = none_among forbidden ts in (
-      λ e. let h = both_true (not (is_among t forbidden)) (none_of forbidden ts) e in (not_true (is_among t forbidden) h.0, rest.0 h.1),
-      λ h. and_true (not (is_among t forbidden)) (none_of forbidden ts) (true_of_false (is_among t forbidden) h.0) (rest.1 h.1),
+      λ e. let h = and_parts (not (is_among t forbidden)) (none_of forbidden ts) e in (not_true (is_among t forbidden) h.0, rest.0 h.1),
+      λ h. and_from (not (is_among t forbidden)) (none_of forbidden ts) (true_of_false (is_among t forbidden) h.0) (rest.1 h.1),
     )
 
 -- a test of each element
@@ -54,8 +46,7 @@ nat_le-Decides a b = (leb-true a b, le-leb a b)
 
 pub allows-Decides : (d : Scope) (n : Identifier) → Decides (allows d n) (n.text ≡ d.text → (d.from ≤ n.span.start) × (n.span.start < d.to))
 allows-Decides d n =
-    let same = same_text-Decides d.text n.text in
-    let swapped : Decides (same_text d.text n.text) (n.text ≡ d.text) = (λ e. sym (same.0 e), λ e. same.1 (sym e)) in
+    let swapped : Decides (same_text d.text n.text) (n.text ≡ d.text) = (λ e. sym (same_text_is d.text n.text e), λ e. same_text_of d.text n.text (sym e)) in
     unless-Decides (same_text d.text n.text) (nat_le d.from n.span.start && nat_lt n.span.start d.to) swapped (Decides-and (nat_le d.from n.span.start) (nat_lt n.span.start d.to) (nat_le-Decides d.from n.span.start) (Decides-ltb n.span.start d.to))
 
 unused_fits : (blank among : Bool) → (blank ≡ false → among ≡ true → ⊥) → (blank || not among) ≡ true
@@ -83,8 +74,8 @@ keeps_rules scopes mentions seconds declared =
     let allowed : Mention → Bool = λ m. is_allowed scopes m.name in
     let fits : Mention → Bool = λ m. may_use seconds m.use_as m.name.text in (
       λ e.
-          let last = both_true (none_of unused_names (map mention_text mentions) && all_allowed scopes mentions) (all_may_use seconds mentions) e in
-          let first = both_true (none_of unused_names (map mention_text mentions)) (all_allowed scopes mentions) last.0 in
+          let last = and_parts (none_of unused_names (map mention_text mentions) && all_allowed scopes mentions) (all_may_use seconds mentions) e in
+          let first = and_parts (none_of unused_names (map mention_text mentions)) (all_allowed scopes mentions) last.0 in
           record {
             declared = declared;
             unused = unused.0 first.0;
@@ -94,7 +85,7 @@ keeps_rules scopes mentions seconds declared =
       λ h.
           let covered = list_all-from_Contains allowed mentions (λ m has_m. list_all-from_Contains (λ x. allows x m.name) scopes (λ d has_d. (allows-Decides d m.name).1 (h.covered m d has_m has_d))) in
           let called = list_all-from_Contains fits mentions (λ m has_m. (may_use-Decides seconds m.use_as m.name.text).1 (λ t. h.only_called m t has_m)) in
-          and_true _ _ (and_true _ _ (unused.1 h.unused) covered) called,
+          and_from _ _ (and_from _ _ (unused.1 h.unused) covered) called,
     )
 
 -- of distinct texts

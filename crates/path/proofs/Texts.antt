@@ -1,17 +1,17 @@
 -- Tests of texts, and of lists of texts.
-use Rattle.std.proofs.Common.{◌≡◌, ℕ, ◌==◌, ◌&&◌, ◌||◌, Bool, true, false, cond, List, [], ◌∷◌, ◌++◌, map, refl, sym, ap, ◌∙◌, Decides}
+use Rattle.std.proofs.Common.{◌≡◌, ℕ, ◌==◌, ◌&&◌, ◌||◌, Bool, true, false, cond, List, [], ◌∷◌, ◌++◌, map, refl, sym, ap, ◌∙◌}
 use Rattle.std.specs.Str.{bytes_eq}
 use Rattle.std.specs.List.{list_any}
-use Rattle.std.proofs.lemmas.Slice.Eq.{bytes_eq-Decides}
 use Rattle.std.proofs.lemmas.Bool.Decides.{same_from_decides}
 use Rattle.meaning.specs.Scopes.{same_text, is_among}
 use Rattle.meaning.specs.FirstPath.{AreDistinct}
+use Rattle.meaning.proofs.SameNames.{same_text_is, same_text_of}
 
-pub same_text_is : (a b : List ℕ) → same_text a b ≡ bytes_eq a b
-same_text_is [] [] = refl
-same_text_is [] (y ∷ ys) = refl
-same_text_is (x ∷ xs) [] = refl
-same_text_is (x ∷ xs) (y ∷ ys) = ap (λ b. (x == y) && b) (same_text_is xs ys)
+pub same_text_as_bytes : (a b : List ℕ) → same_text a b ≡ bytes_eq a b
+same_text_as_bytes [] [] = refl
+same_text_as_bytes [] (y ∷ ys) = refl
+same_text_as_bytes (x ∷ xs) [] = refl
+same_text_as_bytes (x ∷ xs) (y ∷ ys) = ap (λ b. (x == y) && b) (same_text_as_bytes xs ys)
 
 pub or_is_cond : (a b : Bool) → cond a true b ≡ (a || b)
 or_is_cond true b = refl
@@ -21,7 +21,7 @@ or_is_cond false b = refl
 pub is_among_any : {X : Type 0} (f : X → List ℕ) (t : List ℕ) (xs : List X) → is_among t (map f xs) ≡ list_any (λ x. bytes_eq t (f x)) xs
 is_among_any f t [] = refl
 is_among_any f t (x ∷ xs) =
-    or_is_cond (same_text t (f x)) (is_among t (map f xs)) ∙ (λ i. same_text_is t (f x) i || is_among_any f t xs i)
+    or_is_cond (same_text t (f x)) (is_among t (map f xs)) ∙ (λ i. same_text_as_bytes t (f x) i || is_among_any f t xs i)
 
 or_true : (a : Bool) → (a || true) ≡ true
 or_true true = refl
@@ -45,16 +45,9 @@ or_swap false false = refl
 pub is_among-swap : (t : List ℕ) (xs ys : List (List ℕ)) → is_among t (xs ++ ys) ≡ is_among t (ys ++ xs)
 is_among-swap t xs ys = is_among-append t xs ys ∙ or_swap (is_among t xs) (is_among t ys) ∙ sym (is_among-append t ys xs)
 
-pub same_text-Decides : (a b : List ℕ) → Decides (same_text a b) (a ≡ b)
-same_text-Decides a b =
-    let d = bytes_eq-Decides a b in
-    (λ e. d.0 (sym (same_text_is a b) ∙ e), λ e. same_text_is a b ∙ d.1 e)
-
 pub same_text-swap : (a b : List ℕ) → same_text a b ≡ same_text b a
 same_text-swap a b =
-    let d = same_text-Decides a b in
-    let e = same_text-Decides b a in
-    same_from_decides (same_text a b) (same_text b a) d (λ h. sym (e.0 h), λ h. e.1 (sym h))
+    same_from_decides (same_text a b) (same_text b a) (same_text_is a b, same_text_of a b) (λ h. sym (same_text_is b a h), λ h. same_text_of b a (sym h))
 
 first_false : (a b : Bool) → (a || b) ≡ false → a ≡ false
 first_false true b e = e

@@ -6,11 +6,11 @@ use Rattle.lexer.specs.declared.token.TokenKind.TheVariants.{FuncKeyword}
 use Rattle.tree.specs.declared.span.Span.{Span}
 use Rattle.tree.specs.Syntax.{Identifier, Statements, Function, ImportDeclaration, SourceFile}
 use Rattle.tree.specs.Depth.{statements_depth, function_depth, functions_depth, file_depth}
-use Rattle.meaning.specs.Scopes.{same_text}
 use Rattle.meaning.specs.Grammar.{Takes, InBraces, SpellsStatements, SpellsFunction, SpellsFunctions, SpellsImport, SpellsFile}
 use Rattle.meaning.specs.FirstPath.{HavePathTypes, ArePathStatements, ArePathFunctions, ImportsContext, HasPathShape}
 use Rattle.reader.specs.Reader.{with_function, behind_function, block_at, statement_at, function_at, functions_at, import_at, file_at}
-use Rattle.reader.proofs.Taken.{step, when_true, only_true, take_gives, take_any, begins_gives, name_gives, rest_gives, same_text-self, span_is}
+use Rattle.meaning.proofs.SameNames.{same_text_of}
+use Rattle.reader.proofs.Taken.{step, when_true, only_true, take_gives, take_any, begins_gives, name_gives, rest_gives, span_is}
 use Rattle.reader.proofs.Lengths.{any_shorter, function_shorter}
 use Rattle.reader.proofs.Nested.{block_gives, statement_gives}
 use Rattle.reader.proofs.Parameters.{parameters_give}
@@ -41,7 +41,7 @@ module _ (text : List ℕ) where
   unfolding import_at
   import_gives i tokens rest h s =
       let path : slice_range text (i.span.start + 1) (i.span.end - 1) ≡ codes "context" = sym s.3 ∙ h in
-      step _ (take_any s.1) (step _ (take_gives s.2) (only_true (ap (λ t. same_text t (codes "context")) path ∙ same_text-self (codes "context")) (λ k. Some (record { path = sym s.3 k; span = i.span }, rest))))
+      step _ (take_any s.1) (step _ (take_gives s.2) (only_true (same_text_of _ (codes "context") path) (λ k. Some (record { path = sym s.3 k; span = i.span }, rest))))
 
   parts_give : (package_name : Identifier) (is : List ImportDeclaration) (fs : List Function) (tokens : List Token) → ImportsContext is → ArePathFunctions fs → SpellsFile text (record { package_name = package_name; imports = is; functions = fs }) tokens → functions_depth fs ≤ 200 → file_at text tokens ≡ Some (record { package_name = package_name; imports = is; functions = fs })
   unfolding file_at

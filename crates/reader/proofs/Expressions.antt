@@ -12,7 +12,9 @@ use Rattle.meaning.specs.Grammar.{TakesAny, SpellsName, SpellsExpression, Spells
 use Rattle.meaning.specs.FirstPath.{AreNames, IsType, IsMaker, IsPlainCall, IsBareCall}
 use Rattle.reader.specs.Reading.{Read, begins_with, take}
 use Rattle.reader.specs.Reader.{names_as_expressions, rest_of, selected, name_of, name_at, more_names_at, arguments_at, call_at, bare_call_at, past_comma, maker_at, type_at}
-use Rattle.reader.proofs.Steps.{given, chosen, by_test, first_taken, only_if_some, both_true, same_text-true, take_sound, take_any, begins_sound}
+use Rattle.std.proofs.lemmas.Bool.{and_parts}
+use Rattle.meaning.proofs.SameNames.{same_text_is}
+use Rattle.reader.proofs.Steps.{given, chosen, by_test, first_taken, only_if_some, take_sound, take_any, begins_sound}
 
 -- `e` is read, of a form and of a depth
 pub record IsRead (text : List ℕ) (form : Expression → Type 0) (depth : ℕ) (tokens : List Token) (e : Expression) (rest : List Token) : Type 0 where
@@ -97,16 +99,16 @@ module _ (text : List ℕ) where
       option_and_then_some _ (name_at text o.1) r o-then λ a a-read a-then.
       option_and_then_some _ (take RightParenthesis (past_comma text a.1)) r a-then λ c c-read c-then.
       let k = only_if_some _ _ r c-then in
-      let names = both_true (same_text q.0.text (codes "context")) (same_text f.0.text (codes "WithCancel")) k.0 in
-      given (λ (r : Expression × List Token). IsRead text IsMaker 3 tokens r.0 r.1) _ r k.1 (record { spelled = (f.1, o.1, past_comma text a.1, c.0.start, (q.1, d.1, name_sound tokens q q-read, take_any Dot q.1 d d-read, name_sound d.1 f f-read), take_any LeftParenthesis f.1 o o-read, (a.1, name_sound o.1 a a-read, past_comma_sound a.1), take_sound RightParenthesis (past_comma text a.1) c c-read, refl); formed = (same_text-true _ _ names.0, same_text-true _ _ names.1); shallow = omega arith })
+      let names = and_parts (same_text q.0.text (codes "context")) (same_text f.0.text (codes "WithCancel")) k.0 in
+      given (λ (r : Expression × List Token). IsRead text IsMaker 3 tokens r.0 r.1) _ r k.1 (record { spelled = (f.1, o.1, past_comma text a.1, c.0.start, (q.1, d.1, name_sound tokens q q-read, take_any Dot q.1 d d-read, name_sound d.1 f f-read), take_any LeftParenthesis f.1 o o-read, (a.1, name_sound o.1 a a-read, past_comma_sound a.1), take_sound RightParenthesis (past_comma text a.1) c c-read, refl); formed = (same_text_is _ _ names.0, same_text_is _ _ names.1); shallow = omega arith })
 
   -- a type of two names
   selected_sound : (m : Read Identifier) (n : Identifier) (tokens dot name : List Token) (r : Expression × List Token) → SpellsName text n tokens dot → TakesAny Dot dot name → ((x : Identifier × List Token) → m ≡ Some x → SpellsName text x.0 name x.1) → selected m n ≡ Some r → IsRead text IsType 2 tokens r.0 r.1
   selected_sound None n tokens dot name r h t s e = absurd (none-some r e)
   selected_sound (Some m) n tokens dot name r h t s e =
       let k = only_if_some _ _ r e in
-      let names = both_true (same_text n.text (codes "context")) (same_text m.0.text (codes "Context")) k.0 in
-      given (λ (r : Expression × List Token). IsRead text IsType 2 tokens r.0 r.1) _ r k.1 (record { spelled = (dot, name, h, t, s m refl); formed = (same_text-true _ _ names.0, same_text-true _ _ names.1); shallow = omega arith })
+      let names = and_parts (same_text n.text (codes "context")) (same_text m.0.text (codes "Context")) k.0 in
+      given (λ (r : Expression × List Token). IsRead text IsType 2 tokens r.0 r.1) _ r k.1 (record { spelled = (dot, name, h, t, s m refl); formed = (same_text_is _ _ names.0, same_text_is _ _ names.1); shallow = omega arith })
 
   pub type_sound : (tokens : List Token) (r : Expression × List Token) → type_at text tokens ≡ Some r → IsRead text IsType 2 tokens r.0 r.1
   unfolding type_at

@@ -11,7 +11,8 @@ use Rattle.meaning.specs.Grammar.{TakesAny, SpellsParameter, SpellsMoreParameter
 use Rattle.meaning.specs.FirstPath.{IsType, HavePathTypes, ArePathStatements, ArePathFunctions}
 use Rattle.reader.specs.Reading.{Read, begins_with, take}
 use Rattle.reader.specs.Reader.{rest_of, with_parameter, behind_parameter, with_function, behind_function, name_at, block_at, statement_at, type_at, parameter_at, more_parameters_at, parameters_at, function_at, functions_at, import_at}
-use Rattle.reader.proofs.Steps.{given, chosen, only_if_some, same_text-true, take_sound, take_any, begins_sound}
+use Rattle.meaning.proofs.SameNames.{same_text_is}
+use Rattle.reader.proofs.Steps.{given, chosen, only_if_some, take_sound, take_any, begins_sound}
 use Rattle.reader.proofs.Expressions.{name_sound, type_sound}
 use Rattle.reader.proofs.Blocks.{block_sound, statement_sound}
 
@@ -146,4 +147,4 @@ module _ (text : List ℕ) where
       option_and_then_some _ (take ImportKeyword tokens) r e λ word word-read word-then.
       option_and_then_some _ (take Text word.1) r word-then λ path path-read path-then.
       let k = only_if_some _ _ r path-then in
-      given (ReadsImport tokens) _ r k.1 (record { spelled = (word.1, take_any ImportKeyword tokens word word-read, take_sound Text word.1 path path-read, refl); formed = same_text-true _ _ k.0 })
+      given (ReadsImport tokens) _ r k.1 (record { spelled = (word.1, take_any ImportKeyword tokens word word-read, take_sound Text word.1 path path-read, refl); formed = same_text_is _ _ k.0 })

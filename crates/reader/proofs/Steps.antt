@@ -1,13 +1,11 @@
 -- What a step of the reader tells that gave something: which token it took, and which way it went.
-use Rattle.std.proofs.Common.{◌≡◌, ℕ, Bool, true, false, ◌&&◌, if◌then◌else◌, List, [], ◌∷◌, ◌⊎◌, inl, inr, refl, ap, subst}
-use Rattle.std.specs.Prelude.{Option, Some, ◌==◌}
+use Rattle.std.proofs.Common.{◌≡◌, Bool, true, false, if◌then◌else◌, List, [], ◌∷◌, ◌⊎◌, inl, inr, refl, ap, subst}
+use Rattle.std.specs.Prelude.{Option, Some}
 use Rattle.std.proofs.lemmas.Option.{none-some, same_Some, cond_some}
-use Rattle.std.proofs.lemmas.Bool.{eqb-true}
 use denote.Enum.Bare.{same_true}
 use Rattle.lexer.specs.contracts.token.TokenKind.{the_type}
 use Rattle.lexer.specs.declared.token.Token.{Token}
 use Rattle.lexer.specs.declared.token.TokenKind.{TokenKind}
-use Rattle.meaning.specs.Scopes.{same_text}
 use Rattle.meaning.specs.Grammar.{Takes, TakesAny}
 use Rattle.reader.specs.Reading.{same_kind, begins_with, take}
 use Rattle.reader.specs.Reader.{only_if, rest_of}
@@ -24,20 +22,6 @@ chosen false x y z e = inr (refl, e)
 pub only_if_some : {A : Type 0} (b : Bool) (o : Option A) (x : A) → only_if b o ≡ Some x → (b ≡ true) × (o ≡ Some x)
 only_if_some true o x e = (refl, e)
 only_if_some false o x e = absurd (none-some x e)
-
-pub both_true : (a b : Bool) → (a && b) ≡ true → (a ≡ true) × (b ≡ true)
-both_true true b e = (refl, e)
-both_true false b e = cc
-
-pub same_text-true : (a b : List ℕ) → same_text a b ≡ true → a ≡ b
-same_text-true [] [] e = refl
-same_text-true [] (y ∷ ys) e = cc
-same_text-true (x ∷ xs) [] e = cc
-same_text-true (x ∷ xs) (y ∷ ys) e =
-    let h = both_true (x == y) (same_text xs ys) e in
-    let first = eqb-true x y h.0 in
-    let others = same_text-true xs ys h.1 in
-    cc
 
 pub same_kind-true : (a b : TokenKind) → same_kind a b ≡ true → a ≡ b
 unfolding same_kind

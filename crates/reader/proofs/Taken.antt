@@ -1,7 +1,7 @@
 -- What the steps of the reader give at tokens that begin as the grammar says.
-use Rattle.std.proofs.Common.{◌≡◌, ℕ, Bool, true, false, List, [], ◌∷◌, Option, Some, refl, sym, ap, ◌∙◌}
+use Rattle.std.proofs.Common.{◌≡◌, ℕ, Bool, true, false, List, ◌∷◌, Option, Some, refl, sym, ap, ◌∙◌}
 use Rattle.std.specs.Prelude.{if◌then◌else◌, ◌&&◌}
-use Rattle.std.proofs.lemmas.Bool.{eq-eqb}
+use Rattle.std.proofs.lemmas.Bool.{and_from}
 use denote.Enum.Bare.{true_same}
 use Rattle.lexer.specs.contracts.token.TokenKind.{the_type}
 use Rattle.lexer.specs.declared.token.Token.{Token}
@@ -13,6 +13,7 @@ use Rattle.meaning.specs.Grammar.{Takes, TakesAny, SpellsName}
 use Rattle.reader.specs.Reading.{◌>>=◌, same_kind, begins_with, take}
 use Rattle.reader.specs.Reader.{name_of, name_at, only_if, rest_of}
 use Rattle.tree.specs.declared.span.Span.{Span}
+use Rattle.meaning.proofs.SameNames.{same_text_of}
 
 abbrev pub token_of : TokenKind → ℕ → ℕ → Token
 token_of kind start end = record { kind = kind; start = start; end = end }
@@ -50,10 +51,6 @@ begins_gives {kind = kind} e = ap (begins_with kind) e ∙ same_kind-self kind
 pub begins_other : {kind : TokenKind} (other : TokenKind) {start end : ℕ} {tokens rest : List Token} → Takes kind start end tokens rest → same_kind kind other ≡ false → begins_with other tokens ≡ false
 begins_other other e differ = ap (begins_with other) e ∙ differ
 
-pub same_text-self : (text : List ℕ) → same_text text text ≡ true
-same_text-self [] = refl
-same_text-self (x ∷ xs) = ap (λ b. b && same_text xs xs) (eq-eqb x x refl) ∙ same_text-self xs
-
 pub name_gives : (text : List ℕ) (n : Identifier) {tokens rest : List Token} → SpellsName text n tokens rest → name_at text tokens ≡ Some (n, rest)
 unfolding name_at
 name_gives text n {rest = rest} s = step _ (take_gives s.0) (λ i. Some (record { text = sym s.1 i; span = n.span }, rest))
@@ -65,7 +62,7 @@ pub rest_gives : {kind : TokenKind} {start end : ℕ} {tokens rest : List Token}
 rest_gives e = ap rest_of e
 
 pub both_same : (x y : List ℕ) {a b : List ℕ} → a ≡ x → b ≡ y → (same_text a x && same_text b y) ≡ true
-both_same x y {b = b} e f = ap (λ t. same_text t x && same_text b y) e ∙ (ap (λ c. c && same_text b y) (same_text-self x) ∙ (ap (λ t. same_text t y) f ∙ same_text-self y))
+both_same x y {a} {b} e f = and_from (same_text a x) (same_text b y) (same_text_of a x e) (same_text_of b y f)
 
 -- A span is its two ends.
 pub span_is : (span : Span) {start end : ℕ} → span.start ≡ start → span.end ≡ end → record { start = start; end = end } ≡ span

@@ -1,9 +1,9 @@
 -- Each list of a code can be done by its moves: no run is missing.
-use Rattle.std.proofs.Common.{◌≡◌, ◌≢◌, List, [], ◌∷◌, ◌++◌, Option, Some, None, refl, sym, ap, subst, append_assoc}
-use Rattle.meaning.specs.Code.{Occurrence, Way, Code, skip, does, leave, then_code, either, repeats, up_to}
+use Rattle.std.proofs.Common.{◌≡◌, ◌≢◌, List, ◌++◌, None, refl, sym, ap, subst}
+use Rattle.meaning.specs.Code.{Occurrence, Way, Code, skip, leave, then_code, repeats, up_to}
 use Rattle.meaning.specs.Lists.{Exit, stopped, falls, leaves, Lists, not_begun, skipped, done, just_done, left, ends_in_first, goes_on, in_first, in_second, ends_in_turn, turns_again, arrives, passes}
 use Rattle.meaning.specs.Steps.{Moves, happens, first_moves, first_is_done, first_leaves, picks_first, picks_second, turns, inside, gets_there, goes_past, gets_out}
-use Rattle.soundness.specs.Doings.{Does, stays, silently, by_event, IsLeft, CanDo}
+use Rattle.soundness.specs.Doings.{Does, stays, silently, by_event, CanDo}
 
 in_order : {c d e : Code} {t u : List Occurrence} → Does c t d → Does d u e → Does c (t ++ u) e
 in_order stays n = n

@@ -1,10 +1,9 @@
 -- The faults of the examples: each body that comes short of calls has its fault, where it stands.
-use Rattle.std.proofs.Common.{◌≡◌, ℕ, ◌≤◌, List, [], ◌∷◌, ◌++◌, length, refl, arith}
+use Rattle.std.proofs.Common.{ℕ, List, [], ◌∷◌, refl, arith}
 use Rattle.std.specs.Prelude.{codes}
-use Rattle.tree.specs.Syntax.{Function}
 use Rattle.meaning.specs.Scopes.{Local}
-use Rattle.meaning.specs.Code.{Event, other, obtains, calls, returns_here, Occurrence, cancels_of, body_code}
-use Rattle.meaning.specs.Lists.{Lists, not_begun, skipped, done, just_done, left, ends_in_first, goes_on, in_first, in_second}
+use Rattle.meaning.specs.Code.{Event, other, obtains, calls, returns_here, Occurrence}
+use Rattle.meaning.specs.Lists.{skipped, done, just_done, ends_in_first, goes_on, in_first, in_second}
 use Rattle.meaning.specs.Faults.{IsFaultOf, at_return, at_blank, not_called, discarded}
 use Rattle.soundness.specs.Examples.{missing, late_defer, one_branch, other_called, blank}
 use Rattle.soundness.proofs.Simulation.{stopped≢falls}

@@ -1,15 +1,14 @@
 -- A run of each example.
-use Rattle.std.proofs.Common.{◌≡◌, ℕ, ◌+◌, ◌⊎◌, inl, inr, subst, Bool, true, false, cond, eqb, List, [], ◌∷◌, ◌++◌, Option, Some, None, refl, sym, ap, ◌∙◌, arith}
+use Rattle.std.proofs.Common.{◌≡◌, ℕ, ◌⊎◌, inl, inr, subst, Bool, true, false, cond, eqb, List, [], ◌∷◌, Some, None, refl, sym, ap, ◌∙◌, arith}
 use Rattle.std.specs.List.{Contains}
-use Rattle.tree.specs.Syntax.{Function}
-use Rattle.meaning.specs.Scopes.{Local, locals_of}
-use Rattle.meaning.specs.Code.{Event, other, obtains, calls, defers_call, returns_here, Occurrence, Code, skip, does, then_code, cancels_of, body_code}
+use Rattle.meaning.specs.Scopes.{Local}
+use Rattle.meaning.specs.Code.{other, obtains, defers_call, returns_here, Occurrence, Code}
 use Rattle.std.proofs.lemmas.Bool.{cases_eq}
 use Rattle.soundness.proofs.Contexts.{put_at-same, put_at-other, below-same_parents}
-use Rattle.soundness.proofs.Membership.{Contains-cases, Contains-nil}
-use Rattle.meaning.specs.World.{cancel_function, Saved, saved_call, put_at, IsBelow, itself, made_from, ContextState, CancelState, Stage, runs, exits, Frame, World, with_stack, Ends, CallOf, of_cancel, held, made, obtaining}
-use Rattle.meaning.specs.Steps.{Moves, happens, first_moves, first_is_done, at_code, CanMove, Step, goes_on, passes, obtains_one, saves_one, comes_to_return, runs_saved, new_frame, start_of}
-use Rattle.meaning.specs.Runs.{Run, no_step, step_more, IsReturning, IsQuiet}
+use Rattle.meaning.proofs.Membership.{contains_cases, contains_nil}
+use Rattle.meaning.specs.World.{cancel_function, Saved, saved_call, put_at, IsBelow, itself, made_from, ContextState, CancelState, runs, exits, Frame, World, with_stack, Ends, of_cancel, held, made, obtaining}
+use Rattle.meaning.specs.Steps.{Moves, happens, first_moves, first_is_done, at_code, goes_on, passes, obtains_one, saves_one, comes_to_return, runs_saved, new_frame, start_of}
+use Rattle.meaning.specs.Runs.{Run, no_step, step_more}
 use Rattle.soundness.specs.Returns.{HasQuietReturn, HasLoudReturn}
 use Rattle.soundness.specs.Examples.{calling, missing}
 
@@ -89,11 +88,11 @@ no_parents b p e = fresh_parent (eqb b 0) p e
 
 -- the one owed function
 only_first : (a : ℕ) → Contains (0 ∷ []) a → a ≡ 0
-only_first a h = by_cases (Contains-cases 0 [] a h)
+only_first a h = by_cases (contains_cases 0 a [] h)
   where
     by_cases : (0 ≡ a) ⊎ Contains [] a → a ≡ 0
     by_cases (inl e) = sym e
-    by_cases (inr g) = absurd (Contains-nil a g)
+    by_cases (inr g) = absurd (contains_nil a g)
 
 all_done : (b : ℕ) → IsBelow (one_done fresh_contexts 0 no_parents) 0 b → (one_done fresh_contexts 0 no_parents b).ended ≡ true
 all_done b h =
@@ -111,7 +110,7 @@ loud_return =
     let r6 = silent _ _ _ _ _ r5 refl refl (first_moves first_is_done) in
     let r7 = silent _ _ _ _ _ r6 refl refl first_is_done in
     let r8 = returning_now _ _ _ _ _ _ r7 refl refl happens refl in
-    (_, _, record { run = r8; returning = record { goroutine = 0; others = []; running = refl; stage = refl; all_run = refl }; owed = 0; owes = ((0, omega arith, refl), Contains-nil 0) }, λ q. let bad : false ≡ true = q.called 0 ((0, omega arith, refl), Contains-nil 0) in cc)
+    (_, _, record { run = r8; returning = record { goroutine = 0; others = []; running = refl; stage = refl; all_run = refl }; owed = 0; owes = ((0, omega arith, refl), contains_nil 0) }, λ q. let bad : false ≡ true = q.called 0 ((0, omega arith, refl), contains_nil 0) in cc)
 
 -- the cancel functions of that world, behind the call
 abbrev called_one : ℕ → CancelState
@@ -132,4 +131,4 @@ quiet_return =
     let r9 = silent _ _ _ _ _ r8 refl refl first_is_done in
     let r10 = returning_now _ _ _ _ _ _ r9 refl refl happens refl in
     let r11 = running_saved _ _ _ _ _ (ends_alone _ 0 no_parents) r10 refl refl refl in
-    (_, _, record { run = r11; returning = record { goroutine = 0; others = []; running = refl; stage = refl; all_run = refl }; owed = 0; owes = ((0, omega arith, refl), Contains-nil 0) }, record { called = λ a h. ap (λ n. (called_one n).called) (only_first a h.0); ended = λ a b h below. all_done b (subst (λ n. IsBelow (one_done fresh_contexts 0 no_parents) (called_one n).context b) (only_first a h.0) below) })
+    (_, _, record { run = r11; returning = record { goroutine = 0; others = []; running = refl; stage = refl; all_run = refl }; owed = 0; owes = ((0, omega arith, refl), contains_nil 0) }, record { called = λ a h. ap (λ n. (called_one n).called) (only_first a h.0); ended = λ a b h below. all_done b (subst (λ n. IsBelow (one_done fresh_contexts 0 no_parents) (called_one n).context b) (only_first a h.0) below) })

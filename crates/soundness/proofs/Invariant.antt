@@ -1,20 +1,21 @@
 -- What holds of every world of a run of a function without faults, and that every step keeps it.
-use Rattle.std.proofs.Common.{◌≡◌, ◌≢◌, ℕ, suc, ◌+◌, ◌<◌, ◌≤◌, ◌⊎◌, inl, inr, Bool, true, false, cond, if◌then◌else◌, eqb, List, [], ◌∷◌, ◌++◌, length, Option, Some, None, refl, sym, ap, ◌∙◌, subst, arith, append_assoc}
+use Rattle.std.proofs.Common.{◌≡◌, ℕ, ◌+◌, ◌<◌, ◌≤◌, ◌⊎◌, inl, inr, Bool, true, false, cond, if◌then◌else◌, List, [], ◌∷◌, ◌++◌, length, Option, Some, None, refl, sym, ap, ◌∙◌, subst, arith, append_assoc}
 use Rattle.std.specs.List.{Contains}
-use Rattle.std.proofs.lemmas.Bool.{cases_eq, cases_Bool}
+use Rattle.std.proofs.lemmas.Bool.{cases_Bool}
 use Rattle.tree.specs.Syntax.{Function}
 use Rattle.meaning.specs.Scopes.{Local, same_local}
 use Rattle.meaning.specs.Code.{Event, other, obtains, calls, defers_call, returns_here, Occurrence, Code, cancels_of, body_code}
 use Rattle.meaning.specs.Lists.{Exit, stopped, Lists, Reaches}
 use Rattle.meaning.specs.Classes.{Class, unset, opened, safe, change, class_behind, class_after}
-use Rattle.meaning.specs.Faults.{most_tracked, overwritten, not_called, IsFaultOf, at_binding, at_return, Fault}
-use Rattle.meaning.specs.World.{Value, nothing, cancel_function, Saved, saved_call, ContextState, CancelState, Stage, runs, exits, Frame, World, put_at, with_stack, Ends, CallOf, of_nothing, of_cancel, in_cell, held, IsEarlier, is_ended, made, obtaining, empty_world}
-use Rattle.meaning.specs.Steps.{Moves, at_code, CanMove, Step, goes_on, passes, obtains_one, calls_one, saves_one, comes_to_return, runs_saved, returns_now, ends_context}
-use Rattle.soundness.proofs.Membership.{Contains-here, Contains-there, Contains-cases, Contains-nil}
-use Rattle.soundness.proofs.Locals.{same_local-refl, same_local-swap}
+use Rattle.meaning.specs.Faults.{most_tracked, IsFaultOf, at_binding, at_return, Fault}
+use Rattle.meaning.specs.World.{Value, nothing, cancel_function, Saved, saved_call, CancelState, Stage, runs, exits, Frame, World, put_at, in_cell, held, IsEarlier, made, obtaining}
+use Rattle.meaning.specs.Steps.{Moves, at_code}
+use Rattle.meaning.proofs.Membership.{contains_here, contains_there, contains_cases, contains_nil}
+use Rattle.meaning.proofs.SameNames.{same_local_itself}
+use Rattle.soundness.proofs.Locals.{same_local-swap}
 use Rattle.soundness.proofs.Simulation.{simulates, stops-behind_move}
 use Rattle.soundness.proofs.Sources.{IsSourced, AreSourced, move_sourced}
-use Rattle.soundness.proofs.Contexts.{put_at-same, put_at-other, IsSoundWorld, ends_sound, called_now, stays_called, is_called_now, call_sound, more_cancels, older_stays, made_sound}
+use Rattle.soundness.proofs.Contexts.{put_at-same, put_at-other, IsSoundWorld, more_cancels, older_stays}
 
 -- How a frame's owed cancel function is safe: it was called; or its call is saved; or it is in the newest
 -- cell of a cancel variable that is open; or it was passed up to a frame that must call it.
@@ -106,7 +107,7 @@ module _ (function : Function) (quiet : (fault : Fault) → IsFaultOf function f
     stays_settled (was_called h) = was_called (stays h)
     stays_settled (is_saved h) = keeps h
     stays_settled (is_held v k among open_there cell value) = holds v k among open_there cell value
-    stays_settled (is_passed_up g among must) = absurd (Contains-nil g among)
+    stays_settled (is_passed_up g among must) = absurd (contains_nil g among)
 
   -- a step without an event, or whose event does nothing
   pub fine_silent : (w : World) (f : Frame) (c d : Code) → f.stage ≡ runs c → Moves c None d → IsFineIn w f → IsFineIn w (at_code f d)
@@ -159,8 +160,8 @@ module _ (function : Function) (quiet : (fault : Fault) → IsFaultOf function f
 
     held_now : Settled w.cancel_count
     held_now =
-        let now_open : class_after v (fine.events ++ o ∷ []) ≡ opened = class_behind-push v unset fine.events o ∙ ap (λ x. change v x (class_after v fine.events)) obtains_v ∙ ap (λ b. cond b opened (class_after v fine.events)) (same_local-refl v) in
-        is_held v w.cell_count v_among now_open (ap (λ b. cond b (Some w.cell_count) (f.newest v)) (same_local-refl v)) (put_at-same w.cells w.cell_count (cancel_function w.cancel_count))
+        let now_open : class_after v (fine.events ++ o ∷ []) ≡ opened = class_behind-push v unset fine.events o ∙ ap (λ x. change v x (class_after v fine.events)) obtains_v ∙ ap (λ b. cond b opened (class_after v fine.events)) (same_local_itself v) in
+        is_held v w.cell_count v_among now_open (ap (λ b. cond b (Some w.cell_count) (f.newest v)) (same_local_itself v)) (put_at-same w.cells w.cell_count (cancel_function w.cancel_count))
 
     settled_now : (a : ℕ) → (w.cancel_count ≡ a) ⊎ Contains f.obtained a → Settled a
     settled_now a (inl p) = subst Settled p held_now
@@ -175,7 +176,7 @@ module _ (function : Function) (quiet : (fault : Fault) → IsFaultOf function f
     fine_obtaining = record {
       events = fine.events ++ o ∷ [];
       stage = stage_event fine.events c d o m before;
-      settled = λ a h. settled_now a (Contains-cases w.cancel_count f.obtained a h);
+      settled = λ a h. settled_now a (contains_cases w.cancel_count a f.obtained h);
       saved_in = λ a h. let within = fine.saved_in a h in omega (arith, within);
       newest_in = λ u k q. cell_in u k (same_local v u) q;
       one_cell = λ u x same. ap (λ b. cond b (Some w.cell_count) (f.newest u)) (same_local-swap v u x same) ∙ ap (λ n. cond (same_local v x) (Some w.cell_count) n) (fine.one_cell u x same);
@@ -226,11 +227,11 @@ module _ (function : Function) (quiet : (fault : Fault) → IsFaultOf function f
   module _ (w : World) (f : Frame) (c d : Code) (o : Occurrence) (v : Local) (e : f.stage ≡ runs c) (m : Moves c (Some o) d) (defers_v : o.event ≡ defers_call v) (s : IsSoundWorld w) (fine : IsFineIn w f) where
     settled_behind_defer : (a : ℕ) → Contains f.obtained a → IsSettled cs w.cancels w.cells (saved_call (held w f v) ∷ f.saved) f.newest [] (fine.events ++ o ∷ []) a
     settled_behind_defer a h =
-        stays_settled w.cancels w.cancels w.cells w.cells f.saved (saved_call (held w f v) ∷ f.saved) f.newest f.newest fine.events (fine.events ++ o ∷ []) a (λ x. x) (λ x. is_saved (Contains-there (saved_call (held w f v)) f.saved (saved_call (cancel_function a)) x)) (λ u k among was cell value. by_name u k among was cell value (cases_Bool (same_local v u))) (fine.settled a h)
+        stays_settled w.cancels w.cancels w.cells w.cells f.saved (saved_call (held w f v) ∷ f.saved) f.newest f.newest fine.events (fine.events ++ o ∷ []) a (λ x. x) (λ x. is_saved (contains_there (saved_call (held w f v)) (saved_call (cancel_function a)) f.saved x)) (λ u k among was cell value. by_name u k among was cell value (cases_Bool (same_local v u))) (fine.settled a h)
       where
         by_name : (u : Local) (k : ℕ) → Contains cs u → class_after u fine.events ≡ opened → f.newest u ≡ Some k → w.cells k ≡ cancel_function a → (same_local v u ≡ true) ⊎ (same_local v u ≡ false) → IsSettled cs w.cancels w.cells (saved_call (held w f v) ∷ f.saved) f.newest [] (fine.events ++ o ∷ []) a
         by_name u k among was cell value (inl same) =
-            is_saved (subst (λ x. Contains (saved_call (held w f v) ∷ f.saved) (saved_call x)) (held_is w f v u k (cancel_function a) fine.one_cell same cell value) (Contains-here (saved_call (held w f v)) f.saved))
+            is_saved (subst (λ x. Contains (saved_call (held w f v) ∷ f.saved) (saved_call x)) (held_is w f v u k (cancel_function a) fine.one_cell same cell value) (contains_here (saved_call (held w f v)) f.saved))
         by_name u k among was cell value (inr differ) =
             is_held u k among (behind_defer v u fine.events o defers_v was differ) cell value
 
@@ -243,7 +244,7 @@ module _ (function : Function) (quiet : (fault : Fault) → IsFaultOf function f
       events = fine.events ++ o ∷ [];
       stage = stage_event fine.events c d o m (subst (IsAt fine.events) e fine.stage);
       settled = settled_behind_defer;
-      saved_in = λ a h. saved_behind a (Contains-cases (saved_call (held w f v)) f.saved (saved_call (cancel_function a)) h);
+      saved_in = λ a h. saved_behind a (contains_cases (saved_call (held w f v)) (saved_call (cancel_function a)) f.saved h);
       newest_in = fine.newest_in;
       one_cell = fine.one_cell;
     }
@@ -263,7 +264,7 @@ module _ (function : Function) (quiet : (fault : Fault) → IsFaultOf function f
   module _ (w : World) (f : Frame) (value : Value) (left : List Saved) (e : f.stage ≡ exits) (saves : f.saved ≡ saved_call value ∷ left) (fine : IsFineIn w f) where
     settled_behind_saved : (cancels : ℕ → CancelState) (a : ℕ) → ((b : ℕ) → (w.cancels b).called ≡ true → (cancels b).called ≡ true) → (value ≡ cancel_function a → (cancels a).called ≡ true) → Contains f.obtained a → IsSettled cs cancels w.cells left f.newest [] fine.events a
     settled_behind_saved cancels a stays called h =
-        stays_settled w.cancels cancels w.cells w.cells f.saved left f.newest f.newest fine.events fine.events a (stays a) (λ x. by_place (Contains-cases (saved_call value) left (saved_call (cancel_function a)) (subst (λ l. Contains l (saved_call (cancel_function a))) saves x))) (λ u k among was cell here. is_held u k among was cell here) (fine.settled a h)
+        stays_settled w.cancels cancels w.cells w.cells f.saved left f.newest f.newest fine.events fine.events a (stays a) (λ x. by_place (contains_cases (saved_call value) (saved_call (cancel_function a)) left (subst (λ l. Contains l (saved_call (cancel_function a))) saves x))) (λ u k among was cell here. is_held u k among was cell here) (fine.settled a h)
       where
         by_place : (saved_call value ≡ saved_call (cancel_function a)) ⊎ Contains left (saved_call (cancel_function a)) → IsSettled cs cancels w.cells left f.newest [] fine.events a
         by_place (inl q) = was_called (called (saved-inj value (cancel_function a) q))
@@ -274,7 +275,7 @@ module _ (function : Function) (quiet : (fault : Fault) → IsFaultOf function f
       events = fine.events;
       stage = fine.stage;
       settled = λ a h. settled_behind_saved cancels a stays (called a) h;
-      saved_in = λ a h. fine.saved_in a (subst (λ l. Contains l (saved_call (cancel_function a))) (sym saves) (Contains-there (saved_call value) left (saved_call (cancel_function a)) h));
+      saved_in = λ a h. fine.saved_in a (subst (λ l. Contains l (saved_call (cancel_function a))) (sym saves) (contains_there (saved_call value) (saved_call (cancel_function a)) left h));
       newest_in = fine.newest_in;
       one_cell = fine.one_cell;
     }

@@ -1,4 +1,3 @@
-pub mod Membership
 pub mod Simulation
 pub mod Locals
 pub mod Sources

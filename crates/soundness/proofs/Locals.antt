@@ -1,33 +1,17 @@
--- When two locals are one.
-use Rattle.std.proofs.Common.{◌≡◌, ℕ, Bool, true, false, cond, ◌&&◌, eqb, List, [], ◌∷◌, Option, Some, None, refl, sym, ap, ◌∙◌}
+-- A look-up among locals finds one of them.
+use Rattle.std.proofs.Common.{◌≡◌, Bool, true, false, cond, ◌&&◌, eqb, List, [], ◌∷◌, Option, Some, None, refl, ap, ◌∙◌}
 use Rattle.std.specs.List.{Contains}
-use Rattle.std.proofs.lemmas.Bool.{eqb-true, eq-eqb, and_parts, and_from}
+use Rattle.std.proofs.lemmas.Bool.{eqb-true, and_parts}
 use Rattle.tree.specs.Syntax.{Identifier}
 use Rattle.meaning.specs.Scopes.{same_text, is_blank, Local, same_local, covers, inner_of, declaration_of, declared_here, first_given, bound_by, bound_local}
-use Rattle.soundness.proofs.Membership.{Contains-here, Contains-there}
-
-pub same_text-refl : (t : List ℕ) → same_text t t ≡ true
-same_text-refl [] = refl
-same_text-refl (x ∷ xs) = and_from (eqb x x) (same_text xs xs) (eq-eqb x x refl) (same_text-refl xs)
-
-pub same_text-true : (a b : List ℕ) → same_text a b ≡ true → a ≡ b
-same_text-true [] [] e = refl
-same_text-true [] (y ∷ ys) e = cc
-same_text-true (x ∷ xs) [] e = cc
-same_text-true (x ∷ xs) (y ∷ ys) e =
-    let h = and_parts (eqb x y) (same_text xs ys) e in
-    let head = eqb-true x y h.0 in
-    let tail = same_text-true xs ys h.1 in
-    cc
-
-pub same_local-refl : (d : Local) → same_local d d ≡ true
-same_local-refl d = and_from (eqb d.at d.at) (same_text d.text d.text) (eq-eqb d.at d.at refl) (same_text-refl d.text)
+use Rattle.meaning.proofs.Membership.{contains_here, contains_there}
+use Rattle.meaning.proofs.SameNames.{same_text_is}
 
 -- one local for another, in a comparison
 pub same_local-swap : (c u v : Local) → same_local u v ≡ true → same_local c u ≡ same_local c v
 same_local-swap c u v e =
     let h = and_parts (eqb u.at v.at) (same_text u.text v.text) e in
-    ap (λ n. eqb c.at n && same_text c.text u.text) (eqb-true u.at v.at h.0) ∙ ap (λ t. eqb c.at v.at && same_text c.text t) (same_text-true u.text v.text h.1)
+    ap (λ n. eqb c.at n && same_text c.text u.text) (eqb-true u.at v.at h.0) ∙ ap (λ t. eqb c.at v.at && same_text c.text t) (same_text_is u.text v.text h.1)
 
 -- A look-up finds a member.
 found_by : (b : Bool) (d u : Local) (ds : List Local) (o : Option Local) → cond b (Some d) o ≡ Some u → (o ≡ Some u → Contains ds u) → Contains (d ∷ ds) u
@@ -37,8 +21,8 @@ found_by true d u ds o e k = subst_member (some_same d u e)
     some_same x y p = cc
 
     subst_member : d ≡ u → Contains (d ∷ ds) u
-    subst_member p = rw (← p) (Contains-here d ds)
-found_by false d u ds o e k = Contains-there d ds u (k e)
+    subst_member p = rw (← p) (contains_here d ds)
+found_by false d u ds o e k = contains_there d u ds (k e)
 
 pub declared_here-member : (ds : List Local) (n : Identifier) (u : Local) → declared_here ds n ≡ Some u → Contains ds u
 declared_here-member [] n u e = cc
@@ -47,11 +31,11 @@ declared_here-member (d ∷ ds) n u e =
 
 -- the inner of a local and a member is a member
 inner_member : (b : Bool) (d u v : Local) (ds : List Local) → cond b v d ≡ u → Contains ds v → Contains (d ∷ ds) u
-inner_member true d u v ds e h = rw (← e) (Contains-there d ds v h)
-inner_member false d u v ds e h = rw (← e) (Contains-here d ds)
+inner_member true d u v ds e h = rw (← e) (contains_there d v ds h)
+inner_member false d u v ds e h = rw (← e) (contains_here d ds)
 
 chosen_member : (d u : Local) (ds : List Local) (o : Option Local) → inner_of d o ≡ u → ((v : Local) → o ≡ Some v → Contains ds v) → Contains (d ∷ ds) u
-chosen_member d u ds None e k = rw (← e) (Contains-here d ds)
+chosen_member d u ds None e k = rw (← e) (contains_here d ds)
 chosen_member d u ds (Some v) e k = inner_member _ d u v ds e (k v refl)
 
 some_inj : (x y : Local) → Some x ≡ Some y → x ≡ y
@@ -59,7 +43,7 @@ some_inj x y p = cc
 
 means_by : (b : Bool) (d u : Local) (ds : List Local) (o : Option Local) → cond b (Some (inner_of d o)) o ≡ Some u → ((v : Local) → o ≡ Some v → Contains ds v) → Contains (d ∷ ds) u
 means_by true d u ds o e k = chosen_member d u ds o (some_inj _ _ e) k
-means_by false d u ds o e k = Contains-there d ds u (k u e)
+means_by false d u ds o e k = contains_there d u ds (k u e)
 
 pub declaration_of-member : (ds : List Local) (n : Identifier) (u : Local) → declaration_of ds n ≡ Some u → Contains ds u
 declaration_of-member [] n u e = cc

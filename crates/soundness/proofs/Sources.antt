@@ -1,13 +1,15 @@
 -- Each local that an event of a body obtains is one of its cancel variables.
-use Rattle.std.proofs.Common.{◌≡◌, ℕ, Bool, true, false, cond, ◌⊎◌, inl, inr, List, [], ◌∷◌, ◌++◌, Option, Some, None, refl, sym, ap, ◌∙◌}
-use Rattle.std.specs.List.{Contains, filter}
+use Rattle.std.proofs.Common.{◌≡◌, Bool, true, false, cond, ◌⊎◌, inl, inr, List, [], ◌∷◌, Option, Some, None, refl, ap, ◌∙◌}
+use Rattle.std.specs.List.{Contains}
 use Rattle.std.specs.Option.{option_to_list}
-use Rattle.tree.specs.Syntax.{Identifier, Expression, Expressions, Statement, define_statement, expression_statement, defer_statement, if_statement, block_statement, return_statement, Otherwise, no_else, else_block, Statements, no_statement, statement_and, Function}
-use Rattle.meaning.specs.Scopes.{Local, same_local, locals_of, bound_local}
-use Rattle.meaning.specs.Code.{Event, other, obtains, calls, defers_call, returns_here, Occurrence, Way, Code, skip, does, leave, then_code, either, repeats, up_to, Binding, binding_of, bindings_at, bindings_in, bindings_in_else, is_same_as, is_obtained, cancels_of, call_event, defer_event, obtain_event, binding_event, called_by, code_at, code_in, code_in_else, body_code}
+use Rattle.std.proofs.lemmas.List.Elements.{Contains-append_left, Contains-append_right}
+use Rattle.tree.specs.Syntax.{Statement, define_statement, expression_statement, defer_statement, if_statement, block_statement, return_statement, Otherwise, no_else, else_block, Statements, no_statement, statement_and, Function}
+use Rattle.meaning.specs.Scopes.{Local, locals_of, bound_local}
+use Rattle.meaning.specs.Code.{Event, other, obtains, calls, defers_call, returns_here, Occurrence, Code, skip, does, leave, then_code, either, repeats, up_to, Binding, binding_of, bindings_at, bindings_in, bindings_in_else, is_same_as, is_obtained, cancels_of, call_event, defer_event, obtain_event, binding_event, called_by, code_at, code_in, code_in_else, body_code}
 use Rattle.meaning.specs.Steps.{Moves, happens, first_moves, first_is_done, first_leaves, picks_first, picks_second, turns, inside, gets_there, goes_past, gets_out}
-use Rattle.soundness.proofs.Membership.{Contains-here, Contains-there, Contains-cases, Contains-nil, Contains-filter, Contains-append_left, Contains-append_right}
-use Rattle.soundness.proofs.Locals.{same_local-refl, bound_local-member}
+use Rattle.meaning.proofs.Membership.{contains_here, contains_cases, contains_nil, contains_filter}
+use Rattle.meaning.proofs.SameNames.{same_local_itself}
+use Rattle.soundness.proofs.Locals.{bound_local-member}
 
 -- what the event obtains, if anything, is among these
 abbrev pub IsSourced : List Local → Event → Type 0
@@ -54,14 +56,14 @@ rest_true false b p = p
 
 or_obtained : (ds : List Local) (bs : List Binding) (b c : Binding) (u : Local) → bound_local ds b.second ≡ Some u → (Contains bs b → is_obtained ds bs u ≡ true) → (c ≡ b) ⊎ Contains bs b → is_obtained ds (c ∷ bs) u ≡ true
 or_obtained ds bs b c u e k (inl p) =
-    test_true (is_same_as u (bound_local ds c.second)) (is_obtained ds bs u) (ap (λ x. is_same_as u (bound_local ds x.second)) p ∙ ap (is_same_as u) e ∙ same_local-refl u)
+    test_true (is_same_as u (bound_local ds c.second)) (is_obtained ds bs u) (ap (λ x. is_same_as u (bound_local ds x.second)) p ∙ ap (is_same_as u) e ∙ same_local_itself u)
 or_obtained ds bs b c u e k (inr h) =
     rest_true (is_same_as u (bound_local ds c.second)) (is_obtained ds bs u) (k h)
 
 -- a binding of the list obtains the local that it binds
-obtained_by : (ds : List Local) (bs : List Binding) (b : Binding) (u : Local) → Contains bs b → bound_local ds b.second ≡ Some u → is_obtained ds bs u ≡ true
-obtained_by ds [] b u h e = absurd (Contains-nil b h)
-obtained_by ds (c ∷ bs) b u h e = or_obtained ds bs b c u e (λ k. obtained_by ds bs b u k e) (Contains-cases c bs b h)
+pub obtained_by : (ds : List Local) (bs : List Binding) (b : Binding) (u : Local) → Contains bs b → bound_local ds b.second ≡ Some u → is_obtained ds bs u ≡ true
+obtained_by ds [] b u h e = absurd (contains_nil b h)
+obtained_by ds (c ∷ bs) b u h e = or_obtained ds bs b c u e (λ k. obtained_by ds bs b u k e) (contains_cases c b bs h)
 
 module _ (f : Function) where
   abbrev ds : List Local
@@ -79,11 +81,11 @@ module _ (f : Function) where
   obtain_sourced : (b : Binding) (o : Option Local) → Contains bs b → bound_local ds b.second ≡ o → IsSourced cs (obtain_event o b.second.span.start)
   obtain_sourced b None h e = tt
   obtain_sourced b (Some u) h e =
-      Contains-filter (is_obtained ds bs) ds u (bound_local-member ds b.second u e) (obtained_by ds bs b u h e)
+      contains_filter (is_obtained ds bs) ds u (bound_local-member ds b.second u e) (obtained_by ds bs b u h e)
 
   binding_sourced : (o : Option Binding) → AreBindings (option_to_list o) → IsSourced cs (binding_event ds o)
   binding_sourced None h = tt
-  binding_sourced (Some b) h = obtain_sourced b (bound_local ds b.second) (h b (Contains-here b [])) refl
+  binding_sourced (Some b) h = obtain_sourced b (bound_local ds b.second) (h b (contains_here b [])) refl
 
   call_sourced : (o : Option Local) → IsSourced cs (call_event o)
   call_sourced None = tt

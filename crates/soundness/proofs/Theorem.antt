@@ -1,19 +1,17 @@
 -- In every run of a function without faults, each return is quiet.
-use Rattle.std.proofs.Common.{◌≡◌, ◌≢◌, ℕ, suc, ◌+◌, ◌<◌, ◌≤◌, ◌⊎◌, inl, inr, Bool, true, false, List, [], ◌∷◌, ◌++◌, length, Option, Some, None, refl, sym, ap, ◌∙◌, subst, arith}
+use Rattle.std.proofs.Common.{◌≡◌, ℕ, ◌<◌, ◌≤◌, ◌⊎◌, inl, inr, true, false, List, [], ◌∷◌, length, Some, None, refl, sym, ap, ◌∙◌, subst, arith}
 use Rattle.std.specs.List.{Contains}
 use Rattle.std.specs.Prelude.{slice_get}
 use Rattle.std.proofs.lemmas.Bool.{cases_eq, cases_lt}
 use Rattle.std.proofs.lemmas.Option.{slice_get-get_or}
 use Rattle.tree.specs.Syntax.{Function}
-use Rattle.meaning.specs.Scopes.{Local, same_local}
-use Rattle.meaning.specs.Code.{Occurrence, Code, cancels_of, body_code}
-use Rattle.meaning.specs.Lists.{Exit, Lists}
-use Rattle.meaning.specs.Classes.{opened, class_after}
+use Rattle.meaning.specs.Scopes.{Local}
+use Rattle.meaning.specs.Code.{cancels_of}
 use Rattle.meaning.specs.Faults.{most_tracked, IsFaultOf, at_many, Fault}
-use Rattle.meaning.specs.World.{Value, nothing, cancel_function, Saved, saved_call, ContextState, CancelState, Stage, runs, exits, Frame, World, put_at, with_stack, IsBelow, Ends, CallOf, of_nothing, of_cancel, in_cell, held, empty_world}
-use Rattle.meaning.specs.Steps.{Moves, at_code, CanMove, Step, goes_on, passes, obtains_one, calls_one, saves_one, comes_to_return, runs_saved, returns_now, ends_context, new_frame, start_of}
-use Rattle.meaning.specs.Runs.{Run, no_step, step_more, IsReturning, IsQuiet, IsQuietFunction}
-use Rattle.soundness.proofs.Membership.{Contains-here, Contains-nil}
+use Rattle.meaning.specs.World.{Value, nothing, cancel_function, saved_call, CancelState, runs, exits, Frame, World, put_at, with_stack, CallOf, of_nothing, of_cancel, held}
+use Rattle.meaning.specs.Steps.{at_code, Step, goes_on, passes, obtains_one, calls_one, saves_one, comes_to_return, runs_saved, returns_now, ends_context, new_frame, start_of}
+use Rattle.meaning.specs.Runs.{Run, no_step, step_more, IsQuietFunction}
+use Rattle.meaning.proofs.Membership.{contains_here, contains_nil}
 use Rattle.soundness.proofs.Sources.{body_sourced}
 use Rattle.soundness.proofs.Contexts.{put_at-same, put_at-other, IsSoundWorld, ends_sound, called_now, stays_called, is_called_now, call_sound, made_sound}
 use Rattle.soundness.proofs.Invariant.{IsSettled, was_called, is_saved, is_held, is_passed_up, IsAt, IsFine, IsFineIn, Keeps, frames_behind, frames_gone, fine_silent, fine_passing, fine_obtaining, fine_calling, fine_saving, fine_returning, fine_popping, held_in}
@@ -60,7 +58,7 @@ module _ (function : Function) (quiet : (fault : Fault) → IsFaultOf function f
       kept_behind w w g f (record f { stage = exits }) others can.running k refl k.sound (fine_returning function quiet few w f can.code rest o can.stage can.moves e (fine_at w g f others can.running k))
   step_kept w next (runs_saved g f others value left after at stage saves call) k =
       let fine = fine_at w g f others at k in
-      kept_calling w after g f (record f { saved = left }) others value at k call (λ a q. fine.saved_in a (subst (λ l. Contains l (saved_call (cancel_function a))) (sym saves) (subst (λ x. Contains (saved_call value ∷ left) (saved_call x)) q (Contains-here (saved_call value) left)))) (λ cancels stays called. fine_popping function quiet few w f value left stage saves fine cancels stays called)
+      kept_calling w after g f (record f { saved = left }) others value at k call (λ a q. fine.saved_in a (subst (λ l. Contains l (saved_call (cancel_function a))) (sym saves) (subst (λ x. Contains (saved_call value ∷ left) (saved_call x)) q (contains_here (saved_call value) left)))) (λ cancels stays called. fine_popping function quiet few w f value left stage saves fine cancels stays called)
   step_kept w next (returns_now g f others at stage all_run) k = record {
     sound = k.sound;
     frames = λ h x xs e. frames_gone function quiet few w w g f others at k h x xs e (cases_eq h g);
@@ -72,8 +70,8 @@ module _ (function : Function) (quiet : (fault : Fault) → IsFaultOf function f
   start_fine = record {
     events = [];
     stage = (λ u x l. l, body_sourced function);
-    settled = λ a h. absurd (Contains-nil a h);
-    saved_in = λ a h. absurd (Contains-nil (saved_call (cancel_function a)) h);
+    settled = λ a h. absurd (contains_nil a h);
+    saved_in = λ a h. absurd (contains_nil (saved_call (cancel_function a)) h);
     newest_in = λ v k e. let bad : None ≡ Some k = e in cc;
     one_cell = λ u v e. refl;
   }
@@ -107,10 +105,10 @@ module _ (function : Function) (quiet : (fault : Fault) → IsFaultOf function f
   -- at a return each function that the frame owes was called
   owed_called : (w : World) (f : Frame) (a : ℕ) → (fine : FineIn w f) → f.stage ≡ exits → f.saved ≡ [] → IsSettled (cancels_of function) w.cancels w.cells f.saved f.newest [] fine.events a → (w.cancels a).called ≡ true
   owed_called w f a fine stage all_run (was_called h) = h
-  owed_called w f a fine stage all_run (is_saved h) = absurd (Contains-nil (saved_call (cancel_function a)) (subst (λ l. Contains l (saved_call (cancel_function a))) all_run h))
+  owed_called w f a fine stage all_run (is_saved h) = absurd (contains_nil (saved_call (cancel_function a)) (subst (λ l. Contains l (saved_call (cancel_function a))) all_run h))
   owed_called w f a fine stage all_run (is_held v k among open_there cell value) =
       absurd (subst (IsAt function quiet few fine.events) stage fine.stage v among open_there)
-  owed_called w f a fine stage all_run (is_passed_up g among must) = absurd (Contains-nil g among)
+  owed_called w f a fine stage all_run (is_passed_up g among must) = absurd (contains_nil g among)
 
   quiet_function : IsQuietFunction function
   quiet_function w f run returning =

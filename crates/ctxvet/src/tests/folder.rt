@@ -2,6 +2,7 @@
 
 use crate::run;
 use std::alloc::AllocError;
+use std::io::AsBytes;
 use std::process::Abort;
 use std::rt::Files;
 use std::test::Fail;
@@ -31,8 +32,13 @@ impl Folder {
         format!(in rt.alloc(); "{}/{name}", self.path)
     }
 
-    /// Writes a file with this text.
-    pub fn write(&self, rt: &HostRuntime, name: &str, text: &str) -> Result<(), Fail> {
+    /// Writes a file with this text, which may be no UTF-8.
+    pub fn write<C: AsBytes + Drop>(
+        &self,
+        rt: &HostRuntime,
+        name: &str,
+        text: C,
+    ) -> Result<(), Fail> {
         Ok(fs::write(rt, self.entry(rt, name)?, text)?)
     }
 

@@ -1,4 +1,4 @@
-use Rattle.std.proofs.Common.{length, ap, sym, arith, rules}
+use Rattle.std.proofs.Common.{length, ap, rules}
 use Rattle.ctxvet.proofs.Words.{no_package, not_empty, same_parts, package_of}
 use Rattle.ctxvet.proofs.package.split_word.Goals as goal
 use Rattle.ctxvet.proofs.package.split_word.Goals.{then-is_empty-via-then-is_empty, then-is_empty-via-else-is_empty+then-is_empty-2}

@@ -1,59 +1,30 @@
-use Rattle.std.proofs.Common.{◌+◌, length, sym, ◌∙◌, subst, arith}
-use Rattle.std.proofs.lemmas.Iterator.{YieldsList-from_chars}
-use Rattle.std.proofs.lemmas.Iterator.Consumers.{YieldsList-turn, YieldsList-end}
-use Rattle.std.proofs.lemmas.List.{length_push}
-use Rattle.std.specs.Char.{len_utf8}
-use Rattle.lexer.proofs.Names.{IsWordRead, fits_read, word_in_range, word_read, word_longest_end, word_longest_stop, word_more, word_none}
+use Rattle.std.proofs.Common.{sym, ap, ◌∙◌, subst}
+use Rattle.std.specs.Char.{is_ascii}
+use Rattle.std.proofs.lemmas.Bool.{ltb-true}
+use Rattle.lexer.specs.Letters.{is_ascii_letter}
+use Rattle.lexer.proofs.Prefixes.{IsPrefix, letter_prefix, no_prefix, prefix_word, prefix_longest}
 use Rattle.lexer.proofs.full.word_size.Goals as goal
+use Rattle.lexer.proofs.full.word_size.Goals.{Then-is_ascii, Then-is_ascii-2}
 
-pub loop-c-init : goal.loop-c-init
-loop-c-init c = word_none c.args.text.now
+letters : (c : Then-is_ascii) → IsPrefix c.args.text.now c.word_size-size.result
+letters c =
+    let size = c.word_size-size.result in
+    let words = c.word_size-size.ensures in
+    let letter = ap is_ascii_letter (sym c.byte_at-first.ensures) ∙ (sym c.is_letter.ensures ∙ c.if-is_letter.true) in
+    let small = ltb-true _ _ (ap is_ascii (sym c.byte_at.ensures) ∙ (sym c.is_ascii.ensures ∙ c.if-is_ascii.true)) in
+    subst (λ t. IsPrefix t size) c.as_bytes-bytes.ensures.value (letter_prefix c.as_bytes-bytes.result.now size words.nonempty words.in_range letter words.word small words.stops)
 
-pub returns-then-not-goes_on-clause-in_range : goal.returns-then-not-goes_on-clause-in_range
-returns-then-not-goes_on-clause-in_range c =
-    word_in_range c.args.text.now (length c.loop-c.yielded) c.loop-c.size c.utf8.text c.loop-c.invariant
+no_letter : (c : Then-is_ascii-2) → IsPrefix c.args.text.now 0
+no_letter c =
+    let small = ltb-true _ _ (ap is_ascii (sym c.byte_at-first.ensures) ∙ (sym c.is_ascii-else-is_letter.ensures ∙ c.if-is_ascii-2.true)) in
+    let other = ap is_ascii_letter (sym c.byte_at-first.ensures) ∙ (sym c.is_letter.ensures ∙ c.if-is_letter.false) in
+    subst (λ t. IsPrefix t 0) c.as_bytes-bytes.ensures.value (no_prefix c.as_bytes-bytes.result.now small other)
 
-pub returns-then-not-goes_on-clause-word : goal.returns-then-not-goes_on-clause-word
-returns-then-not-goes_on-clause-word c =
-    word_read c.args.text.now (length c.loop-c.yielded) c.loop-c.size c.utf8.text c.loop-c.invariant
+pub returns-then-is_ascii-clause-word : goal.returns-then-is_ascii-clause-word
+returns-then-is_ascii-clause-word c = prefix_word c.args.text.now c.word_size-size.result (letters c)
 
-pub returns-then-not-goes_on-clause-longest : goal.returns-then-not-goes_on-clause-longest
-returns-then-not-goes_on-clause-longest c =
-    let text = c.args.text.now in
-    let t = YieldsList-turn (YieldsList-from_chars text c.utf8.text cc) c.loop-c.yielded _ c.loop-c.yielded_by _ _ c.in-Some.c c.in-Some.is c.next.ensures.steps in
-    let fits = fits_read text (length c.loop-c.yielded) c.loop-c.size c.loop-c.invariant c.in-Some.c in
-    word_longest_stop text (length c.loop-c.yielded) c.loop-c.size c.utf8.text c.loop-c.invariant c.in-Some.c t.0 t.1 (fits ∙ (sym c.goes_on.ensures ∙ c.if-not-goes_on.true))
+pub returns-then-is_ascii-clause-longest : goal.returns-then-is_ascii-clause-longest
+returns-then-is_ascii-clause-longest c = prefix_longest c.args.text.now c.word_size-size.result (letters c)
 
-pub returns-clause-in_range : goal.returns-clause-in_range
-returns-clause-in_range c =
-    word_in_range c.args.text.now (length c.loop-c.yielded) c.loop-c.size c.utf8.text c.loop-c.invariant
-
-pub returns-clause-word : goal.returns-clause-word
-returns-clause-word c =
-    word_read c.args.text.now (length c.loop-c.yielded) c.loop-c.size c.utf8.text c.loop-c.invariant
-
-pub returns-clause-longest : goal.returns-clause-longest
-returns-clause-longest c =
-    let text = c.args.text.now in
-    let t = YieldsList-end (YieldsList-from_chars text c.utf8.text cc) c.loop-c.yielded _ c.loop-c.yielded_by _ _ c.in-None.is c.next.ensures.steps in
-    λ n l _. word_longest_end text (length c.loop-c.yielded) c.loop-c.size c.utf8.text c.loop-c.invariant (omega (arith, t.1)) n l
-
-pub loop-c-preserved : goal.loop-c-preserved
-loop-c-preserved c =
-    let text = c.args.text.now in
-    let t = YieldsList-turn (YieldsList-from_chars text c.utf8.text cc) c.loop-c.yielded _ c.loop-c.yielded_by _ _ c.in-Some.c c.in-Some.is c.next.ensures.steps in
-    let fits = fits_read text (length c.loop-c.yielded) c.loop-c.size c.loop-c.invariant c.in-Some.c in
-    let more = word_more text (length c.loop-c.yielded) c.loop-c.size c.utf8.text c.loop-c.invariant c.in-Some.c t.0 t.1 (fits ∙ (sym c.goes_on.ensures ∙ c.if-not-goes_on.false)) in
-    let size = c.loop-c.size in
-    subst (λ k. IsWordRead text k (size + c.len_utf8-size.result)) (sym (length_push c.loop-c.yielded c.in-Some.c))
-    (subst (λ s. IsWordRead text (length c.loop-c.yielded + 1) (size + s)) (sym c.len_utf8-size.ensures.value) more)
-
-pub overflow_add-size : goal.overflow_add-size
-overflow_add-size c =
-    let text = c.args.text.now in
-    let t = YieldsList-turn (YieldsList-from_chars text c.utf8.text cc) c.loop-c.yielded _ c.loop-c.yielded_by _ _ c.in-Some.c c.in-Some.is c.next.ensures.steps in
-    let fits = fits_read text (length c.loop-c.yielded) c.loop-c.size c.loop-c.invariant c.in-Some.c in
-    let more = word_more text (length c.loop-c.yielded) c.loop-c.size c.utf8.text c.loop-c.invariant c.in-Some.c t.0 t.1 (fits ∙ (sym c.goes_on.ensures ∙ c.if-not-goes_on.false)) in
-    let range = word_in_range text (length c.loop-c.yielded + 1) (c.loop-c.size + len_utf8 c.in-Some.c) c.utf8.text more in
-    let small = c.requires in
-    omega (arith, range, c.len_utf8-size.ensures.value)
+pub returns-then-is_ascii-2-clause-longest : goal.returns-then-is_ascii-2-clause-longest
+returns-then-is_ascii-2-clause-longest c = prefix_longest c.args.text.now 0 (no_letter c)

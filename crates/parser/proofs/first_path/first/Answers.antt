@@ -10,7 +10,7 @@ returns-in-Err-OffPath-clause-only c =
     let cut = rw c.in-Some.is at c.in_ok-tokens.ensures.some in
     let off = rw c.in-Err-OffPath.field-0-is at c.in-Err-OffPath.ensures in
     let none : file_at c.args.source.now.bytes.items c.in-Some.tokens.items ≡ None = rw (c.deref.ensures.value, c.deref-2.ensures.value) at off in
-    λ file path. not_both (file_at c.args.source.now.bytes.items c.in-Some.tokens.items) file none (read_again c.args.source.now.bytes.items c.in-Some.tokens.items file c.reads_all_that_is_spelled.ensures c.one_cut.ensures cut.1 path)
+    λ file path. not_both (file_at c.args.source.now.bytes.items c.in-Some.tokens.items) file none (read_again c.args.source.now.bytes.items c.in-Some.tokens.items file c.reads_all_that_is_spelled.ensures c.one_token_list.ensures cut.1 path)
 
 pub has_path_names-requires : goal.has_path_names-requires
 has_path_names-requires c =
@@ -28,14 +28,14 @@ pub returns-then-branch-clause-only : goal.returns-then-branch-clause-only
 returns-then-branch-clause-only c =
     let cut = rw c.in-Some.is at c.in_ok-tokens.ensures.some in
     let read : file_at c.args.source.now.bytes.items c.in-Some.tokens.items ≡ Some (file_syntax c.in-Ok.file) = rw (c.deref.ensures.value, c.deref-2.ensures.value) at c.in-Ok.ensures in
-    λ file path. same_both (file_at c.args.source.now.bytes.items c.in-Some.tokens.items) (file_syntax c.in-Ok.file) file read (read_again c.args.source.now.bytes.items c.in-Some.tokens.items file c.reads_all_that_is_spelled.ensures c.one_cut.ensures cut.1 path)
+    λ file path. same_both (file_at c.args.source.now.bytes.items c.in-Some.tokens.items) (file_syntax c.in-Ok.file) file read (read_again c.args.source.now.bytes.items c.in-Some.tokens.items file c.reads_all_that_is_spelled.ensures c.one_token_list.ensures cut.1 path)
 
 pub returns-clause-only : goal.returns-clause-only
 returns-clause-only c =
     let cut = rw c.in-Some.is at c.in_ok-tokens.ensures.some in
     let read : file_at c.args.source.now.bytes.items c.in-Some.tokens.items ≡ Some (file_syntax c.in-Ok.file) = rw (c.deref.ensures.value, c.deref-2.ensures.value) at c.in-Ok.ensures in
     λ file path.
-    let same : file_syntax c.in-Ok.file ≡ file = same_both (file_at c.args.source.now.bytes.items c.in-Some.tokens.items) (file_syntax c.in-Ok.file) file read (read_again c.args.source.now.bytes.items c.in-Some.tokens.items file c.reads_all_that_is_spelled.ensures c.one_cut.ensures cut.1 path) in
+    let same : file_syntax c.in-Ok.file ≡ file = same_both (file_at c.args.source.now.bytes.items c.in-Some.tokens.items) (file_syntax c.in-Ok.file) file read (read_again c.args.source.now.bytes.items c.in-Some.tokens.items file c.reads_all_that_is_spelled.ensures c.one_token_list.ensures cut.1 path) in
     let names : HasPathFileNames (file_syntax c.in-Ok.file) = rw same path.names in
     not_yes_and_no c.in_ok-has_path_names.field-0 (c.in_ok-has_path_names.ensures.1 names) c.if-branch.false
 

@@ -8,7 +8,7 @@ use Rattle.tree.specs.Syntax.{Function}
 use Rattle.tree.specs.View.{function_syntax}
 use Rattle.meaning.specs.FirstPath.{ArePathFunctions, HasPathNames}
 use Rattle.path.proofs.Lists.{drop_item, take_item, contains_item}
-use Rattle.path.proofs.Elements.{contains_map}
+use Rattle.meaning.proofs.Membership.{contains_map}
 use Rattle.path.proofs.file.have_names.Goals as goal
 
 pub returns-then-not-branch : goal.returns-then-not-branch

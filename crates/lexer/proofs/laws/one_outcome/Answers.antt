@@ -1,5 +1,5 @@
 use Rattle.lexer.proofs.Outcomes.{one_outcome}
-use Rattle.lexer.proofs.full.one_outcome.Goals as goal
+use Rattle.lexer.proofs.laws.one_outcome.Goals as goal
 
 pub returns : goal.returns
 returns c = one_outcome
