@@ -1,3 +1,4 @@
+pub mod Cursors
 pub mod GoFiles
 pub mod Packages
 pub mod ReportText

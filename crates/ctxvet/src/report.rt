@@ -1,9 +1,10 @@
 //! The text of a report.
 
-ghost use Rattle.std.specs.Prelude.{◌≡◌, ◌++◌, IfOk, OnOk, string_bytes};
-ghost use Rattle.ctxvet.specs.ReportText.{number_of, text_of_fault, text_of, verdict_text, diagnostic_line, report_text};
+ghost use Rattle.std.specs.Prelude.{◌≡◌, ◌++◌, IfOk, OnOk, slice_get, string_bytes};
+ghost use Rattle.ctxvet.specs.ReportText.{number_of, text_of_fault, text_of, bytes_of, verdict_text, diagnostic_line, report_text};
+ghost use Rattle.lexer.specs.Place.{line_of, column_of};
 
-use crate::position::place_in;
+use crate::position::{first_byte, moved};
 use judge::{Code, Diagnostic, PackageReport, TextFault};
 use lexer::{Place, Source};
 use std::alloc::{AllocError, Global};
@@ -62,8 +63,10 @@ pub fn text_of_report(
     ensures { IfOk result (λ text. string_bytes text ≡ report_text sources.now report.now) }
 {
     let mut text = String::new(alloc);
+    let mut cursor = first_byte(0);
     for diagnostic in &report.diagnostics {
-        push_line(&mut text, sources, diagnostic)?;
+        cursor = moved(cursor, sources, diagnostic.file, diagnostic.offset as usize);
+        push_line(&mut text, sources, diagnostic, cursor.place)?;
     }
     let verdict = verdict_of(report.yes);
     let path = &report.path;
@@ -77,21 +80,23 @@ fn verdict_of(yes: bool) -> &'static str
     if yes { "yes" } else { "no" }
 }
 
-/// Adds the line of a diagnostic.
+/// Adds the line of a diagnostic, which stands at this place.
 fn push_line(
     text: &mut String,
     sources: &[Source],
     diagnostic: &Diagnostic,
+    place: Place,
 ) -> Result<(), AllocError>
+    requires line { place.line ≡ line_of (bytes_of (slice_get sources.now diagnostic.now.file)) diagnostic.now.offset }
+    requires column { place.column ≡ column_of (bytes_of (slice_get sources.now diagnostic.now.file)) diagnostic.now.offset }
     ensures { OnOk result
         (string_bytes text.new ≡ string_bytes text.old ++ diagnostic_line sources.now diagnostic.now) }
 {
-    let offset = diagnostic.offset as usize;
-    let (file, at) = match sources.get(diagnostic.file) {
-        Some(source) => (source.name.as_str(), place_in(source, offset)),
-        None => ("-", Place { line: 1, column: 1 }),
+    let file = match sources.get(diagnostic.file) {
+        Some(source) => source.name.as_str(),
+        None => "-",
     };
-    let Place { line, column } = at;
+    let Place { line, column } = place;
     let code = number_of(diagnostic.code);
     let name = &diagnostic.name;
     let what = text_of(diagnostic.code);

@@ -19,7 +19,7 @@ pub use fault::LexFault;
 pub use full::lex;
 pub use laws::{one_cut, one_fault, one_outcome, one_token_list};
 pub use lexing::plain;
-pub use position::place;
+pub use position::{place, place_behind};
 pub use source::{Place, Source};
 pub use token::{Token, TokenKind};
 

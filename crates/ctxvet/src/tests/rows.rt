@@ -50,6 +50,27 @@ fn a_branch_without_the_call(rt: HostRuntime) -> Result<(), Fail> {
 }
 
 #[test]
+fn several_faults_in_the_order_of_the_text(rt: HostRuntime) -> Result<(), Fail> {
+    let code = "func f(p context.Context) {
+\t_, c := context.WithCancel(p)
+}
+
+func g(p context.Context) {
+\t_, c := context.WithCancel(p)
+\tif p { return }; return
+}
+";
+    let out = "DIR/a.go:7:1: LC05 c may not have been called at this return
+DIR/a.go:11:9: LC05 c may not have been called at this return
+DIR/a.go:11:19: LC05 c may not have been called at this return
+no a
+";
+    let folder = folder_of_code(&rt, "several", code)?;
+    expect_check(&rt, "a", folder.path.as_str(), 1, out, "")?;
+    folder.remove(&rt)
+}
+
+#[test]
 fn a_discarded_cancel_function(rt: HostRuntime) -> Result<(), Fail> {
     let code = "func f(p context.Context, d int) {
 \tctx, _ := context.WithCancel(p)
