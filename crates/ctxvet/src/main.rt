@@ -1,33 +1,24 @@
-//! The program `ctxvet`: reads the Go files of a folder, has them judged, and prints the report.
+//! The program `ctxvet`: hands the words of its command line and its streams to the library `driver`.
 #![tactic(auto)]
 
-mod command;
-mod fault;
-mod files;
-mod package;
-mod position;
-mod program;
-mod report;
-mod status;
-#[cfg(test)]
-mod tests;
-
-use fault::Fault;
-pub use judge::check_first;
-pub use program::run;
-use status::Status;
+use driver::{Fault, fail, run, words_fault};
+use std::env;
 use std::process::ExitCode;
 
-/// Hands the program its words and its streams, and ends with its status.
+/// Runs the program and ends with its status.
 fn main(rt: HostRuntime) -> ExitCode {
     let mut err = rt.stderr();
-    let Ok(words) = std::env::args(&rt) else {
-        fault::print(&mut err, &Fault::WordNotText);
-        return ExitCode::from(Status::Faulty.code());
+    let status = match words(&rt) {
+        Ok(words) => run(&rt, words.as_slice(), &mut rt.stdout(), &mut err),
+        Err(fault) => fail(&mut err, &fault),
     };
-    let Ok(words) = words.skip(1).collect::<Vec<String>>(rt.alloc()) else {
-        fault::print(&mut err, &Fault::OutOfMemory);
-        return ExitCode::from(Status::Faulty.code());
-    };
-    ExitCode::from(run(&rt, words.as_slice(), &mut rt.stdout(), &mut err))
+    ExitCode::from(status)
+}
+
+/// The words after the program's name.
+fn words(rt: &HostRuntime) -> Result<Vec<String>, Fault> {
+    match env::args(rt) {
+        Ok(words) => Ok(words.skip(1).collect::<Vec<String>>(rt.alloc())?),
+        Err(error) => Err(words_fault(&error)),
+    }
 }

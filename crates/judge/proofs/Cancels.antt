@@ -12,17 +12,18 @@ use Rattle.meaning.specs.Code.{Binding, binding_of, bindings_at, bindings_in, bi
 use Rattle.meaning.specs.FirstPath.{IsOneMaker, HasPathNames}
 use Rattle.judge.specs.Walk.{name_bound, bound_at, bound_in, bound_in_else}
 use Rattle.meaning.proofs.Membership.{contains_nil}
+use Rattle.meaning.proofs.Defined.{declared_local, declared_later, declared_now}
 use Rattle.soundness.proofs.Sources.{obtained_by}
 use Rattle.judge.proofs.Members.{contains_one_is}
 use Rattle.judge.proofs.Locals.{local_differs, unique_local, distinct_parts, obtained_by_none, filter_none}
-use Rattle.judge.proofs.Names.{NameIs, is_blank_name, is_declared, NamesAre, Named_at, Named_in, Named_else, binding_is, declared_local, declared_later, declared_now, DeclaredIn, BindingsIn, part, parameters, free, in_part, has_binding, bound_is}
+use Rattle.judge.proofs.Names.{NameIs, is_blank_name, is_declared, NamesAre, Named_at, Named_in, Named_else, binding_is, DeclaredIn, BindingsIn, part, parameters, free, in_part, has_binding, bound_is}
 
 -- what a binding gives its function to
 pub data BindingIs (ds part : List Local) (b : Binding) : Type 0 where
   binding_blank : bound_local ds b.second ≡ None → BindingIs ds part b
-  binding_local : (d : Local) → bound_local ds b.second ≡ Some d → Contains part d → d.place ≡ 1 → BindingIs ds part b
+  binding_local : (d : Local) → bound_local ds b.second ≡ Some d → Contains part d → d.index ≡ 1 → BindingIs ds part b
 
--- a name and its place
+-- a name and its index
 pub record Key : Type 0 where
   pub text : List ℕ
   pub at : ℕ
@@ -42,7 +43,7 @@ module _ (f : Function) (names : HasPathNames f) where
     where
       of_name : NameIs known (part f names) y → BindingIs (locals_of f) (part f names) record { at = at; first = x; second = y; maker = codes "WithCancel" }
       of_name (is_blank_name e) = binding_blank (ap (λ c. if c then None else bound_by (locals_of f) y) e)
-      of_name (is_declared d e k h t at place) = binding_local d (bound_is f names known y d e h t at) h place
+      of_name (is_declared d e k h t at index) = binding_local d (bound_is f names known y d e h t at) h index
   binding_define known ns values at h m b g = absurd h
 
   mutual
@@ -76,18 +77,18 @@ module _ (f : Function) (names : HasPathNames f) where
   abbrev BindingsAre : Type 0
   BindingsAre = (b : Binding) → Contains (bindings_in (locals_of f) f.body) b → BindingIs (locals_of f) (part f names) b
 
-  another_local : (d : Local) (b : Binding) → BindingIs (locals_of f) (part f names) b → ((e : Local) → Contains (part f names) e → e.place ≡ 1 → d.text ≡ e.text → ⊥) → is_same_as d (bound_local (locals_of f) b.second) ≡ false
+  another_local : (d : Local) (b : Binding) → BindingIs (locals_of f) (part f names) b → ((e : Local) → Contains (part f names) e → e.index ≡ 1 → d.text ≡ e.text → ⊥) → is_same_as d (bound_local (locals_of f) b.second) ≡ false
   another_local d b (binding_blank e) h = ap (is_same_as d) e
-  another_local d b (binding_local e g k place) h = ap (is_same_as d) g ∙ local_differs d e (h e k place)
+  another_local d b (binding_local e g k index) h = ap (is_same_as d) g ∙ local_differs d e (h e k index)
 
   -- parameters and first names obtain nothing
   parameter_not_obtained : BindingsAre → (d : Local) → Contains (parameters f names) d → obtained d ≡ false
   parameter_not_obtained all d h =
-      obtained_by_none (locals_of f) (bindings_in (locals_of f) f.body) d (λ b g. another_local d b (all b g) (λ e k place t. distinct_parts (parameters f names) (part f names) names.once d e h k t))
+      obtained_by_none (locals_of f) (bindings_in (locals_of f) f.body) d (λ b g. another_local d b (all b g) (λ e k index t. distinct_parts (parameters f names) (part f names) names.once d e h k t))
 
-  first_not_obtained : BindingsAre → (d : Local) → Contains (part f names) d → d.place ≡ 0 → obtained d ≡ false
+  first_not_obtained : BindingsAre → (d : Local) → Contains (part f names) d → d.index ≡ 0 → obtained d ≡ false
   first_not_obtained all d h zeroth =
-      obtained_by_none (locals_of f) (bindings_in (locals_of f) f.body) d (λ b g. another_local d b (all b g) (λ e k place t. let same = unique_local (locals_of f) names.once d e (in_part f names d h) (in_part f names e k) t in let p : d.place ≡ e.place = ap (λ z. z.place) same in absurd (omega arith)))
+      obtained_by_none (locals_of f) (bindings_in (locals_of f) f.body) d (λ b g. another_local d b (all b g) (λ e k index t. let same = unique_local (locals_of f) names.once d e (in_part f names d h) (in_part f names e k) t in let p : d.index ≡ e.index = ap (λ z. z.index) same in absurd (omega arith)))
 
   abbrev keys : List Local → List Key
   keys ds = map local_key (filter obtained ds)
@@ -95,7 +96,7 @@ module _ (f : Function) (names : HasPathNames f) where
   second_keys : BindingsAre → (known : List (List ℕ)) (braces : Span) (a b : Identifier) (values : Expressions) (span : Span) → NameIs known (part f names) b → IsOneMaker values → DeclaredIn f names (declared_by known braces span.end 0 (a ∷ (b ∷ []))) → BindingsIn f names (option_to_list (binding_of (locals_of f) (a ∷ (b ∷ [])) values span.start)) → keys (declared_by known braces span.end 1 (b ∷ [])) ≡ map name_key (name_bound (Some b))
   second_keys all known braces a b values span (is_blank_name e) m id ib =
       ap (λ c. keys (if (if c then true else is_among b.text known) then [] else (declared_local known braces span.end 1 b ∷ []))) e ∙ sym (ap (λ c. map name_key (if c then [] else b ∷ [])) e)
-  second_keys all known braces a b values span (is_declared d e g h t at place) m id ib =
+  second_keys all known braces a b values span (is_declared d e g h t at index) m id ib =
       let nothing : declares_nothing known b ≡ false = ap (λ c. if c then true else is_among b.text known) e ∙ g in
       let l = declared_local known braces span.end 1 b in
       let inside = id l (declared_later known braces span.end 0 a (b ∷ []) l (declared_now known braces span.end 1 b [] nothing)) in

@@ -8,10 +8,10 @@ use Rattle.tree.specs.Syntax.{Identifier, Expressions, Statement, define_stateme
 use Rattle.meaning.specs.Scopes.{is_blank, Local, text_of, known_after, parameter_name, locals_of}
 use Rattle.meaning.specs.Code.{Binding, Occurrence, binding_of, bindings_at, bindings_in, bindings_in_else, is_obtained, cancels_of, body_code}
 use Rattle.meaning.specs.Lists.{Reaches}
-use Rattle.meaning.specs.Classes.{Class, unset, opened, safe, class_behind}
+use Rattle.meaning.specs.Classes.{Class, unset, opened, safe, class_from}
 use Rattle.meaning.specs.Faults.{discarded, not_called, too_many, Fault, most_tracked, IsFaultOf, at_blank, at_many, at_binding, at_return, IsFaultIn}
 use Rattle.meaning.specs.FirstPath.{IsOneMaker, ArePathStatements, ArePathFunctions, HasPathNames, HasPathShape, HasPathFileNames}
-use Rattle.judge.specs.Walk.{fault_at, entry, name_discarded, discarded_at, discarded_in, discarded_in_else, bound_in, after_in, found_in, if_open, found_of, found_for, found_by, found_in_function, found_in_functions}
+use Rattle.judge.specs.Walk.{fault_at, at_start, name_discarded, discarded_at, discarded_in, discarded_in_else, bound_in, after_in, found_in, if_open, found_of, found_for, found_by, found_in_function, found_in_functions}
 use Rattle.meaning.proofs.Membership.{contains_nil, contains_here, contains_there, contains_cases}
 use Rattle.judge.proofs.Members.{contains_one, contains_one_is}
 use Rattle.judge.proofs.Names.{NamesAre, Named_at, Named_in, Named_else, binding_is, part, free, has_binding, named_body, agrees_in}
@@ -178,13 +178,13 @@ is_found_for body end (m ∷ ns) n x h g =
       | inr h' ↦ Contains-append_right (found_of body end m) (found_for body end ns) x (is_found_for body end ns n x h' g)
     ]
 
-at_entry : (q : Class) → Has entry q → q ≡ unset
+at_entry : (q : Class) → Has at_start q → q ≡ unset
 at_entry unset h = refl
 at_entry opened h = cc
 at_entry safe h = cc
 
 abbrev found_in_body : Function → List ℕ → List Fault
-found_in_body f v = found_in v entry f.body ++ if_open (after_in v entry f.body) (fault_at (f.braces.end - 1) not_called v)
+found_in_body f v = found_in v at_start f.body ++ if_open (after_in v at_start f.body) (fault_at (f.braces.end - 1) not_called v)
 
 module _ (f : Function) (names : HasPathNames f) (shape : ArePathStatements f.body) where
   named : Named_in (locals_of f) (part f names) (map text_of (map parameter_name f.params)) f.body
@@ -193,7 +193,7 @@ module _ (f : Function) (names : HasPathNames f) (shape : ArePathStatements f.bo
   pub same_keys : map local_key (cancels_of f) ≡ map name_key (bound_in f.body)
   same_keys = cancel_keys f names named
 
-  judged_cancel : (v : Local) → Contains (cancels_of f) v → Judged v (body_code f) entry (after_in v.text entry f.body) (found_in_body f v.text)
+  judged_cancel : (v : Local) → Contains (cancels_of f) v → Judged v (body_code f) at_start (after_in v.text at_start f.body) (found_in_body f v.text)
   judged_cancel v h =
       judged_body f v (agrees_in f names v (from_filter (is_obtained (locals_of f) (bindings_in (locals_of f) f.body)) (locals_of f) v h) (cancels_of f) h (map text_of (map parameter_name f.params)) f.body named)
 
@@ -221,7 +221,7 @@ module _ (f : Function) (names : HasPathNames f) (shape : ArePathStatements f.bo
       path_fault v _ l h ((judged_cancel v h).meets unset t o _ refl r c (bad_binding u place e s))
   complete x (at_return v t o l h r e c) = path_fault v _ l h ((judged_cancel v h).meets unset t o _ refl r c (bad_return e))
 
-  fault_from : (v : Local) (x : Fault) (o : Occurrence) (t : List Occurrence) → length (cancels_of f) ≤ most_tracked → Contains (cancels_of f) v → Reaches (body_code f) t o → class_behind v unset t ≡ opened → IsBad v o x → IsFaultOf f x
+  fault_from : (v : Local) (x : Fault) (o : Occurrence) (t : List Occurrence) → length (cancels_of f) ≤ most_tracked → Contains (cancels_of f) v → Reaches (body_code f) t o → class_from v unset t ≡ opened → IsBad v o x → IsFaultOf f x
   fault_from v x o t l h r c (bad_return e) = at_return v t o l h r e c
   fault_from v x o t l h r c (bad_binding u place e s) = at_binding v u place t o l h r e s c
 
@@ -231,7 +231,7 @@ module _ (f : Function) (names : HasPathNames f) (shape : ArePathStatements f.bo
       let s = partner name_key local_key (bound_in f.body) (cancels_of f) (sym same_keys) g.name g.among in
       let t : g.name.text ≡ s.other.text = ap (λ k. k.text) (sym s.same) in
       let m = (judged_cancel s.other s.among).met x (subst (λ w. Contains (found_in_body f w) x) t g.found) in
-      fault_from s.other x m.occurrence m.list (few e) s.among m.reaches (ap (λ q. class_behind s.other q m.list) (sym (at_entry m.first m.begins)) ∙ m.is_open) m.bad
+      fault_from s.other x m.occurrence m.list (few e) s.among m.reaches (ap (λ q. class_from s.other q m.list) (sym (at_entry m.first m.begins)) ∙ m.is_open) m.bad
 
   from_many : (x : Fault) (n : Identifier) → slice_get (bound_in f.body) most_tracked ≡ Some n → x ≡ fault_at n.span.start too_many n.text → IsFaultOf f x
   from_many x n e p =

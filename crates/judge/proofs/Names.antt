@@ -10,21 +10,22 @@ use Rattle.meaning.specs.Scopes.{same_text, is_blank, is_among, Local, same_loca
 use Rattle.meaning.specs.Code.{through_import, maker_of, Binding, bound_from, binding_of, bindings_at, bindings_in, bindings_in_else, is_listed, if_listed, call_event, defer_event, obtain_event, binding_event, called_by}
 use Rattle.meaning.specs.FirstPath.{IsMaker, IsPair, IsOneMaker, IsPathStatement, ArePathStatements, IsPathElse, Use, is_called, is_deferred, is_used, Mention, used, expression_mentions, expressions_mentions, assigned_by, mentions_in, mentions_at, mentions_in_else, type_mentions, mentions_of, HasPathNames}
 use Rattle.judge.specs.Walk.{is_named, called_name}
-use Rattle.meaning.proofs.Membership.{contains_nil, contains_here, contains_there, contains_cases}
+use Rattle.meaning.proofs.Membership.{contains_nil, contains_cases}
 use Rattle.meaning.proofs.SameNames.{same_text_is, same_text_of}
+use Rattle.meaning.proofs.Defined.{assigned_later, assigned_now, declared_local, declared_later, declared_now}
 use Rattle.judge.proofs.Members.{contains_one}
 use Rattle.judge.proofs.Locals.{text_differs, local_differs, unique_local, not_reserved, declaration_none, declaration_found, declaration_text, declared_here_found, listed}
 use Rattle.judge.proofs.Paths.{quiet_other, quiet_obtain, quiet_call, quiet_defer, DefineIs, binds, binds_another, CallIs, is_call, is_defer, is_no_call, Agrees_at, Agrees_in, Agrees_else}
 
 -- locals are not called `_`
-not_blank_by : (known : List (List ℕ)) (braces : Span) (from place : ℕ) (ns : List Identifier) (d : Local) → Contains (declared_by known braces from place ns) d → is_blank d.text ≡ false
-not_blank_by known braces from place [] d h = absurd (contains_nil d h)
-not_blank_by known braces from place (n ∷ ns) d h = by (is_blank n.text) refl (is_among n.text known) h (not_blank_by known braces from (place + 1) ns d)
+not_blank_by : (known : List (List ℕ)) (braces : Span) (from index : ℕ) (ns : List Identifier) (d : Local) → Contains (declared_by known braces from index ns) d → is_blank d.text ≡ false
+not_blank_by known braces from index [] d h = absurd (contains_nil d h)
+not_blank_by known braces from index (n ∷ ns) d h = by (is_blank n.text) refl (is_among n.text known) h (not_blank_by known braces from (index + 1) ns d)
   where
     rest : List Local
-    rest = declared_by known braces from (place + 1) ns
+    rest = declared_by known braces from (index + 1) ns
 
-    by : (b : Bool) → is_blank n.text ≡ b → (c : Bool) → Contains (if (if b then true else c) then declared_by known braces from (place + 1) ns else (record { text = n.text; at = n.span.start; place = place; block = braces.start; from = from; to = braces.end } ∷ declared_by known braces from (place + 1) ns)) d → (Contains (declared_by known braces from (place + 1) ns) d → is_blank d.text ≡ false) → is_blank d.text ≡ false
+    by : (b : Bool) → is_blank n.text ≡ b → (c : Bool) → Contains (if (if b then true else c) then declared_by known braces from (index + 1) ns else (record { text = n.text; at = n.span.start; index = index; block = braces.start; from = from; to = braces.end } ∷ declared_by known braces from (index + 1) ns)) d → (Contains (declared_by known braces from (index + 1) ns) d → is_blank d.text ≡ false) → is_blank d.text ≡ false
     by true e c g go = go g
     by false e true g go = go g
     by false e false g go =
@@ -65,39 +66,10 @@ not_blank f d h =
       | inr g ↦ not_blank_in (map text_of (map parameter_name f.params)) f.braces f.body d g
     ]
 
--- what one name of a `:=` assigns or declares, and what those behind it do
-module _ (known : List (List ℕ)) where
-  assigned_later : (n : Identifier) (ns : List Identifier) (m : Mention) → Contains (assigned_by known ns) m → Contains (assigned_by known (n ∷ ns)) m
-  assigned_later n ns m h = by (is_blank n.text) (is_among n.text known)
-    where
-      by : (b c : Bool) → Contains (if b then assigned_by known ns else (if c then used n ∷ assigned_by known ns else assigned_by known ns)) m
-      by true c = h
-      by false true = contains_there (used n) m (assigned_by known ns) h
-      by false false = h
-
-  assigned_now : (n : Identifier) (ns : List Identifier) → is_blank n.text ≡ false → is_among n.text known ≡ true → Contains (assigned_by known (n ∷ ns)) (used n)
-  assigned_now n ns e f =
-      subst (λ b. Contains (if b then assigned_by known ns else (if is_among n.text known then used n ∷ assigned_by known ns else assigned_by known ns)) (used n)) (sym e) (subst (λ c. Contains (if c then used n ∷ assigned_by known ns else assigned_by known ns) (used n)) (sym f) (contains_here (used n) (assigned_by known ns)))
-
-  module _ (braces : Span) (from place : ℕ) where
-    abbrev pub declared_local : Identifier → Local
-    declared_local n = record { text = n.text; at = n.span.start; place = place; block = braces.start; from = from; to = braces.end }
-
-    pub declared_later : (n : Identifier) (ns : List Identifier) (d : Local) → Contains (declared_by known braces from (place + 1) ns) d → Contains (declared_by known braces from place (n ∷ ns)) d
-    declared_later n ns d h = by (declares_nothing known n)
-      where
-        by : (b : Bool) → Contains (if b then declared_by known braces from (place + 1) ns else (record { text = n.text; at = n.span.start; place = place; block = braces.start; from = from; to = braces.end } ∷ declared_by known braces from (place + 1) ns)) d
-        by true = h
-        by false = contains_there _ d _ h
-
-    pub declared_now : (n : Identifier) (ns : List Identifier) → declares_nothing known n ≡ false → Contains (declared_by known braces from place (n ∷ ns)) record { text = n.text; at = n.span.start; place = place; block = braces.start; from = from; to = braces.end }
-    declared_now n ns e =
-        subst (λ b. Contains (if b then declared_by known braces from (place + 1) ns else (record { text = n.text; at = n.span.start; place = place; block = braces.start; from = from; to = braces.end } ∷ declared_by known braces from (place + 1) ns)) record { text = n.text; at = n.span.start; place = place; block = braces.start; from = from; to = braces.end }) (sym e) (contains_here _ _)
-
 -- the second name of a binding: it is `_`, or it declares a local
 pub data NameIs (known : List (List ℕ)) (part : List Local) (n : Identifier) : Type 0 where
   is_blank_name : is_blank n.text ≡ true → NameIs known part n
-  is_declared : (d : Local) → is_blank n.text ≡ false → is_among n.text known ≡ false → Contains part d → d.text ≡ n.text → d.at ≡ n.span.start → d.place ≡ 1 → NameIs known part n
+  is_declared : (d : Local) → is_blank n.text ≡ false → is_among n.text known ≡ false → Contains part d → d.text ≡ n.text → d.at ≡ n.span.start → d.index ≡ 1 → NameIs known part n
 
 abbrev pub NamesAre : List (List ℕ) → List Local → List Identifier → Type 0
 NamesAre known part (a ∷ (b ∷ [])) = NameIs known part b
@@ -249,7 +221,7 @@ module _ (f : Function) (names : HasPathNames f) where
     define_agrees : (known : List (List ℕ)) (b : Identifier) → NameIs known part b → DefineIs v (Some b) (obtain_event (bound_local (locals_of f) b) b.span.start)
     define_agrees known b (is_blank_name e) =
         subst (λ o. DefineIs v (Some b) (obtain_event o b.span.start)) (sym (ap (λ c. if c then None else bound_by (locals_of f) b) e)) (binds_another b (text_differs b.text v.text (λ q. both_ways _ (not_blank f v known_local) (ap is_blank (sym q) ∙ e))) quiet_other)
-    define_agrees known b (is_declared d e g h t at place) =
+    define_agrees known b (is_declared d e g h t at index) =
         elim (cases_Bool (same_text b.text v.text)) [
           | inl s ↦
               let same = unique_local (locals_of f) names.once d v (in_part d h) known_local (t ∙ same_text_is b.text v.text s) in

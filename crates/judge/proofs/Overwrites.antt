@@ -10,7 +10,7 @@ use Rattle.meaning.specs.Code.{bindings_in, is_obtained, cancels_of}
 use Rattle.meaning.specs.Faults.{discarded, overwritten, not_called, too_many, Fault, most_tracked, IsFaultOf, IsFaultIn}
 use Rattle.meaning.specs.FirstPath.{local_text, AreDistinct, ArePathStatements, HasPathNames, HasPathShape, HasPathFileNames}
 use Rattle.judge.specs.declared.pass.Classes.{Classes}
-use Rattle.judge.specs.Walk.{fault_at, name_bound, name_discarded, bound_at, bound_in, bound_in_else, discarded_at, discarded_in, discarded_in_else, is_named, called_name, obtained, called, entry, after_define, after_at, after_in, after_in_else, if_open, found_define, found_at, found_in, found_in_else, found_of, found_by}
+use Rattle.judge.specs.Walk.{fault_at, name_bound, name_discarded, bound_at, bound_in, bound_in_else, discarded_at, discarded_in, discarded_in_else, is_named, called_name, obtained, called, at_start, after_define, after_at, after_in, after_in_else, if_open, found_define, found_at, found_in, found_in_else, found_of, found_by}
 use Rattle.meaning.proofs.Membership.{contains_nil}
 use Rattle.meaning.proofs.SameNames.{same_text_is, same_text_of}
 use Rattle.judge.proofs.Members.{contains_one_is}
@@ -253,9 +253,9 @@ module _ (f : Function) (names : HasPathNames f) (shape : ArePathStatements f.bo
       let s = partner name_key local_key (bound_in f.body) (cancels_of f) (sym (same_keys f names shape)) n h in
       let d = from_filter (is_obtained (locals_of f) (bindings_in (locals_of f) f.body)) (locals_of f) s.other s.among in
       let named : is_blank n.text ≡ false = ap is_blank (ap (λ k. k.text) (sym s.same)) ∙ not_blank f s.other d in
-      elim (Contains-append_cases (found_in n.text entry f.body) (if_open (after_in n.text entry f.body) (fault_at (f.braces.end - 1) not_called n.text)) x g) [
-        | inl a ↦ once_in n.text named entry f.body bound_once refl x a e
-        | inr a ↦ return_is_other n.text named (after_in n.text entry f.body) (f.braces.end - 1) x a e
+      elim (Contains-append_cases (found_in n.text at_start f.body) (if_open (after_in n.text at_start f.body) (fault_at (f.braces.end - 1) not_called n.text)) x g) [
+        | inl a ↦ once_in n.text named at_start f.body bound_once refl x a e
+        | inr a ↦ return_is_other n.text named (after_in n.text at_start f.body) (f.braces.end - 1) x a e
       ]
 
   by_names : (o : Option Identifier) (x : Fault) → Contains (found_by f.body f.braces.end (bound_in f.body) o) x → x.finding ≡ overwritten → ⊥

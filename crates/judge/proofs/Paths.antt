@@ -10,10 +10,10 @@ use Rattle.meaning.specs.Scopes.{same_text, Local, same_local, locals_of}
 use Rattle.meaning.specs.Code.{Event, other, obtains, calls, defers_call, returns_here, Occurrence, Way, Code, skip, does, leave, then_code, either, one, binding_of, binding_event, call_event, defer_event, called_by, code_at, code_in, code_in_else, body_code, cancels_of}
 use Rattle.meaning.specs.Grammar.{expression_start}
 use Rattle.meaning.specs.Lists.{Exit, stopped, falls, Lists, not_begun, skipped, done, just_done, left, ends_in_first, goes_on, in_first, in_second, ends_in_turn, turns_again, arrives, passes}
-use Rattle.meaning.specs.Classes.{Class, unset, opened, safe, change, class_behind}
+use Rattle.meaning.specs.Classes.{Class, unset, opened, safe, change, class_from}
 use Rattle.meaning.specs.Faults.{overwritten, not_called, Fault}
 use Rattle.judge.specs.declared.pass.Classes.{Classes}
-use Rattle.judge.specs.Walk.{fault_at, is_named, called_name, obtained, called, joined, nowhere, entry, after_define, after_at, after_in, after_in_else, if_open, found_define, found_at, found_in, found_in_else}
+use Rattle.judge.specs.Walk.{fault_at, is_named, called_name, obtained, called, joined, nowhere, at_start, after_define, after_at, after_in, after_in_else, if_open, found_define, found_at, found_in, found_in_else}
 use Rattle.meaning.proofs.Membership.{contains_nil}
 use Rattle.meaning.proofs.SameNames.{same_local_itself}
 use Rattle.judge.proofs.Members.{contains_one, contains_one_is, snoc_nil, split_snoc}
@@ -32,12 +32,12 @@ pub data IsBad (v : Local) (o : Occurrence) : Fault → Type 0 where
   bad_binding : (u : Local) (place : ℕ) → o.event ≡ obtains u place → IsTrue (same_local u v) → IsBad v o (fault_at place overwritten v.text)
 
 -- a list leaves the variable with this class
-pub record Behind (v : Local) (c : Code) (k : Classes) (q : Class) : Type 0 where
+pub record After (v : Local) (c : Code) (k : Classes) (q : Class) : Type 0 where
   pub first : Class
   pub list : List Occurrence
   pub begins : Has k first
   pub through : Lists c list falls
-  pub leads : class_behind v first list ≡ q
+  pub leads : class_from v first list ≡ q
 
 -- a list meets this fault
 pub record Met (v : Local) (c : Code) (k : Classes) (x : Fault) : Type 0 where
@@ -46,14 +46,14 @@ pub record Met (v : Local) (c : Code) (k : Classes) (x : Fault) : Type 0 where
   pub occurrence : Occurrence
   pub begins : Has k first
   pub reaches : Lists c (list ++ occurrence ∷ []) stopped
-  pub is_open : class_behind v first list ≡ opened
+  pub is_open : class_from v first list ≡ opened
   pub bad : IsBad v occurrence x
 
 -- from the classes k, the lists of c leave exactly the classes j, and meet exactly these faults
 pub record Judged (v : Local) (c : Code) (k j : Classes) (found : List Fault) : Type 0 where
-  pub falls_to : (q : Class) (t : List Occurrence) → Has k q → Lists c t falls → Has j (class_behind v q t)
-  pub comes_from : (q : Class) → Has j q → Behind v c k q
-  pub meets : (q : Class) (t : List Occurrence) (o : Occurrence) (x : Fault) → Has k q → Lists c (t ++ o ∷ []) stopped → class_behind v q t ≡ opened → IsBad v o x → Contains found x
+  pub falls_to : (q : Class) (t : List Occurrence) → Has k q → Lists c t falls → Has j (class_from v q t)
+  pub comes_from : (q : Class) → Has j q → After v c k q
+  pub meets : (q : Class) (t : List Occurrence) (o : Occurrence) (x : Fault) → Has k q → Lists c (t ++ o ∷ []) stopped → class_from v q t ≡ opened → IsBad v o x → Contains found x
   pub met : (x : Fault) → Contains found x → Met v c k x
 
 -- each front of a list is a list that is stopped
@@ -72,9 +72,9 @@ stops (turns_again l m e) = turns_again l (stops m) e
 stops (arrives l) = passes (stops l) (λ e. cc)
 stops (passes l h) = passes (stops l) (λ e. cc)
 
-class_behind-append : (v : Local) (q : Class) (t u : List Occurrence) → class_behind v q (t ++ u) ≡ class_behind v (class_behind v q t) u
-class_behind-append v q [] u = refl
-class_behind-append v q (o ∷ t) u = class_behind-append v (change v o.event q) t u
+class_from-append : (v : Local) (q : Class) (t u : List Occurrence) → class_from v q (t ++ u) ≡ class_from v (class_from v q t) u
+class_from-append v q [] u = refl
+class_from-append v q (o ∷ t) u = class_from-append v (change v o.event q) t u
 
 -- one code after another
 record SequenceFalls (a b : Code) (r : List Occurrence) : Type 0 where
@@ -105,15 +105,15 @@ pub judged_sequence : {v : Local} {a b : Code} {k j i : Classes} {f g : List Fau
 judged_sequence {v = v} {a = a} {b = b} {k = k} {j = j} {i = i} {f = f} {g = g} m n = record {
   falls_to = λ q t h l.
       let s = sequence_falls l in
-      subst (λ p. Has i p) (sym (class_behind-append v q s.front s.back) ∙ ap (class_behind v q) (sym s.is)) (n.falls_to _ _ (m.falls_to q s.front h s.first) s.second);
+      subst (λ p. Has i p) (sym (class_from-append v q s.front s.back) ∙ ap (class_from v q) (sym s.is)) (n.falls_to _ _ (m.falls_to q s.front h s.first) s.second);
   comes_from = λ q h.
       let s = n.comes_from q h in
       let r = m.comes_from s.first s.begins in
-      record { first = r.first; list = r.list ++ s.list; begins = r.begins; through = goes_on r.through s.through refl; leads = class_behind-append v r.first r.list s.list ∙ ap (λ p. class_behind v p s.list) r.leads ∙ s.leads };
+      record { first = r.first; list = r.list ++ s.list; begins = r.begins; through = goes_on r.through s.through refl; leads = class_from-append v r.first r.list s.list ∙ ap (λ p. class_from v p s.list) r.leads ∙ s.leads };
   meets = λ q t o x h l is_open bad.
       elim (sequence_reaches t o l refl) [
         | reaches_first l' ↦ Contains-append_left f g x (m.meets q t o x h l' is_open bad)
-        | reaches_second front back l' l'' e ↦ Contains-append_right f g x (n.meets (class_behind v q front) back o x (m.falls_to q front h l') l'' (sym (class_behind-append v q front back) ∙ ap (class_behind v q) (sym e) ∙ is_open) bad)
+        | reaches_second front back l' l'' e ↦ Contains-append_right f g x (n.meets (class_from v q front) back o x (m.falls_to q front h l') l'' (sym (class_from-append v q front back) ∙ ap (class_from v q) (sym e) ∙ is_open) bad)
       ];
   met = λ x h.
       elim (Contains-append_cases f g x h) [
@@ -121,7 +121,7 @@ judged_sequence {v = v} {a = a} {b = b} {k = k} {j = j} {i = i} {f = f} {g = g} 
         | inr h' ↦
             let s = n.met x h' in
             let r = m.comes_from s.first s.begins in
-            record { first = r.first; list = r.list ++ s.list; occurrence = s.occurrence; begins = r.begins; reaches = goes_on r.through s.reaches (append_assoc r.list s.list (s.occurrence ∷ [])); is_open = class_behind-append v r.first r.list s.list ∙ ap (λ p. class_behind v p s.list) r.leads ∙ s.is_open; bad = s.bad }
+            record { first = r.first; list = r.list ++ s.list; occurrence = s.occurrence; begins = r.begins; reaches = goes_on r.through s.reaches (append_assoc r.list s.list (s.occurrence ∷ [])); is_open = class_from-append v r.first r.list s.list ∙ ap (λ p. class_from v p s.list) r.leads ∙ s.is_open; bad = s.bad }
       ];
 }
 
@@ -140,8 +140,8 @@ pub judged_either : {v : Local} {a b : Code} {k j i : Classes} {f g : List Fault
 judged_either {v = v} {a = a} {b = b} {k = k} {j = j} {i = i} {f = f} {g = g} m n = record {
   falls_to = λ q t h l.
       elim (either_lists l) [
-        | inl l' ↦ has_joined j i (class_behind v q t) ∙ or_left _ _ (m.falls_to q t h l')
-        | inr l' ↦ has_joined j i (class_behind v q t) ∙ or_right _ _ (n.falls_to q t h l')
+        | inl l' ↦ has_joined j i (class_from v q t) ∙ or_left _ _ (m.falls_to q t h l')
+        | inr l' ↦ has_joined j i (class_from v q t) ∙ or_right _ _ (n.falls_to q t h l')
       ];
   comes_from = λ q h.
       elim (or_cases _ _ (sym (has_joined j i q) ∙ h)) [
@@ -169,7 +169,7 @@ skip_stops not_begun = refl
 
 pub judged_skip : {v : Local} {k : Classes} → Judged v skip k k []
 judged_skip {v = v} {k = k} = record {
-  falls_to = λ q t h l. subst (λ u. Has k (class_behind v q u)) (sym (skip_falls l)) h;
+  falls_to = λ q t h l. subst (λ u. Has k (class_from v q u)) (sym (skip_falls l)) h;
   comes_from = λ q h. record { first = q; list = []; begins = h; through = skipped; leads = refl };
   meets = λ q t o x h l is_open bad. absurd (snoc_nil t o (skip_stops l));
   met = λ x h. absurd (contains_nil x h);
@@ -210,14 +210,14 @@ record From (v : Local) (o : Occurrence) (k : Classes) (q : Class) : Type 0 wher
 module _ (v : Local) (o : Occurrence) (k j : Classes) (f : List Fault) where
   judged_does : ((q : Class) → Has k q → Has j (change v o.event q)) → ((q : Class) → Has j q → From v o k q) → ((x : Fault) → Has k opened → IsBad v o x → Contains f x) → ((x : Fault) → Contains f x → (Has k opened) × IsBad v o x) → Judged v (does o) k j f
   judged_does moves from bad good = record {
-    falls_to = λ q t h l. subst (λ u. Has j (class_behind v q u)) (sym (does_falls l)) (moves q h);
+    falls_to = λ q t h l. subst (λ u. Has j (class_from v q u)) (sym (does_falls l)) (moves q h);
     comes_from = λ q h. let s = from q h in record { first = s.first; list = o ∷ []; begins = s.begins; through = done; leads = s.leads };
     meets = λ q t o' x h l is_open b.
         elim (does_stops l) [
           | inl e ↦ absurd (snoc_nil t o' e)
           | inr e ↦
               let s = same_from_push t [] o' o e in
-              let now : Has k opened = subst (λ p. Has k p) (sym (ap (class_behind v q) s.0) ∙ is_open) h in
+              let now : Has k opened = subst (λ p. Has k p) (sym (ap (class_from v q) s.0) ∙ is_open) h in
               bad x now (subst (λ p. IsBad v p x) s.1 b)
         ];
     met = λ x h. let s = good x h in record { first = opened; list = []; occurrence = o; begins = s.0; reaches = just_done; is_open = refl; bad = s.1 };
@@ -412,6 +412,6 @@ module _ (ds cs : List Local) (v : Local) where
     judged_else k no_else h = judged_skip
     judged_else k (else_block ss braces) h = judged_in k ss h
 
-pub judged_body : (f : Function) (v : Local) → Agrees_in (locals_of f) (cancels_of f) v f.body → Judged v (body_code f) entry (after_in v.text entry f.body) (found_in v.text entry f.body ++ if_open (after_in v.text entry f.body) (fault_at (f.braces.end - 1) not_called v.text))
+pub judged_body : (f : Function) (v : Local) → Agrees_in (locals_of f) (cancels_of f) v f.body → Judged v (body_code f) at_start (after_in v.text at_start f.body) (found_in v.text at_start f.body ++ if_open (after_in v.text at_start f.body) (fault_at (f.braces.end - 1) not_called v.text))
 judged_body f v h =
-    judged_sequence (judged_quiet v f.braces.start other entry quiet_other) (judged_sequence (judged_in (locals_of f) (cancels_of f) v entry f.body h) (judged_returns v (f.braces.end - 1) _))
+    judged_sequence (judged_quiet v f.braces.start other at_start quiet_other) (judged_sequence (judged_in (locals_of f) (cancels_of f) v at_start f.body h) (judged_returns v (f.braces.end - 1) _))

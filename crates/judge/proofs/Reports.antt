@@ -1,22 +1,22 @@
 -- From what the walk finds to the report of a file on the first path.
-use Rattle.std.proofs.Common.{◌≡◌, ℕ, List, [], ◌∷◌, length, get_or, map, Contains, AllPairs, refl, sym, ap, subst, arith}
+use Rattle.std.proofs.Common.{◌≡◌, ℕ, Bool, true, false, IsTrue, List, [], ◌∷◌, length, get_or, map, Contains, AllPairs, refl, sym, ap, subst, arith}
 use Rattle.tree.specs.Syntax.{Function, SourceFile}
-use Rattle.meaning.specs.Runs.{IsQuietFunction}
 use Rattle.soundness.proofs.Theorem.{quiet_without_faults}
 use Rattle.meaning.proofs.Membership.{contains_nil, contains_map, contains_unmap}
 use Rattle.meaning.specs.FirstPath.{IsOnPath}
-use Rattle.meaning.specs.Faults.{Finding, discarded, overwritten, not_called, too_many}
-use Rattle.judge.specs.Report.{Line, code_of, fault_line, Precedes, IsReportOf, IsPathCode}
+use Rattle.meaning.specs.Scopes.{is_blank}
+use Rattle.meaning.specs.Faults.{Finding, discarded, overwritten, not_called, too_many, Fault, IsFaultOf, at_blank}
+use Rattle.judge.specs.Report.{Entry, code_of, fault_entry, Precedes, IsReportOf, IsPathCode, HasQuietFunctions}
 use Rattle.judge.proofs.Overwrites.{never_overwritten}
 use Rattle.judge.specs.Walk.{found_in_functions}
 use Rattle.judge.proofs.Exact.{file_complete, file_sound}
 
-pub report_of : (text : List ℕ) (file : SourceFile) (lines : List Line) → IsOnPath text file → AllPairs Precedes lines → ((x : Line) → Contains (map fault_line (found_in_functions file.functions)) x → Contains lines x) → ((x : Line) → Contains lines x → Contains (map fault_line (found_in_functions file.functions)) x) → IsReportOf file lines
-report_of text file lines h sorted complete sound = record {
+pub report_of : (text : List ℕ) (file : SourceFile) (entries : List Entry) → IsOnPath text file → AllPairs Precedes entries → ((x : Entry) → Contains (map fault_entry (found_in_functions file.functions)) x → Contains entries x) → ((x : Entry) → Contains entries x → Contains (map fault_entry (found_in_functions file.functions)) x) → IsReportOf file entries
+report_of text file entries h sorted complete sound = record {
   sorted = sorted;
-  complete = λ x g. complete (fault_line x) (contains_map fault_line (found_in_functions file.functions) x (file_complete file h.shape h.names x g));
-  sound = λ line g.
-      let s = contains_unmap fault_line (found_in_functions file.functions) line (sound line g) in
+  complete = λ x g. complete (fault_entry x) (contains_map fault_entry (found_in_functions file.functions) x (file_complete file h.shape h.names x g));
+  sound = λ entry g.
+      let s = contains_unmap fault_entry (found_in_functions file.functions) entry (sound entry g) in
       (s.0, file_sound file h.shape h.names s.0 s.1, sym s.2);
 }
 
@@ -31,12 +31,20 @@ other_than_overwritten overwritten h = absurd (h refl)
 other_than_overwritten not_called h = tt
 other_than_overwritten too_many h = tt
 
-pub path_codes : (text : List ℕ) (file : SourceFile) (lines : List Line) → IsOnPath text file → IsReportOf file lines → (line : Line) → Contains lines line → IsPathCode line.code
-path_codes text file lines h report line g =
-    let s = report.sound line g in
-    subst (λ l. IsPathCode l.code) (sym s.2) (other_than_overwritten s.0.finding (never_overwritten file h.shape h.names s.0 s.1))
+pub path_codes : (text : List ℕ) (file : SourceFile) (entries : List Entry) → IsOnPath text file → IsReportOf file entries → (entry : Entry) → Contains entries entry → IsPathCode entry.code
+path_codes text file entries h report entry g =
+    let s = report.sound entry g in
+    subst (λ x. IsPathCode x.code) (sym s.2) (other_than_overwritten s.0.finding (never_overwritten file h.shape h.names s.0 s.1))
 
--- without a line no function of the file has a fault, and so each has quiet returns alone
-pub quiet_if_none : (file : SourceFile) (lines : List Line) → IsReportOf file lines → lines ≡ [] → (f : Function) → Contains file.functions f → IsQuietFunction f
-quiet_if_none file lines report none f among =
-    quiet_without_faults f (λ fault bad. contains_nil (fault_line fault) (subst (λ l. Contains l (fault_line fault)) none (report.complete fault record { function = f; among = among; faulty = bad })))
+not_true : (b : Bool) → (IsTrue b → ⊥) → b ≡ false
+not_true true h = absurd (h refl)
+not_true false h = refl
+
+-- without an entry no function of the file has a fault, and so each discards nothing and has quiet returns alone
+pub quiet_if_none : (file : SourceFile) (entries : List Entry) → IsReportOf file entries → entries ≡ [] → HasQuietFunctions file
+quiet_if_none file entries report none f among =
+    (λ b g. not_true (is_blank b.second.text) (λ blank. no_fault _ (at_blank b g blank)), quiet_without_faults f no_fault)
+  where
+    no_fault : (fault : Fault) → IsFaultOf f fault → ⊥
+    no_fault fault bad =
+        contains_nil (fault_entry fault) (subst (λ l. Contains l (fault_entry fault)) none (report.complete fault record { function = f; among = among; faulty = bad }))

@@ -1,8 +1,8 @@
--- What the report of a package says. A package is judged where it is one file on the first path and its path
--- is not `context`; its diagnostics are then the faults of that file, in order, each once. In every
--- other package each file has one line: why it has no tokens, or else that it is left out. (The
+-- What the report of a package says. A package is judged where it is one file on the first path and its
+-- import path is not `context`; its diagnostics are then the faults of that file, in order, each once. In every
+-- other package each file has one entry: why it has no tokens, or else that it is left out. (The
 -- documentation of package context: the cancel function must be called on all paths.)
-use Rattle.std.specs.Prelude.{◌≡◌, ◌≢◌, ℕ, ◌<◌, ◌⊎◌, suc, List, [], ◌∷◌, Contains, codes, string_bytes}
+use Rattle.std.specs.Prelude.{◌≡◌, ◌≢◌, ℕ, ◌<◌, ◌⊎◌, suc, false, List, [], ◌∷◌, Contains, codes, string_bytes}
 use Rattle.std.specs.List.{AllPairs}
 use Rattle.lexer.specs.declared.source.Source.{Source}
 use Rattle.lexer.specs.declared.token.Token.{Token}
@@ -10,9 +10,12 @@ use Rattle.lexer.specs.declared.fault.LexFault.{LexFault}
 use Rattle.lexer.specs.declared.fault.LexFault.TheVariants as lex_fault
 use Rattle.lexer.specs.Tokens.{IsTokens}
 use Rattle.lexer.specs.Faults.{IsFault}
-use Rattle.tree.specs.Syntax.{SourceFile}
+use Rattle.tree.specs.Syntax.{Function, SourceFile}
 use Rattle.meaning.specs.Faults.{Finding, discarded, overwritten, not_called, too_many, Fault, IsFaultIn}
 use Rattle.meaning.specs.FirstPath.{IsOnPath}
+use Rattle.meaning.specs.Scopes.{is_blank, locals_of}
+use Rattle.meaning.specs.Code.{Binding, bindings_in}
+use Rattle.meaning.specs.Runs.{IsQuietFunction}
 use Rattle.judge.specs.declared.report.Code.{Code}
 use Rattle.judge.specs.declared.report.Code.TheVariants.{Unreadable, LeftOut, Discarded, Overwritten, NotCalled, TooMany}
 use Rattle.judge.specs.declared.report.TextFault.{TextFault}
@@ -20,14 +23,14 @@ use Rattle.judge.specs.declared.report.TextFault.TheVariants.{NotUtf8, Nul, Uncl
 use Rattle.judge.specs.declared.report.Diagnostic.{Diagnostic}
 
 -- what a diagnostic says
-pub record Line : Type 0 where
+pub record Entry : Type 0 where
   pub file : ℕ
   pub offset : ℕ
   pub code : Code
   pub name : List ℕ
 
-abbrev pub line_of : Diagnostic → Line
-line_of d = record { file = d.file; offset = d.offset; code = d.code; name = string_bytes d.name }
+abbrev pub entry_of : Diagnostic → Entry
+entry_of d = record { file = d.file; offset = d.offset; code = d.code; name = string_bytes d.name }
 
 abbrev pub code_of : Finding → Code
 code_of discarded = Discarded
@@ -36,21 +39,18 @@ code_of not_called = NotCalled
 code_of too_many = TooMany
 
 -- the diagnostic of a fault in the one file
-abbrev pub fault_line : Fault → Line
-fault_line x = record { file = 0; offset = x.offset; code = code_of x.finding; name = x.name }
+abbrev pub fault_entry : Fault → Entry
+fault_entry x = record { file = 0; offset = x.offset; code = code_of x.finding; name = x.name }
 
 -- a code's place in the order of the codes, which is the order of the diagnostics at one place
-abbrev pub text_fault_rank : TextFault → ℕ
-text_fault_rank NotUtf8 = 0
-text_fault_rank Nul = 1
-text_fault_rank UnclosedString = 2
-text_fault_rank UnclosedComment = 3
-text_fault_rank UnclosedRune = 4
-text_fault_rank UnknownCharacter = 5
-text_fault_rank TooLong = 6
-
 abbrev pub code_rank : Code → ℕ
-code_rank (Unreadable why) = text_fault_rank why
+code_rank (Unreadable NotUtf8) = 0
+code_rank (Unreadable Nul) = 1
+code_rank (Unreadable UnclosedString) = 2
+code_rank (Unreadable UnclosedComment) = 3
+code_rank (Unreadable UnclosedRune) = 4
+code_rank (Unreadable UnknownCharacter) = 5
+code_rank (Unreadable TooLong) = 6
 code_rank LeftOut = 7
 code_rank Discarded = 8
 code_rank Overwritten = 9
@@ -64,16 +64,18 @@ TextPrecedes [] (y ∷ ys) = Unit {0}
 TextPrecedes (x ∷ xs) [] = ⊥
 TextPrecedes (x ∷ xs) (y ∷ ys) = (x < y) ⊎ ((x ≡ y) × TextPrecedes xs ys)
 
--- in the order of files, then offsets, then codes, then names
-abbrev pub Precedes : Line → Line → Type 0
-Precedes a b =
-    (a.file < b.file) ⊎ ((a.file ≡ b.file) × ((a.offset < b.offset) ⊎ ((a.offset ≡ b.offset) × ((code_rank a.code < code_rank b.code) ⊎ ((a.code ≡ b.code) × TextPrecedes a.name b.name)))))
+-- the order of diagnostics: by files, then by offsets, then by codes, then by names
+pub data Precedes (a b : Entry) : Type 0 where
+  earlier_file : a.file < b.file → Precedes a b
+  earlier_offset : a.file ≡ b.file → a.offset < b.offset → Precedes a b
+  earlier_code : a.file ≡ b.file → a.offset ≡ b.offset → code_rank a.code < code_rank b.code → Precedes a b
+  earlier_name : a.file ≡ b.file → a.offset ≡ b.offset → a.code ≡ b.code → TextPrecedes a.name b.name → Precedes a b
 
--- the lines are the faults of the file, each once, in their order
-pub record IsReportOf (file : SourceFile) (lines : List Line) : Type 0 where
-  pub sorted : AllPairs Precedes lines
-  pub complete : (fault : Fault) → IsFaultIn file fault → Contains lines (fault_line fault)
-  pub sound : (line : Line) → Contains lines line → (fault : Fault) × IsFaultIn file fault × (line ≡ fault_line fault)
+-- the entries are the faults of the file, each once, in their order
+pub record IsReportOf (file : SourceFile) (entries : List Entry) : Type 0 where
+  pub sorted : AllPairs Precedes entries
+  pub complete : (fault : Fault) → IsFaultIn file fault → Contains entries (fault_entry fault)
+  pub sound : (x : Entry) → Contains entries x → (fault : Fault) × IsFaultIn file fault × (x ≡ fault_entry fault)
 
 -- what can be said of a file on the first path: no variable is overwritten there
 abbrev pub IsPathCode : Code → Type 0
@@ -91,6 +93,19 @@ pub record IsJudged (path : List ℕ) (sources : List Source) (file : SourceFile
   pub another : path ≢ codes "context"
   pub on_path : IsOnPath source.bytes.items file
 
+-- the function gives no cancel function the name `_`, by which nobody could call it
+abbrev pub DiscardsNothing : Function → Type 0
+DiscardsNothing f = (b : Binding) → Contains (bindings_in (locals_of f) f.body) b → is_blank b.second.text ≡ false
+
+-- each function of the file discards nothing, and in every run of it each return is quiet
+abbrev pub HasQuietFunctions : SourceFile → Type 0
+HasQuietFunctions file = (f : Function) → Contains file.functions f → DiscardsNothing f × IsQuietFunction f
+
+-- what a yes means: there is no file, or the package is one file on the first path, whose functions are quiet
+abbrev pub IsQuietPackage : List ℕ → List Source → Type 0
+IsQuietPackage path sources =
+    (sources ≡ []) ⊎ ((file : SourceFile) × IsJudged path sources file × HasQuietFunctions file)
+
 -- the lexer's fault of this kind at an offset
 abbrev pub lex_fault_at : ℕ → TextFault → LexFault
 lex_fault_at at NotUtf8 = lex_fault.NotUtf8 at
@@ -102,29 +117,37 @@ lex_fault_at at UnknownCharacter = lex_fault.UnknownCharacter at
 lex_fault_at at TooLong = lex_fault.TooLong
 
 -- a fault's offset and kind; a text that is too long has its fault at its start
-pub record IsPlaced (fault : LexFault) (at : ℕ) (why : TextFault) : Type 0 where
+pub record IsFaultAt (fault : LexFault) (at : ℕ) (why : TextFault) : Type 0 where
   pub fault_there : fault ≡ lex_fault_at at why
   pub at_start : why ≡ TooLong → at ≡ 0
 
 -- a text has no tokens for this reason, which stands at this offset
 abbrev pub IsUnreadable : List ℕ → ℕ → TextFault → Type 0
-IsUnreadable text at why = (fault : LexFault) × IsFault text fault × IsPlaced fault at why
+IsUnreadable text at why = (fault : LexFault) × IsFault text fault × IsFaultAt fault at why
 
-abbrev pub unreadable_line : ℕ → ℕ → TextFault → Line
-unreadable_line file at why = record { file = file; offset = at; code = Unreadable why; name = codes "-" }
+abbrev pub unreadable_entry : ℕ → ℕ → TextFault → Entry
+unreadable_entry file at why = record { file = file; offset = at; code = Unreadable why; name = codes "-" }
 
-abbrev pub left_out_line : ℕ → Line
-left_out_line file = record { file = file; offset = 0; code = LeftOut; name = codes "-" }
+abbrev pub left_out_entry : ℕ → Entry
+left_out_entry file = record { file = file; offset = 0; code = LeftOut; name = codes "-" }
 
--- the line of a file of a package that is not judged: why it has no tokens, or else that it is left out
-abbrev pub IsUnjudgedLine : ℕ → Source → Line → Type 0
-IsUnjudgedLine file source line =
-    ((at : ℕ) × (why : TextFault) × IsUnreadable source.bytes.items at why × (line ≡ unreadable_line file at why))
-    ⊎ ((tokens : List Token) × IsTokens source.bytes.items tokens × (line ≡ left_out_line file))
+-- the file has no tokens, and the entry says why
+abbrev pub IsUnreadableEntry : ℕ → Source → Entry → Type 0
+IsUnreadableEntry file source entry =
+    (at : ℕ) × (why : TextFault) × IsUnreadable source.bytes.items at why × (entry ≡ unreadable_entry file at why)
 
--- one line for each file, numbered from here
-abbrev pub AreUnjudgedLines : ℕ → List Source → List Line → Type 0
-AreUnjudgedLines file [] [] = Unit {0}
-AreUnjudgedLines file [] (l ∷ ls) = ⊥
-AreUnjudgedLines file (s ∷ ss) [] = ⊥
-AreUnjudgedLines file (s ∷ ss) (l ∷ ls) = IsUnjudgedLine file s l × AreUnjudgedLines (suc file) ss ls
+-- the file has tokens, and the entry says that it is left out
+abbrev pub IsLeftOutEntry : ℕ → Source → Entry → Type 0
+IsLeftOutEntry file source entry =
+    (tokens : List Token) × IsTokens source.bytes.items tokens × (entry ≡ left_out_entry file)
+
+-- the entry of a file of a package that is not judged
+abbrev pub IsUnjudgedEntry : ℕ → Source → Entry → Type 0
+IsUnjudgedEntry file source entry = IsUnreadableEntry file source entry ⊎ IsLeftOutEntry file source entry
+
+-- one entry for each file, numbered from here
+abbrev pub AreUnjudgedEntries : ℕ → List Source → List Entry → Type 0
+AreUnjudgedEntries file [] [] = Unit {0}
+AreUnjudgedEntries file [] (e ∷ es) = ⊥
+AreUnjudgedEntries file (s ∷ ss) [] = ⊥
+AreUnjudgedEntries file (s ∷ ss) (e ∷ es) = IsUnjudgedEntry file s e × AreUnjudgedEntries (suc file) ss es

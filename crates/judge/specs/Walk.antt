@@ -5,21 +5,21 @@ use Rattle.std.specs.Prelude.{◌≡◌, ℕ, ◌-◌, Bool, true, false, ◌||�
 use Rattle.tree.specs.Syntax.{Identifier, Expression, name_expression, selector_expression, call_expression, no_expression, expression_and, Statement, define_statement, expression_statement, defer_statement, if_statement, block_statement, return_statement, Otherwise, no_else, else_block, Statements, no_statement, statement_and, Function}
 use Rattle.meaning.specs.Scopes.{same_text, is_blank}
 use Rattle.meaning.specs.Faults.{Finding, discarded, overwritten, not_called, too_many, Fault, most_tracked}
-use Rattle.judge.specs.Report.{Line, line_of, fault_line}
+use Rattle.judge.specs.Report.{Entry, entry_of, fault_entry}
 use Rattle.judge.specs.declared.report.Diagnostic.{Diagnostic}
 use Rattle.judge.specs.declared.pass.Classes.{Classes}
 
 abbrev pub fault_at : ℕ → Finding → List ℕ → Fault
 fault_at offset finding name = record { offset = offset; finding = finding; name = name }
 
--- some faults are added behind what was found before
+-- some faults are added after what was found before
 abbrev pub Adds : List Diagnostic → List Diagnostic → List Fault → Type 0
-Adds old new faults = map line_of new ≡ map line_of old ++ map fault_line faults
+Adds old new faults = map entry_of new ≡ map entry_of old ++ map fault_entry faults
 
--- a line, if the test holds
-abbrev pub line_if : Bool → Line → List Line
-line_if true x = x ∷ []
-line_if false x = []
+-- an entry, if the test holds
+abbrev pub entry_if : Bool → Entry → List Entry
+entry_if true x = x ∷ []
+entry_if false x = []
 
 -- the cancel variables that a `:=` binds, and the cancel functions that it discards
 abbrev pub name_bound : Option Identifier → List Identifier
@@ -84,7 +84,7 @@ names_bare v bare (name_expression n) = bare && same_text n.text v
 names_bare v bare (selector_expression e n) = false
 names_bare v bare (call_expression e es span) = false
 
--- the classes behind a binding of the variable, and behind a call of it
+-- the classes after a binding of the variable, and after a call of it
 abbrev pub obtained : Classes → Classes
 obtained k = record { unset = false; opened = (k.unset || k.opened) || k.safe; safe = false }
 
@@ -100,8 +100,8 @@ abbrev pub nowhere : Classes
 nowhere = record { unset = false; opened = false; safe = false }
 
 -- at the beginning of a body
-abbrev pub entry : Classes
-entry = record { unset = true; opened = false; safe = false }
+abbrev pub at_start : Classes
+at_start = record { unset = true; opened = false; safe = false }
 
 abbrev pub after_define : List ℕ → Classes → Option Identifier → Classes
 after_define v k n = if is_named v n then obtained k else k
@@ -154,7 +154,7 @@ abbrev mutual
 -- the faults of one variable in a body, of which the last brace ends at this offset
 abbrev pub found_of : Statements → ℕ → Identifier → List Fault
 found_of body end n =
-    found_in n.text entry body ++ if_open (after_in n.text entry body) (fault_at (end - 1) not_called n.text)
+    found_in n.text at_start body ++ if_open (after_in n.text at_start body) (fault_at (end - 1) not_called n.text)
 
 abbrev pub found_for : Statements → ℕ → List Identifier → List Fault
 found_for body end [] = []

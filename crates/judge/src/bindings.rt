@@ -4,7 +4,7 @@ ghost use Rattle.std.specs.Prelude.{◌≡◌, [], ◌∷◌, ◌++◌, map, sli
 ghost use Rattle.std.specs.Option.{option_map};
 ghost use Rattle.tree.specs.View.{identifier_syntax, statement_syntax, statements_syntax};
 ghost use Rattle.meaning.specs.Scopes.{same_text};
-ghost use Rattle.judge.specs.Report.{line_of};
+ghost use Rattle.judge.specs.Report.{entry_of};
 ghost use Rattle.judge.specs.Walk.{Adds, bound_at, bound_in, name_bound, discarded_at, discarded_in, name_discarded};
 
 use crate::report::{Code, Diagnostic};
@@ -19,7 +19,8 @@ pub fn report(
     code: Code,
     name: &str,
 ) -> Result<(), AllocError>
-    ensures { OnOk result (map line_of found.new.items ≡ map line_of found.old.items ++ (record { file = 0; offset = offset; code = code; name = name.now } ∷ [])) }
+    ensures { OnOk result (map entry_of found.new.items ≡ map entry_of found.old.items
+        ++ (record { file = 0; offset = offset; code = code; name = name.now } ∷ [])) }
 {
     let name = String::from_str(alloc, name)?;
     found.push(Diagnostic {
@@ -47,8 +48,10 @@ pub fn add_bindings<'a>(
     cancels: &mut Vec<&'a Identifier>,
     found: &mut Vec<Diagnostic>,
 ) -> Result<(), AllocError>
-    ensures cancels { OnOk result (map (λ n. identifier_syntax n.now) cancels.new.items ≡ map (λ n. identifier_syntax n.now) cancels.old.items ++ bound_in (statements_syntax statements.now)) }
-    ensures found { OnOk result (Adds found.old.items found.new.items (discarded_in (statements_syntax statements.now))) }
+    ensures cancels { OnOk result (map (λ n. identifier_syntax n.now) cancels.new.items
+        ≡ map (λ n. identifier_syntax n.now) cancels.old.items ++ bound_in (statements_syntax statements.now)) }
+    ensures found { OnOk result (Adds found.old.items found.new.items
+        (discarded_in (statements_syntax statements.now))) }
 {
     for statement in statements {
         add_binding(alloc, statement, cancels, found)?;
@@ -63,7 +66,8 @@ fn add_binding<'a>(
     cancels: &mut Vec<&'a Identifier>,
     found: &mut Vec<Diagnostic>,
 ) -> Result<(), AllocError>
-    ensures cancels { OnOk result (map (λ n. identifier_syntax n.now) cancels.new.items ≡ map (λ n. identifier_syntax n.now) cancels.old.items ++ bound_at (statement_syntax statement.now)) }
+    ensures cancels { OnOk result (map (λ n. identifier_syntax n.now) cancels.new.items
+        ≡ map (λ n. identifier_syntax n.now) cancels.old.items ++ bound_at (statement_syntax statement.now)) }
     ensures found { OnOk result (Adds found.old.items found.new.items (discarded_at (statement_syntax statement.now))) }
 {
     match statement {
@@ -105,8 +109,11 @@ fn add_name<'a>(
     cancels: &mut Vec<&'a Identifier>,
     found: &mut Vec<Diagnostic>,
 ) -> Result<(), AllocError>
-    ensures cancels { OnOk result (map (λ n. identifier_syntax n.now) cancels.new.items ≡ map (λ n. identifier_syntax n.now) cancels.old.items ++ name_bound (slice_get (map identifier_syntax names.now) 1)) }
-    ensures found { OnOk result (Adds found.old.items found.new.items (name_discarded at (slice_get (map identifier_syntax names.now) 1))) }
+    ensures cancels { OnOk result (map (λ n. identifier_syntax n.now) cancels.new.items
+        ≡ map (λ n. identifier_syntax n.now) cancels.old.items
+        ++ name_bound (slice_get (map identifier_syntax names.now) 1)) }
+    ensures found { OnOk result (Adds found.old.items found.new.items
+        (name_discarded at (slice_get (map identifier_syntax names.now) 1))) }
 {
     match second(names) {
         None => Ok(()),

@@ -1,20 +1,21 @@
 //! The judgement of one package.
 
-ghost use Rattle.std.specs.Prelude.{◌≡◌, ◌↔◌, [], map, Contains, IfOk, IsErr, IsSomeAnd, IsNone, IsTrue, string_bytes};
+ghost use Rattle.std.specs.Prelude.{◌≡◌, ◌↔◌, [], map, Contains, IfOk, IsErr, IfSome, IsSomeAnd, IsTrue, string_bytes};
 ghost use Rattle.lexer.specs.declared.fault.LexFault.TheVariants.{OutOfMemory};
-ghost use Rattle.tree.specs.Syntax.{Function, SourceFile};
-ghost use Rattle.judge.specs.Report.{Line, line_of, IsReportOf, IsPathCode, IsJudged, IsPlaced, IsUnjudgedLine, AreUnjudgedLines};
+ghost use Rattle.tree.specs.Syntax.{SourceFile};
+ghost use Rattle.judge.specs.Report.{Entry, entry_of, IsReportOf, IsPathCode, IsJudged, HasQuietFunctions, IsQuietPackage, IsFaultAt, IsUnjudgedEntry, AreUnjudgedEntries};
 ghost use Rattle.meaning.specs.FirstPath.{IsOnPath};
-ghost use Rattle.meaning.specs.Runs.{IsQuietFunction};
 
 use crate::functions::file_diagnostics;
 use crate::report::{Code, Diagnostic, PackageReport, TextFault};
-use lexer::{LexFault, Source, lex};
+use lexer::{LexFault, Source, lex, plain};
+use parser::parse;
+use path::has_path_names;
 use std::alloc::{AllocError, Global};
 
 /// The report of the package of this path with these files. A package that is one file on the first
 /// path, and is of another path than `context`, is judged: its diagnostics are exactly the faults of
-/// the file. In every other package each file has one line: why it has no tokens, at the fault's
+/// the file. In every other package each file has one diagnostic: why it has no tokens, at the fault's
 /// place, or else that it is left out.
 ///
 /// # Errors
@@ -27,11 +28,16 @@ pub fn check_first(
 ) -> Result<PackageReport, AllocError>
     ensures path { IfOk result (λ r. string_bytes r.path ≡ path.now) }
     ensures verdict { IfOk result (λ r. IsTrue r.yes ↔ (r.diagnostics.items ≡ [])) }
-    ensures on_path { (file : SourceFile) → IsJudged path.now sources.now file → IfOk result (λ r. IsReportOf file (map line_of r.diagnostics.items)) }
-    ensures codes { (file : SourceFile) → IsJudged path.now sources.now file → IfOk result (λ r. (line : Line) → Contains (map line_of r.diagnostics.items) line → IsPathCode line.code) }
-    // A yes means that in every run of each function each return is quiet.
-    ensures quiet { (file : SourceFile) → IsJudged path.now sources.now file → IfOk result (λ r. IsTrue r.yes → (f : Function) → Contains file.functions f → IsQuietFunction f) }
-    ensures off_path { ((file : SourceFile) → IsJudged path.now sources.now file → ⊥) → IfOk result (λ r. AreUnjudgedLines 0 sources.now (map line_of r.diagnostics.items)) }
+    // A yes means that in every run of each function each return is quiet, or that there is no file.
+    ensures yes { IfOk result (λ r. IsTrue r.yes → IsQuietPackage path.now sources.now) }
+    ensures on_path { (file : SourceFile) → IsJudged path.now sources.now file
+        → IfOk result (λ r. IsReportOf file (map entry_of r.diagnostics.items)) }
+    ensures codes { (file : SourceFile) → IsJudged path.now sources.now file
+        → IfOk result (λ r. (x : Entry) → Contains (map entry_of r.diagnostics.items) x → IsPathCode x.code) }
+    ensures quiet { (file : SourceFile) → IsJudged path.now sources.now file
+        → IfOk result (λ r. IsTrue r.yes → HasQuietFunctions file) }
+    ensures off_path { ((file : SourceFile) → IsJudged path.now sources.now file → ⊥)
+        → IfOk result (λ r. AreUnjudgedEntries 0 sources.now (map entry_of r.diagnostics.items)) }
     ensures none { sources.now ≡ [] → IfOk result (λ r. r.diagnostics.items ≡ []) }
 {
     let diagnostics = match judged(alloc, path, sources)? {
@@ -46,14 +52,16 @@ pub fn check_first(
     })
 }
 
-/// The diagnostics of a package that is one file on the first path.
+/// The diagnostics of a package that is judged.
 fn judged(
     alloc: Global,
     path: &str,
     sources: &[Source],
 ) -> Result<Option<Vec<Diagnostic>>, AllocError>
-    ensures on_path { (file : SourceFile) → IsJudged path.now sources.now file → IfOk result (λ o. IsSomeAnd o (λ v. IsReportOf file (map line_of v.items))) }
-    ensures off_path { ((file : SourceFile) → IsJudged path.now sources.now file → ⊥) → IfOk result (λ o. IsNone o) }
+    ensures some { IfOk result (λ o. IfSome o (λ v.
+        (file : SourceFile) × IsJudged path.now sources.now file × IsReportOf file (map entry_of v.items))) }
+    ensures only { (file : SourceFile) → IsJudged path.now sources.now file
+        → IfOk result (λ o. IsSomeAnd o (λ v. IsReportOf file (map entry_of v.items))) }
 {
     if path == "context" || sources.len() != 1 {
         return Ok(None);
@@ -61,20 +69,29 @@ fn judged(
     judged_alone(alloc, &sources[0])
 }
 
-/// The diagnostics of one file, if it is on the first path.
+/// The diagnostics of one file, if it is on the first path: its tokens, then its tree, then whether its
+/// names keep the rules, then what is wrong with its functions.
 fn judged_alone(alloc: Global, source: &Source) -> Result<Option<Vec<Diagnostic>>, AllocError>
-    ensures on_path { (file : SourceFile) → IsOnPath source.now.bytes.items file → IfOk result (λ o. IsSomeAnd o (λ v. IsReportOf file (map line_of v.items))) }
-    ensures off_path { ((file : SourceFile) → IsOnPath source.now.bytes.items file → ⊥) → IfOk result (λ o. IsNone o) }
+    ensures some { IfOk result (λ o. IfSome o (λ v.
+        (file : SourceFile) × IsOnPath source.now.bytes.items file × IsReportOf file (map entry_of v.items))) }
+    ensures only { (file : SourceFile) → IsOnPath source.now.bytes.items file
+        → IfOk result (λ o. IsSomeAnd o (λ v. IsReportOf file (map entry_of v.items))) }
 {
-    match parser::first(alloc, source)? {
-        None => Ok(None),
-        Some(file) => Ok(Some(file_diagnostics(alloc, &file)?)),
+    let Some(tokens) = plain(alloc, source)? else {
+        return Ok(None);
+    };
+    let Some(file) = parse(alloc, &source.bytes, &tokens)? else {
+        return Ok(None);
+    };
+    if !has_path_names(alloc, &file)? {
+        return Ok(None);
     }
+    Ok(Some(file_diagnostics(alloc, &file)?))
 }
 
-/// One line for each file of a package that is not judged.
+/// One diagnostic for each file of a package that is not judged.
 fn unjudged(alloc: Global, sources: &[Source]) -> Result<Vec<Diagnostic>, AllocError>
-    ensures { IfOk result (λ v. AreUnjudgedLines 0 sources.now (map line_of v.items)) }
+    ensures { IfOk result (λ v. AreUnjudgedEntries 0 sources.now (map entry_of v.items)) }
 {
     let mut diagnostics = Vec::new(alloc);
     for file in 0..sources.len() {
@@ -84,9 +101,9 @@ fn unjudged(alloc: Global, sources: &[Source]) -> Result<Vec<Diagnostic>, AllocE
     Ok(diagnostics)
 }
 
-/// The line of such a file: why it has no tokens, or that it is left out.
+/// The diagnostic of such a file: why it has no tokens, or that it is left out.
 fn unjudged_file(alloc: Global, file: usize, source: &Source) -> Result<Diagnostic, AllocError>
-    ensures { IfOk result (λ d. IsUnjudgedLine file source.now (line_of d)) }
+    ensures { IfOk result (λ d. IsUnjudgedEntry file source.now (entry_of d)) }
 {
     let (offset, code) = match lex(alloc, source) {
         Ok(_) => (0, Code::LeftOut),
@@ -106,7 +123,7 @@ fn unjudged_file(alloc: Global, file: usize, source: &Source) -> Result<Diagnost
 
 /// A text's fault and the offset where it stands. A text that is too long has it at its start.
 fn text_fault(fault: LexFault) -> Result<(u32, TextFault), AllocError>
-    ensures ok { IfOk result (λ f. IsPlaced fault f.0 f.1) }
+    ensures ok { IfOk result (λ f. IsFaultAt fault f.0 f.1) }
     ensures err { IsErr result → fault ≡ OutOfMemory }
 {
     match fault {
@@ -118,54 +135,5 @@ fn text_fault(fault: LexFault) -> Result<(u32, TextFault), AllocError>
         LexFault::UnclosedRune(at) => Ok((at, TextFault::UnclosedRune)),
         LexFault::UnknownCharacter(at) => Ok((at, TextFault::UnknownCharacter)),
         LexFault::OutOfMemory => Err(AllocError),
-    }
-}
-
-#[cfg(test)]
-mod tests {
-    use super::*;
-    use std::test::Fail;
-
-    /// A file of this text.
-    fn source(alloc: Global, text: &str) -> Result<Source, AllocError> {
-        Ok(Source {
-            name: String::from_str(alloc, "a.go")?,
-            bytes: Vec::from_slice(alloc, text.as_bytes())?,
-        })
-    }
-
-    #[test]
-    fn no_file_is_a_yes(rt: HostRuntime) -> Result<(), Fail> {
-        let report = check_first(rt.alloc(), "a", &[])?;
-        assert_eq!(rt; report.path.as_str(), "a");
-        assert!(rt; report.yes);
-        assert_eq!(rt; report.diagnostics.len(), 0);
-        Ok(())
-    }
-
-    #[test]
-    fn each_file_off_the_path_has_its_line(rt: HostRuntime) -> Result<(), Fail> {
-        let alloc = rt.alloc();
-        let sources = [
-            source(alloc, "x")?,
-            source(alloc, "x \"")?,
-            source(alloc, "y")?,
-        ];
-        let report = check_first(alloc, "a", &sources)?;
-        assert!(rt; !report.yes);
-        let refused = Code::Unreadable(TextFault::UnclosedString);
-        let wanted = [
-            (0, 0, Code::LeftOut),
-            (1, 2, refused),
-            (2, 0, Code::LeftOut),
-        ];
-        assert_eq!(rt; report.diagnostics.len(), wanted.len());
-        for (diagnostic, (file, offset, code)) in report.diagnostics.iter().zip(wanted) {
-            assert_eq!(rt; diagnostic.file, file);
-            assert_eq!(rt; diagnostic.offset, offset);
-            assert_eq!(rt; diagnostic.code, code);
-            assert_eq!(rt; diagnostic.name.as_str(), "-");
-        }
-        Ok(())
     }
 }

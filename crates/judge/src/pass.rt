@@ -3,7 +3,7 @@
 
 ghost use Rattle.std.specs.Prelude.{◌≡◌, ◌++◌, map, slice_get, IfOk, OnOk};
 ghost use Rattle.tree.specs.View.{identifier_syntax, expression_syntax, statement_syntax, statements_syntax};
-ghost use Rattle.judge.specs.Report.{line_of};
+ghost use Rattle.judge.specs.Report.{entry_of};
 ghost use Rattle.judge.specs.Walk as walk;
 
 use crate::bindings::{report, same, second};
@@ -19,7 +19,7 @@ pub struct Classes {
     pub safe: bool,
 }
 
-/// Behind a binding of the variable.
+/// After a binding of the variable.
 fn obtained(k: Classes) -> Classes
     ensures { result ≡ walk.obtained k }
 {
@@ -30,7 +30,7 @@ fn obtained(k: Classes) -> Classes
     }
 }
 
-/// Behind a call of the variable, or a `defer` of one.
+/// After a call of the variable, or a `defer` of one.
 fn called(k: Classes) -> Classes
     ensures { result ≡ walk.called k }
 {
@@ -41,7 +41,7 @@ fn called(k: Classes) -> Classes
     }
 }
 
-/// Behind one of two ways.
+/// After one of two ways.
 fn either(j: Classes, k: Classes) -> Classes
     ensures { result ≡ walk.joined j k }
 {
@@ -78,14 +78,14 @@ fn calls_name(callee: &Expr, bare: bool, variable: &str) -> bool
     }
 }
 
-/// Behind a statement that is this call, or a `defer` of it.
+/// After a statement that is this call, or a `defer` of it.
 fn after_call(e: &Expr, variable: &str, k: Classes) -> Classes
     ensures { result ≡ walk.after_call variable.now k (expression_syntax e.now) }
 {
     if calls(e, variable) { called(k) } else { k }
 }
 
-/// Behind a `:=` of these names.
+/// After a `:=` of these names.
 fn after_define(
     alloc: Global,
     variable: &str,
@@ -93,8 +93,10 @@ fn after_define(
     k: Classes,
     found: &mut Vec<Diagnostic>,
 ) -> Result<Classes, AllocError>
-    ensures classes { IfOk result (λ j. j ≡ walk.after_define variable.now k (slice_get (map identifier_syntax names.now) 1)) }
-    ensures found { OnOk result (walk.Adds found.old.items found.new.items (walk.found_define variable.now k (slice_get (map identifier_syntax names.now) 1))) }
+    ensures classes { IfOk result (λ j.
+        j ≡ walk.after_define variable.now k (slice_get (map identifier_syntax names.now) 1)) }
+    ensures found { OnOk result (walk.Adds found.old.items found.new.items
+        (walk.found_define variable.now k (slice_get (map identifier_syntax names.now) 1))) }
 {
     match second(names) {
         None => Ok(k),
@@ -125,7 +127,8 @@ pub fn report_open(
     variable: &str,
     k: Classes,
 ) -> Result<(), AllocError>
-    ensures { OnOk result (map line_of found.new.items ≡ map line_of found.old.items ++ walk.line_if k.opened (record { file = 0; offset = offset; code = code; name = variable.now })) }
+    ensures { OnOk result (map entry_of found.new.items ≡ map entry_of found.old.items
+        ++ walk.entry_if k.opened (record { file = 0; offset = offset; code = code; name = variable.now })) }
 {
     if k.opened {
         report(alloc, found, offset, code, variable)
@@ -134,19 +137,20 @@ pub fn report_open(
     }
 }
 
-/// Behind some statements.
+/// After some statements.
 #[cycle(pass)]
 pub fn after_statements(
     alloc: Global,
     variable: &str,
     statements: &[Stmt],
-    entry: Classes,
+    before: Classes,
     found: &mut Vec<Diagnostic>,
 ) -> Result<Classes, AllocError>
-    ensures classes { IfOk result (λ j. j ≡ walk.after_in variable.now entry (statements_syntax statements.now)) }
-    ensures found { OnOk result (walk.Adds found.old.items found.new.items (walk.found_in variable.now entry (statements_syntax statements.now))) }
+    ensures classes { IfOk result (λ j. j ≡ walk.after_in variable.now before (statements_syntax statements.now)) }
+    ensures found { OnOk result (walk.Adds found.old.items found.new.items
+        (walk.found_in variable.now before (statements_syntax statements.now))) }
 {
-    let mut k = entry;
+    let mut k = before;
     for statement in statements {
         k = after_statement(alloc, variable, statement, k, found)?;
     }
@@ -162,7 +166,8 @@ fn after_statement(
     found: &mut Vec<Diagnostic>,
 ) -> Result<Classes, AllocError>
     ensures classes { IfOk result (λ j. j ≡ walk.after_at variable.now k (statement_syntax statement.now)) }
-    ensures found { OnOk result (walk.Adds found.old.items found.new.items (walk.found_at variable.now k (statement_syntax statement.now))) }
+    ensures found { OnOk result (walk.Adds found.old.items found.new.items
+        (walk.found_at variable.now k (statement_syntax statement.now))) }
 {
     match statement {
         Stmt::Define(names, _, _) => after_define(alloc, variable, names.as_slice(), k, found),

@@ -6,13 +6,13 @@ use Rattle.std.specs.Str.{IsUtf8, IsCharBoundary}
 use Rattle.std.proofs.lemmas.Bool.{false≢true, and_parts, or_cases, cond-true, cond-false, cases_Bool, eqb-true, ltb-true}
 use Rattle.std.proofs.lemmas.Bool.Decides.{nat_tests}
 use Rattle.lexer.specs.declared.token.TokenKind.{TokenKind}
-use Rattle.lexer.specs.declared.token.TokenKind.TheVariants.{Identifier, Number, Text, RawText, Rune}
-use Rattle.lexer.specs.declared.pieces.Shape.{Shape}
-use Rattle.lexer.specs.declared.pieces.Shape.TheVariants.{Space, Newline, LineComment, BlockComment, LongComment, Lexeme}
+use Rattle.lexer.specs.declared.token.TokenKind.TheVariants.{Identifier, Number, InterpretedString, RawString, Rune}
+use Rattle.lexer.specs.declared.pieces.PieceKind.{PieceKind}
+use Rattle.lexer.specs.declared.pieces.PieceKind.TheVariants.{WhiteSpace, Newline, LineComment, GeneralComment, GeneralCommentWithNewline, TokenOf}
 use Rattle.lexer.specs.declared.pieces.Piece.{Piece}
-use Rattle.lexer.specs.Letters.{is_ascii_word}
+use Rattle.lexer.specs.Letters.{is_ascii_letter_or_digit}
 use Rattle.lexer.specs.Spelling.{spelling}
-use Rattle.lexer.specs.Pieces.{is_space, IsWord, IsNumber, IsQuoted, IsBlockComment, starts_number, is_hexadecimal, goes_on, closes, closes_comment, breaks, escapes, is_empty, IsToken, Reads}
+use Rattle.lexer.specs.Pieces.{is_white_space, IsWord, IsNumber, IsQuoted, IsGeneralComment, starts_number, is_hexadecimal, goes_on, closes, closes_comment, breaks, escapes, is_empty, IsToken, Reads}
 use Rattle.lexer.specs.Cut.{CanBegin}
 use Rattle.std.proofs.lemmas.Str.{IsCharBoundary-after_ascii}
 use Rattle.lexer.proofs.Spelled.{last, spelling_last}
@@ -35,7 +35,7 @@ empty_is : (bs : List ℕ) → is_empty bs ≡ true → bs ≡ []
 empty_is [] h = refl
 empty_is (b ∷ bs) h = absurd (false≢true h)
 
--- a block comment ends with a slash
+-- a general comment ends with a slash
 comment_last : (bytes : List ℕ) → closes_comment bytes ≡ true → (last bytes ≡ 47) × (0 < length bytes)
 unfolding closes_comment
 comment_last [] h = absurd (false≢true h)
@@ -87,7 +87,7 @@ goes_small hexadecimal previous b h =
     (λ sign. ⊎_elim (λ e. let plus : b ≡ 43 = eqb-true _ _ e in omega arith) (λ e. let minus : b ≡ 45 = eqb-true _ _ e in omega arith) (or_cases _ _ sign))
     (λ none.
     ⊎_elim
-    (λ (w : is_ascii_word b ≡ true). grind (arith, nat_tests))
+    (λ (w : is_ascii_letter_or_digit b ≡ true). grind (arith, nat_tests))
     (λ e. let dot : b ≡ 46 = eqb-true _ _ e in omega arith)
     (or_cases _ _ (sym (cond-false _ _ _ none) ∙ h)))
     (cases_Bool (b == 43 || b == 45))
@@ -100,7 +100,7 @@ number_last : (bytes : List ℕ) (n : ℕ) → length bytes ≡ suc n → IsNumb
 number_last bytes zero l h = starts_small (get_or bytes 0 0) (get_or bytes 1 0) h.begins
 number_last bytes (suc n) l h = goes_small (is_hexadecimal bytes) (get_or bytes n 0) (get_or bytes (suc n) 0) (h.goes_on n (omega arith))
 
-space_small : (b : ℕ) → is_space b ≡ true → b < 128
+space_small : (b : ℕ) → is_white_space b ≡ true → b < 128
 space_small b h = grind (arith, nat_tests)
 
 -- what stands at a piece's end
@@ -115,7 +115,7 @@ quoted_small quote bytes small h =
     let r = quote_last quote false h.inner h.closed in
     ends_with bytes quote (ap last h.opens ∙ (last_more quote h.inner r.1 ∙ r.0)) small
 
-comment_small : (bytes : List ℕ) → IsBlockComment bytes → EndsSmall bytes
+comment_small : (bytes : List ℕ) → IsGeneralComment bytes → EndsSmall bytes
 comment_small bytes h =
     let r = comment_last h.inner h.closed in
     ends_with bytes 47 (ap last h.opens ∙ (last_more 42 h.inner r.1 ∙ r.0)) (omega arith)
@@ -124,21 +124,21 @@ token_end : (k : TokenKind) (bytes : List ℕ) → IsToken k bytes → IsWord by
 unfolding IsToken
 token_end Identifier bytes h = inl h.0
 token_end Number bytes h = inr (λ n l. number_last bytes n l h)
-token_end Text bytes h = inr (quoted_small 34 bytes (omega arith) h)
-token_end RawText bytes h = inr (quoted_small 96 bytes (omega arith) h)
+token_end InterpretedString bytes h = inr (quoted_small 34 bytes (omega arith) h)
+token_end RawString bytes h = inr (quoted_small 96 bytes (omega arith) h)
 token_end Rune bytes h = inr (quoted_small 39 bytes (omega arith) h)
 token_end k bytes h = inr (ends_with bytes (last (spelling k)) (ap last h) (ltb-true _ _ (spelling_last k)))
 
-piece_end : (s : Shape) (bytes : List ℕ) → Reads s bytes → (s ≡ LineComment) ⊎ (IsWord bytes ⊎ EndsSmall bytes)
+piece_end : (s : PieceKind) (bytes : List ℕ) → Reads s bytes → (s ≡ LineComment) ⊎ (IsWord bytes ⊎ EndsSmall bytes)
 unfolding Reads
-piece_end Space bytes h = inr (inr (ends_with bytes h.0 (ap last h.1) (space_small h.0 h.2)))
+piece_end WhiteSpace bytes h = inr (inr (ends_with bytes h.0 (ap last h.1) (space_small h.0 h.2)))
 piece_end Newline bytes h = inr (inr (ends_with bytes 10 (ap last h) (omega arith)))
 piece_end LineComment bytes h = inl refl
-piece_end BlockComment bytes h = inr (inr (comment_small bytes h.0))
-piece_end LongComment bytes h = inr (inr (comment_small bytes h.0))
-piece_end (Lexeme k) bytes h = inr (token_end k bytes h)
+piece_end GeneralComment bytes h = inr (inr (comment_small bytes h.0))
+piece_end GeneralCommentWithNewline bytes h = inr (inr (comment_small bytes h.0))
+piece_end (TokenOf k) bytes h = inr (token_end k bytes h)
 
-pub piece_boundary : (text : List ℕ) (p : Piece) → IsUtf8 text → CanBegin p text → (p.shape ≡ LineComment → IsCharBoundary text p.size) → IsCharBoundary text p.size
+pub piece_boundary : (text : List ℕ) (p : Piece) → IsUtf8 text → CanBegin p text → (p.kind ≡ LineComment → IsCharBoundary text p.size) → IsCharBoundary text p.size
 piece_boundary text p utf8 h line =
     let positive = positive_size p text h in
     let within = h.within in
@@ -152,4 +152,4 @@ piece_boundary text p utf8 h line =
     let byte : get_or text (p.size - 1) 0 < 128 = subst (λ b. b < 128) (byte_in p.size text (p.size - 1) (omega arith)) here in
     subst (IsCharBoundary text) next (IsCharBoundary-after_ascii text (p.size - 1) utf8 (omega arith) byte))
     e)
-    (piece_end p.shape (take p.size text) h.reads)
+    (piece_end p.kind (take p.size text) h.reads)

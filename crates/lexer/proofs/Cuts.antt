@@ -7,15 +7,15 @@ use Rattle.lexer.specs.declared.token.Token.{Token}
 use Rattle.lexer.specs.declared.pieces.Piece.{Piece}
 use Rattle.lexer.specs.Pieces.{Reads}
 use Rattle.lexer.specs.Cut.{CanBegin, IsLongest, Cut, is_comment}
-use Rattle.lexer.specs.Semicolons.{tokens_from, tokens_at, due_behind, semicolon}
-use Rattle.lexer.proofs.Shapes.{one_shape, nonempty}
+use Rattle.lexer.specs.Semicolons.{tokens_from, tokens_at, due_after, semicolon}
+use Rattle.lexer.proofs.PieceKinds.{one_kind, nonempty}
 
 -- one piece is the longest
 pub one_longest : (p q : Piece) (text : List ℕ) → IsLongest p text → IsLongest q text → p ≡ q
 one_longest p q text a b =
     let e : p.size ≡ q.size = omega (arith, a.longest q b.begins, b.longest p a.begins) in
-    let s : p.shape ≡ q.shape = one_shape p.shape q.shape (take p.size text) a.begins.reads (subst (λ n. Reads q.shape (take n text)) (sym e) b.begins.reads) in
-    λ i. record { shape = s i; size = e i }
+    let s : p.kind ≡ q.kind = one_kind p.kind q.kind (take p.size text) a.begins.reads (subst (λ n. Reads q.kind (take n text)) (sym e) b.begins.reads) in
+    λ i. record { kind = s i; size = e i }
 
 take_none : (n : ℕ) → take {A = ℕ} n [] ≡ []
 take_none zero = refl
@@ -23,7 +23,7 @@ take_none (suc n) = refl
 
 -- nothing can begin where the text has ended
 pub nothing_at_end : (p : Piece) → CanBegin p [] → ⊥
-nothing_at_end p h = nonempty p.shape (subst (Reads p.shape) (take_none p.size) h.reads)
+nothing_at_end p h = nonempty p.kind (subst (Reads p.kind) (take_none p.size) h.reads)
 
 -- a whole cut goes on from each cut of the text's beginning
 pub cut_split : (text : List ℕ) (ps : List Piece) (rest : List ℕ) (qs : List Piece) → Cut text ps rest → Cut text qs [] → (rs : List Piece) × (qs ≡ ps ++ rs) × Cut rest rs []
@@ -56,24 +56,24 @@ cut_more text (q ∷ ps) rest p c h = (c.0, cut_more (drop q.size text) ps rest 
 pub record IsRead (text rest : List ℕ) (at : ℕ) (due : Option ℕ) (tokens : List Token) : Type 0 where
   pub pieces : List Piece
   pub cut : Cut text pieces rest
-  pub plain : All (λ p. IsFalse (is_comment p.shape)) pieces
+  pub plain : All (λ p. IsFalse (is_comment p.kind)) pieces
   pub to_come : (qs : List Piece) → tokens_from 0 None (pieces ++ qs) ≡ tokens ++ tokens_from at due qs
 
 pub read_none : (text : List ℕ) → IsRead text text 0 None []
 unfolding Cut
 read_none text = record { pieces = []; cut = refl; plain = λ k d h. absurd (omega arith); to_come = λ qs. refl }
 
-pub read_more : (text rest : List ℕ) (at : ℕ) (due : Option ℕ) (tokens : List Token) (p : Piece) → IsRead text rest at due tokens → IsLongest p rest → IsFalse (is_comment p.shape) → IsRead text (drop p.size rest) (at + p.size) (due_behind p.shape (at + p.size) due) (tokens ++ tokens_at p.shape at (at + p.size) due)
+pub read_more : (text rest : List ℕ) (at : ℕ) (due : Option ℕ) (tokens : List Token) (p : Piece) → IsRead text rest at due tokens → IsLongest p rest → IsFalse (is_comment p.kind) → IsRead text (drop p.size rest) (at + p.size) (due_after p.kind (at + p.size) due) (tokens ++ tokens_at p.kind at (at + p.size) due)
 unfolding tokens_from
 read_more text rest at due tokens p r h plain =
     record {
       pieces = r.pieces ++ p ∷ [];
       cut = cut_more text r.pieces rest p r.cut h;
-      plain = All-push (λ q. IsFalse (is_comment q.shape)) r.pieces p r.plain plain;
+      plain = All-push (λ q. IsFalse (is_comment q.kind)) r.pieces p r.plain plain;
       to_come = λ qs.
           let next = at + p.size in
           ap (tokens_from 0 None) (append_assoc r.pieces (p ∷ []) qs)
-          ∙ (r.to_come (p ∷ qs) ∙ sym (append_assoc tokens (tokens_at p.shape at next due) (tokens_from next (due_behind p.shape next due) qs)));
+          ∙ (r.to_come (p ∷ qs) ∙ sym (append_assoc tokens (tokens_at p.kind at next due) (tokens_from next (due_after p.kind next due) qs)));
     }
 
 -- at the end of the text

@@ -1,22 +1,22 @@
--- The longest piece at the start of a text that begins with a quote, a blank or an operator.
+-- The longest piece at the start of a text that begins with a quote, a white space or an operator.
 use Rattle.std.proofs.Common.{◌≡◌, ◌==◌, ℕ, zero, suc, ◌+◌, ◌<◌, ◌≤◌, Bool, true, false, not, cond, ◌&&◌, ◌||◌, List, [], ◌∷◌, length, get_or, take, drop, Option, Some, None, refl, sym, ap, ◌∙◌, subst, arith, inl, inr, ⊎_elim}
 use Rattle.std.specs.Prelude.{◌⊎◌, IfSome, IfNone, IsTrue, IsFalse}
 use Rattle.std.specs.Char.{is_ascii_digit}
 use Rattle.std.proofs.lemmas.Bool.{false≢true, both_ways, and_parts, and_from, or_right, or_cases, or_from, cond-true, cond-false, cases_lt, cases_Bool, eqb-true, eq-eqb, lt-leb, leb-true, or_parts}
 use Rattle.std.proofs.lemmas.List.{get_or_past, at_drop_more, at_drop_all}
 use Rattle.lexer.specs.declared.token.TokenKind.{TokenKind}
-use Rattle.lexer.specs.declared.token.TokenKind.TheVariants.{Identifier, Number, Text, RawText, Rune}
-use Rattle.lexer.specs.declared.pieces.Shape.{Shape}
-use Rattle.lexer.specs.declared.pieces.Shape.TheVariants.{Space, Newline, Lexeme}
+use Rattle.lexer.specs.declared.token.TokenKind.TheVariants.{Identifier, Number, InterpretedString, RawString, Rune}
+use Rattle.lexer.specs.declared.pieces.PieceKind.{PieceKind}
+use Rattle.lexer.specs.declared.pieces.PieceKind.TheVariants.{WhiteSpace, Newline, TokenOf}
 use Rattle.lexer.specs.declared.pieces.Piece.{Piece}
 use Rattle.lexer.specs.Letters.{is_ascii_letter}
 use Rattle.lexer.specs.Spelling.{spelling}
-use Rattle.lexer.specs.Dispatch.{lexeme, operator_of, is_quote, quote_kind, closing}
-use Rattle.lexer.specs.Pieces.{is_space, IsQuoted, starts_number, closes, breaks, escapes, is_empty, IsToken, Reads}
+use Rattle.lexer.specs.Dispatch.{token_piece, operator_of, is_quote, quote_kind, closing}
+use Rattle.lexer.specs.Pieces.{is_white_space, IsQuoted, starts_number, closes, breaks, escapes, is_empty, IsToken, Reads}
 use Rattle.lexer.specs.Cut.{CanBegin, IsLongest, is_comment, opens_comment}
-use Rattle.lexer.proofs.Spelled.{is_spelled, is_operator, Blanks, Quotes, Operators, group_of, spelling_nonzero, prefix, fits, operator_longest, IsSpelledAt, operator_spelled}
-use Rattle.lexer.proofs.Shapes.{space_group, nonempty}
-use Rattle.lexer.proofs.Groups.{byte_in, taken, grouped_at, shape_quoted, shape_blank, IsOperatorAt, IsCommentAt, shape_operator}
+use Rattle.lexer.proofs.Spelled.{is_spelled, is_operator, Spaces, Quotes, Operators, group_of, spelling_nonzero, prefix, fits, operator_longest, IsSpelledAt, operator_spelled}
+use Rattle.lexer.proofs.PieceKinds.{space_group, nonempty}
+use Rattle.lexer.proofs.Groups.{byte_in, taken, grouped_at, piece_quoted, piece_space, IsOperatorAt, IsCommentAt, piece_operator}
 use Rattle.lexer.proofs.Longest.{no_slash}
 
 some_same : (a b : ℕ) → Some a ≡ Some b → a ≡ b
@@ -114,13 +114,13 @@ pub quote_group : (b : ℕ) → is_quote b ≡ true → group_of b ≡ Quotes
 unfolding group_of
 quote_group b h = at_quote (λ n. group_of n ≡ Quotes) b h refl refl refl
 
-quote_reads : (b : ℕ) (bytes : List ℕ) → is_quote b ≡ true → IsQuoted b bytes → Reads (Lexeme (quote_kind b)) bytes
+quote_reads : (b : ℕ) (bytes : List ℕ) → is_quote b ≡ true → IsQuoted b bytes → Reads (TokenOf (quote_kind b)) bytes
 unfolding Reads IsToken
-quote_reads b bytes h = at_quote (λ n. IsQuoted n bytes → Reads (Lexeme (quote_kind n)) bytes) b h (λ q. q) (λ q. q) (λ q. q)
+quote_reads b bytes h = at_quote (λ n. IsQuoted n bytes → Reads (TokenOf (quote_kind n)) bytes) b h (λ q. q) (λ q. q) (λ q. q)
 
 pub positive_size : (q : Piece) (text : List ℕ) → CanBegin q text → 0 < q.size
 positive_size q text h =
-    ⊎_elim (λ l. l) (λ (z : q.size ≤ 0). let e : q.size ≡ 0 = omega arith in absurd (nonempty q.shape (subst (λ n. Reads q.shape (take n text)) e h.reads))) (cases_lt 0 q.size)
+    ⊎_elim (λ l. l) (λ (z : q.size ≤ 0). let e : q.size ≡ 0 = omega arith in absurd (nonempty q.kind (subst (λ n. Reads q.kind (take n text)) e h.reads))) (cases_lt 0 q.size)
 
 inner_closing : (b : ℕ) (inner : List ℕ) (k : ℕ) → k ≤ length inner → IsQuoted b (b ∷ take k inner) → closing b false 1 inner ≡ Some (1 + k)
 inner_closing b inner k l h =
@@ -129,7 +129,7 @@ inner_closing b inner k l h =
     closes_closing b false 1 inner k l (ap (closes b false) (sym same) ∙ h.closed)
 
 module _ (b : ℕ) (inner : List ℕ) (quote : is_quote b ≡ true) where
-  closing_size : (s : Shape) (n : ℕ) → n ≤ suc (length inner) → 0 < n → IsQuoted b (take n (b ∷ inner)) → closing b false 1 inner ≡ Some n
+  closing_size : (s : PieceKind) (n : ℕ) → n ≤ suc (length inner) → 0 < n → IsQuoted b (take n (b ∷ inner)) → closing b false 1 inner ≡ Some n
   closing_size s zero l p h = absurd (omega arith)
   closing_size s (suc k) l p h = inner_closing b inner k (omega arith) h ∙ ap (λ x. Some x) (omega arith)
 
@@ -143,13 +143,13 @@ module _ (b : ℕ) (inner : List ℕ) (quote : is_quote b ≡ true) where
       let first = byte_in q.size (b ∷ inner) 0 positive in
       ⊎_elim
       (λ g.
-      let quoted = shape_quoted q.shape (take q.size (b ∷ inner)) (sym g ∙ quote_group b quote) h.reads in
-      closing_size q.shape q.size h.within positive (subst (λ n. IsQuoted n (take q.size (b ∷ inner))) first quoted))
-      (λ (d : (q.shape ≡ Lexeme Number) × (b ≡ 46) × (is_ascii_digit (get_or inner 0 0) ≡ true)).
+      let quoted = piece_quoted q.kind (take q.size (b ∷ inner)) (sym g ∙ quote_group b quote) h.reads in
+      closing_size q.kind q.size h.within positive (subst (λ n. IsQuoted n (take q.size (b ∷ inner))) first quoted))
+      (λ (d : (q.kind ≡ TokenOf Number) × (b ≡ 46) × (is_ascii_digit (get_or inner 0 0) ≡ true)).
       let e = sym (quote_group b quote) ∙ unfolding_dot (sym d.1) in absurd cc)
       (grouped_at q (b ∷ inner) positive h)
 
-  quote_begins : (n : ℕ) → closing b false 1 inner ≡ Some n → CanBegin (lexeme (quote_kind b) n) (b ∷ inner)
+  quote_begins : (n : ℕ) → closing b false 1 inner ≡ Some n → CanBegin (token_piece (quote_kind b) n) (b ∷ inner)
   quote_begins n h =
       let r = closing_closes b false 1 inner n h in
       let size : n ≡ suc r.count = omega (arith, r.size) in
@@ -159,14 +159,14 @@ module _ (b : ℕ) (inner : List ℕ) (quote : is_quote b ≡ true) where
         only_comment = λ opens. absurd (no_slash (b ∷ inner) Quotes (quote_group b quote) (λ e. cc) opens);
       }
 
-  quoted_longest : (n : ℕ) → closing b false 1 inner ≡ Some n → IsLongest (lexeme (quote_kind b) n) (b ∷ inner)
+  quoted_longest : (n : ℕ) → closing b false 1 inner ≡ Some n → IsLongest (token_piece (quote_kind b) n) (b ∷ inner)
   quoted_longest n h =
       record {
         begins = quote_begins n h;
         longest = λ q c. let e = some_same n q.size (sym h ∙ quote_sized q c) in omega arith;
       }
 
-pub quoted_piece : (text : List ℕ) (n : ℕ) → 0 < length text → is_quote (get_or text 0 0) ≡ true → closing (get_or text 0 0) false 1 (drop 1 text) ≡ Some n → IsLongest (lexeme (quote_kind (get_or text 0 0)) n) text
+pub quoted_piece : (text : List ℕ) (n : ℕ) → 0 < length text → is_quote (get_or text 0 0) ≡ true → closing (get_or text 0 0) false 1 (drop 1 text) ≡ Some n → IsLongest (token_piece (quote_kind (get_or text 0 0)) n) text
 quoted_piece [] n size quote h = absurd (omega arith)
 quoted_piece (b ∷ inner) n size quote h = quoted_longest b inner quote n h
 
@@ -174,55 +174,55 @@ pub no_quoted : (text : List ℕ) → 0 < length text → is_quote (get_or text 
 no_quoted [] size quote h q c = absurd (omega arith)
 no_quoted (b ∷ inner) size quote h q c = let e = sym h ∙ quote_sized b inner quote q c in cc
 
--- blanks
-abbrev blank : Shape → Piece
-blank s = record { shape = s; size = 1 }
+-- white space
+abbrev one_byte : PieceKind → Piece
+one_byte s = record { kind = s; size = 1 }
 
-blank_longest : (s : Shape) (b : ℕ) (rest : List ℕ) → group_of b ≡ Blanks → Reads s (b ∷ []) → IsLongest (blank s) (b ∷ rest)
+one_byte_longest : (s : PieceKind) (b : ℕ) (rest : List ℕ) → group_of b ≡ Spaces → Reads s (b ∷ []) → IsLongest (one_byte s) (b ∷ rest)
 unfolding group_of
-blank_longest s b rest group reads =
+one_byte_longest s b rest group reads =
     record {
       begins = record {
         within = omega arith;
         reads = reads;
-        only_comment = λ opens. absurd (no_slash (b ∷ rest) Blanks group (λ e. cc) opens);
+        only_comment = λ opens. absurd (no_slash (b ∷ rest) Spaces group (λ e. cc) opens);
       };
       longest = λ q h.
           let positive = positive_size q (b ∷ rest) h in
           ⊎_elim
-          (λ g. omega (arith, taken q.size (b ∷ rest) h.within, shape_blank q.shape (take q.size (b ∷ rest)) (sym g ∙ group) h.reads))
-          (λ (d : (q.shape ≡ Lexeme Number) × (b ≡ 46) × (is_ascii_digit (get_or rest 0 0) ≡ true)).
-          let e : Blanks ≡ Operators = sym group ∙ ap group_of d.1 in absurd cc)
+          (λ g. omega (arith, taken q.size (b ∷ rest) h.within, piece_space q.kind (take q.size (b ∷ rest)) (sym g ∙ group) h.reads))
+          (λ (d : (q.kind ≡ TokenOf Number) × (b ≡ 46) × (is_ascii_digit (get_or rest 0 0) ≡ true)).
+          let e : Spaces ≡ Operators = sym group ∙ ap group_of d.1 in absurd cc)
           (grouped_at q (b ∷ rest) positive h);
     }
 
-pub space_piece : (text : List ℕ) → 0 < length text → is_space (get_or text 0 0) ≡ true → IsLongest (blank Space) text
+pub space_piece : (text : List ℕ) → 0 < length text → is_white_space (get_or text 0 0) ≡ true → IsLongest (one_byte WhiteSpace) text
 unfolding Reads
 space_piece [] size h = absurd (omega arith)
-space_piece (b ∷ rest) size h = blank_longest Space b rest (space_group b h) (b, refl, h)
+space_piece (b ∷ rest) size h = one_byte_longest WhiteSpace b rest (space_group b h) (b, refl, h)
 
-pub newline_piece : (text : List ℕ) → 0 < length text → get_or text 0 0 ≡ 10 → IsLongest (blank Newline) text
+pub newline_piece : (text : List ℕ) → 0 < length text → get_or text 0 0 ≡ 10 → IsLongest (one_byte Newline) text
 unfolding Reads group_of
 newline_piece [] size h = absurd (omega arith)
 newline_piece (b ∷ rest) size h =
-    blank_longest Newline b rest (ap group_of h) (ap (λ n. n ∷ []) h)
+    one_byte_longest Newline b rest (ap group_of h) (ap (λ n. n ∷ []) h)
 
 -- operators
 pub record IsOperatorText (text : List ℕ) : Type 0 where
   pub small : get_or text 0 0 < 128
   pub no_letter : is_ascii_letter (get_or text 0 0) ≡ false
   pub no_number : starts_number (get_or text 0 0) (get_or text 1 0) ≡ false
-  pub no_space : is_space (get_or text 0 0) ≡ false
+  pub no_space : is_white_space (get_or text 0 0) ≡ false
   pub no_newline : (get_or text 0 0 == 10) ≡ false
   pub no_quote : is_quote (get_or text 0 0) ≡ false
   pub no_comment : opens_comment text ≡ false
 
-reads_operator : (k : TokenKind) (bytes : List ℕ) → is_spelled k ≡ true → bytes ≡ spelling k → Reads (Lexeme k) bytes
+reads_operator : (k : TokenKind) (bytes : List ℕ) → is_spelled k ≡ true → bytes ≡ spelling k → Reads (TokenOf k) bytes
 unfolding Reads IsToken is_spelled
 reads_operator Identifier bytes h e = absurd (false≢true h)
 reads_operator Number bytes h e = absurd (false≢true h)
-reads_operator Text bytes h e = absurd (false≢true h)
-reads_operator RawText bytes h e = absurd (false≢true h)
+reads_operator InterpretedString bytes h e = absurd (false≢true h)
+reads_operator RawString bytes h e = absurd (false≢true h)
 reads_operator Rune bytes h e = absurd (false≢true h)
 reads_operator k bytes h e = e
 
@@ -248,7 +248,7 @@ module _ (text : List ℕ) (o : IsOperatorText text) where
   abbrev found : Option Piece
   found = operator_of (get_or text 0 0) (get_or text 1 0) (get_or text 2 0)
 
-  operator_fits : (q : Piece) → CanBegin q text → IsOperatorAt q.shape (take q.size text) → fits found q.size ≡ true
+  operator_fits : (q : Piece) → CanBegin q text → IsOperatorAt q.kind (take q.size text) → fits found q.size ≡ true
   operator_fits q h at =
       let size : q.size ≡ length (spelling at.kind) = sym (taken q.size text h.within) ∙ ap length at.same in
       let byte = λ (i : ℕ) (l : i < q.size). ap (λ t. get_or t i 0) (sym at.same) ∙ byte_in q.size text i l in
@@ -257,15 +257,15 @@ module _ (text : List ℕ) (o : IsOperatorText text) where
       subst (λ n. fits found n ≡ true) (sym size)
       (operator_longest at.kind (get_or text 0 0) (get_or text 1 0) (get_or text 2 0) operator (byte 0 positive) (λ l. byte 1 (omega arith)) (λ l. byte 2 (omega arith)))
 
-  begins_operator : (q : Piece) → CanBegin q text → IsCommentAt q.shape (take q.size text) ⊎ IsOperatorAt q.shape (take q.size text)
+  begins_operator : (q : Piece) → CanBegin q text → IsCommentAt q.kind (take q.size text) ⊎ IsOperatorAt q.kind (take q.size text)
   begins_operator q h =
       ⊎_elim
-      (λ g. shape_operator q.shape (take q.size text) (sym g ∙ rest_group) h.reads)
-      (λ (d : (q.shape ≡ Lexeme Number) × (get_or text 0 0 ≡ 46) × (is_ascii_digit (get_or text 1 0) ≡ true)).
+      (λ g. piece_operator q.kind (take q.size text) (sym g ∙ rest_group) h.reads)
+      (λ (d : (q.kind ≡ TokenOf Number) × (get_or text 0 0 ≡ 46) × (is_ascii_digit (get_or text 1 0) ≡ true)).
       absurd (both_ways _ o.no_number (or_right _ _ (and_from _ _ (eq-eqb _ _ d.1) d.2))))
       (grouped_at q text (positive_size q text h) h)
 
-  pub no_operator : found ≡ None → (q : Piece) → CanBegin q text → is_comment q.shape ≡ true
+  pub no_operator : found ≡ None → (q : Piece) → CanBegin q text → is_comment q.kind ≡ true
   no_operator none q h =
       ⊎_elim (λ c. c.0) (λ at. absurd (false≢true (ap (λ x. fits x q.size) (sym none) ∙ operator_fits q h at))) (begins_operator q h)
 
@@ -279,10 +279,10 @@ module _ (text : List ℕ) (o : IsOperatorText text) where
         only_comment = λ opens. absurd (both_ways _ o.no_comment opens);
       })
 
-  spelled_plain : (p : Piece) → IsSpelledAt p text → is_comment p.shape ≡ false
-  spelled_plain p s = ap (λ x. is_comment x.shape) s.piece
+  spelled_plain : (p : Piece) → IsSpelledAt p text → is_comment p.kind ≡ false
+  spelled_plain p s = ap (λ x. is_comment x.kind) s.piece
 
-  pub operator_piece : (p : Piece) → found ≡ Some p → IsLongest p text × IsFalse (is_comment p.shape)
+  pub operator_piece : (p : Piece) → found ≡ Some p → IsLongest p text × IsFalse (is_comment p.kind)
   operator_piece p e =
       let s : IsSpelledAt p text = subst (λ x. IfSome x (λ y. IsSpelledAt y text)) e (operator_spelled text) in (
         record {
@@ -296,10 +296,10 @@ module _ (text : List ℕ) (o : IsOperatorText text) where
         spelled_plain p s,
       )
 
-  pub operator_some : (r : Option Piece) → r ≡ found → IfSome r (λ p. IsLongest p text × IsFalse (is_comment p.shape))
+  pub operator_some : (r : Option Piece) → r ≡ found → IfSome r (λ p. IsLongest p text × IsFalse (is_comment p.kind))
   operator_some None e = tt
   operator_some (Some p) e = operator_piece p (sym e)
 
-  pub operator_none : (r : Option Piece) → r ≡ found → IfNone r ((q : Piece) → CanBegin q text → IsTrue (is_comment q.shape))
+  pub operator_none : (r : Option Piece) → r ≡ found → IfNone r ((q : Piece) → CanBegin q text → IsTrue (is_comment q.kind))
   operator_none None e = no_operator (sym e)
   operator_none (Some p) e = tt

@@ -1,4 +1,4 @@
--- The longest piece at the start of an ASCII text: names, numbers, literals and blanks.
+-- The longest piece at the start of an ASCII text: names, numbers, literals and white space.
 use Rattle.std.proofs.Common.{◌≡◌, ◌==◌, ℕ, suc, ◌-◌, ◌<◌, ◌≤◌, Bool, true, false, ◌&&◌, ◌||◌, List, [], ◌∷◌, length, get_or, take, sym, ap, ◌∙◌, subst, arith, ⊎_elim}
 use Rattle.std.specs.Prelude.{IsTrue}
 use Rattle.std.specs.Char.{is_ascii_digit}
@@ -7,19 +7,20 @@ use Rattle.std.proofs.lemmas.Bool.{false≢true, both_ways, and_parts, and_from,
 use Rattle.std.proofs.lemmas.Bool.Decides.{nat_tests}
 use Rattle.std.proofs.lemmas.List.{get_or_past}
 use Rattle.lexer.specs.declared.token.TokenKind.{TokenKind}
-use Rattle.lexer.specs.declared.token.TokenKind.TheVariants.{Identifier, Number, Text, RawText, Rune}
-use Rattle.lexer.specs.declared.pieces.Shape.TheVariants.{Lexeme}
+use Rattle.lexer.specs.declared.token.TokenKind.TheVariants.{Identifier, Number, InterpretedString, RawString, Rune}
+use Rattle.lexer.specs.declared.pieces.PieceKind.TheVariants.{TokenOf}
 use Rattle.lexer.specs.declared.pieces.Piece.{Piece}
-use Rattle.lexer.specs.Letters.{is_ascii_letter, is_ascii_word, is_letter, is_digit}
-use Rattle.lexer.specs.Spelling.{spelling, is_keyword}
-use Rattle.lexer.specs.Dispatch.{lexeme, keyword_of}
+use Rattle.lexer.specs.Letters.{is_ascii_letter, is_ascii_letter_or_digit, is_letter, is_digit}
+use Rattle.lexer.specs.Spelling.{same_kind, spelling, is_keyword}
+use Rattle.lexer.specs.Dispatch.{token_piece, keyword_of}
 use Rattle.lexer.specs.Pieces.{IsWord, IsNumber, starts_number, is_hexadecimal, goes_on, IsToken, Reads}
 use Rattle.lexer.specs.Cut.{CanBegin, IsLongest, opens_comment}
 use Rattle.lexer.proofs.Spelled.{is_spelled, Group, Words, Operators, group_of, keyword_spelled, no_keyword, spelling_dot}
-use Rattle.lexer.proofs.Shapes.{letter_group, digit_group}
+use Rattle.lexer.proofs.PieceKinds.{letter_group, digit_group}
 use Rattle.std.proofs.lemmas.Str.{encodes-IsAscii, IsAscii-take}
 use Rattle.std.proofs.lemmas.List.Elements.{All-from_get_or}
-use Rattle.lexer.proofs.Groups.{byte_in, taken, grouped_at, word_char, letter_ascii, shape_number, IsOperatorAt, IsCommentAt, shape_operator, is_word_at}
+use Rattle.lexer.proofs.AsciiLetters.{letter_ascii}
+use Rattle.lexer.proofs.Groups.{byte_in, taken, grouped_at, word_char, piece_number, IsOperatorAt, IsCommentAt, piece_operator, is_word_at}
 
 -- what no piece passes is the longest
 pub at_most : (n m : ℕ) → (n < m → ⊥) → m ≤ n
@@ -34,11 +35,11 @@ no_slash text g e ne h =
 
 -- names and keywords
 token_of_keyword : (k : TokenKind) (bytes : List ℕ) → is_keyword k ≡ true → bytes ≡ spelling k → IsToken k bytes
-unfolding IsToken is_keyword
+unfolding IsToken is_keyword same_kind
 token_of_keyword Identifier bytes h e = absurd (false≢true h)
 token_of_keyword Number bytes h e = absurd (false≢true h)
-token_of_keyword Text bytes h e = absurd (false≢true h)
-token_of_keyword RawText bytes h e = absurd (false≢true h)
+token_of_keyword InterpretedString bytes h e = absurd (false≢true h)
+token_of_keyword RawString bytes h e = absurd (false≢true h)
 token_of_keyword Rune bytes h e = absurd (false≢true h)
 token_of_keyword k bytes h e = e
 
@@ -51,7 +52,7 @@ word_token bytes word =
     ⊎_elim (name_token bytes word) (λ (h : (is_keyword (keyword_of bytes) ≡ true) × (bytes ≡ spelling (keyword_of bytes))). token_of_keyword (keyword_of bytes) bytes h.0 h.1) (keyword_spelled bytes)
 
 -- ASCII letters and digits are a word
-pub bytes_word : (bytes : List ℕ) → 0 < length bytes → IsAscii bytes → is_ascii_letter (get_or bytes 0 0) ≡ true → ((i : ℕ) → 0 < i → i < length bytes → is_ascii_word (get_or bytes i 0) ≡ true) → IsWord bytes
+pub bytes_word : (bytes : List ℕ) → 0 < length bytes → IsAscii bytes → is_ascii_letter (get_or bytes 0 0) ≡ true → ((i : ℕ) → 0 < i → i < length bytes → is_ascii_letter_or_digit (get_or bytes i 0) ≡ true) → IsWord bytes
 bytes_word [] size ascii first others = absurd (omega arith)
 bytes_word (b ∷ bs) size ascii first others =
     record {
@@ -62,7 +63,7 @@ bytes_word (b ∷ bs) size ascii first others =
       goes_on = All-from_get_or (λ c. IsTrue (is_letter c || is_digit c)) bs 0 (λ i l. word_char (get_or bs i 0) (ascii (suc i)) ∙ others (suc i) (omega arith) (omega arith));
     }
 
-pub reads_word : (bytes : List ℕ) → IsWord bytes → Reads (Lexeme (keyword_of bytes)) bytes
+pub reads_word : (bytes : List ℕ) → IsWord bytes → Reads (TokenOf (keyword_of bytes)) bytes
 unfolding Reads
 reads_word bytes word = word_token bytes word
 
@@ -72,8 +73,8 @@ pub record IsWordSize (text : List ℕ) (n : ℕ) : Type 0 where
   pub letter : is_ascii_letter (get_or text 0 0) ≡ true
   pub positive : 0 < n
   pub in_range : n ≤ length text
-  pub word : (i : ℕ) → 0 < i → i < n → is_ascii_word (get_or text i 0) ≡ true
-  pub stops : n < length text → is_ascii_word (get_or text n 0) ≡ false
+  pub word : (i : ℕ) → 0 < i → i < n → is_ascii_letter_or_digit (get_or text i 0) ≡ true
+  pub stops : n < length text → is_ascii_letter_or_digit (get_or text n 0) ≡ false
 
 module _ (text : List ℕ) (n : ℕ) (w : IsWordSize text n) where
   word_no_longer : (q : Piece) → CanBegin q text → n < q.size → ⊥
@@ -85,17 +86,17 @@ module _ (text : List ℕ) (n : ℕ) (w : IsWordSize text n) where
       ⊎_elim
       (λ g.
       both_ways _ (w.stops (omega (arith, h.within)))
-      (ap is_ascii_word (sym (byte_in q.size text n longer)) ∙ is_word_at q.shape bytes (IsAscii-take text q.size w.ascii) (sym g ∙ group) h.reads n (omega arith)))
-      (λ (d : (q.shape ≡ Lexeme Number) × (get_or text 0 0 ≡ 46) × (is_ascii_digit (get_or text 1 0) ≡ true)).
+      (ap is_ascii_letter_or_digit (sym (byte_in q.size text n longer)) ∙ is_word_at q.kind bytes (IsAscii-take text q.size w.ascii) (sym g ∙ group) h.reads n (omega arith)))
+      (λ (d : (q.kind ≡ TokenOf Number) × (get_or text 0 0 ≡ 46) × (is_ascii_digit (get_or text 1 0) ≡ true)).
       both_ways _ (ap is_ascii_letter d.1) w.letter)
       (grouped_at q text (omega arith) h)
 
-  pub word_longest : IsLongest (lexeme (keyword_of (take n text)) n) text
+  pub word_longest : IsLongest (token_piece (keyword_of (take n text)) n) text
   word_longest =
       let bytes = take n text in
       let size = taken n text w.in_range in
       let positive = w.positive in
-      let word = bytes_word bytes (omega arith) (IsAscii-take text n w.ascii) (ap is_ascii_letter (byte_in n text 0 w.positive) ∙ w.letter) (λ i p l. ap is_ascii_word (byte_in n text i (omega arith)) ∙ w.word i p (omega arith)) in
+      let word = bytes_word bytes (omega arith) (IsAscii-take text n w.ascii) (ap is_ascii_letter (byte_in n text 0 w.positive) ∙ w.letter) (λ i p l. ap is_ascii_letter_or_digit (byte_in n text i (omega arith)) ∙ w.word i p (omega arith)) in
       record {
         begins = record {
           within = w.in_range;
@@ -126,16 +127,16 @@ hexadecimal_in n text h =
     ap (λ x. x == 48 && (get_or (take n text) 1 0 == 120 || get_or (take n text) 1 0 == 88)) e0
     ∙ ap (λ x. get_or text 0 0 == 48 && (x == 120 || x == 88)) e1
 
-reads_number : (bytes : List ℕ) → IsNumber bytes → Reads (Lexeme Number) bytes
+reads_number : (bytes : List ℕ) → IsNumber bytes → Reads (TokenOf Number) bytes
 unfolding Reads IsToken
 reads_number bytes h = h
 
-number_reads : (bytes : List ℕ) → Reads (Lexeme Number) bytes → IsNumber bytes
+number_reads : (bytes : List ℕ) → Reads (TokenOf Number) bytes → IsNumber bytes
 unfolding Reads IsToken
 number_reads bytes h = h
 
 module _ (text : List ℕ) (n : ℕ) (w : IsNumberSize text n) where
-  -- a number that begins with a dot has the digit behind it
+  -- a number that begins with a dot has the digit after it
   dot_long : get_or text 0 0 ≡ 46 → is_ascii_digit (get_or text 1 0) ≡ true → 1 < n
   dot_long dot digit =
       ⊎_elim
@@ -194,7 +195,7 @@ module _ (text : List ℕ) (n : ℕ) (w : IsNumberSize text n) where
       both_ways _ (w.stops (omega arith)) here
 
   -- an operator that begins with a dot is no longer than a number that does
-  dot_operator : (q : Piece) → CanBegin q text → n < q.size → get_or text 0 0 ≡ 46 → is_ascii_digit (get_or text 1 0) ≡ true → IsOperatorAt q.shape (take q.size text) → ⊥
+  dot_operator : (q : Piece) → CanBegin q text → n < q.size → get_or text 0 0 ≡ 46 → is_ascii_digit (get_or text 1 0) ≡ true → IsOperatorAt q.kind (take q.size text) → ⊥
   dot_operator q h longer dot digit o =
       let positive = w.positive in
       let size = taken q.size text h.within in
@@ -214,23 +215,23 @@ module _ (text : List ℕ) (n : ℕ) (w : IsNumberSize text n) where
   unfolding group_of
   number_no_longer q h longer =
       let positive = w.positive in
-      let is_number = λ (e : q.shape ≡ Lexeme Number). longer_number q.size h.within longer (number_reads (take q.size text) (subst (λ s. Reads s (take q.size text)) e h.reads)) in
+      let is_number = λ (e : q.kind ≡ TokenOf Number). longer_number q.size h.within longer (number_reads (take q.size text) (subst (λ s. Reads s (take q.size text)) e h.reads)) in
       ⊎_elim
       (λ g.
       ⊎_elim
-      (λ digit. is_number (shape_number q.shape (sym g ∙ digit_group (get_or text 0 0) digit)))
+      (λ digit. is_number (piece_number q.kind (sym g ∙ digit_group (get_or text 0 0) digit)))
       (λ d.
       let p = and_parts _ _ d in
       let dot : get_or text 0 0 ≡ 46 = eqb-true _ _ p.0 in
       ⊎_elim
-      (λ (c : IsCommentAt q.shape (take q.size text)).
+      (λ (c : IsCommentAt q.kind (take q.size text)).
       let slash : get_or (take q.size text) 0 0 ≡ 47 = eqb-true _ _ (and_parts _ _ c.1).0 in
       let both : 46 ≡ 47 = sym dot ∙ (sym (byte_in q.size text 0 (omega arith)) ∙ slash) in
       absurd (omega arith))
       (dot_operator q h longer dot p.1)
-      (shape_operator q.shape (take q.size text) (sym g ∙ ap group_of dot) h.reads))
+      (piece_operator q.kind (take q.size text) (sym g ∙ ap group_of dot) h.reads))
       (or_cases _ _ w.starts))
-      (λ (d : (q.shape ≡ Lexeme Number) × (get_or text 0 0 ≡ 46) × (is_ascii_digit (get_or text 1 0) ≡ true)). is_number d.0)
+      (λ (d : (q.kind ≡ TokenOf Number) × (get_or text 0 0 ≡ 46) × (is_ascii_digit (get_or text 1 0) ≡ true)). is_number d.0)
       (grouped_at q text (omega arith) h)
 
   number_opens : opens_comment text ≡ true → ⊥
@@ -238,7 +239,7 @@ module _ (text : List ℕ) (n : ℕ) (w : IsNumberSize text n) where
       let slash : get_or text 0 0 ≡ 47 = eqb-true _ _ (and_parts _ _ opens).0 in
       both_ways _ (ap (λ b. starts_number b (get_or text 1 0)) slash) w.starts
 
-  pub number_longest : IsLongest (lexeme Number n) text
+  pub number_longest : IsLongest (token_piece Number n) text
   number_longest =
       record {
         begins = record {

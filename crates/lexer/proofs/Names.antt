@@ -120,7 +120,7 @@ or_false : (t : Bool) → (t || false) ≡ t
 or_false true = refl
 or_false false = refl
 
--- where a digit fits: behind the first character
+-- where a digit fits: after the first character
 pub fits_read : (text : List ℕ) (k size : ℕ) → IsWordRead text k size → (c : ℕ) → fits_at k c ≡ (is_letter c || (ltb 0 size && is_digit c))
 fits_read text zero size w c =
     let none : ltb 0 size ≡ false = le-ltb 0 size (omega (arith, w.bytes)) in
@@ -133,7 +133,7 @@ fits_read text (suc k) size w c =
 pub word_none : (text : List ℕ) → IsWordRead text 0 0
 word_none text = record { count = omega arith; bytes = refl; fits = λ i l. absurd (omega arith) }
 
--- a text may be cut behind a word
+-- a text may be cut after a word
 past_chars : (cs rest bs : List ℕ) → IsUtf8 bs → bs ≡ encode_utf8_all cs ++ rest → IsUtf8 rest
 past_chars [] rest bs utf8 e = subst IsUtf8 e utf8
 past_chars (c ∷ cs) rest bs utf8 e =

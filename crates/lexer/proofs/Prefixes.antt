@@ -1,4 +1,4 @@
--- The word at the start of a text, where ASCII stands behind its ASCII letters and digits.
+-- The word at the start of a text, where ASCII stands after its ASCII letters and digits.
 use Rattle.std.proofs.Common.{◌≡◌, ℕ, zero, suc, ◌+◌, ◌<◌, ◌≤◌, true, false, List, [], ◌∷◌, ◌++◌, length, get_or, take, drop, sym, ap, ◌∙◌, subst, arith, ⊎_elim}
 use Rattle.std.specs.Char.{encode_utf8}
 use Rattle.std.specs.Str.{IsAscii, encode_utf8_all}
@@ -6,9 +6,10 @@ use Rattle.std.proofs.lemmas.Bool.{both_ways, cases_lt}
 use Rattle.std.proofs.lemmas.Bool.Decides.{nat_tests}
 use Rattle.std.proofs.lemmas.List.{length-append, take-append-drop, append-nil, get_or_at, drop_more, get_or_past}
 use Rattle.std.proofs.lemmas.Str.{encodes-IsAscii}
-use Rattle.lexer.specs.Letters.{is_ascii_letter, is_ascii_word}
+use Rattle.lexer.specs.Letters.{is_ascii_letter, is_ascii_letter_or_digit}
 use Rattle.lexer.specs.Pieces.{IsWord}
-use Rattle.lexer.proofs.Groups.{byte_in, taken, letter_ascii, word_char}
+use Rattle.lexer.proofs.AsciiLetters.{letter_ascii}
+use Rattle.lexer.proofs.Groups.{byte_in, taken, word_char}
 use Rattle.lexer.proofs.Longest.{bytes_word}
 use Rattle.lexer.proofs.Names.{fits_at, diverge, word_fits}
 use Rattle.lexer.proofs.Starts.{word_small, one_ascii}
@@ -16,15 +17,15 @@ use Rattle.lexer.proofs.Starts.{word_small, one_ascii}
 letter_small : (b : ℕ) → is_ascii_letter b ≡ true → b < 128
 letter_small b h = grind (arith, nat_tests)
 
--- n bytes of ASCII letters and digits at the start of the text, and ASCII behind them that is none
+-- n bytes of ASCII letters and digits at the start of the text, and ASCII after them that is none
 pub record IsPrefix (text : List ℕ) (n : ℕ) : Type 0 where
   pub in_range : n ≤ length text
   pub letter : 0 < n → is_ascii_letter (get_or text 0 0) ≡ true
-  pub word : (i : ℕ) → 0 < i → i < n → is_ascii_word (get_or text i 0) ≡ true
+  pub word : (i : ℕ) → 0 < i → i < n → is_ascii_letter_or_digit (get_or text i 0) ≡ true
   pub small : get_or text n 0 < 128
   pub stops : n < length text → fits_at n (get_or text n 0) ≡ false
 
-pub letter_prefix : (text : List ℕ) (n : ℕ) → 0 < n → n ≤ length text → is_ascii_letter (get_or text 0 0) ≡ true → ((i : ℕ) → 0 < i → i < n → is_ascii_word (get_or text i 0) ≡ true) → get_or text n 0 < 128 → (n < length text → is_ascii_word (get_or text n 0) ≡ false) → IsPrefix text n
+pub letter_prefix : (text : List ℕ) (n : ℕ) → 0 < n → n ≤ length text → is_ascii_letter (get_or text 0 0) ≡ true → ((i : ℕ) → 0 < i → i < n → is_ascii_letter_or_digit (get_or text i 0) ≡ true) → get_or text n 0 < 128 → (n < length text → is_ascii_letter_or_digit (get_or text n 0) ≡ false) → IsPrefix text n
 letter_prefix text zero positive in_range letter word small stops = absurd (omega arith)
 letter_prefix text (suc k) positive in_range letter word small stops =
     record {
@@ -63,7 +64,7 @@ module _ (text : List ℕ) (n : ℕ) (p : IsPrefix text n) where
       let size = taken n text p.in_range in
       bytes_word (take n text) (omega arith) prefix_ascii
       (ap is_ascii_letter (byte_in n text 0 positive) ∙ p.letter positive)
-      (λ i q l. ap is_ascii_word (byte_in n text i (omega arith)) ∙ p.word i q (omega arith))
+      (λ i q l. ap is_ascii_letter_or_digit (byte_in n text i (omega arith)) ∙ p.word i q (omega arith))
 
   -- the text by its characters: the prefix, the one that stops it, and the rest
   split : n < length text → encode_utf8_all (take n text) ++ (encode_utf8 (get_or text n 0) ++ drop (n + 1) text) ≡ text

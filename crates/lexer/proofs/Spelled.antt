@@ -6,19 +6,19 @@ use Rattle.std.specs.Str.{bytes_eq}
 use Rattle.std.proofs.lemmas.Slice.Eq.{HasBytesAt, bytes_eq-Decides}
 use Rattle.std.proofs.lemmas.Bool.{false≢true, and_parts, cond_both}
 use Rattle.lexer.specs.declared.token.TokenKind.{TokenKind}
-use Rattle.lexer.specs.declared.token.TokenKind.TheVariants.{Identifier, Number, Text, RawText, Rune, BreakKeyword, CaseKeyword, ChanKeyword, ConstKeyword, ContinueKeyword, DefaultKeyword, DeferKeyword, ElseKeyword, FallthroughKeyword, ForKeyword, FuncKeyword, GoKeyword, GotoKeyword, IfKeyword, ImportKeyword, InterfaceKeyword, MapKeyword, PackageKeyword, RangeKeyword, ReturnKeyword, SelectKeyword, StructKeyword, SwitchKeyword, TypeKeyword, VarKeyword, Plus, Minus, Star, Slash, Percent, Ampersand, Pipe, Caret, ShiftLeft, ShiftRight, AndNot, PlusAssign, MinusAssign, StarAssign, SlashAssign, PercentAssign, AmpersandAssign, PipeAssign, CaretAssign, ShiftLeftAssign, ShiftRightAssign, AndNotAssign, LogicalAnd, LogicalOr, Arrow, Increment, Decrement, EqualEqual, LessThan, GreaterThan, Assign, Bang, Tilde, NotEqual, LessOrEqual, GreaterOrEqual, Define, Ellipsis, LeftParenthesis, RightParenthesis, LeftBracket, RightBracket, LeftBrace, RightBrace, Comma, Semicolon, Dot, Colon}
+use Rattle.lexer.specs.declared.token.TokenKind.TheVariants.{Identifier, Number, InterpretedString, RawString, Rune, Plus, Minus, Star, Slash, Percent, Ampersand, Pipe, Caret, ShiftLeft, ShiftRight, AndNot, PlusAssign, MinusAssign, StarAssign, SlashAssign, PercentAssign, AmpersandAssign, PipeAssign, CaretAssign, ShiftLeftAssign, ShiftRightAssign, AndNotAssign, LogicalAnd, LogicalOr, Arrow, Increment, Decrement, EqualEqual, LessThan, GreaterThan, Assign, Bang, Tilde, NotEqual, LessOrEqual, GreaterOrEqual, Define, Ellipsis, LeftParenthesis, RightParenthesis, LeftBracket, RightBracket, LeftBrace, RightBrace, Comma, Semicolon, Dot, Colon}
 use Rattle.lexer.specs.declared.pieces.Piece.{Piece}
-use Rattle.lexer.specs.Letters.{is_ascii_letter, is_ascii_word}
-use Rattle.lexer.specs.Pieces.{is_space}
-use Rattle.lexer.specs.Spelling.{spelling, is_keyword}
-use Rattle.lexer.specs.Dispatch.{keyword_or, keyword_of, lexeme, operator_of, is_quote}
+use Rattle.lexer.specs.Letters.{is_ascii_letter, is_ascii_letter_or_digit}
+use Rattle.lexer.specs.Pieces.{is_white_space}
+use Rattle.lexer.specs.Spelling.{spelling, same_kind, keywords, is_keyword}
+use Rattle.lexer.specs.Dispatch.{kind_in, keyword_of, token_piece, operator_of, is_quote}
 
 -- a kind with one spelling
 unfoldable pub is_spelled : TokenKind → Bool
 is_spelled Identifier = false
 is_spelled Number = false
-is_spelled Text = false
-is_spelled RawText = false
+is_spelled InterpretedString = false
+is_spelled RawString = false
 is_spelled Rune = false
 is_spelled _ = true
 
@@ -29,51 +29,51 @@ is_operator k = is_spelled k && not (is_keyword k)
 pub data Group : Type 0 where
   Words : Group
   Numbers : Group
-  Blanks : Group
+  Spaces : Group
   Quotes : Group
   Operators : Group
 
 unfoldable pub group_of : ℕ → Group
 group_of b =
-    cond (leb 128 b || is_ascii_letter b) Words (cond (is_ascii_digit b) Numbers (cond (is_space b || b == 10) Blanks (cond (is_quote b) Quotes Operators)))
+    cond (leb 128 b || is_ascii_letter b) Words (cond (is_ascii_digit b) Numbers (cond (is_white_space b || b == 10) Spaces (cond (is_quote b) Quotes Operators)))
 
 unfoldable pub kind_group : TokenKind → Group
 kind_group Identifier = Words
 kind_group Number = Numbers
-kind_group Text = Quotes
-kind_group RawText = Quotes
+kind_group InterpretedString = Quotes
+kind_group RawString = Quotes
 kind_group Rune = Quotes
 kind_group k = cond (is_keyword k) Words Operators
 
 pub spelled_group : (k : TokenKind) → cond (is_spelled k) (group_of (get_or (spelling k) 0 0)) (kind_group k) ≡ kind_group k
-unfolding spelling is_keyword is_spelled group_of kind_group
+unfolding spelling is_keyword is_spelled group_of kind_group same_kind
 spelled_group Identifier = refl
 spelled_group _ = refl
 
 -- a keyword is found by its spelling
 pub keyword_found : (k : TokenKind) → cond (is_keyword k) (keyword_of (spelling k)) k ≡ k
-unfolding spelling is_keyword keyword_of
+unfolding spelling is_keyword keyword_of same_kind
 keyword_found Identifier = refl
 keyword_found _ = refl
 
 -- the bytes of a keyword stand in words
 abbrev pub are_word : List ℕ → Bool
 are_word [] = true
-are_word (b ∷ bs) = is_ascii_word b && are_word bs
+are_word (b ∷ bs) = is_ascii_letter_or_digit b && are_word bs
 
 pub keyword_word : (k : TokenKind) → cond (is_keyword k) (are_word (spelling k)) true ≡ true
-unfolding spelling is_keyword
+unfolding spelling is_keyword same_kind
 keyword_word Identifier = refl
 keyword_word _ = refl
 
 pub keyword_is_spelled : (k : TokenKind) → cond (is_keyword k) (is_spelled k) true ≡ true
-unfolding is_keyword is_spelled
+unfolding is_keyword is_spelled same_kind
 keyword_is_spelled Identifier = refl
 keyword_is_spelled _ = refl
 
 -- a keyword begins with a letter
 pub keyword_letter : (k : TokenKind) → cond (is_keyword k) (is_ascii_letter (get_or (spelling k) 0 0)) true ≡ true
-unfolding spelling is_keyword
+unfolding spelling is_keyword same_kind
 keyword_letter Identifier = refl
 keyword_letter _ = refl
 
@@ -84,7 +84,7 @@ last (b ∷ []) = b
 last (b ∷ c ∷ bs) = last (c ∷ bs)
 
 pub spelling_last : (k : TokenKind) → ltb (last (spelling k)) 128 ≡ true
-unfolding spelling
+unfolding spelling same_kind
 spelling_last Identifier = refl
 spelling_last _ = refl
 
@@ -94,24 +94,24 @@ are_nonzero [] = true
 are_nonzero (b ∷ bs) = ltb 0 b && are_nonzero bs
 
 pub spelling_nonzero : (k : TokenKind) → are_nonzero (spelling k) ≡ true
-unfolding spelling
+unfolding spelling same_kind
 spelling_nonzero Identifier = refl
 spelling_nonzero _ = refl
 
 pub spelling_size : (k : TokenKind) → cond (is_spelled k) (ltb 0 (length (spelling k))) true ≡ true
-unfolding spelling is_spelled
+unfolding spelling is_spelled same_kind
 spelling_size Identifier = refl
 spelling_size _ = refl
 
 -- an operator that begins with a dot is the dot, or has a second one
 pub spelling_dot : (k : TokenKind) → cond (is_spelled k && get_or (spelling k) 0 0 == 46) (length (spelling k) == 1 || get_or (spelling k) 1 0 == 46) true ≡ true
-unfolding spelling is_spelled
+unfolding spelling is_spelled same_kind
 spelling_dot Identifier = refl
 spelling_dot _ = refl
 
 -- no operator begins a comment
 pub spelling_no_comment : (k : TokenKind) → (get_or (spelling k) 0 0 == 47 && (get_or (spelling k) 1 0 == 47 || get_or (spelling k) 1 0 == 42)) ≡ false
-unfolding spelling
+unfolding spelling same_kind
 spelling_no_comment Identifier = refl
 spelling_no_comment _ = refl
 
@@ -130,7 +130,7 @@ found_at k second third =
     operator_of (get_or (spelling k) 0 0) (cond (ltb 1 (length (spelling k))) (get_or (spelling k) 1 0) second) (cond (ltb 2 (length (spelling k))) (get_or (spelling k) 2 0) third)
 
 found_long : (k : TokenKind) (c d : ℕ) → cond (is_operator k) (fits (found_at k c d) (length (spelling k))) true ≡ true
-unfolding spelling is_keyword is_spelled operator_of
+unfolding spelling is_keyword is_spelled operator_of same_kind
 found_long Plus c d = fits_either (c == 43) _ _ 1 refl (fits_either (c == 61) _ _ 1 refl refl)
 found_long Minus c d = fits_either (c == 45) _ _ 1 refl (fits_either (c == 61) _ _ 1 refl refl)
 found_long Pipe c d = fits_either (c == 124) _ _ 1 refl (fits_either (c == 61) _ _ 1 refl refl)
@@ -170,7 +170,7 @@ operator_longest k b c d operator first second third =
 pub record IsSpelledAt (p : Piece) (text : List ℕ) : Type 0 where
   pub kind : TokenKind
   pub operator : is_operator kind ≡ true
-  pub piece : p ≡ lexeme kind (length (spelling kind))
+  pub piece : p ≡ token_piece kind (length (spelling kind))
   pub bytes : HasBytesAt text 0 (spelling kind)
 
 abbrev Sound : List ℕ → Option Piece → Type 0
@@ -188,11 +188,11 @@ module _ (text : List ℕ) where
   either_piece true p q h k = h refl
   either_piece false p q h k = k
 
-  spelled : (k : TokenKind) → is_operator k ≡ true → HasBytesAt text 0 (spelling k) → IsSpelledAt (lexeme k (length (spelling k))) text
+  spelled : (k : TokenKind) → is_operator k ≡ true → HasBytesAt text 0 (spelling k) → IsSpelledAt (token_piece k (length (spelling k))) text
   spelled k operator bytes = record { kind = k; operator = operator; piece = refl; bytes = bytes }
 
   pub operator_spelled : Sound text (operator_of (get_or text 0 0) (get_or text 1 0) (get_or text 2 0))
-  unfolding spelling is_keyword is_spelled operator_of
+  unfolding spelling is_keyword is_spelled operator_of same_kind
   operator_spelled =
       let b = get_or text 0 0 in
       let c = get_or text 1 0 in
@@ -243,38 +243,32 @@ prefix (c ∷ p) (b ∷ text) nonzero h =
 abbrev pub KeywordOr : List ℕ → TokenKind → Type 0
 KeywordOr word k = (k ≡ Identifier) ⊎ ((is_keyword k ≡ true) × (word ≡ spelling k))
 
-module _ (word : List ℕ) where
-  one_of : (t : Bool) (j k : TokenKind) → KeywordOr word j → KeywordOr word k → KeywordOr word (cond t j k)
-  one_of true j k h g = h
-  one_of false j k h g = g
+-- each row of the table spells a keyword
+all_spelled : List (List ℕ × TokenKind) → Bool
+all_spelled [] = true
+all_spelled (row ∷ rows) = (is_keyword row.1 && bytes_eq row.0 (spelling row.1)) && all_spelled rows
 
-  kw : (k other : TokenKind) → is_keyword k ≡ true → KeywordOr word other → KeywordOr word (keyword_or word k other)
-  kw k other keyword h =
-      cond_both (bytes_eq word (spelling k)) k other (KeywordOr word) (λ same. inr (keyword, (bytes_eq-Decides word (spelling k)).0 same)) (λ _. h)
+keywords_spelled : all_spelled keywords ≡ true
+unfolding spelling is_keyword same_kind all_spelled
+keywords_spelled = refl
 
-  none : KeywordOr word Identifier
-  none = inl refl
+spelled_in : (rows : List (List ℕ × TokenKind)) (word : List ℕ) → all_spelled rows ≡ true → KeywordOr word (kind_in rows word)
+unfolding all_spelled
+spelled_in [] word h = inl refl
+spelled_in (row ∷ rows) word h =
+    let p = and_parts (is_keyword row.1 && bytes_eq row.0 (spelling row.1)) (all_spelled rows) h in
+    let q = and_parts (is_keyword row.1) (bytes_eq row.0 (spelling row.1)) p.0 in
+    cond_both (bytes_eq row.0 word) row.1 (kind_in rows word) (KeywordOr word)
+    (λ same. inr (q.0, sym ((bytes_eq-Decides row.0 word).0 same) ∙ (bytes_eq-Decides row.0 (spelling row.1)).0 q.1))
+    (λ _. spelled_in rows word p.1)
 
-  pub keyword_spelled : KeywordOr word (keyword_of word)
-  unfolding keyword_of is_keyword
-  keyword_spelled =
-      one_of (get_or word 0 0 == 98) _ _ (kw BreakKeyword _ refl none)
-      (one_of (get_or word 0 0 == 99) _ _ (kw CaseKeyword _ refl (kw ChanKeyword _ refl (kw ConstKeyword _ refl (kw ContinueKeyword _ refl none))))
-      (one_of (get_or word 0 0 == 100) _ _ (kw DefaultKeyword _ refl (kw DeferKeyword _ refl none))
-      (one_of (get_or word 0 0 == 101) _ _ (kw ElseKeyword _ refl none)
-      (one_of (get_or word 0 0 == 102) _ _ (kw ForKeyword _ refl (kw FuncKeyword _ refl (kw FallthroughKeyword _ refl none)))
-      (one_of (get_or word 0 0 == 103) _ _ (kw GoKeyword _ refl (kw GotoKeyword _ refl none))
-      (one_of (get_or word 0 0 == 105) _ _ (kw IfKeyword _ refl (kw ImportKeyword _ refl (kw InterfaceKeyword _ refl none)))
-      (one_of (get_or word 0 0 == 109) _ _ (kw MapKeyword _ refl none)
-      (one_of (get_or word 0 0 == 112) _ _ (kw PackageKeyword _ refl none)
-      (one_of (get_or word 0 0 == 114) _ _ (kw RangeKeyword _ refl (kw ReturnKeyword _ refl none))
-      (one_of (get_or word 0 0 == 115) _ _ (kw SelectKeyword _ refl (kw StructKeyword _ refl (kw SwitchKeyword _ refl none)))
-      (one_of (get_or word 0 0 == 116) _ _ (kw TypeKeyword _ refl none)
-      (one_of (get_or word 0 0 == 118) _ _ (kw VarKeyword _ refl none) none))))))))))))
+pub keyword_spelled : (word : List ℕ) → KeywordOr word (keyword_of word)
+unfolding keyword_of
+keyword_spelled word = spelled_in keywords word keywords_spelled
 
 -- a word that no keyword is found for is none
 pub no_keyword : (word : List ℕ) → keyword_of word ≡ Identifier → (k : TokenKind) → is_keyword k ≡ true → word ≡ spelling k → ⊥
-unfolding is_keyword
+unfolding is_keyword same_kind
 no_keyword word found k keyword same =
     let e : keyword_of (spelling k) ≡ k = subst (λ t. cond t (keyword_of (spelling k)) k ≡ k) keyword (keyword_found k) in
     let is_name : k ≡ Identifier = sym e ∙ (ap keyword_of (sym same) ∙ found) in

@@ -7,25 +7,25 @@ use Rattle.std.proofs.lemmas.Bool.{false_from_ne_true, false≢true, both_ways, 
 use Rattle.std.proofs.lemmas.Bool.Decides.{nat_tests}
 use Rattle.std.proofs.lemmas.List.{get_or_past}
 use Rattle.lexer.specs.declared.token.TokenKind.{TokenKind}
-use Rattle.lexer.specs.declared.token.TokenKind.TheVariants.{Identifier, Number, Text, RawText, Rune}
-use Rattle.lexer.specs.declared.pieces.Shape.{Shape}
-use Rattle.lexer.specs.declared.pieces.Shape.TheVariants.{Space, Newline, LineComment, BlockComment, LongComment, Lexeme}
+use Rattle.lexer.specs.declared.token.TokenKind.TheVariants.{Identifier, Number, InterpretedString, RawString, Rune}
+use Rattle.lexer.specs.declared.pieces.PieceKind.{PieceKind}
+use Rattle.lexer.specs.declared.pieces.PieceKind.TheVariants.{WhiteSpace, Newline, LineComment, GeneralComment, GeneralCommentWithNewline, TokenOf}
 use Rattle.lexer.specs.declared.pieces.Piece.{Piece}
-use Rattle.lexer.specs.Letters.{is_ascii_letter, is_ascii_word}
+use Rattle.lexer.specs.Letters.{is_ascii_letter, is_ascii_letter_or_digit}
 use Rattle.lexer.specs.Spelling.{spelling, is_keyword}
-use Rattle.lexer.specs.Dispatch.{lexeme, keyword_of, operator_of, is_quote}
-use Rattle.lexer.specs.Pieces.{is_space, IsWord, IsLineComment, IsBlockComment, starts_number, IsToken, Reads}
+use Rattle.lexer.specs.Dispatch.{token_piece, keyword_of, operator_of, is_quote}
+use Rattle.lexer.specs.Pieces.{is_white_space, IsWord, IsLineComment, IsGeneralComment, starts_number, IsToken, Reads}
 use Rattle.lexer.specs.Cut.{CanBegin, IsLongest, is_comment, opens_comment}
 use Rattle.lexer.proofs.Spelled.{is_spelled, Group, Words, Operators, group_of, kind_group, spelled_group, are_word, keyword_word, keyword_letter, spelling_size, spelling_nonzero, prefix, IsSpelledAt, operator_spelled}
-use Rattle.lexer.proofs.Shapes.{shape_group, high_group, word_group, nonempty_word}
+use Rattle.lexer.proofs.PieceKinds.{piece_group, high_group, word_group, nonempty_word}
 use Rattle.lexer.proofs.Groups.{byte_in, grouped_at, are_word_at, cond_words}
 use Rattle.lexer.proofs.Longest.{no_slash, bytes_word, reads_word}
 use Rattle.lexer.proofs.Literals.{positive_size, opens_in, IsOperatorText, operator_some, operator_none}
-use Rattle.lexer.proofs.Comments.{comment_reads}
+use Rattle.lexer.proofs.CommentSizes.{comment_reads}
 use Rattle.lexer.proofs.Bounds.{piece_boundary}
 
 -- a keyword is a word
-pub word_small : (b : ℕ) → is_ascii_word b ≡ true → b < 128
+pub word_small : (b : ℕ) → is_ascii_letter_or_digit b ≡ true → b < 128
 word_small b h = grind (arith, nat_tests)
 
 keyword_ascii : (k : TokenKind) → is_keyword k ≡ true → IsAscii (spelling k)
@@ -45,43 +45,43 @@ token_words : (k : TokenKind) (bytes : List ℕ) → kind_group k ≡ Words → 
 unfolding kind_group IsToken is_spelled
 token_words Identifier bytes g h = h.0
 token_words Number bytes g h = absurd cc
-token_words Text bytes g h = absurd cc
-token_words RawText bytes g h = absurd cc
+token_words InterpretedString bytes g h = absurd cc
+token_words RawString bytes g h = absurd cc
 token_words Rune bytes g h = absurd cc
 token_words k bytes g h = subst IsWord (sym h) (keyword_is_word k refl (cond_words (is_keyword k) g))
 
-shape_words : (s : Shape) (bytes : List ℕ) → shape_group s ≡ Words → Reads s bytes → IsWord bytes
-unfolding shape_group Reads
-shape_words Space bytes g h = absurd cc
-shape_words Newline bytes g h = absurd cc
-shape_words LineComment bytes g h = absurd cc
-shape_words BlockComment bytes g h = absurd cc
-shape_words LongComment bytes g h = absurd cc
-shape_words (Lexeme k) bytes g h = token_words k bytes g h
+piece_words : (s : PieceKind) (bytes : List ℕ) → piece_group s ≡ Words → Reads s bytes → IsWord bytes
+unfolding piece_group Reads
+piece_words WhiteSpace bytes g h = absurd cc
+piece_words Newline bytes g h = absurd cc
+piece_words LineComment bytes g h = absurd cc
+piece_words GeneralComment bytes g h = absurd cc
+piece_words GeneralCommentWithNewline bytes g h = absurd cc
+piece_words (TokenOf k) bytes g h = token_words k bytes g h
 
 -- where a word's first byte stands, only words begin
 only_words : (text : List ℕ) (q : Piece) → group_of (get_or text 0 0) ≡ Words → CanBegin q text → IsWord (take q.size text)
 unfolding group_of
 only_words text q group h =
     ⊎_elim
-    (λ g. shape_words q.shape (take q.size text) (sym g ∙ group) h.reads)
-    (λ (d : (q.shape ≡ Lexeme Number) × (get_or text 0 0 ≡ 46) × (is_ascii_digit (get_or text 1 0) ≡ true)).
+    (λ g. piece_words q.kind (take q.size text) (sym g ∙ group) h.reads)
+    (λ (d : (q.kind ≡ TokenOf Number) × (get_or text 0 0 ≡ 46) × (is_ascii_digit (get_or text 1 0) ≡ true)).
     let e : Words ≡ Operators = sym group ∙ ap group_of d.1 in absurd cc)
     (grouped_at q text (positive_size q text h) h)
 
 abbrev pub AtMost : List ℕ → ℕ → Type 0
 AtMost text n = (m : ℕ) → m ≤ length text → IsWord (take m text) → m ≤ n
 
-pub word_piece : (text : List ℕ) (n : ℕ) → IsUtf8 text → 0 < n → n ≤ length text → IsWord (take n text) → AtMost text n → IsLongest (lexeme (keyword_of (take n text)) n) text × IsCharBoundary text n
+pub word_piece : (text : List ℕ) (n : ℕ) → IsUtf8 text → 0 < n → n ≤ length text → IsWord (take n text) → AtMost text n → IsLongest (token_piece (keyword_of (take n text)) n) text × IsCharBoundary text n
 word_piece text n utf8 positive within word most =
     let group = ap group_of (sym (byte_in n text 0 positive)) ∙ word_group (take n text) word in
-    let begins : CanBegin (lexeme (keyword_of (take n text)) n) text = record {
+    let begins : CanBegin (token_piece (keyword_of (take n text)) n) text = record {
       within = within;
       reads = reads_word (take n text) word;
       only_comment = λ opens. absurd (no_slash text Words group (λ e. cc) opens);
     } in (
       record { begins = begins; longest = λ q h. most q.size h.within (only_words text q group h) },
-      piece_boundary text (lexeme (keyword_of (take n text)) n) utf8 begins (λ e. absurd cc),
+      piece_boundary text (token_piece (keyword_of (take n text)) n) utf8 begins (λ e. absurd cc),
     )
 
 pub no_word_from : (text : List ℕ) → AtMost text 0 → (n : ℕ) → n ≤ length text → IsWord (take n text) → ⊥
@@ -100,17 +100,17 @@ letter_word [] size letter small = absurd (omega arith)
 letter_word (b ∷ rest) size letter small =
     bytes_word (b ∷ []) (omega arith) (one_ascii b small) letter (λ i p l. absurd (omega arith))
 
-comment_opens : (text : List ℕ) (q : Piece) → CanBegin q text → is_comment q.shape ≡ true → opens_comment text ≡ true
+comment_opens : (text : List ℕ) (q : Piece) → CanBegin q text → is_comment q.kind ≡ true → opens_comment text ≡ true
 comment_opens text q h c =
     opens_in q.size text h.within
-    (⊎_elim (λ (l : IsLineComment (take q.size text)). ap opens_comment l.opens) (λ (b : IsBlockComment (take q.size text)). ap opens_comment b.opens) (comment_reads q.shape (take q.size text) c h.reads))
+    (⊎_elim (λ (l : IsLineComment (take q.size text)). ap opens_comment l.opens) (λ (b : IsGeneralComment (take q.size text)). ap opens_comment b.opens) (comment_reads q.kind (take q.size text) c h.reads))
 
 kind_operator : (k : TokenKind) → is_spelled k ≡ true → is_keyword k ≡ false → kind_group k ≡ Operators
 unfolding kind_group is_spelled
 kind_operator Identifier s h = absurd (false≢true s)
 kind_operator Number s h = absurd (false≢true s)
-kind_operator Text s h = absurd (false≢true s)
-kind_operator RawText s h = absurd (false≢true s)
+kind_operator InterpretedString s h = absurd (false≢true s)
+kind_operator RawString s h = absurd (false≢true s)
 kind_operator Rune s h = absurd (false≢true s)
 kind_operator k s h = cond-false (is_keyword k) Words Operators h
 
@@ -129,15 +129,15 @@ abbrev pub Good : List ℕ → Option Piece → Type 0
 Good text r = IfSome r (λ p. IsLongest p text × IsCharBoundary text p.size) × IfNone r ((q : Piece) → CanBegin q text → ⊥)
 
 -- a piece that is no comment ends where a character does
-pub plain_bounded : (text : List ℕ) (p : Piece) → IsUtf8 text → IsLongest p text → is_comment p.shape ≡ false → IsLongest p text × IsCharBoundary text p.size
+pub plain_bounded : (text : List ℕ) (p : Piece) → IsUtf8 text → IsLongest p text → is_comment p.kind ≡ false → IsLongest p text × IsCharBoundary text p.size
 plain_bounded text p utf8 l plain =
     (l, piece_boundary text p utf8 l.begins (λ e. absurd (both_ways _ plain (ap is_comment e))))
 
-pub plain_good : (text : List ℕ) (r : Option Piece) → IsUtf8 text → opens_comment text ≡ false → IfSome r (λ p. IsLongest p text × IsFalse (is_comment p.shape)) → IfNone r ((q : Piece) → CanBegin q text → IsTrue (is_comment q.shape)) → Good text r
+pub plain_good : (text : List ℕ) (r : Option Piece) → IsUtf8 text → opens_comment text ≡ false → IfSome r (λ p. IsLongest p text × IsFalse (is_comment p.kind)) → IfNone r ((q : Piece) → CanBegin q text → IsTrue (is_comment q.kind)) → Good text r
 plain_good text None utf8 closed some none = (tt, λ q h. both_ways _ closed (comment_opens text q h (none q h)))
 plain_good text (Some p) utf8 closed some none = (plain_bounded text p utf8 some.0 some.1, tt)
 
-pub comment_good : (text : List ℕ) (r : Option Piece) → IsUtf8 text → IfSome r (λ p. IsLongest p text) → IfNone r ((q : Piece) → CanBegin q text → ⊥) → IfSome r (λ p. p.shape ≡ LineComment → IsCharBoundary text p.size) → Good text r
+pub comment_good : (text : List ℕ) (r : Option Piece) → IsUtf8 text → IfSome r (λ p. IsLongest p text) → IfNone r ((q : Piece) → CanBegin q text → ⊥) → IfSome r (λ p. p.kind ≡ LineComment → IsCharBoundary text p.size) → Good text r
 comment_good text None utf8 some none line = (tt, none)
 comment_good text (Some p) utf8 some none line = ((some, piece_boundary text p utf8 some.begins line), tt)
 
@@ -147,7 +147,7 @@ high_good text wordless high None s =
 high_good text wordless high (Some p) s =
     let e : Words ≡ Operators = sym (high_group (get_or text 0 0) high) ∙ operator_group text p s in absurd cc
 
-pub rest_good : (text : List ℕ) → 0 < length text → IsUtf8 text → ((n : ℕ) → n ≤ length text → IsWord (take n text) → ⊥) → starts_number (get_or text 0 0) (get_or text 1 0) ≡ false → is_space (get_or text 0 0) ≡ false → (get_or text 0 0 == 10) ≡ false → is_quote (get_or text 0 0) ≡ false → opens_comment text ≡ false → (r : Option Piece) → r ≡ operator_of (get_or text 0 0) (get_or text 1 0) (get_or text 2 0) → Good text r
+pub rest_good : (text : List ℕ) → 0 < length text → IsUtf8 text → ((n : ℕ) → n ≤ length text → IsWord (take n text) → ⊥) → starts_number (get_or text 0 0) (get_or text 1 0) ≡ false → is_white_space (get_or text 0 0) ≡ false → (get_or text 0 0 == 10) ≡ false → is_quote (get_or text 0 0) ≡ false → opens_comment text ≡ false → (r : Option Piece) → r ≡ operator_of (get_or text 0 0) (get_or text 1 0) (get_or text 2 0) → Good text r
 rest_good text size utf8 wordless number space newline quote comment r e =
     ⊎_elim
     (λ small.

@@ -11,7 +11,7 @@ use Rattle.lexer.specs.declared.token.Token.{Token}
 use Rattle.lexer.specs.declared.pieces.Piece.{Piece}
 use Rattle.lexer.specs.declared.fault.LexFault.TheVariants.{UnclosedString, UnclosedComment, UnclosedRune, UnknownCharacter}
 use Rattle.lexer.specs.Cut.{CanBegin, IsLongest, Cut, opens_comment}
-use Rattle.lexer.specs.Semicolons.{tokens_from, tokens_at, due_behind, semicolon}
+use Rattle.lexer.specs.Semicolons.{tokens_from, tokens_at, due_after, semicolon}
 use Rattle.lexer.specs.Tokens.{mark_size, IsTokens}
 use Rattle.lexer.specs.Faults.{StopsAt, IsFault, stop_of, begins_string, begins_rune}
 use Rattle.lexer.proofs.Cuts.{cut_more}
@@ -26,7 +26,7 @@ pub from_none : (start : ℕ) (text : List ℕ) → IsReadFrom start text text s
 unfolding Cut
 from_none start text = record { pieces = []; cut = refl; place = omega arith; to_come = λ qs. refl }
 
-pub from_more : (start : ℕ) (text rest : List ℕ) (at : ℕ) (due : Option ℕ) (tokens : List Token) (p : Piece) → IsReadFrom start text rest at due tokens → IsLongest p rest → IsReadFrom start text (drop p.size rest) (at + p.size) (due_behind p.shape (at + p.size) due) (tokens ++ tokens_at p.shape at (at + p.size) due)
+pub from_more : (start : ℕ) (text rest : List ℕ) (at : ℕ) (due : Option ℕ) (tokens : List Token) (p : Piece) → IsReadFrom start text rest at due tokens → IsLongest p rest → IsReadFrom start text (drop p.size rest) (at + p.size) (due_after p.kind (at + p.size) due) (tokens ++ tokens_at p.kind at (at + p.size) due)
 unfolding tokens_from
 from_more start text rest at due tokens p r h =
     record {
@@ -36,7 +36,7 @@ from_more start text rest at due tokens p r h =
       to_come = λ qs.
           let next = at + p.size in
           ap (tokens_from start None) (append_assoc r.pieces (p ∷ []) qs)
-          ∙ (r.to_come (p ∷ qs) ∙ sym (append_assoc tokens (tokens_at p.shape at next due) (tokens_from next (due_behind p.shape next due) qs)));
+          ∙ (r.to_come (p ∷ qs) ∙ sym (append_assoc tokens (tokens_at p.kind at next due) (tokens_from next (due_after p.kind next due) qs)));
     }
 
 abbrev pub NoNul : List ℕ → Type 0
@@ -86,7 +86,7 @@ from_stop text rest at due tokens small utf8 no_nul r more nothing =
       nothing = nothing;
     })
 
--- a text may be cut behind its byte order mark
+-- a text may be cut after its byte order mark
 mark_bytes : (text : List ℕ) → get_or text 0 0 ≡ 239 → get_or text 1 0 ≡ 187 → get_or text 2 0 ≡ 191 → IsUtf8 text → IsCharBoundary text 3
 unfolding encode_utf8
 mark_bytes [] a b c utf8 = absurd (omega arith)

@@ -8,11 +8,11 @@ use Rattle.std.proofs.lemmas.List.{get_or_past, get_or_at, length-append}
 use Rattle.std.proofs.lemmas.List.Elements.{All-nil, All-cons, All-append}
 use Rattle.lexer.specs.declared.token.Token.{Token}
 use Rattle.lexer.specs.declared.token.TokenKind.TheVariants.{Semicolon}
-use Rattle.lexer.specs.declared.pieces.Shape.{Shape}
-use Rattle.lexer.specs.declared.pieces.Shape.TheVariants.{Space, Newline, LineComment, BlockComment, LongComment, Lexeme}
+use Rattle.lexer.specs.declared.pieces.PieceKind.{PieceKind}
+use Rattle.lexer.specs.declared.pieces.PieceKind.TheVariants.{WhiteSpace, Newline, LineComment, GeneralComment, GeneralCommentWithNewline, TokenOf}
 use Rattle.lexer.specs.declared.pieces.Piece.{Piece}
 use Rattle.lexer.specs.Cut.{CanBegin, Cut, is_comment}
-use Rattle.lexer.specs.Semicolons.{tokens_from, tokens_at, due_behind, semicolon, token, ends_statement}
+use Rattle.lexer.specs.Semicolons.{tokens_from, tokens_at, due_after, semicolon, token, ends_statement}
 use Rattle.lexer.specs.Tokens.{mark_size, IsCutInto, IsTokens, IsPlain}
 use Rattle.lexer.proofs.Cuts.{cut_split, one_cut, IsRead, read_all}
 
@@ -34,7 +34,7 @@ finished text at due tokens small bytes r =
     let cut : IsCutInto text r.pieces = subst (λ n. Cut (drop n text) r.pieces []) (sym mark) r.cut in (
       record {
         ascii = ascii;
-        no_comment = λ pieces c. subst (λ ps. All (λ p. IsFalse (is_comment p.shape)) ps) (sym (one_cut (drop (mark_size text) text) r.pieces pieces cut c)) r.plain;
+        no_comment = λ pieces c. subst (λ ps. All (λ p. IsFalse (is_comment p.kind)) ps) (sym (one_cut (drop (mark_size text) text) r.pieces pieces cut c)) r.plain;
       },
       record {
         small = small;
@@ -46,17 +46,17 @@ finished text at due tokens small bytes r =
       },
     )
 
-stuck_at : (text rest : List ℕ) (ps rs qs : List Piece) → 0 < length rest → ((p : Piece) → CanBegin p rest → is_comment p.shape ≡ true) → All (λ p. IsFalse (is_comment p.shape)) qs → qs ≡ ps ++ rs → Cut rest rs [] → ⊥
+stuck_at : (text rest : List ℕ) (ps rs qs : List Piece) → 0 < length rest → ((p : Piece) → CanBegin p rest → is_comment p.kind ≡ true) → All (λ p. IsFalse (is_comment p.kind)) qs → qs ≡ ps ++ rs → Cut rest rs [] → ⊥
 unfolding Cut
 stuck_at text rest ps [] qs more comments plain e c = absurd (omega (arith, ap length c))
 stuck_at text rest ps (p ∷ rs) qs more comments plain e c =
-    let all : All (λ q. IsFalse (is_comment q.shape)) (ps ++ p ∷ rs) = subst (λ l. All (λ q. IsFalse (is_comment q.shape)) l) e plain in
+    let all : All (λ q. IsFalse (is_comment q.kind)) (ps ++ p ∷ rs) = subst (λ l. All (λ q. IsFalse (is_comment q.kind)) l) e plain in
     let within : length ps < length (ps ++ p ∷ rs) = omega (arith, length-append ps (p ∷ rs)) in
-    let here : is_comment (get_or (ps ++ p ∷ rs) (length ps) p).shape ≡ false = all (length ps) p within in
-    let same : is_comment p.shape ≡ false = subst (λ q. is_comment q.shape ≡ false) (get_or_at ps p rs p (length ps) refl) here in
+    let here : is_comment (get_or (ps ++ p ∷ rs) (length ps) p).kind ≡ false = all (length ps) p within in
+    let same : is_comment p.kind ≡ false = subst (λ q. is_comment q.kind ≡ false) (get_or_at ps p rs p (length ps) refl) here in
     both_ways _ same (comments p c.0.begins)
 
-pub stuck : (text rest : List ℕ) (at : ℕ) (due : Option ℕ) (tokens : List Token) → IsRead text rest at due tokens → 0 < length rest → ((p : Piece) → CanBegin p rest → is_comment p.shape ≡ true) → (ts : List Token) → IsPlain text → IsTokens text ts → ⊥
+pub stuck : (text rest : List ℕ) (at : ℕ) (due : Option ℕ) (tokens : List Token) → IsRead text rest at due tokens → 0 < length rest → ((p : Piece) → CanBegin p rest → is_comment p.kind ≡ true) → (ts : List Token) → IsPlain text → IsTokens text ts → ⊥
 stuck text rest at due tokens r more comments ts plain t =
     let cut : Cut text t.pieces [] = subst (λ n. Cut (drop n text) t.pieces []) (no_mark text plain.ascii) t.cut in
     let s = cut_split text r.pieces rest t.pieces r.cut cut in
@@ -78,25 +78,25 @@ semicolon_within : (limit : ℕ) (due : Option ℕ) → DueWithin limit due → 
 semicolon_within limit None h = All-nil (Within limit)
 semicolon_within limit (Some e) h = All-cons (Within limit) (token Semicolon e e) [] (omega arith, h) (All-nil (Within limit))
 
-added_within : (limit : ℕ) (s : Shape) (start end : ℕ) (due : Option ℕ) → start ≤ end → end ≤ limit → DueWithin limit due → All (Within limit) (tokens_at s start end due)
-added_within limit (Lexeme k) start end due l m h = All-cons (Within limit) (token k start end) [] (l, m) (All-nil (Within limit))
+added_within : (limit : ℕ) (s : PieceKind) (start end : ℕ) (due : Option ℕ) → start ≤ end → end ≤ limit → DueWithin limit due → All (Within limit) (tokens_at s start end due)
+added_within limit (TokenOf k) start end due l m h = All-cons (Within limit) (token k start end) [] (l, m) (All-nil (Within limit))
 added_within limit Newline start end due l m h = semicolon_within limit due h
 added_within limit LineComment start end due l m h = semicolon_within limit due h
-added_within limit LongComment start end due l m h = semicolon_within limit due h
-added_within limit Space start end due l m h = All-nil (Within limit)
-added_within limit BlockComment start end due l m h = All-nil (Within limit)
+added_within limit GeneralCommentWithNewline start end due l m h = semicolon_within limit due h
+added_within limit WhiteSpace start end due l m h = All-nil (Within limit)
+added_within limit GeneralComment start end due l m h = All-nil (Within limit)
 
 either_due : (limit : ℕ) (t : Bool) (end : ℕ) → end ≤ limit → DueWithin limit (if t then Some end else None)
 either_due limit true end h = h
 either_due limit false end h = tt
 
-due_within : (limit : ℕ) (s : Shape) (end : ℕ) (due : Option ℕ) → end ≤ limit → DueWithin limit due → DueWithin limit (due_behind s end due)
-due_within limit (Lexeme k) end due m h = either_due limit (ends_statement k) end m
+due_within : (limit : ℕ) (s : PieceKind) (end : ℕ) (due : Option ℕ) → end ≤ limit → DueWithin limit due → DueWithin limit (due_after s end due)
+due_within limit (TokenOf k) end due m h = either_due limit (ends_statement k) end m
 due_within limit Newline end due m h = tt
 due_within limit LineComment end due m h = tt
-due_within limit LongComment end due m h = tt
-due_within limit Space end due m h = h
-due_within limit BlockComment end due m h = h
+due_within limit GeneralCommentWithNewline end due m h = tt
+due_within limit WhiteSpace end due m h = h
+due_within limit GeneralComment end due m h = h
 
 listed_within : (limit : ℕ) (ps : List Piece) (text : List ℕ) (at : ℕ) (due : Option ℕ) → Cut text ps [] → at + length text ≤ limit → DueWithin limit due → All (Within limit) (tokens_from at due ps)
 unfolding Cut tokens_from
@@ -105,7 +105,7 @@ listed_within limit (p ∷ ps) text at due c l h =
     let size = c.0.begins.within in
     let end : at + p.size ≤ limit = omega arith in
     let rest : (at + p.size) + length (drop p.size text) ≤ limit = omega (arith, length-drop p.size text) in
-    All-append (Within limit) (tokens_at p.shape at (at + p.size) due) (tokens_from (at + p.size) (due_behind p.shape (at + p.size) due) ps) (added_within limit p.shape at (at + p.size) due (omega arith) end h) (listed_within limit ps (drop p.size text) (at + p.size) (due_behind p.shape (at + p.size) due) c.1 rest (due_within limit p.shape (at + p.size) due end h))
+    All-append (Within limit) (tokens_at p.kind at (at + p.size) due) (tokens_from (at + p.size) (due_after p.kind (at + p.size) due) ps) (added_within limit p.kind at (at + p.size) due (omega arith) end h) (listed_within limit ps (drop p.size text) (at + p.size) (due_after p.kind (at + p.size) due) c.1 rest (due_within limit p.kind (at + p.size) due end h))
 
 -- the mark stands in the text: a byte past its end is 0
 mark_cases : (text : List ℕ) (b : Bool) → b ≡ ((get_or text 0 0 == 239 && get_or text 1 0 == 187) && get_or text 2 0 == 191) → (if b then 3 else 0) + length (drop (if b then 3 else 0) text) ≤ length text

@@ -1,28 +1,30 @@
--- The cut of a text into blanks, comments and tokens, from its start.
+-- The cut of a text into white space, comments and tokens, from its start.
 -- Each piece is the longest that can begin at its place; at `//` and `/*` only a comment can.
--- (The Go specification, "Lexical elements": white space and comments separate tokens, and the next token is the longest
--- sequence of characters that forms a valid one.)
+-- (The Go specification, "Lexical elements": white space and comments separate tokens, and the next token is the
+-- longest sequence of characters that forms a valid one.)
 use Rattle.std.specs.Prelude.{◌≡◌, ℕ, ◌≤◌, Bool, true, false, ◌&&◌, ◌||◌, ◌==◌, IsTrue, List, [], ◌∷◌, length, take, drop, slice_index}
-use Rattle.lexer.specs.declared.pieces.Shape.{Shape}
-use Rattle.lexer.specs.declared.pieces.Shape.TheVariants.{LineComment, BlockComment, LongComment}
+use Rattle.lexer.specs.declared.pieces.PieceKind.{PieceKind}
+use Rattle.lexer.specs.declared.pieces.PieceKind.TheVariants.{LineComment, GeneralComment, GeneralCommentWithNewline}
 use Rattle.lexer.specs.declared.pieces.Piece.{Piece}
+use Rattle.lexer.specs.Bytes.{slash, asterisk}
 use Rattle.lexer.specs.Pieces.{Reads}
 
-abbrev pub is_comment : Shape → Bool
+abbrev pub is_comment : PieceKind → Bool
 is_comment LineComment = true
-is_comment BlockComment = true
-is_comment LongComment = true
+is_comment GeneralComment = true
+is_comment GeneralCommentWithNewline = true
 is_comment _ = false
 
 -- the text begins with `//` or `/*`
 abbrev pub opens_comment : List ℕ → Bool
-opens_comment text = slice_index text 0 == 47 && (slice_index text 1 == 47 || slice_index text 1 == 42)
+opens_comment text =
+    slice_index text 0 == slash && (slice_index text 1 == slash || slice_index text 1 == asterisk)
 
 -- the piece can begin the text
 pub record CanBegin (p : Piece) (text : List ℕ) : Type 0 where
   pub within : p.size ≤ length text
-  pub reads : Reads p.shape (take p.size text)
-  pub only_comment : IsTrue (opens_comment text) → IsTrue (is_comment p.shape)
+  pub reads : Reads p.kind (take p.size text)
+  pub only_comment : IsTrue (opens_comment text) → IsTrue (is_comment p.kind)
 
 -- and no longer one can
 pub record IsLongest (p : Piece) (text : List ℕ) : Type 0 where

@@ -1,7 +1,7 @@
--- Why a text has no tokens, and where: the fault that is named first.
--- A text that is too long has that fault; else one that is not UTF-8, else one with a NUL; else the cut stops at a place
--- where nothing can begin, and what stands there says whether a string, a rune or a comment is not ended, or whether
--- no token has the character.
+-- Why a text has no tokens, and where. A text has one fault: of several reasons the first in this order.
+-- A text that is too long has that fault; else one that is not UTF-8, else one with a NUL; else the cut stops at a
+-- place where nothing can begin, and what stands there says whether a string, a rune or a comment is not ended, or
+-- whether no token has the character.
 -- (The Go specification, "Source code representation" and "Lexical elements".)
 use Rattle.std.specs.Prelude.{◌≡◌, ◌≢◌, ℕ, ◌+◌, ◌<◌, ◌≤◌, Bool, ◌||◌, ◌==◌, if◌then◌else◌, IsTrue, IsFalse, List, [], length, drop, slice_index, sum_by}
 use Rattle.std.specs.Str.{IsUtf8, IsValidUpTo}
@@ -9,45 +9,49 @@ use Rattle.lexer.specs.declared.fault.LexFault.{LexFault}
 use Rattle.lexer.specs.declared.fault.LexFault.TheVariants.{NotUtf8, Nul, UnclosedString, UnclosedComment, UnclosedRune, UnknownCharacter, TooLong, OutOfMemory}
 use Rattle.lexer.specs.declared.pieces.Piece.{Piece}
 use Rattle.lexer.specs.Cut.{CanBegin, Cut, opens_comment}
+use Rattle.lexer.specs.declared.source.TheConstants.{MOST_BYTES}
 use Rattle.lexer.specs.declared.token.Token.{Token}
+use Rattle.lexer.specs.Bytes.{nul, double_quote, single_quote, back_quote}
 use Rattle.lexer.specs.Tokens.{mark_size, IsTokens}
 
 -- the text is cut up to the offset `at`, where nothing can begin
 pub record StopsAt (text : List ℕ) (at : ℕ) (rest : List ℕ) : Type 0 where
-  pub small : length text ≤ 1_048_576
+  pub small : length text ≤ MOST_BYTES
   pub utf8 : IsUtf8 text
-  pub no_nul : (i : ℕ) → i < length text → slice_index text i ≢ 0
+  pub no_nul : (i : ℕ) → i < length text → slice_index text i ≢ nul
   pub pieces : List Piece
   pub cut : Cut (drop (mark_size text) text) pieces rest
   pub place : at ≡ mark_size text + sum_by (λ p. p.size) pieces
   pub more : rest ≢ []
   pub nothing : (p : Piece) → CanBegin p rest → ⊥
 
--- a string begins with `"`, 34, or a backquote, 96; a rune with `'`, 39
+-- what the first byte begins
 abbrev pub begins_string : List ℕ → Bool
-begins_string rest = slice_index rest 0 == 34 || slice_index rest 0 == 96
+begins_string rest = slice_index rest 0 == double_quote || slice_index rest 0 == back_quote
 
 abbrev pub begins_rune : List ℕ → Bool
-begins_rune rest = slice_index rest 0 == 39
+begins_rune rest = slice_index rest 0 == single_quote
 
 -- the fault of a text whose cut stops at `at`
 abbrev pub stop_of : List ℕ → ℕ → LexFault
 stop_of rest at =
     if begins_string rest then UnclosedString at
-    else (if begins_rune rest then UnclosedRune at
-    else (if opens_comment rest then UnclosedComment at
-    else UnknownCharacter at))
+    else if begins_rune rest then UnclosedRune at
+    else if opens_comment rest then UnclosedComment at
+    else UnknownCharacter at
 
 abbrev pub IsFault : List ℕ → LexFault → Type 0
-IsFault text TooLong = 1_048_576 < length text
-IsFault text (NotUtf8 at) = (length text ≤ 1_048_576) × (at < length text) × IsValidUpTo text at
+IsFault text TooLong = MOST_BYTES < length text
+IsFault text (NotUtf8 at) = (length text ≤ MOST_BYTES) × (at < length text) × IsValidUpTo text at
 IsFault text (Nul at) =
-    (length text ≤ 1_048_576) × IsUtf8 text × (at < length text) × (slice_index text at ≡ 0) × ((i : ℕ) → i < at → slice_index text i ≢ 0)
+    (length text ≤ MOST_BYTES) × IsUtf8 text × (at < length text) × (slice_index text at ≡ nul)
+    × ((i : ℕ) → i < at → slice_index text i ≢ nul)
 IsFault text (UnclosedString at) = (rest : List ℕ) × StopsAt text at rest × IsTrue (begins_string rest)
 IsFault text (UnclosedComment at) = (rest : List ℕ) × StopsAt text at rest × IsTrue (opens_comment rest)
 IsFault text (UnclosedRune at) = (rest : List ℕ) × StopsAt text at rest × IsTrue (begins_rune rest)
 IsFault text (UnknownCharacter at) =
-    (rest : List ℕ) × StopsAt text at rest × IsFalse ((begins_string rest || begins_rune rest) || opens_comment rest)
+    (rest : List ℕ) × StopsAt text at rest
+    × IsFalse ((begins_string rest || begins_rune rest) || opens_comment rest)
 IsFault text OutOfMemory = ⊥
 
 -- a text that has tokens has no fault

@@ -1,4 +1,4 @@
--- What a piece of a Go text is, by its bytes: a blank, a comment or a token.
+-- What a piece of a Go text is, by its bytes: white space, a comment or a token.
 -- A piece says what it is and how many bytes it has; where it may stand is said in `Cut`.
 -- (The Go specification, "Comments" and "Tokens".)
 use Rattle.std.specs.Prelude.{◌≡◌, ◌≢◌, ℕ, suc, ◌<◌, Bool, true, false, not, ◌&&◌, ◌||◌, ◌==◌, if◌then◌else◌, IsTrue, List, [], ◌∷◌, length, slice_index, All, IsFalse}
@@ -6,15 +6,16 @@ use Rattle.std.specs.List.{list_any}
 use Rattle.std.specs.Char.{is_ascii_digit}
 use Rattle.std.specs.Str.{encode_utf8_all}
 use Rattle.lexer.specs.declared.token.TokenKind.{TokenKind}
-use Rattle.lexer.specs.declared.token.TokenKind.TheVariants.{Identifier, Number, Text, RawText, Rune}
-use Rattle.lexer.specs.declared.pieces.Shape.{Shape}
-use Rattle.lexer.specs.declared.pieces.Shape.TheVariants.{Space, Newline, LineComment, BlockComment, LongComment, Lexeme}
-use Rattle.lexer.specs.Letters.{is_letter, is_digit, is_ascii_word}
+use Rattle.lexer.specs.declared.token.TokenKind.TheVariants.{Identifier, Number, InterpretedString, RawString, Rune}
+use Rattle.lexer.specs.declared.pieces.PieceKind.{PieceKind}
+use Rattle.lexer.specs.declared.pieces.PieceKind.TheVariants.{WhiteSpace, Newline, LineComment, GeneralComment, GeneralCommentWithNewline, TokenOf}
+use Rattle.lexer.specs.Bytes.{tab, line_feed, carriage_return, space, double_quote, single_quote, asterisk, plus, minus, period, slash, digit_zero, upper_e, upper_p, upper_x, backslash, back_quote, lower_e, lower_p, lower_x}
+use Rattle.lexer.specs.Letters.{is_letter, is_digit, is_ascii_letter_or_digit}
 use Rattle.lexer.specs.Spelling.{spelling, is_keyword}
 
--- a space, a tab or a carriage return; the newline, 10, is the fourth blank
-abbrev pub is_space : ℕ → Bool
-is_space b = (b == 32 || b == 9) || b == 13
+-- white space but for the newline, which ends a line and is a piece of its own kind
+abbrev pub is_white_space : ℕ → Bool
+is_white_space b = (b == space || b == tab) || b == carriage_return
 
 -- a letter and then letters and digits, in UTF-8
 pub record IsWord (bytes : List ℕ) : Type 0 where
@@ -24,47 +25,53 @@ pub record IsWord (bytes : List ℕ) : Type 0 where
   pub begins : IsTrue (is_letter first)
   pub goes_on : All (λ c. IsTrue (is_letter c || is_digit c)) others
 
--- a number begins with a digit, or with a dot, 46, before one
+-- a number begins with a digit, or with a period before one
 abbrev pub starts_number : ℕ → ℕ → Bool
-starts_number first second = is_ascii_digit first || (first == 46 && is_ascii_digit second)
+starts_number first second = is_ascii_digit first || (first == period && is_ascii_digit second)
 
 -- a number that begins `0x` or `0X`
 abbrev pub is_hexadecimal : List ℕ → Bool
-is_hexadecimal bytes = slice_index bytes 0 == 48 && (slice_index bytes 1 == 120 || slice_index bytes 1 == 88)
+is_hexadecimal bytes =
+    slice_index bytes 0 == digit_zero && (slice_index bytes 1 == lower_x || slice_index bytes 1 == upper_x)
 
 -- the letters whose exponent may have a sign: p and P in a hexadecimal number, else e and E
 abbrev pub is_exponent : Bool → ℕ → Bool
-is_exponent hexadecimal b = if hexadecimal then b == 112 || b == 80 else b == 101 || b == 69
+is_exponent hexadecimal b =
+    if hexadecimal then b == lower_p || b == upper_p
+    else b == lower_e || b == upper_e
 
--- b goes on with a number in which `previous` stands before it; 43 and 45 are the signs
+-- b goes on with a number in which `previous` stands before it: a sign only after an exponent's letter
 abbrev pub goes_on : Bool → ℕ → ℕ → Bool
 goes_on hexadecimal previous b =
-    if b == 43 || b == 45 then is_exponent hexadecimal previous else is_ascii_word b || b == 46
+    if b == plus || b == minus then is_exponent hexadecimal previous
+    else is_ascii_letter_or_digit b || b == period
 
 -- a number, of which neither the digits nor their order are checked
 pub record IsNumber (bytes : List ℕ) : Type 0 where
   pub begins : IsTrue (starts_number (slice_index bytes 0) (slice_index bytes 1))
-  pub goes_on : (i : ℕ) → suc i < length bytes → IsTrue (goes_on (is_hexadecimal bytes) (slice_index bytes i) (slice_index bytes (suc i)))
+  pub goes_on :
+      (i : ℕ) → suc i < length bytes →
+      IsTrue (goes_on (is_hexadecimal bytes) (slice_index bytes i) (slice_index bytes (suc i)))
 
 abbrev pub is_empty : List ℕ → Bool
 is_empty [] = true
 is_empty (b ∷ bs) = false
 
--- a newline, 10, ends all but a raw string (whose quote is the backquote, 96), and a backslash, 92, escapes in all but it
+-- a newline ends all but a raw string, which stands in back quotes, and a backslash escapes in all but it
 abbrev pub breaks : ℕ → ℕ → Bool
-breaks quote b = b == 10 && not (quote == 96)
+breaks quote b = b == line_feed && not (quote == back_quote)
 
 abbrev pub escapes : ℕ → ℕ → Bool
-escapes quote b = b == 92 && not (quote == 96)
+escapes quote b = b == backslash && not (quote == back_quote)
 
--- what stands behind an opening quote: its closing quote at the end and nowhere before, and no newline that ends it
+-- what stands after an opening quote: its closing quote at the end and nowhere before, and no newline that ends it
 unfoldable pub closes : ℕ → Bool → List ℕ → Bool
 closes quote escaped [] = false
 closes quote escaped (b ∷ bs) =
     if breaks quote b then false
-    else (if escaped then closes quote false bs
-    else (if b == quote then is_empty bs
-    else closes quote (escapes quote b) bs))
+    else if escaped then closes quote false bs
+    else if b == quote then is_empty bs
+    else closes quote (escapes quote b) bs
 
 -- a string, a raw string or a rune with that quote
 pub record IsQuoted (quote : ℕ) (bytes : List ℕ) : Type 0 where
@@ -73,39 +80,41 @@ pub record IsQuoted (quote : ℕ) (bytes : List ℕ) : Type 0 where
   pub closed : IsTrue (closes quote false inner)
 
 abbrev pub has_newline : List ℕ → Bool
-has_newline = list_any (λ b. b == 10)
+has_newline = list_any (λ b. b == line_feed)
 
 -- `//` and no newline
 pub record IsLineComment (bytes : List ℕ) : Type 0 where
   pub inner : List ℕ
-  pub opens : bytes ≡ 47 ∷ 47 ∷ inner
+  pub opens : bytes ≡ slash ∷ slash ∷ inner
   pub one_line : IsFalse (has_newline inner)
 
--- what stands behind `/*`: the first `*/` at its end
+-- what stands after `/*`: the first `*/` at its end
 unfoldable pub closes_comment : List ℕ → Bool
 closes_comment [] = false
 closes_comment (b ∷ []) = false
-closes_comment (b ∷ c ∷ bs) = if b == 42 && c == 47 then is_empty bs else closes_comment (c ∷ bs)
+closes_comment (b ∷ c ∷ bs) =
+    if b == asterisk && c == slash then is_empty bs
+    else closes_comment (c ∷ bs)
 
-pub record IsBlockComment (bytes : List ℕ) : Type 0 where
+pub record IsGeneralComment (bytes : List ℕ) : Type 0 where
   pub inner : List ℕ
-  pub opens : bytes ≡ 47 ∷ 42 ∷ inner
+  pub opens : bytes ≡ slash ∷ asterisk ∷ inner
   pub closed : IsTrue (closes_comment inner)
 
 -- the bytes are a token of that kind
 unfoldable pub IsToken : TokenKind → List ℕ → Type 0
 IsToken Identifier bytes = IsWord bytes × ((k : TokenKind) → IsTrue (is_keyword k) → bytes ≢ spelling k)
 IsToken Number bytes = IsNumber bytes
-IsToken Text bytes = IsQuoted 34 bytes
-IsToken RawText bytes = IsQuoted 96 bytes
-IsToken Rune bytes = IsQuoted 39 bytes
+IsToken InterpretedString bytes = IsQuoted double_quote bytes
+IsToken RawString bytes = IsQuoted back_quote bytes
+IsToken Rune bytes = IsQuoted single_quote bytes
 IsToken k bytes = bytes ≡ spelling k
 
--- the bytes are a piece of that shape
-unfoldable pub Reads : Shape → List ℕ → Type 0
-Reads Space bytes = (b : ℕ) × (bytes ≡ b ∷ []) × IsTrue (is_space b)
-Reads Newline bytes = bytes ≡ 10 ∷ []
+-- the bytes are a piece of that kind
+unfoldable pub Reads : PieceKind → List ℕ → Type 0
+Reads WhiteSpace bytes = (b : ℕ) × (bytes ≡ b ∷ []) × IsTrue (is_white_space b)
+Reads Newline bytes = bytes ≡ line_feed ∷ []
 Reads LineComment bytes = IsLineComment bytes
-Reads BlockComment bytes = IsBlockComment bytes × IsFalse (has_newline bytes)
-Reads LongComment bytes = IsBlockComment bytes × IsTrue (has_newline bytes)
-Reads (Lexeme k) bytes = IsToken k bytes
+Reads GeneralComment bytes = IsGeneralComment bytes × IsFalse (has_newline bytes)
+Reads GeneralCommentWithNewline bytes = IsGeneralComment bytes × IsTrue (has_newline bytes)
+Reads (TokenOf k) bytes = IsToken k bytes

@@ -1,11 +1,12 @@
--- Places in a text, as people count them: lines and columns from 1. A line ends with its byte 10, and a
--- column counts bytes.
+-- Places in a text, as people count them: lines and columns from 1. A line ends with its
+-- line feed, and a column counts bytes.
 use Rattle.std.specs.Prelude.{ℕ, ◌+◌, Bool, not, List, take, nat_eq, count_by}
 use Rattle.std.specs.List.{suffix_len}
+use Rattle.lexer.specs.Bytes.{line_feed}
 
 -- the byte ends a line
 abbrev pub is_newline : ℕ → Bool
-is_newline b = nat_eq b 10
+is_newline b = nat_eq b line_feed
 
 -- the line of an offset: one more than the lines that end before it
 abbrev pub line_of : List ℕ → ℕ → ℕ

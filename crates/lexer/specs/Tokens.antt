@@ -1,17 +1,27 @@
--- The tokens of a source text: UTF-8 of at most 1 MiB without NUL, cut whole, with inserted semicolons.
+-- The tokens of a source text: UTF-8 of at most `MOST_BYTES` bytes, 1 MiB, without NUL, cut whole, with inserted
+-- semicolons.
 -- A byte order mark is skipped at the start of the text alone.
 -- (The Go specification, "Source code representation", "Tokens" and "Semicolons".)
-use Rattle.std.specs.Prelude.{◌≡◌, ◌≢◌, ℕ, ◌<◌, ◌≤◌, ◌&&◌, ◌==◌, if◌then◌else◌, IsFalse, None, List, [], length, drop, slice_index, All}
+use Rattle.std.specs.Prelude.{◌≡◌, ◌≢◌, ℕ, Bool, ◌<◌, ◌≤◌, ◌&&◌, ◌==◌, if◌then◌else◌, IsFalse, None, List, [], length, drop, slice_index, All}
 use Rattle.std.specs.Str.{IsUtf8, IsAscii}
+use Rattle.lexer.specs.declared.source.TheConstants.{MOST_BYTES}
 use Rattle.lexer.specs.declared.token.Token.{Token}
+use Rattle.lexer.specs.Bytes.{nul, mark_first, mark_second, mark_third}
 use Rattle.lexer.specs.declared.pieces.Piece.{Piece}
 use Rattle.lexer.specs.Cut.{Cut, is_comment}
 use Rattle.lexer.specs.Semicolons.{tokens_from}
 
+-- the text begins with the byte order mark
+abbrev pub begins_with_mark : List ℕ → Bool
+begins_with_mark text =
+    (slice_index text 0 == mark_first && slice_index text 1 == mark_second)
+    && slice_index text 2 == mark_third
+
 -- how many bytes the byte order mark at the start of the text takes
 abbrev pub mark_size : List ℕ → ℕ
 mark_size text =
-    if (slice_index text 0 == 239 && slice_index text 1 == 187) && slice_index text 2 == 191 then 3 else 0
+    if begins_with_mark text then 3
+    else 0
 
 -- the whole text, but for its byte order mark, is cut into these pieces
 abbrev pub IsCutInto : List ℕ → List Piece → Type 0
@@ -19,9 +29,9 @@ IsCutInto text pieces = Cut (drop (mark_size text) text) pieces []
 
 -- the text is cut whole, and these are its tokens
 pub record IsTokens (text : List ℕ) (tokens : List Token) : Type 0 where
-  pub small : length text ≤ 1_048_576
+  pub small : length text ≤ MOST_BYTES
   pub utf8 : IsUtf8 text
-  pub no_nul : (i : ℕ) → i < length text → slice_index text i ≢ 0
+  pub no_nul : (i : ℕ) → i < length text → slice_index text i ≢ nul
   pub pieces : List Piece
   pub cut : IsCutInto text pieces
   pub listed : tokens ≡ tokens_from (mark_size text) None pieces
@@ -29,7 +39,8 @@ pub record IsTokens (text : List ℕ) (tokens : List Token) : Type 0 where
 -- the text is ASCII, and its cut has no comment
 pub record IsPlain (text : List ℕ) : Type 0 where
   pub ascii : IsAscii text
-  pub no_comment : (pieces : List Piece) → IsCutInto text pieces → All (λ p. IsFalse (is_comment p.shape)) pieces
+  pub no_comment :
+      (pieces : List Piece) → IsCutInto text pieces → All (λ p. IsFalse (is_comment p.kind)) pieces
 
 -- a text is cut in one way at most
 abbrev pub OneCut : Type 0

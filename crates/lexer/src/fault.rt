@@ -17,7 +17,7 @@ pub enum LexFault {
     /// A string or raw string that is not ended, at its first byte.
     #[error("string not ended at byte {0}")]
     UnclosedString(u32),
-    /// A block comment that is not ended, at its first byte.
+    /// A general comment that is not ended, at its first byte.
     #[error("comment not ended at byte {0}")]
     UnclosedComment(u32),
     /// A rune that is not ended, at its first byte.

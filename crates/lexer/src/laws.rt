@@ -1,6 +1,8 @@
-//! Laws about the definitions, as functions with nothing to run: a text is cut in one way at most, has one list of
-//! tokens at most, one fault at most, and not both. So what `lex` answers is determined, want of memory aside.
+//! Laws about the definitions, as functions with nothing to run. A text is cut in one way at most, has one list of
+//! tokens at most, one fault at most, and not both: so what `lex` answers is determined, want of memory aside. And of
+//! ASCII the categories of letters and digits have just the letters and digits that people expect.
 
+ghost use Rattle.lexer.specs.Letters.{AsciiLetters};
 ghost use Rattle.lexer.specs.Tokens.{OneCut, OneTokenList};
 ghost use Rattle.lexer.specs.Faults.{OneFault, OneOutcome};
 
@@ -22,4 +24,9 @@ pub fn one_fault()
 /// A text that has tokens has no fault.
 pub fn one_outcome()
     ensures { OneOutcome }
+{}
+
+/// The letters of ASCII are `_`, `A` to `Z` and `a` to `z`, and its digits `0` to `9`.
+pub fn ascii_letters()
+    ensures { AsciiLetters }
 {}

@@ -1,27 +1,31 @@
 //! From the bytes of a Go file to its tokens, and from an offset to its line and column.
 //!
-//! `specs/Tokens.antt` says what the tokens of a text are: the text is cut into blanks, comments and tokens, each the
-//! longest that can begin at its place (`Cut`, `Pieces`), and the ends of lines insert semicolons (`Semicolons`).
+//! `specs/Tokens.antt` says what the tokens of a text are: the text is cut into white space, comments and tokens,
+//! each the longest that can begin at its place (`Cut`, `Pieces`), and the ends of lines insert semicolons
+//! (`Semicolons`). `specs/Faults.antt` says why a text has none.
 #![tactic(auto)]
 
+mod any_text;
+mod comments;
 pub mod fault;
-mod full;
+mod keywords;
 mod laws;
-mod lexing;
+mod letters;
+mod numbers;
 mod operators;
 mod pieces;
+mod plain_text;
 mod position;
+mod quotes;
+mod semicolons;
 pub mod source;
 pub mod token;
 mod words;
 
+pub use any_text::lex;
 pub use fault::LexFault;
-pub use full::lex;
-pub use laws::{one_cut, one_fault, one_outcome, one_token_list};
-pub use lexing::plain;
-pub use position::{place, place_behind};
-pub use source::{Place, Source};
+pub use laws::{ascii_letters, one_cut, one_fault, one_outcome, one_token_list};
+pub use plain_text::plain;
+pub use position::{place, place_after};
+pub use source::{MOST_BYTES, Place, Source};
 pub use token::{Token, TokenKind};
-
-#[cfg(test)]
-mod tests;

@@ -1,29 +1,19 @@
 //! Operators and punctuation (the Go specification, "Operators and punctuation").
 
 ghost use Rattle.std.specs.Prelude.{◌≡◌};
-ghost use Rattle.lexer.specs.Dispatch.{lexeme, maybe_assign, maybe_doubled, maybe_third, less, greater, ampersand, dot, operator_of};
+ghost use Rattle.lexer.specs.Dispatch.{maybe_assign, maybe_doubled, maybe_third, less_operator, greater_operator, ampersand_operator, dot_operator, operator_of};
 
-use crate::pieces::{Piece, Shape};
+use crate::pieces::{Piece, token_piece};
 use crate::token::TokenKind;
-
-/// A token of that kind and size.
-pub fn lexeme(kind: TokenKind, size: usize) -> Piece
-    ensures { result ≡ lexeme kind size }
-{
-    Piece {
-        shape: Shape::Lexeme(kind),
-        size,
-    }
-}
 
 /// One operator `alone`, or `assigning` where `=` follows.
 fn maybe_assign(next: u8, alone: TokenKind, assigning: TokenKind) -> Piece
     ensures { result ≡ maybe_assign next alone assigning }
 {
     if next == b'=' {
-        lexeme(assigning, 2)
+        token_piece(assigning, 2)
     } else {
-        lexeme(alone, 1)
+        token_piece(alone, 1)
     }
 }
 
@@ -38,7 +28,7 @@ fn maybe_doubled(
     ensures { result ≡ maybe_doubled next twin alone assigning doubled }
 {
     if next == twin {
-        lexeme(doubled, 2)
+        token_piece(doubled, 2)
     } else {
         maybe_assign(next, alone, assigning)
     }
@@ -49,15 +39,15 @@ fn maybe_third(third: u8, alone: TokenKind, assigning: TokenKind) -> Piece
     ensures { result ≡ maybe_third third alone assigning }
 {
     if third == b'=' {
-        lexeme(assigning, 3)
+        token_piece(assigning, 3)
     } else {
-        lexeme(alone, 2)
+        token_piece(alone, 2)
     }
 }
 
 /// `<`, `<=`, `<-`, `<<` or `<<=`, where `<` is the first byte.
-fn less(second: u8, third: u8) -> Piece
-    ensures { result ≡ less second third }
+fn less_operator(second: u8, third: u8) -> Piece
+    ensures { result ≡ less_operator second third }
 {
     if second == b'<' {
         maybe_third(third, TokenKind::ShiftLeft, TokenKind::ShiftLeftAssign)
@@ -73,8 +63,8 @@ fn less(second: u8, third: u8) -> Piece
 }
 
 /// `>`, `>=`, `>>` or `>>=`, where `>` is the first byte.
-fn greater(second: u8, third: u8) -> Piece
-    ensures { result ≡ greater second third }
+fn greater_operator(second: u8, third: u8) -> Piece
+    ensures { result ≡ greater_operator second third }
 {
     if second == b'>' {
         maybe_third(third, TokenKind::ShiftRight, TokenKind::ShiftRightAssign)
@@ -84,8 +74,8 @@ fn greater(second: u8, third: u8) -> Piece
 }
 
 /// `&`, `&=`, `&&`, `&^` or `&^=`, where `&` is the first byte.
-fn ampersand(second: u8, third: u8) -> Piece
-    ensures { result ≡ ampersand second third }
+fn ampersand_operator(second: u8, third: u8) -> Piece
+    ensures { result ≡ ampersand_operator second third }
 {
     if second == b'^' {
         maybe_third(third, TokenKind::AndNot, TokenKind::AndNotAssign)
@@ -101,13 +91,13 @@ fn ampersand(second: u8, third: u8) -> Piece
 }
 
 /// `.` or `...`, where `.` is the first byte.
-fn dot(second: u8, third: u8) -> Piece
-    ensures { result ≡ dot second third }
+fn dot_operator(second: u8, third: u8) -> Piece
+    ensures { result ≡ dot_operator second third }
 {
     if second == b'.' && third == b'.' {
-        lexeme(TokenKind::Ellipsis, 3)
+        token_piece(TokenKind::Ellipsis, 3)
     } else {
-        lexeme(TokenKind::Dot, 1)
+        token_piece(TokenKind::Dot, 1)
     }
 }
 
@@ -135,7 +125,7 @@ pub fn operator(first: u8, second: u8, third: u8) -> Option<Piece>
         b'*' => Some(maybe_assign(second, TokenKind::Star, TokenKind::StarAssign)),
         b'/' => Some(maybe_assign(second, TokenKind::Slash, TokenKind::SlashAssign)),
         b'%' => Some(maybe_assign(second, TokenKind::Percent, TokenKind::PercentAssign)),
-        b'&' => Some(ampersand(second, third)),
+        b'&' => Some(ampersand_operator(second, third)),
         b'|' => Some(maybe_doubled(
             second,
             b'|',
@@ -144,21 +134,21 @@ pub fn operator(first: u8, second: u8, third: u8) -> Option<Piece>
             TokenKind::LogicalOr,
         )),
         b'^' => Some(maybe_assign(second, TokenKind::Caret, TokenKind::CaretAssign)),
-        b'<' => Some(less(second, third)),
-        b'>' => Some(greater(second, third)),
+        b'<' => Some(less_operator(second, third)),
+        b'>' => Some(greater_operator(second, third)),
         b'=' => Some(maybe_assign(second, TokenKind::Assign, TokenKind::EqualEqual)),
         b'!' => Some(maybe_assign(second, TokenKind::Bang, TokenKind::NotEqual)),
         b':' => Some(maybe_assign(second, TokenKind::Colon, TokenKind::Define)),
-        b'.' => Some(dot(second, third)),
-        b'~' => Some(lexeme(TokenKind::Tilde, 1)),
-        b'(' => Some(lexeme(TokenKind::LeftParenthesis, 1)),
-        b')' => Some(lexeme(TokenKind::RightParenthesis, 1)),
-        b'[' => Some(lexeme(TokenKind::LeftBracket, 1)),
-        b']' => Some(lexeme(TokenKind::RightBracket, 1)),
-        b'{' => Some(lexeme(TokenKind::LeftBrace, 1)),
-        b'}' => Some(lexeme(TokenKind::RightBrace, 1)),
-        b',' => Some(lexeme(TokenKind::Comma, 1)),
-        b';' => Some(lexeme(TokenKind::Semicolon, 1)),
+        b'.' => Some(dot_operator(second, third)),
+        b'~' => Some(token_piece(TokenKind::Tilde, 1)),
+        b'(' => Some(token_piece(TokenKind::LeftParenthesis, 1)),
+        b')' => Some(token_piece(TokenKind::RightParenthesis, 1)),
+        b'[' => Some(token_piece(TokenKind::LeftBracket, 1)),
+        b']' => Some(token_piece(TokenKind::RightBracket, 1)),
+        b'{' => Some(token_piece(TokenKind::LeftBrace, 1)),
+        b'}' => Some(token_piece(TokenKind::RightBrace, 1)),
+        b',' => Some(token_piece(TokenKind::Comma, 1)),
+        b';' => Some(token_piece(TokenKind::Semicolon, 1)),
         _ => None,
     }
 }

@@ -12,11 +12,11 @@ pub fn place(source: &Source, offset: usize) -> Place
     ensures line { result.line ≡ line_of source.now.bytes.items offset }
     ensures column { result.column ≡ column_of source.now.bytes.items offset }
 {
-    place_behind(&source.bytes, 0, Place { line: 1, column: 1 }, offset)
+    place_after(&source.bytes, 0, Place { line: 1, column: 1 }, offset)
 }
 
 /// The place of the byte at `offset`, counted on from the place of the byte at `from`, which is no later.
-pub fn place_behind(bytes: &[u8], from: usize, place: Place, offset: usize) -> Place
+pub fn place_after(bytes: &[u8], from: usize, place: Place, offset: usize) -> Place
     requires order { (from ≤ offset) × (offset ≤ length bytes.now) }
     requires line { place.line ≡ line_of bytes.now from }
     requires column { place.column ≡ column_of bytes.now from }

@@ -1,4 +1,7 @@
-//! A file's name and its bytes, and places in it.
+//! A file's name and its bytes, how many they may be, and places in them.
+
+/// A source has at most this many bytes: 1 MiB.
+pub const MOST_BYTES: usize = 1_048_576;
 
 /// A Go source file: its name as reports print it, and its bytes as they were read.
 #[derive(Debug, Drop)]

@@ -6,9 +6,9 @@ pub enum TokenKind {
     Identifier,
     Number,
     /// An interpreted string, in double quotes.
-    Text,
+    InterpretedString,
     /// A raw string, in backquotes.
-    RawText,
+    RawString,
     Rune,
 
     BreakKeyword,
@@ -87,7 +87,7 @@ pub enum TokenKind {
     Colon,
 }
 
-/// A token: its kind, and the byte offsets of its first byte and of the byte behind its last one.
+/// A token: its kind, and the byte offsets of its first byte and of the byte after its last one.
 /// A semicolon that the lexer inserted has `start` and `end` at the end of the token before it.
 #[derive(Clone, Copy, Debug, PartialEq, Eq)]
 pub struct Token {

@@ -1,94 +1,70 @@
-//! Keywords and identifiers (the Go specification, "Keywords" and "Identifiers").
+//! Words: a letter, and then letters and digits. Each identifier and each keyword is one
+//! (the Go specification, "Identifiers").
 
-ghost use Rattle.std.specs.Prelude.{◌≡◌, if◌then◌else◌};
-ghost use Rattle.std.specs.Str.{bytes_eq};
-ghost use Rattle.lexer.specs.Dispatch.{keyword_or, keyword_of};
-ghost use Rattle.lexer.specs.declared.token.TokenKind.TheVariants.{Identifier, BreakKeyword, CaseKeyword, ChanKeyword, ConstKeyword, ContinueKeyword, DefaultKeyword, DeferKeyword, ElseKeyword, FallthroughKeyword, ForKeyword, FuncKeyword, GoKeyword, GotoKeyword, IfKeyword, ImportKeyword, InterfaceKeyword, MapKeyword, PackageKeyword, RangeKeyword, ReturnKeyword, SelectKeyword, StructKeyword, SwitchKeyword, TypeKeyword, VarKeyword};
+ghost use Rattle.std.specs.Prelude.{◌≡◌, ◌≤◌, ◌<◌, ◌&&◌, ◌||◌, ℕ, length, take, slice_index, IsTrue, IsFalse};
+ghost use Rattle.lexer.specs.Letters.{is_letter, is_digit, is_ascii_letter_or_digit};
+ghost use Rattle.lexer.specs.Pieces.{IsWord};
 
+use crate::letters::{is_ascii_letter, is_ascii_letter_or_digit, is_digit, is_letter};
 use crate::pieces::byte_at;
-use crate::token::TokenKind;
+use crate::source::MOST_BYTES;
 
-/// `kind` where the word is spelled so, else `otherwise`.
-fn keyword(word: &[u8], spelled: &[u8], kind: TokenKind, otherwise: TokenKind) -> TokenKind
-    ensures { result ≡ (if bytes_eq word.now spelled.now then kind else otherwise) }
+/// Whether `c` goes on with a word: a letter does, and a digit after its first character.
+fn continues_word(c: char, after: bool) -> bool
+    ensures { result ≡ (is_letter c || (after && is_digit c)) }
 {
-    if word == spelled { kind } else { otherwise }
+    is_letter(c) || (after && is_digit(c))
 }
 
-/// The keyword that a word is whose first letter is c, or an identifier.
-#[tactic(auto, unfolding(crate::specs::Spelling::spelling))]
-fn after_c(word: &[u8]) -> TokenKind
-    ensures { result ≡ keyword_or word.now CaseKeyword (keyword_or word.now ChanKeyword (keyword_or word.now ConstKeyword (keyword_or word.now ContinueKeyword Identifier))) }
+/// The size of the word of ASCII letters and digits at the start of a text, whose first byte is a letter.
+pub fn ascii_word_size(text: &[u8]) -> usize
+    requires { 0 < length text.now }
+    ensures in_range { result ≤ length text.now }
+    ensures nonempty { 0 < result }
+    ensures word { (i : ℕ) → 0 < i → i < result → IsTrue (is_ascii_letter_or_digit (slice_index text.now i)) }
+    ensures stops { result < length text.now → IsFalse (is_ascii_letter_or_digit (slice_index text.now result)) }
 {
-    let none = TokenKind::Identifier;
-    let other = keyword(word, b"continue", TokenKind::ContinueKeyword, none);
-    let other = keyword(word, b"const", TokenKind::ConstKeyword, other);
-    let other = keyword(word, b"chan", TokenKind::ChanKeyword, other);
-    keyword(word, b"case", TokenKind::CaseKeyword, other)
-}
-
-/// The keyword that a word is whose first letter is f, or an identifier.
-#[tactic(auto, unfolding(crate::specs::Spelling::spelling))]
-fn after_f(word: &[u8]) -> TokenKind
-    ensures { result ≡ keyword_or word.now ForKeyword (keyword_or word.now FuncKeyword (keyword_or word.now FallthroughKeyword Identifier)) }
-{
-    let none = TokenKind::Identifier;
-    let other = keyword(word, b"fallthrough", TokenKind::FallthroughKeyword, none);
-    let other = keyword(word, b"func", TokenKind::FuncKeyword, other);
-    keyword(word, b"for", TokenKind::ForKeyword, other)
-}
-
-/// The keyword that a word is whose first letter is i, or an identifier.
-#[tactic(auto, unfolding(crate::specs::Spelling::spelling))]
-fn after_i(word: &[u8]) -> TokenKind
-    ensures { result ≡ keyword_or word.now IfKeyword (keyword_or word.now ImportKeyword (keyword_or word.now InterfaceKeyword Identifier)) }
-{
-    let none = TokenKind::Identifier;
-    let other = keyword(word, b"interface", TokenKind::InterfaceKeyword, none);
-    let other = keyword(word, b"import", TokenKind::ImportKeyword, other);
-    keyword(word, b"if", TokenKind::IfKeyword, other)
-}
-
-/// The keyword that a word is whose first letter is s, or an identifier.
-#[tactic(auto, unfolding(crate::specs::Spelling::spelling))]
-fn after_s(word: &[u8]) -> TokenKind
-    ensures { result ≡ keyword_or word.now SelectKeyword (keyword_or word.now StructKeyword (keyword_or word.now SwitchKeyword Identifier)) }
-{
-    let none = TokenKind::Identifier;
-    let other = keyword(word, b"switch", TokenKind::SwitchKeyword, none);
-    let other = keyword(word, b"struct", TokenKind::StructKeyword, other);
-    keyword(word, b"select", TokenKind::SelectKeyword, other)
-}
-
-/// The keyword that the word is, or an identifier. The first byte leaves few to compare.
-#[tactic(auto, unfolding(crate::specs::Spelling::spelling, crate::specs::Dispatch::keyword_of))]
-pub fn word_kind(word: &[u8]) -> TokenKind
-    ensures { result ≡ keyword_of word.now }
-{
-    let none = TokenKind::Identifier;
-    match byte_at(word, 0) {
-        b'b' => keyword(word, b"break", TokenKind::BreakKeyword, none),
-        b'c' => after_c(word),
-        b'd' => {
-            let other = keyword(word, b"defer", TokenKind::DeferKeyword, none);
-            keyword(word, b"default", TokenKind::DefaultKeyword, other)
-        }
-        b'e' => keyword(word, b"else", TokenKind::ElseKeyword, none),
-        b'f' => after_f(word),
-        b'g' => {
-            let other = keyword(word, b"goto", TokenKind::GotoKeyword, none);
-            keyword(word, b"go", TokenKind::GoKeyword, other)
-        }
-        b'i' => after_i(word),
-        b'm' => keyword(word, b"map", TokenKind::MapKeyword, none),
-        b'p' => keyword(word, b"package", TokenKind::PackageKeyword, none),
-        b'r' => {
-            let other = keyword(word, b"return", TokenKind::ReturnKeyword, none);
-            keyword(word, b"range", TokenKind::RangeKeyword, other)
-        }
-        b's' => after_s(word),
-        b't' => keyword(word, b"type", TokenKind::TypeKeyword, none),
-        b'v' => keyword(word, b"var", TokenKind::VarKeyword, none),
-        _ => none,
+    let mut size = 1;
+    while size < text.len() && is_ascii_letter_or_digit(text[size]) {
+        size += 1;
     }
+    size
+}
+
+/// The size of the word at the start of a text, by its characters, or 0 where it begins with no letter.
+fn any_word_size(text: &str) -> usize
+    requires { length text.now ≤ MOST_BYTES }
+    ensures in_range { result ≤ length text.now }
+    ensures word { 0 < result → IsWord (take result text.now) }
+    ensures longest { (n : ℕ) → n ≤ length text.now → IsWord (take n text.now) → n ≤ result }
+{
+    let mut size = 0;
+    for c in text.chars() {
+        if !continues_word(c, size > 0) {
+            return size;
+        }
+        size += c.len_utf8();
+    }
+    size
+}
+
+/// The size of the word at the start of a text, or 0 where it begins with no letter.
+/// Where ASCII stands after its ASCII letters and digits, those are the word, and nothing is decoded.
+pub fn word_size(text: &str) -> usize
+    requires { length text.now ≤ MOST_BYTES }
+    ensures in_range { result ≤ length text.now }
+    ensures word { 0 < result → IsWord (take result text.now) }
+    ensures longest { (n : ℕ) → n ≤ length text.now → IsWord (take n text.now) → n ≤ result }
+{
+    let bytes = text.as_bytes();
+    let first = byte_at(bytes, 0);
+    if is_ascii_letter(first) {
+        let size = ascii_word_size(bytes);
+        if byte_at(bytes, size).is_ascii() {
+            return size;
+        }
+    } else if first.is_ascii() {
+        return 0;
+    }
+    any_word_size(text)
 }

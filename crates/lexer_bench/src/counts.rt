@@ -29,7 +29,8 @@ impl Counts {
     ) -> Result<(), AllocError>
         ensures files { OnOk result (self.new.files ≡ min (self.old.files + 1) (2 ^ 64 - 1)) }
         ensures bytes { OnOk result (self.new.bytes ≡ min (self.old.bytes + bytes) (2 ^ 64 - 1)) }
-        ensures tokens { IfOk lexed.now (λ found. OnOk result (self.new.tokens ≡ min (self.old.tokens + vec_len found) (2 ^ 64 - 1))) }
+        ensures tokens { IfOk lexed.now (λ found.
+            OnOk result (self.new.tokens ≡ min (self.old.tokens + vec_len found) (2 ^ 64 - 1))) }
         ensures no_fault { IsOk lexed.now → self.new.faults ≡ self.old.faults }
         ensures faults { IsErr lexed.now → OnOk result (self.new.faults ≡ min (self.old.faults + 1) (2 ^ 64 - 1)) }
         ensures no_tokens { IsErr lexed.now → self.new.tokens ≡ self.old.tokens }

@@ -1,5 +1,5 @@
--- What a function's body does, as a small code that says in which order its events can come. The code
--- has no nodes and no edges: each form of statement is translated to it by one clause.
+-- What a function's body does, as a small code that says in which order its events can come. It is no
+-- graph of nodes and edges: each form of statement is translated to it by one clause.
 -- (The Go specification, "Statements"; the documentation of package context.)
 use Rattle.std.specs.Prelude.{ℕ, ◌-◌, Bool, true, false, ◌&&◌, if◌then◌else◌, List, [], ◌∷◌, ◌++◌, filter, Option, Some, None, codes}
 use Rattle.std.specs.Option.{option_to_list}
@@ -18,7 +18,7 @@ pub data Event : Type 0 where
   defers_call : Local → Event
   returns_here : Event
 
--- an event, the offset of its statement, keyword or brace, and its place among the events there
+-- an event, the offset of its statement, keyword or brace, and its index among the events there
 pub record Occurrence : Type 0 where
   pub at : ℕ
   pub order : ℕ
@@ -28,7 +28,7 @@ pub record Occurrence : Type 0 where
 pub data Way : Type 0 where
   returning : Way
 
--- skip, one event, leave, one after the other, one of two, a loop, and a place that a way out leads to
+-- skip, one event, leave, one after the other, one of two, a loop, and the end of a way out
 pub data Code : Type 0 where
   skip : Code
   does : Occurrence → Code
@@ -48,7 +48,9 @@ through_import (Some d) name = None
 -- under this name, and no function has it, so there `context` means the import wherever it is no local.)
 abbrev pub maker_of : List Local → Expression → Option (List ℕ)
 maker_of ds (call_expression (selector_expression (name_expression n) m) es span) =
-    if same_text n.text (codes "context") && same_text m.text (codes "WithCancel") then through_import (declaration_of ds n) m.text else None
+    if same_text n.text (codes "context") && same_text m.text (codes "WithCancel")
+    then through_import (declaration_of ds n) m.text
+    else None
 maker_of ds (call_expression (selector_expression (selector_expression e l) m) es span) = None
 maker_of ds (call_expression (selector_expression (call_expression e es' s) m) es span) = None
 maker_of ds (call_expression (name_expression n) es span) = None
@@ -94,11 +96,12 @@ abbrev mutual
   bindings_in_else ds no_else = []
   bindings_in_else ds (else_block ss braces) = bindings_in ds ss
 
--- some binding gives the local a cancel function
+-- the local is the other one, if there is another
 abbrev pub is_same_as : Local → Option Local → Bool
 is_same_as d None = false
 is_same_as d (Some e) = same_local d e
 
+-- some binding gives the local a cancel function
 abbrev pub is_obtained : List Local → List Binding → Local → Bool
 is_obtained ds [] d = false
 is_obtained ds (b ∷ bs) d = if is_same_as d (bound_local ds b.second) then true else is_obtained ds bs d
@@ -107,11 +110,12 @@ is_obtained ds (b ∷ bs) d = if is_same_as d (bound_local ds b.second) then tru
 abbrev pub cancels_of : Function → List Local
 cancels_of f = filter (is_obtained (locals_of f) (bindings_in (locals_of f) f.body)) (locals_of f)
 
--- the local that a use means, if it is one of these
+-- the local is one of these
 abbrev pub is_listed : List Local → Local → Bool
 is_listed [] d = false
 is_listed (c ∷ cs) d = if same_local c d then true else is_listed cs d
 
+-- the local that a use means, if it is one of these
 abbrev pub if_listed : List Local → Option Local → Option Local
 if_listed cs None = None
 if_listed cs (Some d) = if is_listed cs d then Some d else None
@@ -132,7 +136,7 @@ abbrev pub binding_event : List Local → Option Binding → Event
 binding_event ds None = other
 binding_event ds (Some b) = obtain_event (bound_local ds b.second) b.second.span.start
 
--- one event, the first of its place
+-- one event, the first at its offset
 abbrev pub one : ℕ → Event → Code
 one at event = does record { at = at; order = 0; event = event }
 
@@ -150,10 +154,12 @@ module _ (ds cs : List Local) where
   -- is no else.
   abbrev mutual
     pub code_at : Statement → Code
-    code_at (define_statement names values span) = one span.start (binding_event ds (binding_of ds names values span.start))
+    code_at (define_statement names values span) =
+        one span.start (binding_event ds (binding_of ds names values span.start))
     code_at (expression_statement e) = one (expression_start e) (call_event (called_by e))
     code_at (defer_statement e span) = one span.start (defer_event (called_by e))
-    code_at (if_statement e ss braces otherwise span) = then_code (one span.start other) (either (code_in ss) (code_in_else otherwise))
+    code_at (if_statement e ss braces otherwise span) =
+        then_code (one span.start other) (either (code_in ss) (code_in_else otherwise))
     code_at (block_statement ss braces) = code_in ss
     code_at (return_statement es span) = then_code (one span.start returns_here) (leave returning)
 

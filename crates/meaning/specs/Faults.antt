@@ -1,6 +1,6 @@
 -- The faults of a function: what is to be reported of it, and nothing else is.
 --  - A cancel function is discarded where a binding gives it the name `_`.
---  - A function with more than 48 cancel variables has too many; then nothing is said of its paths.
+--  - A function with more cancel variables than MOST_TRACKED has too many; then nothing is said of its paths.
 --  - A variable is overwritten where some list of events comes to a binding of it with the variable open.
 --  - A variable may not have been called at a return where some list of events reaches the return with
 --    the variable open. Falling off the end is a return at the body's last brace.
@@ -11,9 +11,9 @@ use Rattle.meaning.specs.Scopes.{is_blank, Local, same_local, locals_of}
 use Rattle.meaning.specs.Code.{obtains, returns_here, Occurrence, Binding, bindings_in, cancels_of, body_code}
 use Rattle.meaning.specs.Lists.{Reaches}
 use Rattle.meaning.specs.Classes.{opened, class_after}
+use Rattle.meaning.specs.declared.TheConstants.{MOST_TRACKED}
 
--- What can be found. (On the first path no other use of a cancel function, no group and no import of
--- another package can stand in a file.)
+-- What can be found. (A file with any other use of a cancel function is off the first path.)
 pub data Finding : Type 0 where
   discarded : Finding
   overwritten : Finding
@@ -26,15 +26,33 @@ pub record Fault : Type 0 where
   pub finding : Finding
   pub name : List ℕ
 
--- how many cancel variables a function may have
+-- how many cancel variables a function may have: a constant of the code
 abbrev pub most_tracked : ℕ
-most_tracked = 48
+most_tracked = MOST_TRACKED
 
 pub data IsFaultOf (f : Function) : Fault → Type 0 where
-  at_blank : (b : Binding) → Contains (bindings_in (locals_of f) f.body) b → IsTrue (is_blank b.second.text) → IsFaultOf f record { offset = b.at; finding = discarded; name = b.maker }
-  at_many : (v : Local) → slice_get (cancels_of f) most_tracked ≡ Some v → IsFaultOf f record { offset = v.at; finding = too_many; name = v.text }
-  at_binding : (v u : Local) (place : ℕ) (t : List Occurrence) (o : Occurrence) → length (cancels_of f) ≤ most_tracked → Contains (cancels_of f) v → Reaches (body_code f) t o → o.event ≡ obtains u place → IsTrue (same_local u v) → class_after v t ≡ opened → IsFaultOf f record { offset = place; finding = overwritten; name = v.text }
-  at_return : (v : Local) (t : List Occurrence) (o : Occurrence) → length (cancels_of f) ≤ most_tracked → Contains (cancels_of f) v → Reaches (body_code f) t o → o.event ≡ returns_here → class_after v t ≡ opened → IsFaultOf f record { offset = o.at; finding = not_called; name = v.text }
+  at_blank : (b : Binding)
+      → Contains (bindings_in (locals_of f) f.body) b
+      → IsTrue (is_blank b.second.text)
+      → IsFaultOf f record { offset = b.at; finding = discarded; name = b.maker }
+  at_many : (v : Local)
+      → slice_get (cancels_of f) most_tracked ≡ Some v
+      → IsFaultOf f record { offset = v.at; finding = too_many; name = v.text }
+  at_binding : (v u : Local) (offset : ℕ) (t : List Occurrence) (o : Occurrence)
+      → length (cancels_of f) ≤ most_tracked
+      → Contains (cancels_of f) v
+      → Reaches (body_code f) t o
+      → o.event ≡ obtains u offset
+      → IsTrue (same_local u v)
+      → class_after v t ≡ opened
+      → IsFaultOf f record { offset = offset; finding = overwritten; name = v.text }
+  at_return : (v : Local) (t : List Occurrence) (o : Occurrence)
+      → length (cancels_of f) ≤ most_tracked
+      → Contains (cancels_of f) v
+      → Reaches (body_code f) t o
+      → o.event ≡ returns_here
+      → class_after v t ≡ opened
+      → IsFaultOf f record { offset = o.at; finding = not_called; name = v.text }
 
 -- the faults of a file are those of its functions
 pub record IsFaultIn (file : SourceFile) (fault : Fault) : Type 0 where

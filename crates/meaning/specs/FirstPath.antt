@@ -2,7 +2,7 @@
 -- functions with parameters of the types `T` and `context.Context`, the statements
 -- `a, b := context.WithCancel(c)`, `f(a, b)`, `defer f()`, `if a { .. } else { .. }`, blocks and `return`,
 -- and no comment or character past ASCII. And: no two functions have one name; no name but `_` is declared
--- twice in a function; nothing is called `context`, `panic` or `recover`, and the last two are not used;
+-- twice in a function; nothing is named `context`, `panic` or `recover`, and the last two are not used;
 -- a local is used only in its scope; and the second name of a binding only as `c()` and `defer c()`.
 use Rattle.std.specs.Prelude.{◌≡◌, ◌≢◌, ℕ, ◌≤◌, ◌<◌, false, if◌then◌else◌, List, [], ◌∷◌, ◌++◌, map, Contains, codes}
 use Rattle.lexer.specs.Tokens.{IsPlain}
@@ -28,7 +28,10 @@ IsType (call_expression e es span) = ⊥
 
 -- one call `context.WithCancel(a)`
 abbrev pub IsMaker : Expression → Type 0
-IsMaker (call_expression (selector_expression (name_expression n) m) (expression_and (name_expression a) no_expression) span) =
+IsMaker (call_expression
+    (selector_expression (name_expression n) m)
+    (expression_and (name_expression a) no_expression)
+    span) =
     (n.text ≡ codes "context") × (m.text ≡ codes "WithCancel")
 IsMaker e = ⊥
 
@@ -111,10 +114,14 @@ abbrev mutual
   pub expression_mentions : Use → Expression → List Mention
   expression_mentions bare_use (name_expression n) = used n ∷ []
   expression_mentions bare_use (selector_expression e n) = expression_mentions is_used e
-  expression_mentions bare_use (call_expression (name_expression n) no_expression span) = record { name = n; use_as = bare_use } ∷ []
-  expression_mentions bare_use (call_expression (name_expression n) (expression_and e es) span) = used n ∷ expressions_mentions (expression_and e es)
-  expression_mentions bare_use (call_expression (selector_expression e n) es span) = expression_mentions is_used e ++ expressions_mentions es
-  expression_mentions bare_use (call_expression (call_expression e others s) es span) = expression_mentions is_used (call_expression e others s) ++ expressions_mentions es
+  expression_mentions bare_use (call_expression (name_expression n) no_expression span) =
+      record { name = n; use_as = bare_use } ∷ []
+  expression_mentions bare_use (call_expression (name_expression n) (expression_and e es) span) =
+      used n ∷ expressions_mentions (expression_and e es)
+  expression_mentions bare_use (call_expression (selector_expression e n) es span) =
+      expression_mentions is_used e ++ expressions_mentions es
+  expression_mentions bare_use (call_expression (call_expression e others s) es span) =
+      expression_mentions is_used (call_expression e others s) ++ expressions_mentions es
 
   pub expressions_mentions : Expressions → List Mention
   expressions_mentions no_expression = []
@@ -124,7 +131,9 @@ abbrev mutual
 abbrev pub assigned_by : List (List ℕ) → List Identifier → List Mention
 assigned_by known [] = []
 assigned_by known (n ∷ ns) =
-    if is_blank n.text then assigned_by known ns else (if is_among n.text known then used n ∷ assigned_by known ns else assigned_by known ns)
+    if is_blank n.text then assigned_by known ns
+    else if is_among n.text known then used n ∷ assigned_by known ns
+    else assigned_by known ns
 
 abbrev mutual
   pub mentions_in : List (List ℕ) → Statements → List Mention
@@ -135,7 +144,8 @@ abbrev mutual
   mentions_at known (define_statement names values span) = assigned_by known names ++ expressions_mentions values
   mentions_at known (expression_statement e) = expression_mentions is_called e
   mentions_at known (defer_statement e span) = expression_mentions is_deferred e
-  mentions_at known (if_statement e ss braces otherwise span) = expression_mentions is_used e ++ (mentions_in [] ss ++ mentions_in_else otherwise)
+  mentions_at known (if_statement e ss braces otherwise span) =
+      expression_mentions is_used e ++ (mentions_in [] ss ++ mentions_in_else otherwise)
   mentions_at known (block_statement ss braces) = mentions_in [] ss
   mentions_at known (return_statement es span) = expressions_mentions es
 
@@ -183,9 +193,18 @@ pub record HasPathNames (f : Function) : Type 0 where
   pub free : NoneAmong (map local_text (locals_of f)) reserved_names
   pub unused : NoneAmong (map mention_text (mentions_of f)) unused_names
   -- a use of a local's name stands in the local's scope
-  pub covered : (m : Mention) (d : Local) → Contains (mentions_of f) m → Contains (locals_of f) d → m.name.text ≡ d.text → (d.from ≤ m.name.span.start) × (m.name.span.start < d.to)
+  pub covered : (m : Mention) (d : Local)
+      → Contains (mentions_of f) m
+      → Contains (locals_of f) d
+      → m.name.text ≡ d.text
+      → (d.from ≤ m.name.span.start) × (m.name.span.start < d.to)
   -- the second name of a binding is called or its call is deferred, and nothing else
-  pub only_called : (m : Mention) (b : Binding) → Contains (mentions_of f) m → Contains (bindings_in (locals_of f) f.body) b → is_blank b.second.text ≡ false → m.name.text ≡ b.second.text → m.use_as ≢ is_used
+  pub only_called : (m : Mention) (b : Binding)
+      → Contains (mentions_of f) m
+      → Contains (bindings_in (locals_of f) f.body) b
+      → is_blank b.second.text ≡ false
+      → m.name.text ≡ b.second.text
+      → m.use_as ≢ is_used
 
 -- the rules for the names of a file
 pub record HasPathFileNames (file : SourceFile) : Type 0 where

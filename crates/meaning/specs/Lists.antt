@@ -1,6 +1,6 @@
--- The lists of events that a code may go through, and how it is left behind them. A list `stopped` is a
--- beginning: nothing follows yet. A loop repeats freely and every branch is possible. A list reaches an
--- occurrence that can come next after it. (The Go specification, "Statements".)
+-- The lists of events that a code may go through, and how it is left after them. A list with the exit
+-- `stopped` is a beginning: nothing follows yet. A loop repeats freely and every branch is possible. A list
+-- reaches an occurrence that can come next after it. (The Go specification, "Statements".)
 use Rattle.std.specs.Prelude.{◌≡◌, ◌≢◌, List, [], ◌∷◌, ◌++◌}
 use Rattle.meaning.specs.Code.{Occurrence, Way, Code, skip, does, leave, then_code, either, repeats, up_to}
 
@@ -16,11 +16,19 @@ pub data Lists : Code → List Occurrence → Exit → Type 0 where
   just_done : {o : Occurrence} → Lists (does o) (o ∷ []) stopped
   left : {w : Way} → Lists (leave w) [] (leaves w)
   ends_in_first : {a b : Code} {t : List Occurrence} {x : Exit} → Lists a t x → x ≢ falls → Lists (then_code a b) t x
-  goes_on : {a b : Code} {t u r : List Occurrence} {x : Exit} → Lists a t falls → Lists b u x → r ≡ t ++ u → Lists (then_code a b) r x
+  goes_on : {a b : Code} {t u r : List Occurrence} {x : Exit}
+      → Lists a t falls
+      → Lists b u x
+      → r ≡ t ++ u
+      → Lists (then_code a b) r x
   in_first : {a b : Code} {t : List Occurrence} {x : Exit} → Lists a t x → Lists (either a b) t x
   in_second : {a b : Code} {t : List Occurrence} {x : Exit} → Lists b t x → Lists (either a b) t x
   ends_in_turn : {a : Code} {t : List Occurrence} {x : Exit} → Lists a t x → x ≢ falls → Lists (repeats a) t x
-  turns_again : {a : Code} {t u r : List Occurrence} {x : Exit} → Lists a t falls → Lists (repeats a) u x → r ≡ t ++ u → Lists (repeats a) r x
+  turns_again : {a : Code} {t u r : List Occurrence} {x : Exit}
+      → Lists a t falls
+      → Lists (repeats a) u x
+      → r ≡ t ++ u
+      → Lists (repeats a) r x
   arrives : {w : Way} {a : Code} {t : List Occurrence} → Lists a t (leaves w) → Lists (up_to w a) t falls
   passes : {w : Way} {a : Code} {t : List Occurrence} {x : Exit} → Lists a t x → x ≢ leaves w → Lists (up_to w a) t x
 

@@ -1,7 +1,6 @@
 -- A run is a list of steps from the world of one start. A frame owes the cancel functions that it obtained
--- and that its return does not hand on. Its return is quiet if, at
--- that moment, each of them was called and its context is done, with all that are below it.
--- (The documentation of package context.)
+-- and that its return does not hand on. Its return is quiet if, at that moment, each of them was called and
+-- its context is done, with all that are below it. (The documentation of package context.)
 use Rattle.std.specs.Prelude.{◌≡◌, ℕ, true, List, [], ◌∷◌, Contains}
 use Rattle.tree.specs.Syntax.{Function}
 use Rattle.meaning.specs.World.{exits, Frame, World, IsBelow}

@@ -76,10 +76,19 @@ pub record Ends (old : ℕ → ContextState) (a : ℕ) (new : ℕ → ContextSta
   pub stays : (b : ℕ) → (old b).ended ≡ true → (new b).ended ≡ true
   pub others : (b : ℕ) → (IsBelow old a b → ⊥) → (new b).ended ≡ (old b).ended
 
+-- the world after the call of the cancel function a, which leaves the contexts so
+abbrev pub after_call : World → ℕ → (ℕ → ContextState) → World
+after_call w a contexts = record w {
+  contexts = contexts;
+  cancels = put_at w.cancels a record { context = (w.cancels a).context; called = true };
+}
+
 -- The call of a value: a cancel function becomes called, and its context done; any other value passes.
 pub data CallOf (w : World) : Value → World → Type 0 where
   of_nothing : CallOf w nothing w
-  of_cancel : (a : ℕ) (contexts : ℕ → ContextState) → Ends w.contexts (w.cancels a).context contexts → CallOf w (cancel_function a) (record w { contexts = contexts; cancels = put_at w.cancels a (record { context = (w.cancels a).context; called = true }) })
+  of_cancel : (a : ℕ) (contexts : ℕ → ContextState)
+      → Ends w.contexts (w.cancels a).context contexts
+      → CallOf w (cancel_function a) (after_call w a contexts)
 
 -- what the newest cell of a variable holds
 abbrev pub in_cell : World → Option ℕ → Value
@@ -99,7 +108,7 @@ abbrev pub is_ended : World → Option ℕ → Bool
 is_ended w None = false
 is_ended w (Some p) = (w.contexts p).ended
 
--- The world behind a maker's call: a new context with this parent, a new cancel function for it, and a new
+-- The world after a maker's call: a new context with this parent, a new cancel function for it, and a new
 -- cell that holds the function. (A binding of the first path declares its variable.)
 abbrev pub made : World → Option ℕ → Bool → World
 made w parent timed = record w {
@@ -111,7 +120,7 @@ made w parent timed = record w {
   cell_count = w.cell_count + 1;
 }
 
--- the frame behind it
+-- the frame after it
 abbrev pub obtaining : World → Frame → Local → Code → Frame
 obtaining w f v rest = record f {
   stage = runs rest;

@@ -6,7 +6,8 @@ use Rattle.lexer.specs.declared.token.TokenKind.TheVariants.{Identifier as ident
 use Rattle.tree.specs.declared.expression.Expr.{Expr}
 use Rattle.tree.specs.Syntax.{Identifier, Expression, name_expression, Expressions, no_expression, expression_and, expressions_of}
 use Rattle.tree.specs.View.{expression_syntax, expressions_syntax}
-use Rattle.reader.specs.Reading.{Read, same_kind, begins_with}
+use Rattle.lexer.specs.Spelling.{same_kind}
+use Rattle.reader.specs.Reading.{Read, begins_with}
 use Rattle.reader.specs.Reading.{take as taken}
 use Rattle.reader.specs.Reader.{name_of, name_at, more_names_at, arguments_at, names_as_expressions, with_first, rest_of}
 use Rattle.parser.proofs.Choice.{chosen_then, chosen_some}
@@ -45,11 +46,11 @@ pub name_at-there : (text : List ℕ) (tokens : List Token) → begins_with iden
 name_at-there text [] b e = absurd cc
 name_at-there text (t ∷ rest) b e = some-not-none (same_kind t.kind identifier_kind) (name_of text t, rest) b (sym (name_at-first text t rest) ∙ e)
 
-pub name_at-shorter : (text : List ℕ) (tokens : List Token) (n : Identifier) (behind : List Token) → name_at text tokens ≡ Some (n, behind) → length behind < length tokens
-name_at-shorter text [] n behind e = absurd (cc (name_at-empty text))
-name_at-shorter text (t ∷ rest) n behind e =
-    let f = chosen_some (same_kind t.kind identifier_kind) (name_of text t, rest) (n, behind) (sym (name_at-first text t rest) ∙ e) in
-    let g : rest ≡ behind = ap (λ (x : Identifier × List Token). x.1) f.1 in
+pub name_at-shorter : (text : List ℕ) (tokens : List Token) (n : Identifier) (after : List Token) → name_at text tokens ≡ Some (n, after) → length after < length tokens
+name_at-shorter text [] n after e = absurd (cc (name_at-empty text))
+name_at-shorter text (t ∷ rest) n after e =
+    let f = chosen_some (same_kind t.kind identifier_kind) (name_of text t, rest) (n, after) (sym (name_at-first text t rest) ∙ e) in
+    let g : rest ≡ after = ap (λ (x : Identifier × List Token). x.1) f.1 in
     omega (arith, ap length g)
 
 pub rest_of-shorter : (tokens : List Token) → length (rest_of tokens) ≤ length tokens
@@ -62,13 +63,13 @@ unfolding arguments_at
 arguments-none text [] b = refl
 arguments-none text (t ∷ rest) b = rw b refl
 
-pub arguments-name : (text : List ℕ) (tokens : List Token) (n : Identifier) (behind : List Token) → name_at text tokens ≡ Some (n, behind) → arguments_at text tokens ≡ with_first n (more_names_at text behind)
+pub arguments-name : (text : List ℕ) (tokens : List Token) (n : Identifier) (after : List Token) → name_at text tokens ≡ Some (n, after) → arguments_at text tokens ≡ with_first n (more_names_at text after)
 unfolding arguments_at
-arguments-name text [] n behind e = absurd (cc (name_at-empty text))
-arguments-name text (t ∷ rest) n behind e =
-    let f = chosen_some (same_kind t.kind identifier_kind) (name_of text t, rest) (n, behind) (sym (name_at-first text t rest) ∙ e) in
+arguments-name text [] n after e = absurd (cc (name_at-empty text))
+arguments-name text (t ∷ rest) n after e =
+    let f = chosen_some (same_kind t.kind identifier_kind) (name_of text t, rest) (n, after) (sym (name_at-first text t rest) ∙ e) in
     let same_name : name_of text t ≡ n = ap (λ (x : Identifier × List Token). x.0) f.1 in
-    let same_rest : rest ≡ behind = ap (λ (x : Identifier × List Token). x.1) f.1 in
+    let same_rest : rest ≡ after = ap (λ (x : Identifier × List Token). x.1) f.1 in
     rw (f.0, ← same_name, ← same_rest) refl
 
 pub more_names-comma : (text : List ℕ) (tokens : List Token) → begins_with Comma tokens ≡ true → more_names_at text tokens ≡ arguments_at text (rest_of tokens)
@@ -95,12 +96,12 @@ module _ (text : List ℕ) (front : List Expr) (rest : List Token) (total : Read
   pub is_done : begins_with identifier_kind rest ≡ false → total ≡ Some (expressions_syntax front, rest)
   is_done b = sym so_far ∙ ap (argued front) (arguments-none text rest b) ∙ argued-none front rest
 
-  module _ (e : Expr) (n : Identifier) (behind : List Token) (made : expression_syntax e ≡ name_expression n) (read : name_at text rest ≡ Some (n, behind)) where
-    with_name : total ≡ argued (front ++ e ∷ []) (more_names_at text behind)
-    with_name = sym so_far ∙ ap (argued front) (arguments-name text rest n behind read) ∙ argued-name front e n (more_names_at text behind) made
+  module _ (e : Expr) (n : Identifier) (after : List Token) (made : expression_syntax e ≡ name_expression n) (read : name_at text rest ≡ Some (n, after)) where
+    with_name : total ≡ argued (front ++ e ∷ []) (more_names_at text after)
+    with_name = sym so_far ∙ ap (argued front) (arguments-name text rest n after read) ∙ argued-name front e n (more_names_at text after) made
 
-    pub is_last : begins_with Comma behind ≡ false → total ≡ Some (expressions_syntax (front ++ e ∷ []), behind)
-    is_last b = with_name ∙ ap (argued (front ++ e ∷ [])) (more_names-none text behind b) ∙ argued-none (front ++ e ∷ []) behind
+    pub is_last : begins_with Comma after ≡ false → total ≡ Some (expressions_syntax (front ++ e ∷ []), after)
+    is_last b = with_name ∙ ap (argued (front ++ e ∷ [])) (more_names-none text after b) ∙ argued-none (front ++ e ∷ []) after
 
-    pub goes_on : begins_with Comma behind ≡ true → argued (front ++ e ∷ []) (arguments_at text (rest_of behind)) ≡ total
-    goes_on b = sym (with_name ∙ ap (argued (front ++ e ∷ [])) (more_names-comma text behind b))
+    pub goes_on : begins_with Comma after ≡ true → argued (front ++ e ∷ []) (arguments_at text (rest_of after)) ≡ total
+    goes_on b = sym (with_name ∙ ap (argued (front ++ e ∷ [])) (more_names-comma text after b))

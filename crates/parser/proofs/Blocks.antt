@@ -61,14 +61,14 @@ module _ (text : List ℕ) (inner : List Token → Read Statement) (n : ℕ) (re
     pub no_inner : inner rest ≡ None → statements_at text inner (suc n) rest ≡ None
     no_inner e = rw (a, b, e) refl
 
-    module _ (s : Statement) (behind : List Token) (e : inner rest ≡ Some (s, behind)) where
-      pub inner_last : begins_with RightBrace behind ≡ true → statements_at text inner (suc n) rest ≡ with_statement s (Some (no_statement, behind))
+    module _ (s : Statement) (after : List Token) (e : inner rest ≡ Some (s, after)) where
+      pub inner_last : begins_with RightBrace after ≡ true → statements_at text inner (suc n) rest ≡ with_statement s (Some (no_statement, after))
       inner_last d = rw (a, b, e, d) refl
 
-      pub inner_alone : begins_with RightBrace behind ≡ false → begins_with Semicolon behind ≡ false → statements_at text inner (suc n) rest ≡ None
+      pub inner_alone : begins_with RightBrace after ≡ false → begins_with Semicolon after ≡ false → statements_at text inner (suc n) rest ≡ None
       inner_alone d f = rw (a, b, e, d, f) refl
 
-      pub inner_more : begins_with RightBrace behind ≡ false → begins_with Semicolon behind ≡ true → statements_at text inner (suc n) rest ≡ with_statement s (statements_at text inner n (rest_of behind))
+      pub inner_more : begins_with RightBrace after ≡ false → begins_with Semicolon after ≡ true → statements_at text inner (suc n) rest ≡ with_statement s (statements_at text inner n (rest_of after))
       inner_more d f = rw (a, b, e, d, f) refl
 
 -- a round of the loop, with so many rounds left
@@ -95,15 +95,15 @@ module _ (text : List ℕ) (inner : List Token → Read Statement) (front : List
         pub fails_inside : (e : Stop) → Stops e (inner rest) → Stops e total
         fails_inside e h = fails_too e (inner rest) total h (λ none. one_round ∙ ap (after_front front) (no_inner text inner (count - (i + 1)) rest a b none))
 
-        module _ (s : Stmt) (behind : List Token) (read : inner rest ≡ Some (statement_syntax s, behind)) where
-          pub ends_behind : begins_with RightBrace behind ≡ true → total ≡ Some (statements_syntax (front ++ s ∷ []), behind)
-          ends_behind d =
-              one_round ∙ ap (after_front front) (inner_last text inner (count - (i + 1)) rest a b (statement_syntax s) behind read d) ∙ after_front-push front s (Some (no_statement, behind)) ∙ after_front-none (front ++ s ∷ []) behind
+        module _ (s : Stmt) (after : List Token) (read : inner rest ≡ Some (statement_syntax s, after)) where
+          pub ends_after : begins_with RightBrace after ≡ true → total ≡ Some (statements_syntax (front ++ s ∷ []), after)
+          ends_after d =
+              one_round ∙ ap (after_front front) (inner_last text inner (count - (i + 1)) rest a b (statement_syntax s) after read d) ∙ after_front-push front s (Some (no_statement, after)) ∙ after_front-none (front ++ s ∷ []) after
 
-          module _ (d : begins_with RightBrace behind ≡ false) where
-            pub fails_behind : begins_with Semicolon behind ≡ false → total ≡ None
-            fails_behind f = one_round ∙ ap (after_front front) (inner_alone text inner (count - (i + 1)) rest a b (statement_syntax s) behind read d f)
+          module _ (d : begins_with RightBrace after ≡ false) where
+            pub fails_after : begins_with Semicolon after ≡ false → total ≡ None
+            fails_after f = one_round ∙ ap (after_front front) (inner_alone text inner (count - (i + 1)) rest a b (statement_syntax s) after read d f)
 
-            pub goes_on : begins_with Semicolon behind ≡ true → after_front (front ++ s ∷ []) (statements_at text inner (count - (i + 1)) (rest_of behind)) ≡ total
+            pub goes_on : begins_with Semicolon after ≡ true → after_front (front ++ s ∷ []) (statements_at text inner (count - (i + 1)) (rest_of after)) ≡ total
             goes_on f =
-                sym (one_round ∙ ap (after_front front) (inner_more text inner (count - (i + 1)) rest a b (statement_syntax s) behind read d f) ∙ after_front-push front s (statements_at text inner (count - (i + 1)) (rest_of behind)))
+                sym (one_round ∙ ap (after_front front) (inner_more text inner (count - (i + 1)) rest a b (statement_syntax s) after read d f) ∙ after_front-push front s (statements_at text inner (count - (i + 1)) (rest_of after)))

@@ -5,7 +5,7 @@ use Rattle.parser.specs.declared.stop.Stop.TheVariants.{OffPath, Memory}
 use Rattle.parser.specs.Gives.{Stops}
 use Rattle.reader.specs.Reading.{◌>>=◌}
 
--- a step behind a test
+-- a step after a test
 pub chosen_then : {A B : Type 0} (b : Bool) (x : A) (f : A → Option B) → (cond b (Some x) None >>= f) ≡ cond b (f x) None
 chosen_then true x f = refl
 chosen_then false x f = refl

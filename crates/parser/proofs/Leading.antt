@@ -3,7 +3,8 @@ use Rattle.std.proofs.Common.{◌≡◌, ◌-◌, ◌≤◌, ◌<◌, true, fals
 use Rattle.std.proofs.lemmas.List.{take_all}
 use Rattle.lexer.specs.declared.token.Token.{Token}
 use Rattle.lexer.specs.declared.token.TokenKind.{TokenKind}
-use Rattle.reader.specs.Reading.{same_kind, begins_with}
+use Rattle.lexer.specs.Spelling.{same_kind}
+use Rattle.reader.specs.Reading.{begins_with}
 use Rattle.reader.specs.Reading.{take as taken}
 
 pub begins_with-first : (kind : TokenKind) (tokens : List Token) (d : Token) → 1 ≤ length tokens → begins_with kind tokens ≡ same_kind (get_or tokens 0 d).kind kind

@@ -4,4 +4,3 @@ pub mod Arguments
 pub mod Blocks
 pub mod Steps
 pub mod Lists
-pub mod OnPath

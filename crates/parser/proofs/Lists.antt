@@ -60,8 +60,8 @@ module _ (text : List ℕ) (n : ℕ) (rest : List Token) where
       next_fails : parameter_at text (rest_of rest) ≡ None → more_parameters_at text (suc n) rest ≡ None
       next_fails e = rw (a, b, e) refl
 
-      next_read : (p : Parameter) (behind : List Token) → parameter_at text (rest_of rest) ≡ Some (p, behind) → more_parameters_at text (suc n) rest ≡ with_parameter p (more_parameters_at text n behind)
-      next_read p behind e = rw (a, b, e) refl
+      next_read : (p : Parameter) (after : List Token) → parameter_at text (rest_of rest) ≡ Some (p, after) → more_parameters_at text (suc n) rest ≡ with_parameter p (more_parameters_at text n after)
+      next_read p after e = rw (a, b, e) refl
 
 -- before the first round
 pub starts : (text : List ℕ) (tokens : List Token) → begins_with RightParenthesis tokens ≡ false → (p : Param) (rest : List Token) → parameter_at text tokens ≡ Some (parameter_syntax p, rest) → after_front (p ∷ []) (more_parameters_at text (length tokens + 1 - 0) rest) ≡ parameters_at text tokens
@@ -86,16 +86,16 @@ module _ (text : List ℕ) (front : List Param) (count i : ℕ) (rest : List Tok
     ends_here a = one_round ∙ ap (after_front front) (no_comma text (count - (i + 1)) rest a) ∙ after_front-none front rest
 
     module _ (a : begins_with Comma rest ≡ true) where
-      pub ends_behind : begins_with RightParenthesis (rest_of rest) ≡ true → total ≡ Some (map parameter_syntax front, rest_of rest)
-      ends_behind b = one_round ∙ ap (after_front front) (last_comma text (count - (i + 1)) rest a b) ∙ after_front-none front (rest_of rest)
+      pub ends_after : begins_with RightParenthesis (rest_of rest) ≡ true → total ≡ Some (map parameter_syntax front, rest_of rest)
+      ends_after b = one_round ∙ ap (after_front front) (last_comma text (count - (i + 1)) rest a b) ∙ after_front-none front (rest_of rest)
 
       module _ (b : begins_with RightParenthesis (rest_of rest) ≡ false) where
         pub fails_inside : (e : Stop) → Stops e (parameter_at text (rest_of rest)) → Stops e total
         fails_inside e h = fails_too e (parameter_at text (rest_of rest)) total h (λ none. one_round ∙ ap (after_front front) (next_fails text (count - (i + 1)) rest a b none))
 
-        pub goes_on : (p : Param) (behind : List Token) → parameter_at text (rest_of rest) ≡ Some (parameter_syntax p, behind) → after_front (front ++ p ∷ []) (more_parameters_at text (count - (i + 1)) behind) ≡ total
-        goes_on p behind read =
-            sym (one_round ∙ ap (after_front front) (next_read text (count - (i + 1)) rest a b (parameter_syntax p) behind read) ∙ after_front-push front p (more_parameters_at text (count - (i + 1)) behind))
+        pub goes_on : (p : Param) (after : List Token) → parameter_at text (rest_of rest) ≡ Some (parameter_syntax p, after) → after_front (front ++ p ∷ []) (more_parameters_at text (count - (i + 1)) after) ≡ total
+        goes_on p after read =
+            sym (one_round ∙ ap (after_front front) (next_read text (count - (i + 1)) rest a b (parameter_syntax p) after read) ∙ after_front-push front p (more_parameters_at text (count - (i + 1)) after))
 
 pub some_token : (tokens : List Token) → (length tokens == 0) ≡ false → 0 < length tokens
 some_token [] e = absurd cc
@@ -128,12 +128,12 @@ module _ (text : List ℕ) (n : ℕ) where
   function_fails [] h e = absurd (omega arith)
   function_fails (t ∷ rest) h e = rw e refl
 
-  module _ (f : Function) (behind : List Token) where
-    function_alone : (rest : List Token) → 0 < length rest → function_at text rest ≡ Some (f, behind) → begins_with Semicolon behind ≡ false → functions_at text (suc n) rest ≡ None
+  module _ (f : Function) (after : List Token) where
+    function_alone : (rest : List Token) → 0 < length rest → function_at text rest ≡ Some (f, after) → begins_with Semicolon after ≡ false → functions_at text (suc n) rest ≡ None
     function_alone [] h e a = absurd (omega arith)
     function_alone (t ∷ rest) h e a = rw (e, a) refl
 
-    function_more : (rest : List Token) → 0 < length rest → function_at text rest ≡ Some (f, behind) → begins_with Semicolon behind ≡ true → functions_at text (suc n) rest ≡ with_function f (functions_at text n (rest_of behind))
+    function_more : (rest : List Token) → 0 < length rest → function_at text rest ≡ Some (f, after) → begins_with Semicolon after ≡ true → functions_at text (suc n) rest ≡ with_function f (functions_at text n (rest_of after))
     function_more [] h e a = absurd (omega arith)
     function_more (t ∷ rest) h e a = rw (e, a) refl
 
@@ -162,10 +162,10 @@ module _ (text : List ℕ) (front : List Func) (count i : ℕ) (rest : List Toke
     pub fails_at_function : (e : Stop) → Stops e (function_at text rest) → Stops e total
     fails_at_function e h = fails_too e (function_at text rest) total h (λ none. one_function ∙ ap (after_functions front) (function_fails text (count - (i + 1)) rest more none))
 
-    module _ (f : Func) (behind : List Token) (read : function_at text rest ≡ Some (function_syntax f, behind)) where
-      pub fails_behind : begins_with Semicolon behind ≡ false → total ≡ None
-      fails_behind a = one_function ∙ ap (after_functions front) (function_alone text (count - (i + 1)) (function_syntax f) behind rest more read a)
+    module _ (f : Func) (after : List Token) (read : function_at text rest ≡ Some (function_syntax f, after)) where
+      pub fails_after : begins_with Semicolon after ≡ false → total ≡ None
+      fails_after a = one_function ∙ ap (after_functions front) (function_alone text (count - (i + 1)) (function_syntax f) after rest more read a)
 
-      pub next_function : begins_with Semicolon behind ≡ true → after_functions (front ++ f ∷ []) (functions_at text (count - (i + 1)) (rest_of behind)) ≡ total
+      pub next_function : begins_with Semicolon after ≡ true → after_functions (front ++ f ∷ []) (functions_at text (count - (i + 1)) (rest_of after)) ≡ total
       next_function a =
-          sym (one_function ∙ ap (after_functions front) (function_more text (count - (i + 1)) (function_syntax f) behind rest more read a) ∙ after_functions-push front f (functions_at text (count - (i + 1)) (rest_of behind)))
+          sym (one_function ∙ ap (after_functions front) (function_more text (count - (i + 1)) (function_syntax f) after rest more read a) ∙ after_functions-push front f (functions_at text (count - (i + 1)) (rest_of after)))

@@ -1,4 +1,4 @@
--- The reading as the program's functions give it.
+-- What the reader reads, as the parser's types hold it.
 use Rattle.std.specs.Prelude.{List, Some}
 use Rattle.lexer.specs.declared.token.Token.{Token}
 use Rattle.tree.specs.declared.statement.Block.{Block}

@@ -18,7 +18,7 @@ pub(crate) fn is_next(tokens: &[Token], kind: TokenKind) -> bool
     }
 }
 
-/// The first token, of this kind, and the tokens behind it.
+/// The first token, of this kind, and the tokens after it.
 pub(crate) fn expect(tokens: &[Token], kind: TokenKind) -> Result<(Token, &[Token]), Stop>
     ensures { Gives (λ x. (x.0, x.1.now)) result (take kind tokens.now) }
 {
@@ -34,8 +34,8 @@ pub(crate) fn expect(tokens: &[Token], kind: TokenKind) -> Result<(Token, &[Toke
     }
 }
 
-/// The tokens behind the first.
-pub(crate) fn behind_first(tokens: &[Token]) -> &[Token]
+/// The tokens after the first.
+pub(crate) fn after_first(tokens: &[Token]) -> &[Token]
     ensures { result.now ≡ rest_of tokens.now }
 {
     match tokens {

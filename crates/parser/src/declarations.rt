@@ -6,17 +6,15 @@ ghost use Rattle.tree.specs.View.{parameter_syntax, function_syntax, import_synt
 ghost use Rattle.parser.specs.Gives.{Gives};
 ghost use Rattle.reader.specs.Reader.{parameter_at, more_parameters_at, parameters_at, function_at, functions_at, import_at, file_at};
 
-use crate::cursor::{behind_first, expect, is_next};
+use crate::cursor::{after_first, expect, is_next};
 use crate::expressions::type_of;
 use crate::names::{identifier, is_text, text_between};
 use crate::statements::block;
 use crate::stop::Stop;
 use lexer::{Token, TokenKind};
+use meaning::MOST_DEPTH;
 use std::alloc::Global;
 use tree::{File, Func, Import, Param, Span};
-
-/// The depth of the deepest statement that is read.
-const DEPTH: u32 = 200;
 
 /// `name T`.
 #[tactic(auto, unfolding(reader::specs::Reader::parameter_at))]
@@ -53,13 +51,13 @@ fn parameters<'a>(
         if !is_next(rest, TokenKind::Comma) {
             return Ok((list, rest));
         }
-        let behind = behind_first(rest);
-        if is_next(behind, TokenKind::RightParenthesis) {
-            return Ok((list, behind));
+        let after = after_first(rest);
+        if is_next(after, TokenKind::RightParenthesis) {
+            return Ok((list, after));
         }
-        let (item, behind) = parameter(alloc, text, behind)?;
+        let (item, after) = parameter(alloc, text, after)?;
         list.push(item)?;
-        rest = behind;
+        rest = after;
     }
     Err(Stop::OffPath)
 }
@@ -79,7 +77,7 @@ fn function<'a>(
     let (_, rest) = expect(rest, TokenKind::LeftParenthesis)?;
     let (params, rest) = parameters(alloc, text, rest)?;
     let (_, rest) = expect(rest, TokenKind::RightParenthesis)?;
-    let (body, rest) = block(alloc, text, DEPTH, rest)?;
+    let (body, rest) = block(alloc, text, MOST_DEPTH, rest)?;
     let span = Span {
         start: word.start,
         end: body.span.end,
@@ -95,10 +93,11 @@ fn function<'a>(
     ))
 }
 
-/// Functions up to the end of the tokens, each with a semicolon behind it.
+/// Functions up to the end of the tokens, each with a semicolon after it.
 fn functions(alloc: Global, text: &[u8], tokens: &[Token]) -> Result<Vec<Func>, Stop>
     requires { IsAscii text.now }
-    ensures { Gives (λ v. map function_syntax v.items) result (functions_at text.now (suc (length tokens.now)) tokens.now) }
+    ensures { Gives (λ v. map function_syntax v.items) result
+        (functions_at text.now (suc (length tokens.now)) tokens.now) }
 {
     let mut list = Vec::new(alloc);
     let mut rest = tokens;
@@ -107,12 +106,12 @@ fn functions(alloc: Global, text: &[u8], tokens: &[Token]) -> Result<Vec<Func>, 
         if rest.is_empty() {
             break;
         }
-        let (item, behind) = function(alloc, text, rest)?;
+        let (item, after) = function(alloc, text, rest)?;
         list.push(item)?;
-        if !is_next(behind, TokenKind::Semicolon) {
+        if !is_next(after, TokenKind::Semicolon) {
             return Err(Stop::OffPath);
         }
-        rest = behind_first(behind);
+        rest = after_first(after);
     }
     if rest.is_empty() {
         Ok(list)
@@ -132,7 +131,7 @@ fn import<'a>(
     ensures { Gives (λ x. (import_syntax x.0, x.1.now)) result (import_at text.now tokens.now) }
 {
     let (_, rest) = expect(tokens, TokenKind::ImportKeyword)?;
-    let (token, rest) = expect(rest, TokenKind::Text)?;
+    let (token, rest) = expect(rest, TokenKind::InterpretedString)?;
     // The path stands between the token's quotes.
     let start = token.start as usize + 1;
     let end = (token.end as usize).saturating_sub(1);
@@ -149,9 +148,11 @@ fn import<'a>(
 
 /// The tree of a file of the path's shape, from all its tokens.
 ///
-/// Errors: `OffPath` where the tokens are of no such file, `Memory` where memory runs out.
+/// # Errors
+///
+/// `OffPath` where the tokens are of no such file, `Memory` where memory was refused.
 #[tactic(auto, unfolding(reader::specs::Reader::file_at))]
-pub fn read_file(alloc: Global, text: &[u8], tokens: &[Token]) -> Result<File, Stop>
+pub(crate) fn read_file(alloc: Global, text: &[u8], tokens: &[Token]) -> Result<File, Stop>
     requires { IsAscii text.now }
     ensures { Gives file_syntax result (file_at text.now tokens.now) }
 {

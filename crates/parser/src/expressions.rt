@@ -7,14 +7,14 @@ ghost use Rattle.parser.specs.Gives.{Gives};
 ghost use Rattle.parser.specs.Seen.{as_arguments};
 ghost use Rattle.reader.specs.Reader.{arguments_at, call_at, bare_call_at, past_comma, maker_at, type_at};
 
-use crate::cursor::{behind_first, expect, is_next};
+use crate::cursor::{after_first, expect, is_next};
 use crate::names::{identifier, is_text};
 use crate::stop::Stop;
 use lexer::{Token, TokenKind};
 use std::alloc::Global;
 use tree::{Expr, Identifier, Span, make};
 
-/// The offset of the byte behind an expression.
+/// The offset of the byte after an expression.
 pub(crate) fn end_of(expression: &Expr) -> u32
     ensures { result ≡ expression_end (expression_syntax expression.now) }
 {
@@ -33,22 +33,23 @@ fn arguments_of<'a>(
     tokens: &'a [Token],
 ) -> Result<(Vec<Expr>, &'a [Token]), Stop>
     requires { IsAscii text.now }
-    ensures { Gives (λ x. (expressions_syntax x.0.items, x.1.now)) result (as_arguments (arguments_at text.now tokens.now)) }
+    ensures { Gives (λ x. (expressions_syntax x.0.items, x.1.now)) result
+        (as_arguments (arguments_at text.now tokens.now)) }
 {
     let mut list = Vec::new(alloc);
     let mut rest = tokens;
     while is_next(rest, TokenKind::Identifier) {
-        let (name, behind) = identifier(alloc, text, rest)?;
+        let (name, after) = identifier(alloc, text, rest)?;
         list.push(make::name(name))?;
-        if !is_next(behind, TokenKind::Comma) {
-            return Ok((list, behind));
+        if !is_next(after, TokenKind::Comma) {
+            return Ok((list, after));
         }
-        rest = behind_first(behind);
+        rest = after_first(after);
     }
     Ok((list, rest))
 }
 
-/// `(a, b)` behind a name.
+/// `(a, b)` after a name.
 #[tactic(auto, unfolding(reader::specs::Reader::call_at))]
 pub(crate) fn call_of<'a>(
     alloc: Global,
@@ -57,7 +58,8 @@ pub(crate) fn call_of<'a>(
     tokens: &'a [Token],
 ) -> Result<(Expr, &'a [Token]), Stop>
     requires { IsAscii text.now }
-    ensures { Gives (λ x. (expression_syntax x.0, x.1.now)) result (call_at text.now (identifier_syntax callee) tokens.now) }
+    ensures { Gives (λ x. (expression_syntax x.0, x.1.now)) result
+        (call_at text.now (identifier_syntax callee) tokens.now) }
 {
     let start = callee.span.start;
     let (_, rest) = expect(tokens, TokenKind::LeftParenthesis)?;
@@ -73,14 +75,15 @@ pub(crate) fn call_of<'a>(
     ))
 }
 
-/// `()` behind a name.
+/// `()` after a name.
 #[tactic(auto, unfolding(reader::specs::Reader::bare_call_at))]
 pub(crate) fn bare_call_of(
     alloc: Global,
     callee: Identifier,
     tokens: &[Token],
 ) -> Result<(Expr, &[Token]), Stop>
-    ensures { (text : List ℕ) → Gives (λ x. (expression_syntax x.0, x.1.now)) result (bare_call_at text (identifier_syntax callee) tokens.now) }
+    ensures { (text : List ℕ) → Gives (λ x. (expression_syntax x.0, x.1.now)) result
+        (bare_call_at text (identifier_syntax callee) tokens.now) }
 {
     let start = callee.span.start;
     let (_, rest) = expect(tokens, TokenKind::LeftParenthesis)?;
@@ -96,13 +99,13 @@ pub(crate) fn bare_call_of(
     ))
 }
 
-/// The tokens behind a comma that may stand first.
+/// The tokens after a comma that may stand first.
 #[tactic(auto, unfolding(reader::specs::Reader::past_comma))]
-fn behind_comma(tokens: &[Token]) -> &[Token]
+fn after_comma(tokens: &[Token]) -> &[Token]
     ensures { (text : List ℕ) → result.now ≡ past_comma text tokens.now }
 {
     if is_next(tokens, TokenKind::Comma) {
-        behind_first(tokens)
+        after_first(tokens)
     } else {
         tokens
     }
@@ -123,7 +126,7 @@ pub(crate) fn maker_call<'a>(
     let (function, rest) = identifier(alloc, text, rest)?;
     let (_, rest) = expect(rest, TokenKind::LeftParenthesis)?;
     let (argument, rest) = identifier(alloc, text, rest)?;
-    let (close, rest) = expect(behind_comma(rest), TokenKind::RightParenthesis)?;
+    let (close, rest) = expect(after_comma(rest), TokenKind::RightParenthesis)?;
     if !is_text(qualifier.text.as_str(), "context")
         || !is_text(function.text.as_str(), "WithCancel")
     {
@@ -153,7 +156,7 @@ pub(crate) fn type_of<'a>(
     if !is_next(rest, TokenKind::Dot) {
         return Ok((make::name(first), rest));
     }
-    let (second, rest) = identifier(alloc, text, behind_first(rest))?;
+    let (second, rest) = identifier(alloc, text, after_first(rest))?;
     if !is_text(first.text.as_str(), "context") || !is_text(second.text.as_str(), "Context") {
         return Err(Stop::OffPath);
     }

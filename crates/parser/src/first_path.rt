@@ -1,40 +1,39 @@
-//! The tree of a text on the first path.
+//! The tree of a file of the first path.
 
-ghost use Rattle.std.specs.Prelude.{◌≡◌, IfOk, IfSome, IsSomeAnd};
+ghost use Rattle.std.specs.Prelude.{◌≡◌, IfOk, IfSome, IsAscii, IsSomeAnd};
+ghost use Rattle.lexer.specs.Tokens.{IsTokens};
 ghost use Rattle.tree.specs.Syntax.{SourceFile};
 ghost use Rattle.tree.specs.View.{file_syntax};
-ghost use Rattle.meaning.specs.FirstPath.{IsOnPath};
+ghost use Rattle.meaning.specs.Grammar.{IsTreeOf};
+ghost use Rattle.meaning.specs.FirstPath.{HasPathShape};
 
 use crate::declarations::read_file;
 use crate::stop::Stop;
-use lexer::{Source, one_token_list, plain};
-use path::has_path_names;
+use lexer::{Token, one_token_list};
 use reader::{reads_all_that_is_spelled, reads_what_is_spelled};
 use std::alloc::{AllocError, Global};
 use tree::File;
 
-/// The tree of a text that is on the first path, and `None` where the text is not.
+/// The tree of this text with these tokens, if it has one of the first path's shape that is within the
+/// depth limit. A text has at most one.
 ///
-/// Errors: memory ran out.
-pub fn first(alloc: Global, source: &Source) -> Result<Option<File>, AllocError>
-    ensures some { IfOk result (λ o. IfSome o (λ f. IsOnPath source.now.bytes.items (file_syntax f))) }
-    ensures only { (file : SourceFile) → IsOnPath source.now.bytes.items file → IfOk result (λ o. IsSomeAnd o (λ f. file_syntax f ≡ file)) }
+/// # Errors
+///
+/// Memory was refused.
+pub fn parse(alloc: Global, text: &[u8], tokens: &[Token]) -> Result<Option<File>, AllocError>
+    requires ascii { IsAscii text.now }
+    requires tokens { IsTokens text.now tokens.now }
+    ensures some { IfOk result (λ o. IfSome o (λ f. IsTreeOf text.now (file_syntax f) × HasPathShape (file_syntax f))) }
+    ensures only { (file : SourceFile) → IsTreeOf text.now file → HasPathShape file
+        → IfOk result (λ o. IsSomeAnd o (λ f. file_syntax f ≡ file)) }
 {
     // The laws that the proof rests on; they run nothing.
     one_token_list();
     reads_what_is_spelled();
     reads_all_that_is_spelled();
-    let Some(tokens) = plain(alloc, source)? else {
-        return Ok(None);
-    };
-    let file = match read_file(alloc, &source.bytes, &tokens) {
-        Ok(file) => file,
-        Err(Stop::OffPath) => return Ok(None),
-        Err(Stop::Memory) => return Err(AllocError),
-    };
-    if has_path_names(alloc, &file)? {
-        Ok(Some(file))
-    } else {
-        Ok(None)
+    match read_file(alloc, text, tokens) {
+        Ok(file) => Ok(Some(file)),
+        Err(Stop::OffPath) => Ok(None),
+        Err(Stop::Memory) => Err(AllocError),
     }
 }

@@ -4,14 +4,9 @@
 mod cursor;
 mod declarations;
 mod expressions;
-pub mod first_path;
+mod first_path;
 mod names;
 mod statements;
-pub mod stop;
+mod stop;
 
-pub use declarations::read_file;
-pub use first_path::first;
-pub use stop::Stop;
-
-#[cfg(test)]
-mod tests;
+pub use first_path::parse;

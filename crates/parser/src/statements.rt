@@ -7,7 +7,7 @@ ghost use Rattle.parser.specs.Gives.{Gives};
 ghost use Rattle.reader.specs.Reader.{Braced, define_at, simple_at, defer_at, return_at, statement_at, statements_at, block_at, else_at, if_at};
 ghost use Rattle.parser.specs.Seen.{braced_syntax};
 
-use crate::cursor::{behind_first, expect, is_next};
+use crate::cursor::{after_first, expect, is_next};
 use crate::expressions::{bare_call_of, call_of, end_of, maker_call};
 use crate::names::identifier;
 use crate::stop::Stop;
@@ -15,7 +15,7 @@ use lexer::{Token, TokenKind};
 use std::alloc::Global;
 use tree::{Block, Else, Identifier, Span, Stmt, make};
 
-/// `, b := context.WithCancel(p)` behind a name.
+/// `, b := context.WithCancel(p)` after a name.
 #[tactic(auto, unfolding(reader::specs::Reader::define_at))]
 fn definition<'a>(
     alloc: Global,
@@ -24,7 +24,8 @@ fn definition<'a>(
     tokens: &'a [Token],
 ) -> Result<(Stmt, &'a [Token]), Stop>
     requires { IsAscii text.now }
-    ensures { Gives (λ x. (statement_syntax x.0, x.1.now)) result (define_at text.now (identifier_syntax first) tokens.now) }
+    ensures { Gives (λ x. (statement_syntax x.0, x.1.now)) result
+        (define_at text.now (identifier_syntax first) tokens.now) }
 {
     let (_, rest) = expect(tokens, TokenKind::Comma)?;
     let (second, rest) = identifier(alloc, text, rest)?;
@@ -146,7 +147,8 @@ fn choice<'a>(
     tokens: &'a [Token],
 ) -> Result<(Stmt, &'a [Token]), Stop>
     requires { IsAscii text.now }
-    ensures { Gives (λ x. (statement_syntax x.0, x.1.now)) result (if_at text.now (statement_at text.now depth) tokens.now) }
+    ensures { Gives (λ x. (statement_syntax x.0, x.1.now)) result
+        (if_at text.now (statement_at text.now depth) tokens.now) }
 {
     let (word, rest) = expect(tokens, TokenKind::IfKeyword)?;
     let (condition, rest) = identifier(alloc, text, rest)?;
@@ -162,7 +164,7 @@ fn choice<'a>(
     ))
 }
 
-/// The offset of the byte behind an `else`, or `before` where there is none.
+/// The offset of the byte after an `else`, or `before` where there is none.
 fn end_of_else(before: u32, otherwise: &Else) -> u32
     ensures { result ≡ else_end before (else_syntax otherwise.now) }
 {
@@ -182,12 +184,13 @@ fn branch<'a>(
     tokens: &'a [Token],
 ) -> Result<(Else, &'a [Token]), Stop>
     requires { IsAscii text.now }
-    ensures { Gives (λ x. (else_syntax x.0, x.1.now)) result (else_at text.now (statement_at text.now depth) tokens.now) }
+    ensures { Gives (λ x. (else_syntax x.0, x.1.now)) result
+        (else_at text.now (statement_at text.now depth) tokens.now) }
 {
     if !is_next(tokens, TokenKind::ElseKeyword) {
         return Ok((make::no_branch(), tokens));
     }
-    let (block, rest) = block(alloc, text, depth, behind_first(tokens))?;
+    let (block, rest) = block(alloc, text, depth, after_first(tokens))?;
     Ok((make::branch(block), rest))
 }
 
@@ -201,7 +204,8 @@ pub(crate) fn block<'a>(
     tokens: &'a [Token],
 ) -> Result<(Block, &'a [Token]), Stop>
     requires { IsAscii text.now }
-    ensures { Gives (λ x. (braced_syntax x.0, x.1.now)) result (block_at text.now (statement_at text.now depth) tokens.now) }
+    ensures { Gives (λ x. (braced_syntax x.0, x.1.now)) result
+        (block_at text.now (statement_at text.now depth) tokens.now) }
 {
     let (open, rest) = expect(tokens, TokenKind::LeftBrace)?;
     let (statements, rest) = statements(alloc, text, depth, rest)?;
@@ -230,21 +234,21 @@ fn statements<'a>(
     // Each round takes a token, or is the last.
     for _ in 0..tokens.len() + 1 {
         if is_next(rest, TokenKind::Semicolon) {
-            rest = behind_first(rest);
+            rest = after_first(rest);
             continue;
         }
         if is_next(rest, TokenKind::RightBrace) {
             return Ok((list, rest));
         }
-        let (item, behind) = statement(alloc, text, depth, rest)?;
+        let (item, after) = statement(alloc, text, depth, rest)?;
         list.push(item)?;
-        if is_next(behind, TokenKind::RightBrace) {
-            return Ok((list, behind));
+        if is_next(after, TokenKind::RightBrace) {
+            return Ok((list, after));
         }
-        if !is_next(behind, TokenKind::Semicolon) {
+        if !is_next(after, TokenKind::Semicolon) {
             return Err(Stop::OffPath);
         }
-        rest = behind_first(behind);
+        rest = after_first(after);
     }
     Err(Stop::OffPath)
 }

@@ -45,9 +45,9 @@ adds_nothing names = record {
 declares_same : (j k : List (List ℕ)) (n : Identifier) → HaveSame j k → declares_nothing j n ≡ declares_nothing k n
 declares_same j k n h = ap (λ b. cond (is_blank n.text) true b) (h.each n.text)
 
-declared_by_same : (j k : List (List ℕ)) (braces : Span) (from place : ℕ) (ns : List Identifier) → HaveSame j k → declared_by j braces from place ns ≡ declared_by k braces from place ns
-declared_by_same j k braces from place [] h = refl
-declared_by_same j k braces from place (n ∷ ns) h = λ i. cond (declares_same j k n h i) (declared_by_same j k braces from (place + 1) ns h i) (record { text = n.text; at = n.span.start; place = place; block = braces.start; from = from; to = braces.end } ∷ declared_by_same j k braces from (place + 1) ns h i)
+declared_by_same : (j k : List (List ℕ)) (braces : Span) (from index : ℕ) (ns : List Identifier) → HaveSame j k → declared_by j braces from index ns ≡ declared_by k braces from index ns
+declared_by_same j k braces from index [] h = refl
+declared_by_same j k braces from index (n ∷ ns) h = λ i. cond (declares_same j k n h i) (declared_by_same j k braces from (index + 1) ns h i) (record { text = n.text; at = n.span.start; index = index; block = braces.start; from = from; to = braces.end } ∷ declared_by_same j k braces from (index + 1) ns h i)
 
 assigned_by_same : (j k : List (List ℕ)) (ns : List Identifier) → HaveSame j k → assigned_by j ns ≡ assigned_by k ns
 assigned_by_same j k [] h = refl
@@ -91,7 +91,7 @@ adds_statement_and known later braces old mid new s ss a h b =
     let e = sym (map-append scope_of (declared_at known braces s) (declared_in later braces ss)) ∙ ap (λ l. map scope_of (declared_at known braces s ++ l)) (declared_in_same later (known_after known s) braces ss h) in
     adds_same old new _ _ _ _ _ _ e (ap (λ l. mentions_at known s ++ l) (mentions_in_same later (known_after known s) ss h)) refl (adds_then old mid new _ _ _ _ _ _ a b)
 
--- the place of a name among those of its `:=` is not kept
+-- the index of a name among those of its `:=` is not kept
 one_scope : (b : Bool) (d e : Local) (xs ys : List Local) → scope_of d ≡ scope_of e → scopes_of xs ≡ scopes_of ys → scopes_of (cond b xs (d ∷ xs)) ≡ scopes_of (cond b ys (e ∷ ys))
 one_scope true d e xs ys same h = h
 one_scope false d e xs ys same h = λ i. same i ∷ h i

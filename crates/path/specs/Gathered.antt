@@ -87,22 +87,26 @@ abbrev mutual
   seconds_in_else (else_block ss braces) = seconds_in ss
 
 -- new has what old has, and then these
-pub record Adds (old new : Names) (scopes : List Scope) (mentions : List Mention) (seconds : List (List ℕ)) : Type 0 where
+pub record Adds
+    (old new : Names) (scopes : List Scope) (mentions : List Mention) (seconds : List (List ℕ)) : Type 0 where
   pub scopes_added : kept_scopes new.locals.items ≡ kept_scopes old.locals.items ++ scopes
   pub mentions_added : kept_mentions new.mentions.items ≡ kept_mentions old.mentions.items ++ mentions
   pub seconds_added : kept_texts new.seconds.items ≡ kept_texts old.seconds.items ++ seconds
 
 -- the names on the left of a `:=` that ends at `from`
 abbrev pub AddsDefined : List (List ℕ) → Span → ℕ → Names → Names → List Identifier → Type 0
-AddsDefined known braces from old new ns = Adds old new (scopes_of (declared_by known braces from 0 ns)) (assigned_by known ns) []
+AddsDefined known braces from old new ns =
+    Adds old new (scopes_of (declared_by known braces from 0 ns)) (assigned_by known ns) []
 
 -- a statement
 abbrev pub AddsStatement : List (List ℕ) → Span → Names → Names → Statement → Type 0
-AddsStatement known braces old new s = Adds old new (scopes_of (declared_at known braces s)) (mentions_at known s) (seconds_at s)
+AddsStatement known braces old new s =
+    Adds old new (scopes_of (declared_at known braces s)) (mentions_at known s) (seconds_at s)
 
 -- some statements of a block
 abbrev pub AddsStatements : List (List ℕ) → Span → Names → Names → Statements → Type 0
-AddsStatements known braces old new ss = Adds old new (scopes_of (declared_in known braces ss)) (mentions_in known ss) (seconds_in ss)
+AddsStatements known braces old new ss =
+    Adds old new (scopes_of (declared_in known braces ss)) (mentions_in known ss) (seconds_in ss)
 
 -- the names of a function
 pub record AreNamesOf (names : Names) (f : Function) : Type 0 where

@@ -1,5 +1,5 @@
 -- The rules for the names of a function, over what the program gathers of it. (The Go specification,
--- "Declarations and scope"; the forms of the first path.)
+-- "Declarations and scope"; meaning/specs/FirstPath.antt.)
 use Rattle.std.specs.Prelude.{◌≡◌, ◌≢◌, ℕ, ◌≤◌, ◌<◌, nat_le, nat_lt, Bool, true, false, not, ◌&&◌, ◌||◌, List, map, Contains}
 use Rattle.std.specs.List.{list_all}
 use Rattle.std.specs.Borrow.{Bor}
@@ -47,5 +47,14 @@ all_may_use seconds mentions = list_all (λ m. may_use seconds m.use_as m.name.t
 pub record KeepsRules (scopes : List Scope) (mentions : List Mention) (seconds : List (List ℕ)) : Type 0 where
   pub declared : MayDeclare (map scope_text scopes)
   pub unused : NoneAmong (map mention_text mentions) unused_names
-  pub covered : (m : Mention) (d : Scope) → Contains mentions m → Contains scopes d → m.name.text ≡ d.text → (d.from ≤ m.name.span.start) × (m.name.span.start < d.to)
-  pub only_called : (m : Mention) (t : List ℕ) → Contains mentions m → Contains seconds t → is_blank t ≡ false → m.name.text ≡ t → m.use_as ≢ is_used
+  pub covered : (m : Mention) (d : Scope)
+      → Contains mentions m
+      → Contains scopes d
+      → m.name.text ≡ d.text
+      → (d.from ≤ m.name.span.start) × (m.name.span.start < d.to)
+  pub only_called : (m : Mention) (t : List ℕ)
+      → Contains mentions m
+      → Contains seconds t
+      → is_blank t ≡ false
+      → m.name.text ≡ t
+      → m.use_as ≢ is_used

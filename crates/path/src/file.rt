@@ -12,7 +12,7 @@ use std::alloc::{AllocError, Global};
 use tree::{File, Func};
 
 /// Whether the names of a file of the first path's forms keep the path's rules: no two functions have one
-/// name, and no function declares a name but `_` twice; nothing is called `context`, `panic` or `recover`,
+/// name, and no function declares a name but `_` twice; nothing is named `context`, `panic` or `recover`,
 /// and the last two are not used; a local is used only in its scope; and the second name of a `:=` is only
 /// called, or its call deferred (the Go specification, "Declarations and scope").
 ///
@@ -30,7 +30,7 @@ pub fn has_path_names(alloc: Global, file: &File) -> Result<bool, AllocError>
     have_names(alloc, &file.functions)
 }
 
-// The names of some functions.
+/// The names of some functions.
 fn function_texts<'a>(alloc: Global, functions: &'a [Func]) -> Result<Vec<&'a str>, AllocError>
     ensures { IfOk result (λ texts. map text_now texts.items ≡ map function_text (map function_syntax functions.now)) }
 {
@@ -41,10 +41,11 @@ fn function_texts<'a>(alloc: Global, functions: &'a [Func]) -> Result<Vec<&'a st
     Ok(texts)
 }
 
-// Whether the names of each function keep the rules.
+/// Whether the names of each function keep the rules.
 fn have_names(alloc: Global, functions: &[Func]) -> Result<bool, AllocError>
     requires { ArePathFunctions (map function_syntax functions.now) }
-    ensures { IfOk result (λ yes. IsTrue yes ↔ ((f : Function) → Contains (map function_syntax functions.now) f → HasPathNames f)) }
+    ensures { IfOk result (λ yes. IsTrue yes ↔
+        ((f : Function) → Contains (map function_syntax functions.now) f → HasPathNames f)) }
 {
     for function in functions {
         if !has_names(alloc, function)? {
@@ -54,7 +55,7 @@ fn have_names(alloc: Global, functions: &[Func]) -> Result<bool, AllocError>
     Ok(true)
 }
 
-// Whether the names of a function keep the rules.
+/// Whether the names of a function keep the rules.
 fn has_names(alloc: Global, function: &Func) -> Result<bool, AllocError>
     requires { ArePathStatements (block_syntax function.now.body) }
     ensures { IfOk result (λ yes. IsTrue yes ↔ HasPathNames (function_syntax function.now)) }

@@ -31,7 +31,7 @@ pub(crate) fn names_of<'a>(alloc: Global, function: &'a Func) -> Result<Names<'a
     Ok(names)
 }
 
-// The names of a block that has the names `known` already.
+/// The names of a block that has the names `known` already.
 #[cycle(gather)]
 fn gather_block<'a>(
     alloc: Global,
@@ -39,7 +39,8 @@ fn gather_block<'a>(
     mut known: Vec<&'a Identifier>,
     names: &mut Names<'a>,
 ) -> Result<(), AllocError>
-    ensures { OnOk result (AddsStatements (kept_texts known.entry.items) block.now.span names.old names.new (block_syntax block.now)) }
+    ensures { OnOk result (AddsStatements (kept_texts known.entry.items) block.now.span
+        names.old names.new (block_syntax block.now)) }
 {
     for statement in &block.statements {
         gather_statement(alloc, statement, block.span, &known, names)?;
@@ -48,7 +49,7 @@ fn gather_block<'a>(
     Ok(())
 }
 
-// The names of a statement in a block that has these braces and the names `known` already.
+/// The names of a statement in a block that has these braces and the names `known` already.
 #[cycle(gather)]
 fn gather_statement<'a>(
     alloc: Global,
@@ -57,7 +58,8 @@ fn gather_statement<'a>(
     known: &[&'a Identifier],
     names: &mut Names<'a>,
 ) -> Result<(), AllocError>
-    ensures { OnOk result (AddsStatement (kept_texts known.now) braces names.old names.new (statement_syntax statement.now)) }
+    ensures { OnOk result (AddsStatement (kept_texts known.now) braces
+        names.old names.new (statement_syntax statement.now)) }
 {
     match statement {
         Stmt::Define(defined, values, span) => {
@@ -80,8 +82,8 @@ fn gather_statement<'a>(
     }
 }
 
-// The names on the left of a `:=` that ends at `from`, in a block that has these braces and the names
-// `known` already.
+/// The names on the left of a `:=` that ends at `from`, in a block that has these braces and the names
+/// `known` already.
 fn add_names<'a>(
     defined: &'a [Identifier],
     from: u32,
@@ -89,7 +91,8 @@ fn add_names<'a>(
     known: &[&'a Identifier],
     names: &mut Names<'a>,
 ) -> Result<(), AllocError>
-    ensures { OnOk result (AddsDefined (kept_texts known.now) braces from names.old names.new (map identifier_syntax defined.now)) }
+    ensures { OnOk result (AddsDefined (kept_texts known.now) braces from
+        names.old names.new (map identifier_syntax defined.now)) }
 {
     for name in defined {
         add_name(name, from, braces, known, names)?;
@@ -97,7 +100,7 @@ fn add_names<'a>(
     Ok(())
 }
 
-// A name that is declared, or only assigned to where the block has it already. `_` is neither.
+/// A name that is declared, or only assigned to where the block has it already. `_` is neither.
 fn add_name<'a>(
     name: &'a Identifier,
     from: u32,
@@ -105,7 +108,8 @@ fn add_name<'a>(
     known: &[&'a Identifier],
     names: &mut Names<'a>,
 ) -> Result<(), AllocError>
-    ensures { OnOk result (AddsDefined (kept_texts known.now) braces from names.old names.new (identifier_syntax name.now ∷ [])) }
+    ensures { OnOk result (AddsDefined (kept_texts known.now) braces from
+        names.old names.new (identifier_syntax name.now ∷ [])) }
 {
     if is_blank(name) {
         return Ok(());
@@ -125,12 +129,13 @@ fn add_name<'a>(
     Ok(())
 }
 
-// The second of the names on the left of a `:=`.
+/// The second of the names on the left of a `:=`.
 fn add_second<'a>(
     defined: &'a [Identifier],
     seconds: &mut Vec<&'a Identifier>,
 ) -> Result<(), AllocError>
-    ensures { OnOk result (kept_texts seconds.new.items ≡ kept_texts seconds.old.items ++ second_text (map identifier_syntax defined.now)) }
+    ensures { OnOk result (kept_texts seconds.new.items ≡ kept_texts seconds.old.items
+        ++ second_text (map identifier_syntax defined.now)) }
 {
     if let Some(second) = defined.get(1) {
         seconds.push(second)?;
@@ -138,9 +143,10 @@ fn add_second<'a>(
     Ok(())
 }
 
-// The names of a block behind a statement of it.
+/// The names of a block after a statement of it.
 fn add_known<'a>(known: &mut Vec<&'a Identifier>, statement: &'a Stmt) -> Result<(), AllocError>
-    ensures { OnOk result (HaveSame (kept_texts known.new.items) (known_after (kept_texts known.old.items) (statement_syntax statement.now))) }
+    ensures { OnOk result (HaveSame (kept_texts known.new.items)
+        (known_after (kept_texts known.old.items) (statement_syntax statement.now))) }
 {
     if let Stmt::Define(defined, _, _) = statement {
         add_all(known, defined)?;
@@ -148,9 +154,10 @@ fn add_known<'a>(known: &mut Vec<&'a Identifier>, statement: &'a Stmt) -> Result
     Ok(())
 }
 
-// These names too.
+/// These names too.
 fn add_all<'a>(known: &mut Vec<&'a Identifier>, defined: &'a [Identifier]) -> Result<(), AllocError>
-    ensures { OnOk result (kept_texts known.new.items ≡ kept_texts known.old.items ++ map (λ n. string_bytes n.text) defined.now) }
+    ensures { OnOk result (kept_texts known.new.items ≡ kept_texts known.old.items
+        ++ map (λ n. string_bytes n.text) defined.now) }
 {
     for name in defined {
         known.push(name)?;
@@ -158,8 +165,8 @@ fn add_all<'a>(known: &mut Vec<&'a Identifier>, defined: &'a [Identifier]) -> Re
     Ok(())
 }
 
-// The names that an expression uses; `name_use` says how, where it is a name, and `bare_use`, where it is
-// a call of a name without arguments.
+/// The names that an expression uses; `name_use` says how, where it is a name, and `bare_use`, where it is
+/// a call of a name without arguments.
 fn mention<'a>(
     e: &'a Expr,
     name_use: Use,
@@ -193,7 +200,7 @@ fn mention<'a>(
     }
 }
 
-// How a name is used that is called with these arguments, where `bare_use` says how without any.
+/// How a name is used that is called with these arguments, where `bare_use` says how without any.
 fn callee_use(arguments: &[Expr], bare_use: Use) -> Use
     ensures { use_of result ≡ callee_use (use_of bare_use) (expressions_syntax arguments.now) }
 {
@@ -204,7 +211,7 @@ fn callee_use(arguments: &[Expr], bare_use: Use) -> Use
     }
 }
 
-// The names that some expressions use.
+/// The names that some expressions use.
 fn mention_all<'a>(values: &'a [Expr], mentions: &mut Vec<Mention<'a>>) -> Result<(), AllocError>
     ensures { OnOk result (kept_mentions mentions.new.items ≡ kept_mentions mentions.old.items
         ++ expressions_mentions (expressions_syntax values.now)) }

@@ -15,7 +15,9 @@ use tree::Identifier;
 
 /// Whether a function's names keep the rules.
 pub(crate) fn keep_rules(alloc: Global, names: &Names) -> Result<bool, AllocError>
-    ensures { IfOk result (λ yes. IsTrue yes ↔ KeepsRules (kept_scopes names.now.locals.items) (kept_mentions names.now.mentions.items) (kept_texts names.now.seconds.items)) }
+    ensures { IfOk result (λ yes. IsTrue yes ↔
+        KeepsRules (kept_scopes names.now.locals.items) (kept_mentions names.now.mentions.items)
+        (kept_texts names.now.seconds.items)) }
 {
     let declared = local_texts(alloc, &names.locals)?;
     if !may_declare(alloc, &declared)? {
@@ -24,7 +26,7 @@ pub(crate) fn keep_rules(alloc: Global, names: &Names) -> Result<bool, AllocErro
     Ok(are_well_used(names))
 }
 
-// Whether a function's uses of names keep the rules.
+/// Whether a function's uses of names keep the rules.
 fn are_well_used(names: &Names) -> bool
     ensures { result ≡ (none_of unused_names (map mention_text (kept_mentions names.now.mentions.items))
         && all_allowed (kept_scopes names.now.locals.items) (kept_mentions names.now.mentions.items)
@@ -35,7 +37,7 @@ fn are_well_used(names: &Names) -> bool
         && are_only_called(&names.mentions, &names.seconds)
 }
 
-// The names of some locals.
+/// The names of some locals.
 fn local_texts<'a>(alloc: Global, locals: &'a [Local]) -> Result<Vec<&'a str>, AllocError>
     ensures { IfOk result (λ texts. map text_now texts.items ≡ map scope_text (kept_scopes locals.now)) }
 {
@@ -57,7 +59,7 @@ pub(crate) fn may_declare(alloc: Global, texts: &[&str]) -> Result<bool, AllocEr
     Ok(are_free(texts))
 }
 
-// No text stands twice.
+/// No text stands twice.
 fn are_distinct(alloc: Global, texts: &[&str]) -> Result<bool, AllocError>
     ensures { IfOk result (λ yes. IsTrue yes ↔ AreDistinct (map text_now texts.now)) }
 {
@@ -70,28 +72,28 @@ fn are_distinct(alloc: Global, texts: &[&str]) -> Result<bool, AllocError>
     Ok(true)
 }
 
-// No text is one that nothing may have as its name.
+/// No text is one that nothing may have as its name.
 fn are_free(texts: &[&str]) -> bool
     ensures { result ≡ none_of reserved_names (map text_now texts.now) }
 {
     texts.iter().all(|text| !is_reserved(text))
 }
 
-// Nothing may have this name.
+/// Nothing may have this name.
 fn is_reserved(text: &str) -> bool
     ensures { result ≡ is_among text.now reserved_names }
 {
     text == "context" || is_unused(text)
 }
 
-// Nothing may use this name.
+/// Nothing may use this name.
 fn is_unused(text: &str) -> bool
     ensures { result ≡ is_among text.now unused_names }
 {
     text == "panic" || text == "recover"
 }
 
-// No name is used that nothing may use.
+/// No name is used that nothing may use.
 fn are_unused(mentions: &[Mention]) -> bool
     ensures { result ≡ none_of unused_names (map mention_text (kept_mentions mentions.now)) }
 {
@@ -100,7 +102,7 @@ fn are_unused(mentions: &[Mention]) -> bool
         .all(|mention| !is_unused(mention.name.text.as_str()))
 }
 
-// Each use of a local's name stands in the local's scope.
+/// Each use of a local's name stands in the local's scope.
 fn are_covered(mentions: &[Mention], locals: &[Local]) -> bool
     ensures { result ≡ all_allowed (kept_scopes locals.now) (kept_mentions mentions.now) }
 {
@@ -109,30 +111,31 @@ fn are_covered(mentions: &[Mention], locals: &[Local]) -> bool
         .all(|mention| is_covered(mention.name, locals))
 }
 
-// Each local has another name, or this name stands in its scope.
+/// Each local has another name, or this name stands in its scope.
 fn is_covered(name: &Identifier, locals: &[Local]) -> bool
     ensures { result ≡ is_allowed (kept_scopes locals.now) (identifier_syntax name.now) }
 {
     locals.iter().all(|local| allows(local, name))
 }
 
-// The local has another name, or this name stands in its scope.
+/// The local has another name, or this name stands in its scope.
 fn allows(local: &Local, name: &Identifier) -> bool
     ensures { result ≡ allows (kept_scope local.now) (identifier_syntax name.now) }
 {
     local.name.text != name.text || local.from <= name.span.start && name.span.start < local.to
 }
 
-// The second names of the `:=` are called or their calls are deferred, and nothing else.
+/// The second names of the `:=` are called or their calls are deferred, and nothing else.
 fn are_only_called(mentions: &[Mention], seconds: &[&Identifier]) -> bool
     ensures { result ≡ all_may_use (kept_texts seconds.now) (kept_mentions mentions.now) }
 {
     mentions.iter().all(|mention| may_use(mention, seconds))
 }
 
-// The name is called or its call is deferred, or it is no second name of a `:=`.
+/// The name is called or its call is deferred, or it is no second name of a `:=`.
 fn may_use(mention: &Mention, seconds: &[&Identifier]) -> bool
-    ensures { result ≡ may_use (kept_texts seconds.now) (use_of mention.now.way) (string_bytes mention.now.name.now.text) }
+    ensures { result ≡ may_use (kept_texts seconds.now) (use_of mention.now.way)
+        (string_bytes mention.now.name.now.text) }
 {
     match mention.way {
         Use::Called | Use::Deferred => true,

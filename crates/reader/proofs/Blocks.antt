@@ -8,10 +8,10 @@ use Rattle.lexer.specs.declared.token.Token.{Token}
 use Rattle.lexer.specs.declared.token.TokenKind.TheVariants.{Identifier as identifier_kind, DeferKeyword, IfKeyword, ElseKeyword, ReturnKeyword, LeftBrace, RightBrace, Semicolon}
 use Rattle.tree.specs.Syntax.{name_expression, Statement, if_statement, Otherwise, Statements, no_statement, statement_and}
 use Rattle.tree.specs.Depth.{else_depth, statements_depth}
-use Rattle.meaning.specs.Grammar.{TakesAny, InBraces, no_semicolon, semicolon_and, else_end, SpellsElse, SpellsStatements, SpellsBehind}
+use Rattle.meaning.specs.Grammar.{TakesAny, InBraces, no_semicolon, semicolon_and, else_end, SpellsElse, SpellsStatements, SpellsAfter}
 use Rattle.meaning.specs.FirstPath.{ArePathStatements, IsPathElse}
 use Rattle.reader.specs.Reading.{Read, begins_with, take}
-use Rattle.reader.specs.Reader.{Braced, rest_of, with_statement, behind_statement, as_else, as_block, name_at, statements_at, block_at, else_at, if_at, statement_with, statement_at}
+use Rattle.reader.specs.Reader.{Braced, rest_of, with_statement, after_statement, as_else, as_block, name_at, statements_at, block_at, else_at, if_at, statement_with, statement_at}
 use Rattle.reader.proofs.Steps.{given, chosen, only_if_some, take_sound, begins_sound}
 use Rattle.reader.proofs.Expressions.{name_sound}
 use Rattle.reader.proofs.Statements.{IsReadStatement, ReadsStatement, simple_sound, defer_sound, return_sound}
@@ -39,10 +39,10 @@ semicolon_before : (text : List ℕ) (ss : Statements) (tokens more rest : List 
 semicolon_before text no_statement tokens more rest t h = semicolon_and t h
 semicolon_before text (statement_and s ss) tokens more rest t h = (h.0, h.1, semicolon_and t h.2, h.3, h.4)
 
--- what stands behind a statement and its semicolon
-semicolon_behind : (text : List ℕ) (ss : Statements) (tokens more rest : List Token) → TakesAny Semicolon tokens more → SpellsStatements text ss more rest → SpellsBehind text ss tokens rest
-semicolon_behind text no_statement tokens more rest t h = inr (more, t, h)
-semicolon_behind text (statement_and s ss) tokens more rest t h = (more, h.0, h.1, t, h.2, h.3, h.4)
+-- what stands after a statement and its semicolon
+semicolon_after : (text : List ℕ) (ss : Statements) (tokens more rest : List Token) → TakesAny Semicolon tokens more → SpellsStatements text ss more rest → SpellsAfter text ss tokens rest
+semicolon_after text no_statement tokens more rest t h = inr (more, t, h)
+semicolon_after text (statement_and s ss) tokens more rest t h = (more, h.0, h.1, t, h.2, h.3, h.4)
 
 module _ (text : List ℕ) (depth : ℕ) where
   abbrev ReadsStatements : List Token → Statements × List Token → Type 0
@@ -58,17 +58,17 @@ module _ (text : List ℕ) (depth : ℕ) where
   abbrev pub ReadsRightly : (List Token → Read Statement) → Type 0
   ReadsRightly inner = (tokens : List Token) (r : Statement × List Token) → inner tokens ≡ Some r → ReadsStatement text depth tokens r
 
-  with_sound : (s : Statement) (o : Read Statements) (tokens behind : List Token) (r : Statements × List Token) → IsReadStatement text depth tokens s behind → begins_with Semicolon behind ≡ true → ((x : Statements × List Token) → o ≡ Some x → ReadsStatements (rest_of behind) x) → with_statement s o ≡ Some r → ReadsStatements tokens r
-  with_sound s None tokens behind r h b f e = absurd (none-some r e)
-  with_sound s (Some x) tokens behind r h b f e =
+  with_sound : (s : Statement) (o : Read Statements) (tokens after : List Token) (r : Statements × List Token) → IsReadStatement text depth tokens s after → begins_with Semicolon after ≡ true → ((x : Statements × List Token) → o ≡ Some x → ReadsStatements (rest_of after) x) → with_statement s o ≡ Some r → ReadsStatements tokens r
+  with_sound s None tokens after r h b f e = absurd (none-some r e)
+  with_sound s (Some x) tokens after r h b f e =
       let more = f x refl in
       let first = h.shallow in
       let others = more.shallow in
-      given (ReadsStatements tokens) _ r e (record { spelled = (tokens, behind, no_semicolon, h.spelled, semicolon_behind text x.0 behind (rest_of behind) x.1 (begins_sound Semicolon behind b) more.spelled); formed = (h.formed, more.formed); shallow = omega arith })
+      given (ReadsStatements tokens) _ r e (record { spelled = (tokens, after, no_semicolon, h.spelled, semicolon_after text x.0 after (rest_of after) x.1 (begins_sound Semicolon after b) more.spelled); formed = (h.formed, more.formed); shallow = omega arith })
 
-  behind_sound : (more : List Token → Read Statements) (o : Read Statement) (tokens : List Token) (r : Statements × List Token) → ((ts : List Token) (x : Statements × List Token) → more ts ≡ Some x → ReadsStatements ts x) → ((x : Statement × List Token) → o ≡ Some x → ReadsStatement text depth tokens x) → behind_statement more o ≡ Some r → ReadsStatements tokens r
-  behind_sound more None tokens r m f e = absurd (none-some r e)
-  behind_sound more (Some s) tokens r m f e =
+  after_sound : (more : List Token → Read Statements) (o : Read Statement) (tokens : List Token) (r : Statements × List Token) → ((ts : List Token) (x : Statements × List Token) → more ts ≡ Some x → ReadsStatements ts x) → ((x : Statement × List Token) → o ≡ Some x → ReadsStatement text depth tokens x) → after_statement more o ≡ Some r → ReadsStatements tokens r
+  after_sound more None tokens r m f e = absurd (none-some r e)
+  after_sound more (Some s) tokens r m f e =
       let h = f s refl in
       elim (chosen (begins_with RightBrace s.1) _ _ (Some r) e) [
         | inl c ↦ (let first = h.shallow in given (ReadsStatements tokens) _ r c.1 (record { spelled = (tokens, s.1, no_semicolon, h.spelled, inl refl); formed = (h.formed, tt); shallow = omega arith }))
@@ -86,7 +86,7 @@ module _ (text : List ℕ) (depth : ℕ) where
           | inl c ↦ (let h = statements_sound n (rest_of tokens) r c.1 in record { spelled = semicolon_before text r.0 tokens (rest_of tokens) r.1 (begins_sound Semicolon tokens c.0) h.spelled; formed = h.formed; shallow = h.shallow })
           | inr c ↦ elim (chosen (begins_with RightBrace tokens) _ _ (Some r) c.1) [
             | inl d ↦ given (ReadsStatements tokens) _ r d.1 (record { spelled = no_semicolon; formed = tt; shallow = omega arith })
-            | inr d ↦ behind_sound (statements_at text inner n) (inner tokens) tokens r (λ ts x p. statements_sound n ts x p) (λ x p. inner_sound tokens x p) d.1
+            | inr d ↦ after_sound (statements_at text inner n) (inner tokens) tokens r (λ ts x p. statements_sound n ts x p) (λ x p. inner_sound tokens x p) d.1
           ]
         ]
 

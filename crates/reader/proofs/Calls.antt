@@ -8,7 +8,8 @@ use Rattle.tree.specs.Syntax.{Identifier, Expression, name_expression, selector_
 use Rattle.tree.specs.Depth.{expression_depth}
 use Rattle.meaning.specs.Grammar.{Takes, TakesAny, SpellsExpression, SpellsArguments, SpellsMoreArguments}
 use Rattle.meaning.specs.FirstPath.{AreNames, IsType, IsMaker}
-use Rattle.reader.specs.Reading.{same_kind, begins_with, take}
+use Rattle.lexer.specs.Spelling.{same_kind}
+use Rattle.reader.specs.Reading.{begins_with, take}
 use Rattle.reader.specs.Reader.{names_as_expressions, with_first, selected, name_of, name_at, more_names_at, arguments_at, call_at, bare_call_at, past_comma, maker_at, type_at}
 use Rattle.reader.proofs.Taken.{token_of, step, when_true, when_false, only_true, take_gives, take_any, two_tokens, begins_gives, name_gives, named, rest_gives, both_same, span_is}
 
@@ -69,7 +70,7 @@ module _ (text : List ℕ) where
   arguments_give (expression_and (selector_expression x n) es) tokens start end h s e = absurd h
   arguments_give (expression_and (call_expression x xs span) es) tokens start end h s e = absurd h
 
-  -- behind the callee's name
+  -- after the callee's name
   pub call_gives : (n : Identifier) (es : Expressions) (span : Span) {round first close rest : List Token} (start : ℕ) → AreNames es → TakesAny LeftParenthesis round first → SpellsArguments text es first close → Takes RightParenthesis start span.end close rest → span.start ≡ n.span.start → call_at text n round ≡ Some (call_expression (name_expression n) es span, rest)
   unfolding call_at
   call_gives n es span {first = first} {rest = rest} start h o s e p =

@@ -3,7 +3,7 @@ use Rattle.std.proofs.Common.{◌≡◌, ℕ, suc, ◌≤◌, ◌<◌, List, [],
 use Rattle.lexer.specs.declared.token.Token.{Token}
 use Rattle.lexer.specs.declared.token.TokenKind.{TokenKind}
 use Rattle.tree.specs.Syntax.{Identifier, Expression, name_expression, selector_expression, call_expression, Expressions, no_expression, expression_and, Statement, define_statement, expression_statement, defer_statement, if_statement, block_statement, return_statement, Otherwise, no_else, else_block, Statements, no_statement, statement_and, Parameter, Function}
-use Rattle.meaning.specs.Grammar.{Takes, TakesAny, Semicolons, no_semicolon, semicolon_and, SpellsNames, SpellsMoreNames, SpellsExpression, SpellsExpressions, SpellsMoreExpressions, SpellsResults, SpellsArguments, SpellsMoreArguments, SpellsStatement, SpellsElse, SpellsStatements, SpellsBehind, SpellsParameter, SpellsMoreParameters, SpellsParameters, SpellsFunction}
+use Rattle.meaning.specs.Grammar.{Takes, TakesAny, Semicolons, no_semicolon, semicolon_and, SpellsNames, SpellsMoreNames, SpellsExpression, SpellsExpressions, SpellsMoreExpressions, SpellsResults, SpellsArguments, SpellsMoreArguments, SpellsStatement, SpellsElse, SpellsStatements, SpellsAfter, SpellsParameter, SpellsMoreParameters, SpellsParameters, SpellsFunction}
 
 pub takes_shorter : {kind : TokenKind} {start end : ℕ} {tokens rest : List Token} → Takes kind start end tokens rest → length tokens ≡ suc (length rest)
 takes_shorter e = ap length e
@@ -84,13 +84,13 @@ module _ (text : List ℕ) where
     pub statements_shorter : (ss : Statements) (tokens rest : List Token) → SpellsStatements text ss tokens rest → length rest ≤ length tokens
     statements_shorter no_statement tokens rest s = semicolons_shorter s
     statements_shorter (statement_and s ss) tokens rest h =
-        omega (arith, semicolons_shorter h.2, statement_shorter s h.0 h.1 h.3, behind_shorter ss h.1 rest h.4)
+        omega (arith, semicolons_shorter h.2, statement_shorter s h.0 h.1 h.3, after_shorter ss h.1 rest h.4)
 
-    behind_shorter : (ss : Statements) (tokens rest : List Token) → SpellsBehind text ss tokens rest → length rest ≤ length tokens
-    behind_shorter no_statement tokens rest (inl p) = same_length p
-    behind_shorter no_statement tokens rest (inr s) = omega (arith, any_shorter s.1, semicolons_shorter s.2)
-    behind_shorter (statement_and s ss) tokens rest h =
-        omega (arith, any_shorter h.3, semicolons_shorter h.4, statement_shorter s h.1 h.2 h.5, behind_shorter ss h.2 rest h.6)
+    after_shorter : (ss : Statements) (tokens rest : List Token) → SpellsAfter text ss tokens rest → length rest ≤ length tokens
+    after_shorter no_statement tokens rest (inl p) = same_length p
+    after_shorter no_statement tokens rest (inr s) = omega (arith, any_shorter s.1, semicolons_shorter s.2)
+    after_shorter (statement_and s ss) tokens rest h =
+        omega (arith, any_shorter h.3, semicolons_shorter h.4, statement_shorter s h.1 h.2 h.5, after_shorter ss h.2 rest h.6)
 
   pub parameter_shorter : (p : Parameter) (tokens rest : List Token) → SpellsParameter text p tokens rest → length rest < length tokens
   parameter_shorter p tokens rest s = omega (arith, takes_shorter s.1.0, expression_shorter p.kind s.0 rest s.2)

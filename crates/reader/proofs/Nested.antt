@@ -8,10 +8,11 @@ use Rattle.lexer.specs.declared.token.TokenKind.TheVariants.{Identifier as ident
 use Rattle.tree.specs.declared.span.Span.{Span}
 use Rattle.tree.specs.Syntax.{Expression, name_expression, selector_expression, call_expression, Statement, define_statement, expression_statement, defer_statement, if_statement, block_statement, return_statement, Otherwise, no_else, else_block, Statements, no_statement, statement_and}
 use Rattle.tree.specs.Depth.{expression_depth, statement_depth, else_depth, statements_depth}
-use Rattle.meaning.specs.Grammar.{Takes, TakesAny, Semicolons, no_semicolon, semicolon_and, InBraces, SpellsStatement, SpellsElse, SpellsStatements, SpellsBehind}
+use Rattle.meaning.specs.Grammar.{Takes, TakesAny, Semicolons, no_semicolon, semicolon_and, InBraces, SpellsStatement, SpellsElse, SpellsStatements, SpellsAfter}
 use Rattle.meaning.specs.FirstPath.{IsName, IsPathStatement, ArePathStatements, IsPathElse}
-use Rattle.reader.specs.Reading.{Read, same_kind, begins_with}
-use Rattle.reader.specs.Reader.{with_statement, behind_statement, as_else, as_block, statements_at, block_at, else_at, if_at, statement_with, statement_at}
+use Rattle.lexer.specs.Spelling.{same_kind}
+use Rattle.reader.specs.Reading.{Read, begins_with}
+use Rattle.reader.specs.Reader.{with_statement, after_statement, as_else, as_block, statements_at, block_at, else_at, if_at, statement_with, statement_at}
 use Rattle.reader.proofs.Taken.{step, when_true, when_false, only_true, take_gives, begins_gives, begins_other, name_gives, rest_gives, span_is}
 use Rattle.reader.proofs.Simple.{simple_gives-define, simple_gives-call, defer_gives, return_gives, bare_call_depth}
 use Rattle.reader.proofs.Lengths.{any_shorter, statement_shorter}
@@ -61,16 +62,16 @@ module _ (text : List ℕ) where
     semicolon : TakesAny Semicolon tokens more
     spelled : SpellsStatements text ss more close
 
-  follows : (ss : Statements) (tokens close : List Token) → SpellsBehind text ss tokens close → ((ss ≡ no_statement) × (tokens ≡ close)) ⊎ Follows ss tokens close
+  follows : (ss : Statements) (tokens close : List Token) → SpellsAfter text ss tokens close → ((ss ≡ no_statement) × (tokens ≡ close)) ⊎ Follows ss tokens close
   follows no_statement tokens close (inl p) = inl (refl, p)
   follows no_statement tokens close (inr s) = inr (record { more = s.0; semicolon = s.1; spelled = s.2 })
   follows (statement_and s ss) tokens close h = inr (record { more = h.0; semicolon = h.3; spelled = (h.1, h.2, h.4, h.5, h.6) })
 
   -- No `else` follows a statement in a block.
-  no_else_behind : (ss : Statements) (tokens close rest : List Token) (start end : ℕ) → SpellsBehind text ss tokens close → Takes RightBrace start end close rest → begins_with ElseKeyword tokens ≡ false
-  no_else_behind no_statement tokens close rest start end (inl p) e = begins_other ElseKeyword (p ∙ e) brace_no_else
-  no_else_behind no_statement tokens close rest start end (inr s) e = begins_other ElseKeyword s.1.taken semicolon_no_else
-  no_else_behind (statement_and s ss) tokens close rest start end h e = begins_other ElseKeyword h.3.taken semicolon_no_else
+  no_else_after : (ss : Statements) (tokens close rest : List Token) (start end : ℕ) → SpellsAfter text ss tokens close → Takes RightBrace start end close rest → begins_with ElseKeyword tokens ≡ false
+  no_else_after no_statement tokens close rest start end (inl p) e = begins_other ElseKeyword (p ∙ e) brace_no_else
+  no_else_after no_statement tokens close rest start end (inr s) e = begins_other ElseKeyword s.1.taken semicolon_no_else
+  no_else_after (statement_and s ss) tokens close rest start end h e = begins_other ElseKeyword h.3.taken semicolon_no_else
 
   -- The way that statements inside are read gives those that are spelled, up to this depth.
   module _ (inner : List Token → Read Statement) (depth : ℕ) (complete : (s : Statement) (tokens rest : List Token) → IsPathStatement s → SpellsStatement text s tokens rest → statement_depth s ≤ depth → begins_with ElseKeyword rest ≡ false → inner tokens ≡ Some (s, rest)) where
@@ -85,19 +86,19 @@ module _ (text : List ℕ) where
     at_brace zero start end close rest e h = absurd (omega arith)
     at_brace (suc n) start end close rest e h = when_false _ (begins_other Semicolon e brace_no_semicolon) (when_true _ (begins_gives e) refl)
 
-    behind_gives : (n start end : ℕ) (s : Statement) (ss : Statements) (behind close rest : List Token) → ((ss ≡ no_statement) × (behind ≡ close)) ⊎ Follows ss behind close → Takes RightBrace start end close rest → ((more : List Token) → SpellsStatements text ss more close → length more < n → statements_at text inner n more ≡ Some (ss, close)) → length behind ≤ n → behind_statement (statements_at text inner n) (Some (s, behind)) ≡ Some (statement_and s ss, close)
-    behind_gives n start end s ss behind close rest (inl p) e f h =
+    after_gives : (n start end : ℕ) (s : Statement) (ss : Statements) (after close rest : List Token) → ((ss ≡ no_statement) × (after ≡ close)) ⊎ Follows ss after close → Takes RightBrace start end close rest → ((more : List Token) → SpellsStatements text ss more close → length more < n → statements_at text inner n more ≡ Some (ss, close)) → length after ≤ n → after_statement (statements_at text inner n) (Some (s, after)) ≡ Some (statement_and s ss, close)
+    after_gives n start end s ss after close rest (inl p) e f h =
         when_true _ (begins_gives (p.1 ∙ e)) (λ i. Some (statement_and s (sym p.0 i), p.1 i))
-    behind_gives n start end s ss behind close rest (inr p) e f h =
+    after_gives n start end s ss after close rest (inr p) e f h =
         when_false _ (begins_other RightBrace p.semicolon.taken semicolon_no_brace) (when_true _ (begins_gives p.semicolon.taken) (ap (with_statement s) (ap (statements_at text inner n) (rest_gives p.semicolon.taken) ∙ f p.more p.spelled (omega (arith, any_shorter p.semicolon)))))
 
-    at_statement : (n start end : ℕ) (s : Statement) (ss : Statements) (first behind close rest : List Token) → IsPathStatement s → SpellsStatement text s first behind → SpellsBehind text ss behind close → statement_depth s ≤ depth → Takes RightBrace start end close rest → ((m : ℕ) (more : List Token) → SpellsStatements text ss more close → length more < m → statements_at text inner m more ≡ Some (ss, close)) → length first < n → statements_at text inner n first ≡ Some (statement_and s ss, close)
-    at_statement zero start end s ss first behind close rest h spelled more d e f short = absurd (omega arith)
-    at_statement (suc n) start end s ss first behind close rest h spelled more d e f short =
-        let begins : Starts first = starts s first behind h spelled in
-        let read : inner first ≡ Some (s, behind) = complete s first behind h spelled d (no_else_behind ss behind close rest start end more e) in
-        let shorter : length behind ≤ n = omega (arith, statement_shorter text s first behind spelled) in
-        when_false _ begins.semicolon (when_false _ begins.brace (ap (behind_statement (statements_at text inner n)) read ∙ behind_gives n start end s ss behind close rest (follows ss behind close more) e (f n) shorter))
+    at_statement : (n start end : ℕ) (s : Statement) (ss : Statements) (first after close rest : List Token) → IsPathStatement s → SpellsStatement text s first after → SpellsAfter text ss after close → statement_depth s ≤ depth → Takes RightBrace start end close rest → ((m : ℕ) (more : List Token) → SpellsStatements text ss more close → length more < m → statements_at text inner m more ≡ Some (ss, close)) → length first < n → statements_at text inner n first ≡ Some (statement_and s ss, close)
+    at_statement zero start end s ss first after close rest h spelled more d e f short = absurd (omega arith)
+    at_statement (suc n) start end s ss first after close rest h spelled more d e f short =
+        let begins : Starts first = starts s first after h spelled in
+        let read : inner first ≡ Some (s, after) = complete s first after h spelled d (no_else_after ss after close rest start end more e) in
+        let shorter : length after ≤ n = omega (arith, statement_shorter text s first after spelled) in
+        when_false _ begins.semicolon (when_false _ begins.brace (ap (after_statement (statements_at text inner n)) read ∙ after_gives n start end s ss after close rest (follows ss after close more) e (f n) shorter))
 
     statements_give : (ss : Statements) (n start end : ℕ) (tokens close rest : List Token) → ArePathStatements ss → SpellsStatements text ss tokens close → statements_depth ss ≤ depth → Takes RightBrace start end close rest → length tokens < n → statements_at text inner n tokens ≡ Some (ss, close)
     statements_give no_statement n start end tokens close rest h spelled d e short =

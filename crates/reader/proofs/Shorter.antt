@@ -1,4 +1,4 @@
--- What is read takes tokens: fewer are left behind a statement or a block than stood before it.
+-- What is read takes tokens: fewer are left after a statement or a block than stood before it.
 use Rattle.std.proofs.Common.{◌≡◌, ℕ, ◌<◌, length, List, arith}
 use Rattle.std.specs.Prelude.{Some}
 use Rattle.lexer.specs.declared.token.Token.{Token}

@@ -8,7 +8,8 @@ use Rattle.tree.specs.Syntax.{Identifier, Expression, name_expression, selector_
 use Rattle.tree.specs.Depth.{expression_depth, expressions_depth}
 use Rattle.meaning.specs.Grammar.{TakesAny, SpellsName, SpellsExpression, SpellsStatement, expression_end}
 use Rattle.meaning.specs.FirstPath.{IsMaker, IsOneMaker, IsPair, IsPlainCall, IsBareCall}
-use Rattle.reader.specs.Reading.{same_kind, take}
+use Rattle.lexer.specs.Spelling.{same_kind}
+use Rattle.reader.specs.Reading.{take}
 use Rattle.reader.specs.Reader.{evaluated, define_at, simple_at, defer_at, return_at}
 use Rattle.reader.proofs.Taken.{step, when_true, when_false, only_true, take_gives, take_any, begins_gives, begins_other, name_gives, span_is}
 use Rattle.reader.proofs.Calls.{call_gives, bare_call_gives, maker_gives, maker_depth}
@@ -18,7 +19,7 @@ unfolding same_kind
 not_comma = refl
 
 module _ (text : List ℕ) where
-  define_gives : (a b : Identifier) (e : Expression) (span : Span) {more second behind sign first rest : List Token} → IsMaker e → TakesAny Comma more second → SpellsName text b second behind → behind ≡ sign → TakesAny Define sign first → SpellsExpression text e first rest → span.start ≡ a.span.start → span.end ≡ expression_end e → define_at text a more ≡ Some (define_statement (a ∷ (b ∷ [])) (expression_and e no_expression) span, rest)
+  define_gives : (a b : Identifier) (e : Expression) (span : Span) {more second after sign first rest : List Token} → IsMaker e → TakesAny Comma more second → SpellsName text b second after → after ≡ sign → TakesAny Define sign first → SpellsExpression text e first rest → span.start ≡ a.span.start → span.end ≡ expression_end e → define_at text a more ≡ Some (define_statement (a ∷ (b ∷ [])) (expression_and e no_expression) span, rest)
   unfolding define_at
   define_gives a b e span {first = first} {rest = rest} h comma second p sign s from to =
       step _ (take_any comma) (step _ (name_gives text b second) (step _ (ap (take Define) p ∙ take_any sign) (step _ (maker_gives text e first rest h s) (λ i. Some (define_statement (a ∷ (b ∷ [])) (expression_and e no_expression) (span_is span from to i), rest)))))

@@ -7,6 +7,7 @@ use Rattle.lexer.specs.declared.token.Token.{Token}
 use Rattle.lexer.specs.declared.token.TokenKind.TheVariants.{PackageKeyword, Semicolon}
 use Rattle.tree.specs.Syntax.{SourceFile}
 use Rattle.tree.specs.Depth.{file_depth}
+use Rattle.meaning.specs.declared.TheConstants.{MOST_DEPTH}
 use Rattle.meaning.specs.Grammar.{SpellsFile}
 use Rattle.meaning.specs.FirstPath.{HasPathShape}
 use Rattle.reader.specs.Reading.{take}
@@ -16,9 +17,9 @@ use Rattle.reader.proofs.Expressions.{name_sound}
 use Rattle.reader.proofs.Functions.{import_sound, functions_sound}
 
 abbrev IsReadFile : List ℕ → List Token → SourceFile → Type 0
-IsReadFile text tokens file = SpellsFile text file tokens × (file_depth file ≤ 200) × HasPathShape file
+IsReadFile text tokens file = SpellsFile text file tokens × (file_depth file ≤ MOST_DEPTH) × HasPathShape file
 
-pub sound : (text : List ℕ) (tokens : List Token) (file : SourceFile) → file_at text tokens ≡ Some file → SpellsFile text file tokens × (file_depth file ≤ 200) × HasPathShape file
+pub sound : (text : List ℕ) (tokens : List Token) (file : SourceFile) → file_at text tokens ≡ Some file → SpellsFile text file tokens × (file_depth file ≤ MOST_DEPTH) × HasPathShape file
 unfolding file_at
 sound text tokens file e =
     option_and_then_some _ (take PackageKeyword tokens) file e λ word word-read word-then.

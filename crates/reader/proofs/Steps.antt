@@ -7,7 +7,8 @@ use Rattle.lexer.specs.contracts.token.TokenKind.{the_type}
 use Rattle.lexer.specs.declared.token.Token.{Token}
 use Rattle.lexer.specs.declared.token.TokenKind.{TokenKind}
 use Rattle.meaning.specs.Grammar.{Takes, TakesAny}
-use Rattle.reader.specs.Reading.{same_kind, begins_with, take}
+use Rattle.lexer.specs.Spelling.{same_kind}
+use Rattle.reader.specs.Reading.{begins_with, take}
 use Rattle.reader.specs.Reader.{only_if, rest_of}
 
 -- what was given has the properties of what is known of it

@@ -10,7 +10,8 @@ use Rattle.lexer.specs.declared.token.TokenKind.TheVariants.{Identifier as ident
 use Rattle.tree.specs.Syntax.{Identifier}
 use Rattle.meaning.specs.Scopes.{same_text}
 use Rattle.meaning.specs.Grammar.{Takes, TakesAny, SpellsName}
-use Rattle.reader.specs.Reading.{◌>>=◌, same_kind, begins_with, take}
+use Rattle.lexer.specs.Spelling.{same_kind}
+use Rattle.reader.specs.Reading.{◌>>=◌, begins_with, take}
 use Rattle.reader.specs.Reader.{name_of, name_at, only_if, rest_of}
 use Rattle.tree.specs.declared.span.Span.{Span}
 use Rattle.meaning.proofs.SameNames.{same_text_of}
@@ -18,7 +19,7 @@ use Rattle.meaning.proofs.SameNames.{same_text_of}
 abbrev pub token_of : TokenKind → ℕ → ℕ → Token
 token_of kind start end = record { kind = kind; start = start; end = end }
 
--- a step that succeeds, and what comes behind it
+-- a step that succeeds, and what comes after it
 pub step : {A B : Type 0} {o : Option A} {x : A} (f : A → Option B) {r : Option B} → o ≡ Some x → f x ≡ r → (o >>= f) ≡ r
 step f e h = ap (λ o. o >>= f) e ∙ h
 

@@ -1,8 +1,7 @@
--- Reading from a list of tokens: what was read and the tokens behind it, or nothing where the tokens are
+-- Reading from a list of tokens: what was read and the tokens after it, or nothing where the tokens are
 -- not of the wanted form.
 use Rattle.std.specs.Prelude.{Bool, false, if◌then◌else◌, List, [], ◌∷◌, Option, Some, None, option_and_then}
-use denote.Enum.Bare.{sameb}
-use Rattle.lexer.specs.contracts.token.TokenKind.{the_type}
+use Rattle.lexer.specs.Spelling.{same_kind}
 use Rattle.lexer.specs.declared.token.Token.{Token}
 use Rattle.lexer.specs.declared.token.TokenKind.{TokenKind}
 
@@ -12,10 +11,6 @@ Read A = Option (A × List Token)
 infixl 10 ◌>>=◌
 abbrev pub ◌>>=◌ : {A B : Type 0} → Option A → (A → Option B) → Option B
 o >>= f = option_and_then f o
-
--- two kinds are the same
-unfoldable pub same_kind : TokenKind → TokenKind → Bool
-same_kind a b = sameb the_type a b
 
 -- a token of this kind stands first
 abbrev pub begins_with : TokenKind → List Token → Bool

@@ -8,21 +8,22 @@ ghost use Rattle.lexer.specs.declared.token.Token.{Token};
 ghost use Rattle.tree.specs.Syntax.{SourceFile};
 ghost use Rattle.tree.specs.Depth.{file_depth};
 ghost use Rattle.meaning.specs.Grammar.{SpellsFile};
+ghost use Rattle.meaning.specs.declared.TheConstants.{MOST_DEPTH};
 ghost use Rattle.meaning.specs.FirstPath.{HasPathShape};
 ghost use Rattle.reader.specs.Reader.{file_at};
 
-/// What is read is spelled by the tokens, has the path's shape and is at most 200 deep.
+/// What is read is spelled by the tokens, has the path's shape and is at most `MOST_DEPTH` deep.
 pub fn reads_what_is_spelled()
     ensures { (text : List ℕ) (tokens : List Token) (file : SourceFile)
         → file_at text tokens ≡ Some file
-        → SpellsFile text file tokens × (file_depth file ≤ 200) × HasPathShape file }
+        → SpellsFile text file tokens × (file_depth file ≤ MOST_DEPTH) × HasPathShape file }
 {}
 
-/// What is spelled by the tokens, has the path's shape and is at most 200 deep is read.
+/// What is spelled by the tokens, has the path's shape and is at most `MOST_DEPTH` deep is read.
 pub fn reads_all_that_is_spelled()
     ensures { (text : List ℕ) (tokens : List Token) (file : SourceFile)
         → SpellsFile text file tokens
-        → file_depth file ≤ 200
+        → file_depth file ≤ MOST_DEPTH
         → HasPathShape file
         → file_at text tokens ≡ Some file }
 {}

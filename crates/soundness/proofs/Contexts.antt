@@ -23,6 +23,41 @@ below-made contexts n state c b parents_in ne (made_from d p e h) =
     let earlier = parents_in d p parent in
     made_from d p parent (below-made contexts n state c p parents_in (λ q. omega (arith, q, earlier)) h)
 
+-- where no context was made from another, one becomes done alone
+module _ (old : ℕ → ContextState) (a : ℕ) (alone : (b p : ℕ) → (old b).parent ≡ Some p → ⊥) where
+  abbrev pub one_done : ℕ → ContextState
+  one_done = put_at old a (record (old a) { ended = true })
+
+  below_itself : (b : ℕ) → IsBelow old a b → b ≡ a
+  below_itself b itself = refl
+  below_itself b (made_from c p e h) = absurd (alone c p e)
+
+  same_parent : (b : ℕ) → (b ≡ a) ⊎ (b ≡ a → ⊥) → ((one_done b).parent ≡ (old b).parent) × ((one_done b).timed ≡ (old b).timed)
+  same_parent b (inl q) =
+      (ap (λ n. (one_done n).parent) q ∙ ap (λ x. x.parent) (put_at-same old a (record (old a) { ended = true })) ∙ ap (λ n. (old n).parent) (sym q), ap (λ n. (one_done n).timed) q ∙ ap (λ x. x.timed) (put_at-same old a (record (old a) { ended = true })) ∙ ap (λ n. (old n).timed) (sym q))
+  same_parent b (inr n) =
+      (ap (λ x. x.parent) (put_at-other old a (record (old a) { ended = true }) b n), ap (λ x. x.timed) (put_at-other old a (record (old a) { ended = true }) b n))
+
+  done_at : (b : ℕ) → b ≡ a → (one_done b).ended ≡ true
+  done_at b q = ap (λ n. (one_done n).ended) q ∙ ap (λ x. x.ended) (put_at-same old a (record (old a) { ended = true }))
+
+  stays_done : (b : ℕ) → (old b).ended ≡ true → (b ≡ a) ⊎ (b ≡ a → ⊥) → (one_done b).ended ≡ true
+  stays_done b h (inl q) = done_at b q
+  stays_done b h (inr n) = ap (λ x. x.ended) (put_at-other old a (record (old a) { ended = true }) b n) ∙ h
+
+  other_same : (b : ℕ) → (IsBelow old a b → ⊥) → (b ≡ a) ⊎ (b ≡ a → ⊥) → (one_done b).ended ≡ (old b).ended
+  other_same b h (inl q) = absurd (h (subst (λ n. IsBelow old a n) (sym q) itself))
+  other_same b h (inr n) = ap (λ x. x.ended) (put_at-other old a (record (old a) { ended = true }) b n)
+
+  pub ends_alone : Ends old a one_done
+  ends_alone = record {
+    parents = λ b. (same_parent b (cases_eq b a)).0;
+    timed = λ b. (same_parent b (cases_eq b a)).1;
+    below = λ b h. done_at b (below_itself b h);
+    stays = λ b h. stays_done b h (cases_eq b a);
+    others = λ b h. other_same b h (cases_eq b a);
+  }
+
 -- The function of each cancel function that was called has ended its context and all below it. Each address
 -- that is named is one that was given out.
 pub record IsSound (contexts : ℕ → ContextState) (context_count : ℕ) (cancels : ℕ → CancelState) (cancel_count : ℕ) (cells : ℕ → Value) : Type 0 where

@@ -13,7 +13,7 @@ event_at at event = record { at = at; order = 0; event = event }
 
 abbrev variable : List ℕ → ℕ → ℕ → ℕ → ℕ → Local
 variable text at block from to =
-    record { text = text; at = at; place = 1; block = block; from = from; to = to }
+    record { text = text; at = at; index = 1; block = block; from = from; to = to }
 
 pub missing_fault : IsFaultOf missing record { offset = 112; finding = not_called; name = codes "cancel" }
 missing_fault =

@@ -6,15 +6,16 @@ use Rattle.tree.specs.Syntax.{Function}
 use Rattle.meaning.specs.Scopes.{Local, same_local}
 use Rattle.meaning.specs.Code.{Event, other, obtains, calls, defers_call, returns_here, Occurrence, Code, cancels_of, body_code}
 use Rattle.meaning.specs.Lists.{Exit, stopped, Lists, Reaches}
-use Rattle.meaning.specs.Classes.{Class, unset, opened, safe, change, class_behind, class_after}
+use Rattle.meaning.specs.Classes.{Class, unset, opened, safe, change, class_from, class_after}
 use Rattle.meaning.specs.Faults.{most_tracked, IsFaultOf, at_binding, at_return, Fault}
 use Rattle.meaning.specs.World.{Value, nothing, cancel_function, Saved, saved_call, CancelState, Stage, runs, exits, Frame, World, put_at, in_cell, held, IsEarlier, made, obtaining}
 use Rattle.meaning.specs.Steps.{Moves, at_code}
 use Rattle.meaning.proofs.Membership.{contains_here, contains_there, contains_cases, contains_nil}
 use Rattle.meaning.proofs.SameNames.{same_local_itself}
 use Rattle.soundness.proofs.Locals.{same_local-swap}
-use Rattle.soundness.proofs.Simulation.{simulates, stops-behind_move}
-use Rattle.soundness.proofs.Sources.{IsSourced, AreSourced, move_sourced}
+use Rattle.soundness.proofs.Simulation.{simulates, stops-after_move}
+use Rattle.soundness.proofs.EachEvent.{move_keeps}
+use Rattle.soundness.proofs.Sources.{IsSourced, AreSourced}
 use Rattle.soundness.proofs.Contexts.{put_at-same, put_at-other, IsSoundWorld, more_cancels, older_stays}
 
 -- How a frame's owed cancel function is safe: it was called; or its call is saved; or it is in the newest
@@ -28,15 +29,15 @@ pub data IsSettled (cs : List Local) (cancels : ℕ → CancelState) (cells : �
 saved-inj : (x y : Value) → saved_call x ≡ saved_call y → x ≡ y
 saved-inj x y e = cc
 
--- the classes behind one more event
-pub class_behind-push : (v : Local) (k : Class) (t : List Occurrence) (o : Occurrence) → class_behind v k (t ++ o ∷ []) ≡ change v o.event (class_behind v k t)
-class_behind-push v k [] o = refl
-class_behind-push v k (p ∷ t) o = class_behind-push v (change v p.event k) t o
+-- the classes after one more event
+pub class_from-push : (v : Local) (k : Class) (t : List Occurrence) (o : Occurrence) → class_from v k (t ++ o ∷ []) ≡ change v o.event (class_from v k t)
+class_from-push v k [] o = refl
+class_from-push v k (p ∷ t) o = class_from-push v (change v p.event k) t o
 
 -- an event that leaves a variable's class
 keeps_open : (v : Local) (t : List Occurrence) (o : Occurrence) (e : Event) → o.event ≡ e → change v e opened ≡ opened → class_after v t ≡ opened → class_after v (t ++ o ∷ []) ≡ opened
 keeps_open v t o e is_event stays was =
-    class_behind-push v unset t o ∙ ap (λ x. change v x (class_after v t)) is_event ∙ ap (change v e) was ∙ stays
+    class_from-push v unset t o ∙ ap (λ x. change v x (class_after v t)) is_event ∙ ap (change v e) was ∙ stays
 
 module _ (function : Function) (quiet : (fault : Fault) → IsFaultOf function fault → ⊥) (few : length (cancels_of function) ≤ most_tracked) where
   abbrev cs : List Local
@@ -64,16 +65,16 @@ module _ (function : Function) (quiet : (fault : Fault) → IsFaultOf function f
     pub sound : IsSoundWorld w
     pub frames : (g : ℕ) (f : Frame) (others : List Frame) → w.stacks g ≡ f ∷ others → (g ≡ 0) × (others ≡ []) × IsFineIn w f
 
-  -- the frames behind a step of one goroutine
+  -- the frames after a step of one goroutine
   module _ (w after : World) (g : ℕ) (f : Frame) (others : List Frame) (at : w.stacks g ≡ f ∷ others) (k : Keeps w) where
-    pub frames_behind : (next : Frame) → IsFineIn after next → (h : ℕ) (x : Frame) (xs : List Frame) → put_at w.stacks g (next ∷ others) h ≡ x ∷ xs → (h ≡ g) ⊎ (h ≡ g → ⊥) → (h ≡ 0) × (xs ≡ []) × IsFineIn after x
-    frames_behind next fine h x xs e (inl p) =
+    pub frames_after : (next : Frame) → IsFineIn after next → (h : ℕ) (x : Frame) (xs : List Frame) → put_at w.stacks g (next ∷ others) h ≡ x ∷ xs → (h ≡ g) ⊎ (h ≡ g → ⊥) → (h ≡ 0) × (xs ≡ []) × IsFineIn after x
+    frames_after next fine h x xs e (inl p) =
         let here = k.frames g f others at in
         let same : next ∷ others ≡ x ∷ xs = sym (put_at-same w.stacks g (next ∷ others)) ∙ ap (put_at w.stacks g (next ∷ others)) (sym p) ∙ e in
         let head : next ≡ x = cc in
         let tail : others ≡ xs = cc in
         (p ∙ here.0, sym tail ∙ here.1, subst (IsFineIn after) head fine)
-    frames_behind next fine h x xs e (inr n) =
+    frames_after next fine h x xs e (inr n) =
         let here = k.frames g f others at in
         let there = k.frames h x xs (sym (put_at-other w.stacks g (next ∷ others) h n) ∙ e) in
         absurd (n (there.0 ∙ sym here.0))
@@ -88,18 +89,18 @@ module _ (function : Function) (quiet : (fault : Fault) → IsFaultOf function f
         let there = k.frames h x xs (sym (put_at-other w.stacks g others h n) ∙ e) in
         absurd (n (there.0 ∙ sym here.0))
 
-  -- behind a move, where the code goes on
+  -- after a move, where the code goes on
   stage_silent : (t : List Occurrence) (c d : Code) → Moves c None d → IsAt t (runs c) → IsAt t (runs d)
   stage_silent t c d m (lists, sourced) =
-      (λ u x l. lists u x (simulates c d None u x m l), (move_sourced cs c d None m sourced).1)
+      (λ u x l. lists u x (simulates c d None u x m l), (move_keeps (IsSourced cs) c d None m sourced).1)
 
   stage_event : (t : List Occurrence) (c d : Code) (o : Occurrence) → Moves c (Some o) d → IsAt t (runs c) → IsAt (t ++ o ∷ []) (runs d)
   stage_event t c d o m (lists, sourced) =
-      (λ u x l. subst (λ r. Lists (body_code function) r x) (sym (append_assoc t (o ∷ []) u)) (lists (o ∷ u) x (simulates c d (Some o) u x m l)), (move_sourced cs c d (Some o) m sourced).1)
+      (λ u x l. subst (λ r. Lists (body_code function) r x) (sym (append_assoc t (o ∷ []) u)) (lists (o ∷ u) x (simulates c d (Some o) u x m l)), (move_keeps (IsSourced cs) c d (Some o) m sourced).1)
 
   -- the event of a move can come next in the body
   reached : (t : List Occurrence) (c d : Code) (o : Occurrence) → Moves c (Some o) d → IsAt t (runs c) → Reaches (body_code function) t o
-  reached t c d o m (lists, sourced) = lists (o ∷ []) stopped (stops-behind_move c d o m)
+  reached t c d o m (lists, sourced) = lists (o ∷ []) stopped (stops-after_move c d o m)
 
   -- how a function stays safe
   module _ (cancels after : ℕ → CancelState) (cells cells' : ℕ → Value) (saved saved' : List Saved) (newest newest' : Local → Option ℕ) (t t' : List Occurrence) (a : ℕ) (stays : (cancels a).called ≡ true → (after a).called ≡ true) (keeps : Contains saved (saved_call (cancel_function a)) → IsSettled cs after cells' saved' newest' [] t' a) (holds : (v : Local) (k : ℕ) → Contains cs v → class_after v t ≡ opened → newest v ≡ Some k → cells k ≡ cancel_function a → IsSettled cs after cells' saved' newest' [] t' a) where
@@ -131,15 +132,15 @@ module _ (function : Function) (quiet : (fault : Fault) → IsFaultOf function f
   }
 
   -- a maker's call
-  module _ (w : World) (f : Frame) (c d : Code) (o : Occurrence) (v : Local) (place : ℕ) (parent : Option ℕ) (timed : Bool) (earlier : IsEarlier w parent) (e : f.stage ≡ runs c) (m : Moves c (Some o) d) (obtains_v : o.event ≡ obtains v place) (s : IsSoundWorld w) (fine : IsFineIn w f) where
+  module _ (w : World) (f : Frame) (c d : Code) (o : Occurrence) (v : Local) (offset : ℕ) (parent : Option ℕ) (timed : Bool) (earlier : IsEarlier w parent) (e : f.stage ≡ runs c) (m : Moves c (Some o) d) (obtains_v : o.event ≡ obtains v offset) (s : IsSoundWorld w) (fine : IsFineIn w f) where
     before : IsAt fine.events (runs c)
     before = subst (IsAt fine.events) e fine.stage
 
-    behind : List Occurrence
-    behind = fine.events ++ o ∷ []
+    extended : List Occurrence
+    extended = fine.events ++ o ∷ []
 
     v_among : Contains cs v
-    v_among = subst (IsSourced cs) obtains_v (move_sourced cs c d (Some o) m before.1).0
+    v_among = subst (IsSourced cs) obtains_v (move_keeps (IsSourced cs) c d (Some o) m before.1).0
 
     new_newest : Local → Option ℕ
     new_newest = λ u. if same_local v u then Some w.cell_count else f.newest u
@@ -147,7 +148,7 @@ module _ (function : Function) (quiet : (fault : Fault) → IsFaultOf function f
     -- a variable that is open there is another one
     is_other : (u : Local) → Contains cs u → class_after u fine.events ≡ opened → same_local v u ≡ true → ⊥
     is_other u among open_there same =
-        quiet _ (at_binding u v place fine.events o few among (reached fine.events c d o m before) obtains_v same open_there)
+        quiet _ (at_binding u v offset fine.events o few among (reached fine.events c d o m before) obtains_v same open_there)
 
     abbrev Settled : ℕ → Type 0
     Settled a = IsSettled cs (more_cancels w parent timed earlier s) (put_at w.cells w.cell_count (cancel_function w.cancel_count)) f.saved (λ u. if same_local v u then Some w.cell_count else f.newest u) [] (fine.events ++ o ∷ []) a
@@ -156,11 +157,11 @@ module _ (function : Function) (quiet : (fault : Fault) → IsFaultOf function f
     still_held a u k among open_there cell value (inl same) = absurd (is_other u among open_there same)
     still_held a u k among open_there cell value (inr differ) =
         let within = fine.newest_in u k cell in
-        is_held u k among (keeps_open u fine.events o (obtains v place) obtains_v (ap (λ b. cond b opened opened) differ) open_there) (ap (λ b. cond b (Some w.cell_count) (f.newest u)) differ ∙ cell) (put_at-other w.cells w.cell_count (cancel_function w.cancel_count) k (λ p. omega (arith, p, within)) ∙ value)
+        is_held u k among (keeps_open u fine.events o (obtains v offset) obtains_v (ap (λ b. cond b opened opened) differ) open_there) (ap (λ b. cond b (Some w.cell_count) (f.newest u)) differ ∙ cell) (put_at-other w.cells w.cell_count (cancel_function w.cancel_count) k (λ p. omega (arith, p, within)) ∙ value)
 
     held_now : Settled w.cancel_count
     held_now =
-        let now_open : class_after v (fine.events ++ o ∷ []) ≡ opened = class_behind-push v unset fine.events o ∙ ap (λ x. change v x (class_after v fine.events)) obtains_v ∙ ap (λ b. cond b opened (class_after v fine.events)) (same_local_itself v) in
+        let now_open : class_after v (fine.events ++ o ∷ []) ≡ opened = class_from-push v unset fine.events o ∙ ap (λ x. change v x (class_after v fine.events)) obtains_v ∙ ap (λ b. cond b opened (class_after v fine.events)) (same_local_itself v) in
         is_held v w.cell_count v_among now_open (ap (λ b. cond b (Some w.cell_count) (f.newest v)) (same_local_itself v)) (put_at-same w.cells w.cell_count (cancel_function w.cancel_count))
 
     settled_now : (a : ℕ) → (w.cancel_count ≡ a) ⊎ Contains f.obtained a → Settled a
@@ -182,12 +183,12 @@ module _ (function : Function) (quiet : (fault : Fault) → IsFaultOf function f
       one_cell = λ u x same. ap (λ b. cond b (Some w.cell_count) (f.newest u)) (same_local-swap v u x same) ∙ ap (λ n. cond (same_local v x) (Some w.cell_count) n) (fine.one_cell u x same);
     }
 
-  -- the class of another variable, and of the same one, behind a call of v
-  behind_call : (v u : Local) (t : List Occurrence) (o : Occurrence) → o.event ≡ calls v → class_after u t ≡ opened → same_local v u ≡ false → class_after u (t ++ o ∷ []) ≡ opened
-  behind_call v u t o is_call was differ = keeps_open u t o (calls v) is_call (ap (λ b. cond b safe opened) differ) was
+  -- the class of another variable, and of the same one, after a call of v
+  after_call : (v u : Local) (t : List Occurrence) (o : Occurrence) → o.event ≡ calls v → class_after u t ≡ opened → same_local v u ≡ false → class_after u (t ++ o ∷ []) ≡ opened
+  after_call v u t o is_call was differ = keeps_open u t o (calls v) is_call (ap (λ b. cond b safe opened) differ) was
 
-  behind_defer : (v u : Local) (t : List Occurrence) (o : Occurrence) → o.event ≡ defers_call v → class_after u t ≡ opened → same_local v u ≡ false → class_after u (t ++ o ∷ []) ≡ opened
-  behind_defer v u t o is_defer was differ =
+  after_defer : (v u : Local) (t : List Occurrence) (o : Occurrence) → o.event ≡ defers_call v → class_after u t ≡ opened → same_local v u ≡ false → class_after u (t ++ o ∷ []) ≡ opened
+  after_defer v u t o is_defer was differ =
       keeps_open u t o (defers_call v) is_defer (ap (λ b. cond b safe opened) differ) was
 
   -- what a variable holds, in the words of its cell
@@ -204,20 +205,20 @@ module _ (function : Function) (quiet : (fault : Fault) → IsFaultOf function f
 
   -- the call of a variable's function
   module _ (w after : World) (f : Frame) (c d : Code) (o : Occurrence) (v : Local) (e : f.stage ≡ runs c) (m : Moves c (Some o) d) (calls_v : o.event ≡ calls v) (fine : IsFineIn w f) where
-    settled_behind_call : (cancels : ℕ → CancelState) (a : ℕ) → ((b : ℕ) → (w.cancels b).called ≡ true → (cancels b).called ≡ true) → (held w f v ≡ cancel_function a → (cancels a).called ≡ true) → Contains f.obtained a → IsSettled cs cancels w.cells f.saved f.newest [] (fine.events ++ o ∷ []) a
-    settled_behind_call cancels a stays called h =
+    settled_after_call : (cancels : ℕ → CancelState) (a : ℕ) → ((b : ℕ) → (w.cancels b).called ≡ true → (cancels b).called ≡ true) → (held w f v ≡ cancel_function a → (cancels a).called ≡ true) → Contains f.obtained a → IsSettled cs cancels w.cells f.saved f.newest [] (fine.events ++ o ∷ []) a
+    settled_after_call cancels a stays called h =
         stays_settled w.cancels cancels w.cells w.cells f.saved f.saved f.newest f.newest fine.events (fine.events ++ o ∷ []) a (stays a) (λ x. is_saved x) (λ u k among was cell value. by_name u k among was cell value (cases_Bool (same_local v u))) (fine.settled a h)
       where
         by_name : (u : Local) (k : ℕ) → Contains cs u → class_after u fine.events ≡ opened → f.newest u ≡ Some k → w.cells k ≡ cancel_function a → (same_local v u ≡ true) ⊎ (same_local v u ≡ false) → IsSettled cs cancels w.cells f.saved f.newest [] (fine.events ++ o ∷ []) a
         by_name u k among was cell value (inl same) = was_called (called (held_is w f v u k (cancel_function a) fine.one_cell same cell value))
         by_name u k among was cell value (inr differ) =
-            is_held u k among (behind_call v u fine.events o calls_v was differ) cell value
+            is_held u k among (after_call v u fine.events o calls_v was differ) cell value
 
     pub fine_calling : (cancels : ℕ → CancelState) → ((b : ℕ) → (w.cancels b).called ≡ true → (cancels b).called ≡ true) → ((a : ℕ) → held w f v ≡ cancel_function a → (cancels a).called ≡ true) → IsFine cancels w.cancel_count w.cells w.cell_count [] (at_code f d)
     fine_calling cancels stays called = record {
       events = fine.events ++ o ∷ [];
       stage = stage_event fine.events c d o m (subst (IsAt fine.events) e fine.stage);
-      settled = λ a h. settled_behind_call cancels a stays (called a) h;
+      settled = λ a h. settled_after_call cancels a stays (called a) h;
       saved_in = fine.saved_in;
       newest_in = fine.newest_in;
       one_cell = fine.one_cell;
@@ -225,26 +226,26 @@ module _ (function : Function) (quiet : (fault : Fault) → IsFaultOf function f
 
   -- the call of a variable's function is saved
   module _ (w : World) (f : Frame) (c d : Code) (o : Occurrence) (v : Local) (e : f.stage ≡ runs c) (m : Moves c (Some o) d) (defers_v : o.event ≡ defers_call v) (s : IsSoundWorld w) (fine : IsFineIn w f) where
-    settled_behind_defer : (a : ℕ) → Contains f.obtained a → IsSettled cs w.cancels w.cells (saved_call (held w f v) ∷ f.saved) f.newest [] (fine.events ++ o ∷ []) a
-    settled_behind_defer a h =
+    settled_after_defer : (a : ℕ) → Contains f.obtained a → IsSettled cs w.cancels w.cells (saved_call (held w f v) ∷ f.saved) f.newest [] (fine.events ++ o ∷ []) a
+    settled_after_defer a h =
         stays_settled w.cancels w.cancels w.cells w.cells f.saved (saved_call (held w f v) ∷ f.saved) f.newest f.newest fine.events (fine.events ++ o ∷ []) a (λ x. x) (λ x. is_saved (contains_there (saved_call (held w f v)) (saved_call (cancel_function a)) f.saved x)) (λ u k among was cell value. by_name u k among was cell value (cases_Bool (same_local v u))) (fine.settled a h)
       where
         by_name : (u : Local) (k : ℕ) → Contains cs u → class_after u fine.events ≡ opened → f.newest u ≡ Some k → w.cells k ≡ cancel_function a → (same_local v u ≡ true) ⊎ (same_local v u ≡ false) → IsSettled cs w.cancels w.cells (saved_call (held w f v) ∷ f.saved) f.newest [] (fine.events ++ o ∷ []) a
         by_name u k among was cell value (inl same) =
             is_saved (subst (λ x. Contains (saved_call (held w f v) ∷ f.saved) (saved_call x)) (held_is w f v u k (cancel_function a) fine.one_cell same cell value) (contains_here (saved_call (held w f v)) f.saved))
         by_name u k among was cell value (inr differ) =
-            is_held u k among (behind_defer v u fine.events o defers_v was differ) cell value
+            is_held u k among (after_defer v u fine.events o defers_v was differ) cell value
 
-    saved_behind : (a : ℕ) → (saved_call (held w f v) ≡ saved_call (cancel_function a)) ⊎ Contains f.saved (saved_call (cancel_function a)) → a < w.cancel_count
-    saved_behind a (inl q) = held_in w f v a s (saved-inj (held w f v) (cancel_function a) q)
-    saved_behind a (inr h) = fine.saved_in a h
+    saved_after : (a : ℕ) → (saved_call (held w f v) ≡ saved_call (cancel_function a)) ⊎ Contains f.saved (saved_call (cancel_function a)) → a < w.cancel_count
+    saved_after a (inl q) = held_in w f v a s (saved-inj (held w f v) (cancel_function a) q)
+    saved_after a (inr h) = fine.saved_in a h
 
     pub fine_saving : IsFineIn w (record f { stage = runs d; saved = saved_call (held w f v) ∷ f.saved })
     fine_saving = record {
       events = fine.events ++ o ∷ [];
       stage = stage_event fine.events c d o m (subst (IsAt fine.events) e fine.stage);
-      settled = settled_behind_defer;
-      saved_in = λ a h. saved_behind a (contains_cases (saved_call (held w f v)) (saved_call (cancel_function a)) f.saved h);
+      settled = settled_after_defer;
+      saved_in = λ a h. saved_after a (contains_cases (saved_call (held w f v)) (saved_call (cancel_function a)) f.saved h);
       newest_in = fine.newest_in;
       one_cell = fine.one_cell;
     }
@@ -262,19 +263,19 @@ module _ (function : Function) (quiet : (fault : Fault) → IsFaultOf function f
 
   -- a saved call runs
   module _ (w : World) (f : Frame) (value : Value) (left : List Saved) (e : f.stage ≡ exits) (saves : f.saved ≡ saved_call value ∷ left) (fine : IsFineIn w f) where
-    settled_behind_saved : (cancels : ℕ → CancelState) (a : ℕ) → ((b : ℕ) → (w.cancels b).called ≡ true → (cancels b).called ≡ true) → (value ≡ cancel_function a → (cancels a).called ≡ true) → Contains f.obtained a → IsSettled cs cancels w.cells left f.newest [] fine.events a
-    settled_behind_saved cancels a stays called h =
-        stays_settled w.cancels cancels w.cells w.cells f.saved left f.newest f.newest fine.events fine.events a (stays a) (λ x. by_place (contains_cases (saved_call value) (saved_call (cancel_function a)) left (subst (λ l. Contains l (saved_call (cancel_function a))) saves x))) (λ u k among was cell here. is_held u k among was cell here) (fine.settled a h)
+    settled_after_saved : (cancels : ℕ → CancelState) (a : ℕ) → ((b : ℕ) → (w.cancels b).called ≡ true → (cancels b).called ≡ true) → (value ≡ cancel_function a → (cancels a).called ≡ true) → Contains f.obtained a → IsSettled cs cancels w.cells left f.newest [] fine.events a
+    settled_after_saved cancels a stays called h =
+        stays_settled w.cancels cancels w.cells w.cells f.saved left f.newest f.newest fine.events fine.events a (stays a) (λ x. by_index (contains_cases (saved_call value) (saved_call (cancel_function a)) left (subst (λ l. Contains l (saved_call (cancel_function a))) saves x))) (λ u k among was cell here. is_held u k among was cell here) (fine.settled a h)
       where
-        by_place : (saved_call value ≡ saved_call (cancel_function a)) ⊎ Contains left (saved_call (cancel_function a)) → IsSettled cs cancels w.cells left f.newest [] fine.events a
-        by_place (inl q) = was_called (called (saved-inj value (cancel_function a) q))
-        by_place (inr x) = is_saved x
+        by_index : (saved_call value ≡ saved_call (cancel_function a)) ⊎ Contains left (saved_call (cancel_function a)) → IsSettled cs cancels w.cells left f.newest [] fine.events a
+        by_index (inl q) = was_called (called (saved-inj value (cancel_function a) q))
+        by_index (inr x) = is_saved x
 
     pub fine_popping : (cancels : ℕ → CancelState) → ((b : ℕ) → (w.cancels b).called ≡ true → (cancels b).called ≡ true) → ((a : ℕ) → value ≡ cancel_function a → (cancels a).called ≡ true) → IsFine cancels w.cancel_count w.cells w.cell_count [] (record f { saved = left })
     fine_popping cancels stays called = record {
       events = fine.events;
       stage = fine.stage;
-      settled = λ a h. settled_behind_saved cancels a stays (called a) h;
+      settled = λ a h. settled_after_saved cancels a stays (called a) h;
       saved_in = λ a h. fine.saved_in a (subst (λ l. Contains l (saved_call (cancel_function a))) (sym saves) (contains_there (saved_call value) (saved_call (cancel_function a)) left h));
       newest_in = fine.newest_in;
       one_cell = fine.one_cell;

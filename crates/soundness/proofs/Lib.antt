@@ -1,5 +1,6 @@
 pub mod Simulation
 pub mod Locals
+pub mod EachEvent
 pub mod Sources
 pub mod Contexts
 pub mod Invariant
@@ -7,3 +8,6 @@ pub mod Theorem
 pub mod ExampleRuns
 pub mod ExampleFaults
 pub mod Adequacy
+pub mod OwnNames
+pub mod LastReturn
+pub mod RunsOfLists

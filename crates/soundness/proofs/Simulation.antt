@@ -28,7 +28,7 @@ stopped≢leaves w e = cc
 leaves-inj : (w v : Way) → leaves w ≡ leaves v → w ≡ v
 leaves-inj w v e = cc
 
--- a code can stop at once behind a move
+-- a code can stop at once after a move
 pub simulates : (c d : Code) (o : Option Occurrence) (u : List Occurrence) (x : Exit) → Moves c o d → Lists d u x → Lists c (with_move o u) x
 simulates c d o u x happens (not_begun) = just_done
 simulates c d o u x happens (skipped) = done
@@ -53,6 +53,6 @@ simulates c d o u x (goes_past {w} {v} n) (left) = passes left (λ e. n (sym (le
 simulates c d o u x (gets_out {w}) (not_begun) = not_begun
 simulates c d o u x (gets_out {w}) (skipped) = passes skipped (falls≢leaves w)
 
--- the first of some events can come at once behind a move, where the code goes on
-pub stops-behind_move : (c d : Code) (o : Occurrence) → Moves c (Some o) d → Lists c (o ∷ []) stopped
-stops-behind_move c d o m = simulates c d (Some o) [] stopped m not_begun
+-- the first of some events can come at once after a move, where the code goes on
+pub stops-after_move : (c d : Code) (o : Occurrence) → Moves c (Some o) d → Lists c (o ∷ []) stopped
+stops-after_move c d o m = simulates c d (Some o) [] stopped m not_begun

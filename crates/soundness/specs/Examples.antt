@@ -1,14 +1,94 @@
--- Functions to try the definitions on: the trees of these texts, each behind the lines `package a`, an
--- empty one, `import "context"` and an empty one, so that `func` stands at offset 29.
-use Rattle.std.specs.Prelude.{ℕ, List, [], ◌∷◌, codes}
+-- Functions to try the definitions on: the trees of the texts above them. Each text stands after the lines
+-- `package a`, an empty one, `import "context"` and an empty one, so that `func` begins at offset 29.
+use Rattle.std.specs.Prelude.{ℕ, ◌+◌, List, [], ◌∷◌, length, codes}
 use Rattle.tree.specs.declared.span.Span.{Span}
-use Rattle.tree.specs.Syntax.{Identifier, name_expression, selector_expression, call_expression, no_expression, expression_and, define_statement, expression_statement, defer_statement, if_statement, return_statement, no_else, no_statement, statement_and, Function}
+use Rattle.tree.specs.Syntax.{Identifier, Expression, name_expression, selector_expression, call_expression, no_expression, expression_and, Statement, define_statement, expression_statement, defer_statement, if_statement, return_statement, no_else, statements_of, Parameter, Function}
 
 abbrev pub from_to : ℕ → ℕ → Span
 from_to start end = record { start = start; end = end }
 
-abbrev pub name_at : List ℕ → ℕ → ℕ → Identifier
-name_at text start end = record { text = text; span = from_to start end }
+-- what begins at this offset and is so long
+abbrev pub from_for : ℕ → ℕ → Span
+from_for start size = from_to start (start + size)
+
+-- a name that begins at this offset
+abbrev pub name : List ℕ → ℕ → Identifier
+name text at = record { text = text; span = from_for at (length text) }
+
+abbrev pub use_of : List ℕ → ℕ → Expression
+use_of text at = name_expression (name text at)
+
+-- `context.member`
+abbrev pub of_context : List ℕ → ℕ → Expression
+of_context member at = selector_expression (use_of (codes "context") at) (name member (at + 8))
+
+-- `callee()`
+abbrev pub bare_call : List ℕ → ℕ → Expression
+bare_call callee at =
+    call_expression (use_of callee at) no_expression (from_for at (length callee + 2))
+
+-- `callee()` as a statement
+abbrev pub call_alone : List ℕ → ℕ → Statement
+call_alone callee at = expression_statement (bare_call callee at)
+
+-- `callee(argument)` as a statement
+abbrev pub call : List ℕ → List ℕ → ℕ → Statement
+call callee argument at =
+    expression_statement (call_expression
+    (use_of callee at)
+    (expression_and (use_of argument (at + length callee + 1)) no_expression)
+    (from_for at (length callee + length argument + 2)))
+
+-- `context.WithCancel(p)`
+abbrev pub maker : ℕ → Expression
+maker at =
+    call_expression
+    (of_context (codes "WithCancel") at)
+    (expression_and (use_of (codes "p") (at + 19)) no_expression)
+    (from_for at 21)
+
+-- `first, second := context.WithCancel(p)`
+abbrev pub binding : List ℕ → List ℕ → ℕ → Statement
+binding first second at =
+    define_statement
+    (name first at ∷ name second (at + length first + 2) ∷ [])
+    (expression_and (maker (at + length first + length second + 6)) no_expression)
+    (from_for at (length first + length second + 27))
+
+-- `defer callee()`
+abbrev pub deferred : List ℕ → ℕ → Statement
+deferred callee at = defer_statement (bare_call callee (at + 6)) (from_for at (length callee + 8))
+
+-- `if condition { .. }`, where `}` is the last byte before `end`
+abbrev pub branch : List ℕ → List Statement → ℕ → ℕ → Statement
+branch condition inner at end =
+    if_statement
+    (use_of condition (at + 3))
+    (statements_of inner)
+    (from_to (at + length condition + 4) end)
+    no_else
+    (from_to at end)
+
+abbrev pub plain_return : ℕ → Statement
+plain_return at = return_statement no_expression (from_for at 6)
+
+-- `p context.Context`, the first parameter
+abbrev pub context_parameter : Parameter
+context_parameter = record { name = name (codes "p") 36; kind = of_context (codes "Context") 38 }
+
+-- the second parameter, of a named type
+abbrev pub parameter : List ℕ → List ℕ → Parameter
+parameter text kind = record { name = name text 55; kind = use_of kind (56 + length text) }
+
+-- `func f(..) { .. }`, from its braces on
+abbrev pub function : List Parameter → ℕ → ℕ → List Statement → Function
+function params brace end body = record {
+  name = name (codes "f") 34;
+  params = params;
+  body = statements_of body;
+  braces = from_to brace end;
+  span = from_to 29 end;
+}
 
 -- the call is saved for the return:
 --     func f(p context.Context, d int) {
@@ -18,7 +98,11 @@ name_at text start end = record { text = text; span = from_to start end }
 --     }
 abbrev pub calling : Function
 calling =
-    record { name = (name_at (codes "f") 34 35); params = (record { name = (name_at (codes "p") 36 37); kind = (selector_expression (name_expression (name_at (codes "context") 38 45)) (name_at (codes "Context") 46 53)) } ∷ (record { name = (name_at (codes "d") 55 56); kind = (name_expression (name_at (codes "int") 57 60)) } ∷ [])); body = statement_and (define_statement ((name_at (codes "ctx") 65 68) ∷ ((name_at (codes "cancel") 70 76) ∷ [])) (expression_and (call_expression (selector_expression (name_expression (name_at (codes "context") 80 87)) (name_at (codes "WithCancel") 88 98)) (expression_and (name_expression (name_at (codes "p") 99 100)) no_expression) (from_to 80 101)) no_expression) (from_to 65 101)) (statement_and (defer_statement (call_expression (name_expression (name_at (codes "cancel") 109 115)) no_expression (from_to 109 117)) (from_to 103 117)) (statement_and (expression_statement (call_expression (name_expression (name_at (codes "use") 119 122)) (expression_and (name_expression (name_at (codes "ctx") 123 126)) no_expression) (from_to 119 127))) no_statement)); braces = from_to 62 129; span = from_to 29 129 }
+    function (context_parameter ∷ parameter (codes "d") (codes "int") ∷ []) 62 129
+    (binding (codes "ctx") (codes "cancel") 65
+    ∷ deferred (codes "cancel") 103
+    ∷ call (codes "use") (codes "ctx") 119
+    ∷ [])
 
 -- nothing is called:
 --     func f(p context.Context, d int) {
@@ -27,7 +111,10 @@ calling =
 --     }
 abbrev pub missing : Function
 missing =
-    record { name = (name_at (codes "f") 34 35); params = (record { name = (name_at (codes "p") 36 37); kind = (selector_expression (name_expression (name_at (codes "context") 38 45)) (name_at (codes "Context") 46 53)) } ∷ (record { name = (name_at (codes "d") 55 56); kind = (name_expression (name_at (codes "int") 57 60)) } ∷ [])); body = statement_and (define_statement ((name_at (codes "ctx") 65 68) ∷ ((name_at (codes "cancel") 70 76) ∷ [])) (expression_and (call_expression (selector_expression (name_expression (name_at (codes "context") 80 87)) (name_at (codes "WithCancel") 88 98)) (expression_and (name_expression (name_at (codes "p") 99 100)) no_expression) (from_to 80 101)) no_expression) (from_to 65 101)) (statement_and (expression_statement (call_expression (name_expression (name_at (codes "use") 103 106)) (expression_and (name_expression (name_at (codes "ctx") 107 110)) no_expression) (from_to 103 111))) no_statement); braces = from_to 62 113; span = from_to 29 113 }
+    function (context_parameter ∷ parameter (codes "d") (codes "int") ∷ []) 62 113
+    (binding (codes "ctx") (codes "cancel") 65
+    ∷ call (codes "use") (codes "ctx") 103
+    ∷ [])
 
 -- a return stands before the call is saved:
 --     func f(p context.Context, b bool) {
@@ -40,7 +127,12 @@ missing =
 --     }
 abbrev pub late_defer : Function
 late_defer =
-    record { name = (name_at (codes "f") 34 35); params = (record { name = (name_at (codes "p") 36 37); kind = (selector_expression (name_expression (name_at (codes "context") 38 45)) (name_at (codes "Context") 46 53)) } ∷ (record { name = (name_at (codes "b") 55 56); kind = (name_expression (name_at (codes "bool") 57 61)) } ∷ [])); body = statement_and (define_statement ((name_at (codes "ctx") 66 69) ∷ ((name_at (codes "cancel") 71 77) ∷ [])) (expression_and (call_expression (selector_expression (name_expression (name_at (codes "context") 81 88)) (name_at (codes "WithCancel") 89 99)) (expression_and (name_expression (name_at (codes "p") 100 101)) no_expression) (from_to 81 102)) no_expression) (from_to 66 102)) (statement_and (if_statement (name_expression (name_at (codes "b") 107 108)) (statement_and (return_statement no_expression (from_to 113 119)) no_statement) (from_to 109 122) no_else (from_to 104 122)) (statement_and (defer_statement (call_expression (name_expression (name_at (codes "cancel") 130 136)) no_expression (from_to 130 138)) (from_to 124 138)) (statement_and (expression_statement (call_expression (name_expression (name_at (codes "use") 140 143)) (expression_and (name_expression (name_at (codes "ctx") 144 147)) no_expression) (from_to 140 148))) no_statement))); braces = from_to 63 150; span = from_to 29 150 }
+    function (context_parameter ∷ parameter (codes "b") (codes "bool") ∷ []) 63 150
+    (binding (codes "ctx") (codes "cancel") 66
+    ∷ branch (codes "b") (plain_return 113 ∷ []) 104 122
+    ∷ deferred (codes "cancel") 124
+    ∷ call (codes "use") (codes "ctx") 140
+    ∷ [])
 
 -- the call is made on one branch alone:
 --     func f(p context.Context, b bool) {
@@ -53,7 +145,11 @@ late_defer =
 --     }
 abbrev pub one_branch : Function
 one_branch =
-    record { name = (name_at (codes "f") 34 35); params = (record { name = (name_at (codes "p") 36 37); kind = (selector_expression (name_expression (name_at (codes "context") 38 45)) (name_at (codes "Context") 46 53)) } ∷ (record { name = (name_at (codes "b") 55 56); kind = (name_expression (name_at (codes "bool") 57 61)) } ∷ [])); body = statement_and (define_statement ((name_at (codes "ctx") 66 69) ∷ ((name_at (codes "cancel") 71 77) ∷ [])) (expression_and (call_expression (selector_expression (name_expression (name_at (codes "context") 81 88)) (name_at (codes "WithCancel") 89 99)) (expression_and (name_expression (name_at (codes "p") 100 101)) no_expression) (from_to 81 102)) no_expression) (from_to 66 102)) (statement_and (if_statement (name_expression (name_at (codes "b") 107 108)) (statement_and (expression_statement (call_expression (name_expression (name_at (codes "cancel") 113 119)) no_expression (from_to 113 121))) (statement_and (return_statement no_expression (from_to 124 130)) no_statement)) (from_to 109 133) no_else (from_to 104 133)) (statement_and (expression_statement (call_expression (name_expression (name_at (codes "use") 135 138)) (expression_and (name_expression (name_at (codes "ctx") 139 142)) no_expression) (from_to 135 143))) no_statement)); braces = from_to 63 145; span = from_to 29 145 }
+    function (context_parameter ∷ parameter (codes "b") (codes "bool") ∷ []) 63 145
+    (binding (codes "ctx") (codes "cancel") 66
+    ∷ branch (codes "b") (call_alone (codes "cancel") 113 ∷ plain_return 124 ∷ []) 104 133
+    ∷ call (codes "use") (codes "ctx") 135
+    ∷ [])
 
 -- another variable's function is called:
 --     func f(p context.Context) {
@@ -63,7 +159,11 @@ one_branch =
 --     }
 abbrev pub other_called : Function
 other_called =
-    record { name = (name_at (codes "f") 34 35); params = (record { name = (name_at (codes "p") 36 37); kind = (selector_expression (name_expression (name_at (codes "context") 38 45)) (name_at (codes "Context") 46 53)) } ∷ []); body = statement_and (define_statement ((name_at (codes "_") 58 59) ∷ ((name_at (codes "first") 61 66) ∷ [])) (expression_and (call_expression (selector_expression (name_expression (name_at (codes "context") 70 77)) (name_at (codes "WithCancel") 78 88)) (expression_and (name_expression (name_at (codes "p") 89 90)) no_expression) (from_to 70 91)) no_expression) (from_to 58 91)) (statement_and (define_statement ((name_at (codes "_") 93 94) ∷ ((name_at (codes "second") 96 102) ∷ [])) (expression_and (call_expression (selector_expression (name_expression (name_at (codes "context") 106 113)) (name_at (codes "WithCancel") 114 124)) (expression_and (name_expression (name_at (codes "p") 125 126)) no_expression) (from_to 106 127)) no_expression) (from_to 93 127)) (statement_and (expression_statement (call_expression (name_expression (name_at (codes "first") 129 134)) no_expression (from_to 129 136))) no_statement)); braces = from_to 55 138; span = from_to 29 138 }
+    function (context_parameter ∷ []) 55 138
+    (binding (codes "_") (codes "first") 58
+    ∷ binding (codes "_") (codes "second") 93
+    ∷ call_alone (codes "first") 129
+    ∷ [])
 
 -- the function is given the name `_`:
 --     func f(p context.Context, d int) {
@@ -72,4 +172,7 @@ other_called =
 --     }
 abbrev pub blank : Function
 blank =
-    record { name = (name_at (codes "f") 34 35); params = (record { name = (name_at (codes "p") 36 37); kind = (selector_expression (name_expression (name_at (codes "context") 38 45)) (name_at (codes "Context") 46 53)) } ∷ (record { name = (name_at (codes "d") 55 56); kind = (name_expression (name_at (codes "int") 57 60)) } ∷ [])); body = statement_and (define_statement ((name_at (codes "ctx") 65 68) ∷ ((name_at (codes "_") 70 71) ∷ [])) (expression_and (call_expression (selector_expression (name_expression (name_at (codes "context") 75 82)) (name_at (codes "WithCancel") 83 93)) (expression_and (name_expression (name_at (codes "p") 94 95)) no_expression) (from_to 75 96)) no_expression) (from_to 65 96)) (statement_and (expression_statement (call_expression (name_expression (name_at (codes "use") 98 101)) (expression_and (name_expression (name_at (codes "ctx") 102 105)) no_expression) (from_to 98 106))) no_statement); braces = from_to 62 108; span = from_to 29 108 }
+    function (context_parameter ∷ parameter (codes "d") (codes "int") ∷ []) 62 108
+    (binding (codes "ctx") (codes "_") 65
+    ∷ call (codes "use") (codes "ctx") 98
+    ∷ [])

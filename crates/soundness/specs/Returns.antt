@@ -1,12 +1,12 @@
 -- What shows that the definitions of runs are not empty: a run that comes to a return at which the frame
--- owes a cancel function.
+-- owes a cancel function. (Crate meaning, Runs.antt.)
 use Rattle.std.specs.Prelude.{ℕ}
 use Rattle.tree.specs.Syntax.{Function}
 use Rattle.meaning.specs.World.{Frame, World}
 use Rattle.meaning.specs.Steps.{start_of}
 use Rattle.meaning.specs.Runs.{Run, Owes, IsReturning, IsQuiet}
 
-pub record ComesToReturn (function : Function) (w : World) (f : Frame) : Type 0 where
+pub record HasOwingReturn (function : Function) (w : World) (f : Frame) : Type 0 where
   pub run : Run (start_of function) w
   pub returning : IsReturning w f
   pub owed : ℕ
@@ -14,8 +14,8 @@ pub record ComesToReturn (function : Function) (w : World) (f : Frame) : Type 0 
 
 -- some run comes to a quiet return
 abbrev pub HasQuietReturn : Function → Type 0
-HasQuietReturn function = (w : World) × (f : Frame) × ComesToReturn function w f × IsQuiet w f
+HasQuietReturn function = (w : World) × (f : Frame) × HasOwingReturn function w f × IsQuiet w f
 
 -- some run comes to a return that is not quiet
 abbrev pub HasLoudReturn : Function → Type 0
-HasLoudReturn function = (w : World) × (f : Frame) × ComesToReturn function w f × (IsQuiet w f → ⊥)
+HasLoudReturn function = (w : World) × (f : Frame) × HasOwingReturn function w f × (IsQuiet w f → ⊥)

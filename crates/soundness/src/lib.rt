@@ -1,18 +1,25 @@
-//! What a function without faults does in every run: a law over the definitions of crate `meaning`.
+//! What a function without faults does in every run: laws over the definitions of crate `meaning`.
 #![tactic(auto)]
 
 ghost use Rattle.tree.specs.Syntax.{Function};
 ghost use Rattle.std.specs.Prelude.{List, codes};
 ghost use Rattle.meaning.specs.Faults.{Fault, IsFaultOf, not_called, discarded};
-ghost use Rattle.meaning.specs.Code.{Code, Occurrence};
+ghost use Rattle.meaning.specs.Code.{Code, Occurrence, body_code};
+ghost use Rattle.meaning.specs.FirstPath.{HasPathNames};
 ghost use Rattle.meaning.specs.Lists.{Exit, Lists};
 ghost use Rattle.meaning.specs.Runs.{IsQuietFunction};
 ghost use Rattle.soundness.specs.Doings.{CanDo};
+ghost use Rattle.soundness.specs.Events.{HasRun};
 ghost use Rattle.soundness.specs.Examples.{calling, missing, late_defer, one_branch, other_called, blank};
 ghost use Rattle.soundness.specs.Returns.{HasQuietReturn, HasLoudReturn};
 
 /// In every run of a function without faults each return is quiet: each cancel function that the
 /// activation obtained was called, and its context is done with all that are below it.
+///
+/// A run goes as far as the machine has steps. It has none for a binding whose second name only assigns to
+/// a variable that is there already: of a function with such a binding the law says nothing of what comes
+/// after it. The law is of use for functions in which the second name of each binding declares its variable
+/// or is `_`, as in all functions of the first path.
 pub fn returns_are_quiet()
     ensures { (function : Function) → ((fault : Fault) → IsFaultOf function fault → ⊥) → IsQuietFunction function }
 {}
@@ -35,8 +42,19 @@ pub fn faults_exist()
     ensures blank { IsFaultOf blank record { offset = 65; finding = discarded; name = codes "WithCancel" } }
 {}
 
-/// The machine leaves no list out: each list of events that a code may go through is done by its moves,
-/// and what is left then fits the way that the list ends.
-pub fn lists_are_done()
+/// The moves of a code leave none of its lists of events out: each list that the code may go through is
+/// done by its moves, one after another, and what is left then fits the way that the list ends. This is
+/// said of code alone, and not of the machine's steps, of which some ask more than a move.
+pub fn moves_do_each_list()
     ensures { (c : Code) (t : List Occurrence) (x : Exit) → Lists c t x → CanDo c t x }
+{}
+
+/// The runs leave no list of events out: of a function that keeps the rules of the first path for names,
+/// each list of events that its body may go through is that of some run.
+pub fn runs_go_through_each_list()
+    ensures { (function : Function)
+        → HasPathNames function
+        → (t : List Occurrence) (x : Exit)
+        → Lists (body_code function) t x
+        → HasRun function t }
 {}

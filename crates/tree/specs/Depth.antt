@@ -19,7 +19,8 @@ abbrev mutual
   statement_depth (define_statement names values span) = suc (expressions_depth values)
   statement_depth (expression_statement e) = suc (expression_depth e)
   statement_depth (defer_statement e span) = suc (expression_depth e)
-  statement_depth (if_statement e ss braces otherwise span) = suc (max (expression_depth e) (max (statements_depth ss) (else_depth otherwise)))
+  statement_depth (if_statement e ss braces otherwise span) =
+      suc (max (expression_depth e) (max (statements_depth ss) (else_depth otherwise)))
   statement_depth (block_statement ss braces) = suc (statements_depth ss)
   statement_depth (return_statement es span) = suc (expressions_depth es)
 

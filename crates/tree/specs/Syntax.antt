@@ -1,10 +1,10 @@
--- The syntax of a file without the places in memory where the program keeps it. Two trees are the same
+-- The syntax of a file without the addresses at which the program keeps it. Two trees are the same
 -- tree exactly if their syntax is equal. Spans are offsets in bytes and belong to it.
 -- (The Go specification, from "Source file organization" to "Statements".)
 use Rattle.std.specs.Prelude.{ℕ, List, [], ◌∷◌}
 use Rattle.tree.specs.declared.span.Span.{Span}
 
--- a name, as it stands in one place
+-- a name, as it is written at one offset
 pub record Identifier : Type 0 where
   pub text : List ℕ
   pub span : Span
@@ -50,7 +50,7 @@ pub record Function : Type 0 where
   pub braces : Span
   pub span : Span
 
--- an import: the text between its path's quotes, and the place of the path's token
+-- an import: the text between its path's quotes, and the span of the path's token
 pub record ImportDeclaration : Type 0 where
   pub path : List ℕ
   pub span : Span

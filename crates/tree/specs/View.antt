@@ -29,10 +29,12 @@ expressions_syntax es = expressions_of (map expression_syntax es)
 
 unfoldable mutual
   pub statement_syntax : Stmt → Statement
-  statement_syntax (Define names values span) = define_statement (map identifier_syntax names.items) (expressions_syntax values.items) span
+  statement_syntax (Define names values span) =
+      define_statement (map identifier_syntax names.items) (expressions_syntax values.items) span
   statement_syntax (Evaluate e) = expression_statement (expression_syntax e)
   statement_syntax (Defer e span) = defer_statement (expression_syntax e) span
-  statement_syntax (If' e shape ss braces otherwise span) = if_statement (expression_syntax e) (row_statements ss) braces (else_syntax otherwise) span
+  statement_syntax (If' e shape ss braces otherwise span) =
+      if_statement (expression_syntax e) (row_statements ss) braces (else_syntax otherwise) span
   statement_syntax (Nested' shape ss braces) = block_statement (row_statements ss) braces
   statement_syntax (Return es span) = return_statement (expressions_syntax es.items) span
 
@@ -55,10 +57,20 @@ abbrev pub parameter_syntax : Param → Parameter
 parameter_syntax p = record { name = identifier_syntax p.name; kind = expression_syntax p.kind }
 
 abbrev pub function_syntax : Func → Function
-function_syntax f = record { name = identifier_syntax f.name; params = map parameter_syntax f.params.items; body = block_syntax f.body; braces = f.body.span; span = f.span }
+function_syntax f = record {
+  name = identifier_syntax f.name;
+  params = map parameter_syntax f.params.items;
+  body = block_syntax f.body;
+  braces = f.body.span;
+  span = f.span;
+}
 
 abbrev pub import_syntax : Import → ImportDeclaration
 import_syntax i = record { path = string_bytes i.path; span = i.span }
 
 abbrev pub file_syntax : File → SourceFile
-file_syntax f = record { package_name = identifier_syntax f.package_name; imports = map import_syntax f.imports.items; functions = map function_syntax f.functions.items }
+file_syntax f = record {
+  package_name = identifier_syntax f.package_name;
+  imports = map import_syntax f.imports.items;
+  functions = map function_syntax f.functions.items;
+}

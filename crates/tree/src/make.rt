@@ -1,4 +1,5 @@
-//! Nodes made of their parts, each with its syntax.
+//! Nodes made of their parts, each with its syntax. Those that take an allocator answer `AllocError` where memory was
+//! refused.
 
 ghost use Rattle.std.specs.Prelude.{◌≡◌, map, IfOk};
 ghost use Rattle.tree.specs.Syntax.{name_expression, selector_expression, call_expression, define_statement, expression_statement, defer_statement, if_statement, block_statement, return_statement, no_else, else_block};
@@ -18,7 +19,8 @@ pub fn name(identifier: Identifier) -> Expr
 
 /// `operand.name`.
 pub fn selector(alloc: Global, operand: Expr, name: Identifier) -> Result<Expr, AllocError>
-    ensures { IfOk result (λ e. expression_syntax e ≡ selector_expression (expression_syntax operand) (identifier_syntax name)) }
+    ensures { IfOk result (λ e. expression_syntax e
+        ≡ selector_expression (expression_syntax operand) (identifier_syntax name)) }
 {
     Ok(Expr::Selector(Box::new(alloc, operand)?, name))
 }
@@ -30,14 +32,16 @@ pub fn call(
     arguments: Vec<Expr>,
     span: Span,
 ) -> Result<Expr, AllocError>
-    ensures { IfOk result (λ e. expression_syntax e ≡ call_expression (expression_syntax callee) (expressions_syntax arguments.items) span) }
+    ensures { IfOk result (λ e. expression_syntax e
+        ≡ call_expression (expression_syntax callee) (expressions_syntax arguments.items) span) }
 {
     Ok(Expr::Call(Box::new(alloc, callee)?, arguments, span))
 }
 
 /// `names := values`.
 pub fn define(names: Vec<Identifier>, values: Vec<Expr>, span: Span) -> Stmt
-    ensures { statement_syntax result ≡ define_statement (map identifier_syntax names.items) (expressions_syntax values.items) span }
+    ensures { statement_syntax result
+        ≡ define_statement (map identifier_syntax names.items) (expressions_syntax values.items) span }
 {
     Stmt::Define(names, values, span)
 }
@@ -56,9 +60,10 @@ pub fn deferred(call: Expr, span: Span) -> Stmt
     Stmt::Defer(call, span)
 }
 
-/// `if condition body`, and what stands behind it.
+/// `if condition body`, and what stands after it.
 pub fn choice(condition: Expr, body: Block, otherwise: Else, span: Span) -> Stmt
-    ensures { statement_syntax result ≡ if_statement (expression_syntax condition) (block_syntax body) body.span (else_syntax otherwise) span }
+    ensures { statement_syntax result
+        ≡ if_statement (expression_syntax condition) (block_syntax body) body.span (else_syntax otherwise) span }
 {
     Stmt::If(condition, body, otherwise, span)
 }

@@ -1,6 +1,6 @@
 //! Places in a file, and the names that stand there.
 
-/// The bytes of a node: the offset of its first byte, and of the byte behind its last one.
+/// The bytes of a node: the offset of its first byte, and of the byte after its last one.
 #[derive(Clone, Copy, Debug, PartialEq, Eq)]
 pub struct Span {
     pub start: u32,

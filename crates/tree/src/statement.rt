@@ -21,7 +21,7 @@ pub enum Stmt {
     Return(Vec<Expr>, Span),
 }
 
-/// What stands behind an `if`'s block.
+/// What stands after an `if`'s block.
 #[derive(Debug, Drop)]
 #[cycle(statement)]
 pub enum Else {

@@ -1,6 +1,6 @@
 use Rattle.std.proofs.Common.{refl, append-nil}
 use Rattle.tree.proofs.Views.{statement_syntax-Define, statement_syntax-Evaluate, statement_syntax-Defer, statement_syntax-If, statement_syntax-Nested, statement_syntax-Return, else_syntax-Missing, else_syntax-Present}
-use Rattle.judge.proofs.Steps.{adds_two, adds_none, line_if_open}
+use Rattle.judge.proofs.Steps.{adds_two, adds_none, entry_if_open}
 use Rattle.judge.proofs.pass.+pass.Goals as goal
 
 pub after_statement-returns-in-Define-clause-classes : goal.after_statement-returns-in-Define-clause-classes
@@ -52,4 +52,4 @@ after_statement-returns-in_ok-report_open-in-Return-clause-classes t c = rw (c.i
 
 pub after_statement-returns-in_ok-report_open-in-Return-clause-found : goal.after_statement-returns-in_ok-report_open-in-Return-clause-found
 after_statement-returns-in_ok-report_open-in-Return-clause-found t c =
-    rw (c.in-Return.is, statement_syntax-Return, line_if_open) c.in_ok-report_open-in-Return.ensures
+    rw (c.in-Return.is, statement_syntax-Return, entry_if_open) c.in_ok-report_open-in-Return.ensures

@@ -1,5 +1,5 @@
 use Rattle.std.proofs.Common.{arith, sym, ◌∙◌}
-use Rattle.reader.specs.Reading.{same_kind}
+use Rattle.lexer.specs.Spelling.{same_kind}
 use Rattle.parser.proofs.Leading.{taken-first, taken-other, taken-none}
 use Rattle.parser.proofs.cursor.expect.Goals as goal
 

@@ -1,5 +1,5 @@
 use Rattle.std.proofs.Common.{sym, ◌∙◌}
-use Rattle.reader.specs.Reading.{same_kind}
+use Rattle.lexer.specs.Spelling.{same_kind}
 use Rattle.parser.proofs.Leading.{begins_with-first}
 use Rattle.parser.proofs.cursor.is_next.Goals as goal
 

@@ -14,15 +14,15 @@ returns-in_err-name c =
 
 pub returns-then-not-is_next : goal.returns-then-not-is_next
 returns-then-not-is_next c =
-    rw c.in_ok-push.ensures.items (is_last c.args.text.now c.loop-alloc.list.items c.loop-alloc.rest.now (as_arguments (arguments_at c.args.text.now c.args.tokens.now)) c.loop-alloc.invariant c.name.result (identifier_syntax c.in_ok-name.name) c.in_ok-name.behind.now c.name.ensures c.in_ok-name.ensures (sym c.is_next-in-loop-alloc.ensures ∙ c.if-not-is_next.true))
+    rw c.in_ok-push.ensures.items (is_last c.args.text.now c.loop-alloc.list.items c.loop-alloc.rest.now (as_arguments (arguments_at c.args.text.now c.args.tokens.now)) c.loop-alloc.invariant c.name.result (identifier_syntax c.in_ok-name.name) c.in_ok-name.after.now c.name.ensures c.in_ok-name.ensures (sym c.is_next-in-loop-alloc.ensures ∙ c.if-not-is_next.true))
 
 pub loop-alloc-smaller : goal.loop-alloc-smaller
 loop-alloc-smaller c =
-    omega (arith, name_at-shorter c.args.text.now c.loop-alloc.rest.now (identifier_syntax c.in_ok-name.name) c.in_ok-name.behind.now c.in_ok-name.ensures, rest_of-shorter c.in_ok-name.behind.now, ap length c.behind_first-rest.ensures)
+    omega (arith, name_at-shorter c.args.text.now c.loop-alloc.rest.now (identifier_syntax c.in_ok-name.name) c.in_ok-name.after.now c.in_ok-name.ensures, rest_of-shorter c.in_ok-name.after.now, ap length c.after_first-rest.ensures)
 
 pub loop-alloc-preserved : goal.loop-alloc-preserved
 loop-alloc-preserved c =
-    rw (c.in_ok-push.ensures.items, c.behind_first-rest.ensures) (goes_on c.args.text.now c.loop-alloc.list.items c.loop-alloc.rest.now (as_arguments (arguments_at c.args.text.now c.args.tokens.now)) c.loop-alloc.invariant c.name.result (identifier_syntax c.in_ok-name.name) c.in_ok-name.behind.now c.name.ensures c.in_ok-name.ensures (sym c.is_next-in-loop-alloc.ensures ∙ c.if-not-is_next.false))
+    rw (c.in_ok-push.ensures.items, c.after_first-rest.ensures) (goes_on c.args.text.now c.loop-alloc.list.items c.loop-alloc.rest.now (as_arguments (arguments_at c.args.text.now c.args.tokens.now)) c.loop-alloc.invariant c.name.result (identifier_syntax c.in_ok-name.name) c.in_ok-name.after.now c.name.ensures c.in_ok-name.ensures (sym c.is_next-in-loop-alloc.ensures ∙ c.if-not-is_next.false))
 
 pub returns : goal.returns
 returns c = is_done c.args.text.now c.loop-alloc.list.items c.loop-alloc.rest.now (as_arguments (arguments_at c.args.text.now c.args.tokens.now)) c.loop-alloc.invariant (sym c.is_next.ensures ∙ c.loop-alloc-test.false)

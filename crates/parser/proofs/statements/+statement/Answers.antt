@@ -3,7 +3,7 @@ use Rattle.std.proofs.lemmas.Result.{err_from_is_err_and}
 use Rattle.reader.specs.Reader.{if_at, else_at, block_at, as_block, statement_at, statements_at}
 use Rattle.parser.proofs.Choice.{fails_too}
 use Rattle.parser.proofs.Steps.{at_name, at_defer, at_defer-shallow, at_if, at_if-shallow, at_return, at_block}
-use Rattle.parser.proofs.Blocks.{starts, past_semicolon, ends_here, fails_inside, ends_behind, fails_behind, goes_on, runs_out}
+use Rattle.parser.proofs.Blocks.{starts, past_semicolon, ends_here, fails_inside, ends_after, fails_after, goes_on, runs_out}
 use Rattle.parser.proofs.statements.+statement.Goals as goal
 
 pub choice-returns-in_err-otherwise : goal.choice-returns-in_err-otherwise
@@ -58,7 +58,7 @@ statements-loop-init t c = rw c.new-list.ensures.items (starts c.args.text.now (
 
 pub statements-loop-preserved-then-is_next : goal.statements-loop-preserved-then-is_next
 statements-loop-preserved-then-is_next t c =
-    rw c.behind_first-rest.ensures (past_semicolon c.args.text.now (statement_at c.args.text.now c.args.depth) c.loop.list.items (length c.args.tokens.now + 1) c.loop.counter c.loop.rest.now (statements_at c.args.text.now (statement_at c.args.text.now c.args.depth) (suc (length c.args.tokens.now)) c.args.tokens.now) c.loop.invariant c.loop-test.true (sym c.is_next.ensures ∙ c.if-is_next.true))
+    rw c.after_first-rest.ensures (past_semicolon c.args.text.now (statement_at c.args.text.now c.args.depth) c.loop.list.items (length c.args.tokens.now + 1) c.loop.counter c.loop.rest.now (statements_at c.args.text.now (statement_at c.args.text.now c.args.depth) (suc (length c.args.tokens.now)) c.args.tokens.now) c.loop.invariant c.loop-test.true (sym c.is_next.ensures ∙ c.if-is_next.true))
 
 pub statements-returns-then-is_next-2 : goal.statements-returns-then-is_next-2
 statements-returns-then-is_next-2 t c =
@@ -71,15 +71,15 @@ statements-returns-in_err-item t c =
 
 pub statements-returns-then-is_next-3 : goal.statements-returns-then-is_next-3
 statements-returns-then-is_next-3 t c =
-    rw c.in_ok-push.ensures.items (ends_behind c.args.text.now (statement_at c.args.text.now c.args.depth) c.loop.list.items (length c.args.tokens.now + 1) c.loop.counter c.loop.rest.now (statements_at c.args.text.now (statement_at c.args.text.now c.args.depth) (suc (length c.args.tokens.now)) c.args.tokens.now) c.loop.invariant c.loop-test.true (sym c.is_next.ensures ∙ c.if-is_next.false) (sym c.is_next-in-loop.ensures ∙ c.if-is_next-2.false) c.in_ok-item.item c.in_ok-item.behind.now c.in_ok-item.ensures (sym c.is_next-in-loop-2.ensures ∙ c.if-is_next-3.true))
+    rw c.in_ok-push.ensures.items (ends_after c.args.text.now (statement_at c.args.text.now c.args.depth) c.loop.list.items (length c.args.tokens.now + 1) c.loop.counter c.loop.rest.now (statements_at c.args.text.now (statement_at c.args.text.now c.args.depth) (suc (length c.args.tokens.now)) c.args.tokens.now) c.loop.invariant c.loop-test.true (sym c.is_next.ensures ∙ c.if-is_next.false) (sym c.is_next-in-loop.ensures ∙ c.if-is_next-2.false) c.in_ok-item.item c.in_ok-item.after.now c.in_ok-item.ensures (sym c.is_next-in-loop-2.ensures ∙ c.if-is_next-3.true))
 
 pub statements-returns-then-not-is_next : goal.statements-returns-then-not-is_next
 statements-returns-then-not-is_next t c =
-    fails_behind c.args.text.now (statement_at c.args.text.now c.args.depth) c.loop.list.items (length c.args.tokens.now + 1) c.loop.counter c.loop.rest.now (statements_at c.args.text.now (statement_at c.args.text.now c.args.depth) (suc (length c.args.tokens.now)) c.args.tokens.now) c.loop.invariant c.loop-test.true (sym c.is_next.ensures ∙ c.if-is_next.false) (sym c.is_next-in-loop.ensures ∙ c.if-is_next-2.false) c.in_ok-item.item c.in_ok-item.behind.now c.in_ok-item.ensures (sym c.is_next-in-loop-2.ensures ∙ c.if-is_next-3.false) (sym c.is_next-in-loop-3.ensures ∙ c.if-not-is_next.true)
+    fails_after c.args.text.now (statement_at c.args.text.now c.args.depth) c.loop.list.items (length c.args.tokens.now + 1) c.loop.counter c.loop.rest.now (statements_at c.args.text.now (statement_at c.args.text.now c.args.depth) (suc (length c.args.tokens.now)) c.args.tokens.now) c.loop.invariant c.loop-test.true (sym c.is_next.ensures ∙ c.if-is_next.false) (sym c.is_next-in-loop.ensures ∙ c.if-is_next-2.false) c.in_ok-item.item c.in_ok-item.after.now c.in_ok-item.ensures (sym c.is_next-in-loop-2.ensures ∙ c.if-is_next-3.false) (sym c.is_next-in-loop-3.ensures ∙ c.if-not-is_next.true)
 
 pub statements-loop-preserved : goal.statements-loop-preserved
 statements-loop-preserved t c =
-    rw (c.in_ok-push.ensures.items, c.behind_first-rest-in-loop.ensures) (goes_on c.args.text.now (statement_at c.args.text.now c.args.depth) c.loop.list.items (length c.args.tokens.now + 1) c.loop.counter c.loop.rest.now (statements_at c.args.text.now (statement_at c.args.text.now c.args.depth) (suc (length c.args.tokens.now)) c.args.tokens.now) c.loop.invariant c.loop-test.true (sym c.is_next.ensures ∙ c.if-is_next.false) (sym c.is_next-in-loop.ensures ∙ c.if-is_next-2.false) c.in_ok-item.item c.in_ok-item.behind.now c.in_ok-item.ensures (sym c.is_next-in-loop-2.ensures ∙ c.if-is_next-3.false) (sym c.is_next-in-loop-3.ensures ∙ c.if-not-is_next.false))
+    rw (c.in_ok-push.ensures.items, c.after_first-rest-in-loop.ensures) (goes_on c.args.text.now (statement_at c.args.text.now c.args.depth) c.loop.list.items (length c.args.tokens.now + 1) c.loop.counter c.loop.rest.now (statements_at c.args.text.now (statement_at c.args.text.now c.args.depth) (suc (length c.args.tokens.now)) c.args.tokens.now) c.loop.invariant c.loop-test.true (sym c.is_next.ensures ∙ c.if-is_next.false) (sym c.is_next-in-loop.ensures ∙ c.if-is_next-2.false) c.in_ok-item.item c.in_ok-item.after.now c.in_ok-item.ensures (sym c.is_next-in-loop-2.ensures ∙ c.if-is_next-3.false) (sym c.is_next-in-loop-3.ensures ∙ c.if-not-is_next.false))
 
 pub statements-returns : goal.statements-returns
 statements-returns t c = runs_out c.args.text.now (statement_at c.args.text.now c.args.depth) c.loop.list.items (length c.args.tokens.now + 1) c.loop.counter c.loop.rest.now (statements_at c.args.text.now (statement_at c.args.text.now c.args.depth) (suc (length c.args.tokens.now)) c.args.tokens.now) c.loop.invariant c.loop-test.false

@@ -1,0 +1,2 @@
+-- To be trusted: what the words of the command line ask for.
+pub mod Words

@@ -1,5 +1,0 @@
-use Rattle.ctxvet.specs.GoFiles.{AreSourcesOf}
-use Rattle.ctxvet.proofs.files.read_folder.Given as goal
-
-abbrev pub invariant-loop-name : goal.invariant-loop-name
-invariant-loop-name g l = AreSourcesOf l.folder l.sources.items

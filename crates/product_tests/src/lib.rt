@@ -1,0 +1,13 @@
+//! Tests of the program's outside: its words, folders of real files, what the system refuses, and its writers.
+#![tactic(auto)]
+
+#[cfg(test)]
+mod folders;
+#[cfg(test)]
+mod refusals;
+#[cfg(test)]
+mod runs;
+#[cfg(test)]
+mod words;
+#[cfg(test)]
+mod writers;

@@ -1,0 +1,43 @@
+//! Runs of the program over writers that take everything.
+
+use driver::run;
+use std::process::Abort;
+use std::rt::Files;
+use std::test::Fail;
+
+/// What a run left: its status, and the texts on its two streams.
+#[derive(Drop)]
+pub struct Ended {
+    pub status: u8,
+    pub out: String,
+    pub err: String,
+}
+
+/// Runs the program with these words.
+pub fn run_words<R: Files + AllocGlobal>(rt: &R, words: &[&str]) -> Result<Ended, Fail> {
+    let mut out = Vec::new(rt.alloc());
+    let mut err = Vec::new(rt.alloc());
+    let status = run(rt, words, &mut out, &mut err);
+    let out = String::from_utf8(out).map_err(|_| "standard output is not UTF-8")?;
+    let err = String::from_utf8(err).map_err(|_| "standard error is not UTF-8")?;
+    Ok(Ended { status, out, err })
+}
+
+/// Runs `check` on the package `a` in the folder, and compares what it left. In `out` and `err` a `DIR`
+/// stands for the folder.
+pub fn expect_check<R: Files + AllocGlobal + Abort>(
+    rt: &R,
+    folder: &str,
+    status: u8,
+    out: &str,
+    err: &str,
+) -> Result<(), Fail> {
+    let word = format!(in rt.alloc(); "a={folder}")?;
+    let ended = run_words(rt, ["check", word.as_str()].as_slice())?;
+    let out = out.replace(rt.alloc(), "DIR", folder)?;
+    let err = err.replace(rt.alloc(), "DIR", folder)?;
+    assert_eq!(rt; ended.out.as_str(), out.as_str());
+    assert_eq!(rt; ended.err.as_str(), err.as_str());
+    assert_eq!(rt; ended.status, status);
+    Ok(())
+}

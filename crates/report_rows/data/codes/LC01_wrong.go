@@ -1,0 +1,3 @@
+package a
+
+var greeting = /* want LC01 - string not ended */"hello

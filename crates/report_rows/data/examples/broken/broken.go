@@ -1,0 +1,7 @@
+package broken
+
+import "context"
+
+func log(ctx context.Context) {
+	print(ctx, "log)
+}

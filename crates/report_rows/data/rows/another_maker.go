@@ -1,0 +1,5 @@
+/* want LC02 - left out: first path */package a
+
+import "context"
+
+func f(p context.Context) { a, b := context.WithValue(p) }

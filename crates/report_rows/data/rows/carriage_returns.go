@@ -1,0 +1,7 @@
+package a
+
+import "context"
+
+func f(p context.Context) {
+	_, c := context.WithCancel(p)
+/* want LC05 c may not have been called at this return */}

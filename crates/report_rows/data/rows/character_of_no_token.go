@@ -1,0 +1,1 @@
+﻿package a/* want LC01 - character of no token */#

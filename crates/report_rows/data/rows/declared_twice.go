@@ -1,0 +1,12 @@
+/* want LC02 - left out: first path */package a
+
+import "context"
+
+func f(p context.Context, ok bool) {
+	ctx, cancel := context.WithCancel(p)
+	if ok {
+		ctx, other := context.WithCancel(ctx)
+		other()
+	}
+	defer cancel()
+}

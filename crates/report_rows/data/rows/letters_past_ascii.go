@@ -1,0 +1,1 @@
+/* want LC02 - left out: first path */package é

@@ -1,0 +1,8 @@
+package a
+
+import "context"
+
+func f(p context.Context) {
+	_, c := context.WithCancel(p)
+	defer c()
+}

@@ -1,0 +1,4 @@
+package a
+
+var s = /* want LC01 - string not ended */`x
+

@@ -1,0 +1,2 @@
+package a
+	var c = /* want LC01 - rune not ended */'x

@@ -1,0 +1,3 @@
+package a
+
+var s = /* want LC01 - string not ended */"x
