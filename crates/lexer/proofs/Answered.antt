@@ -1,4 +1,4 @@
--- An answer whose tokens or fault are the text's own is determined by the text, want of memory aside.
+-- An answer whose tokens or fault are the text's own is determined by the text, out of memory aside.
 use Rattle.std.proofs.Common.{◌≡◌, ℕ, List, Result, Ok, Err, refl}
 use Rattle.std.specs.Prelude.{◌≢◌, IfOk, IfErr, IsErr}
 use Rattle.lexer.specs.declared.token.Token.{Token}

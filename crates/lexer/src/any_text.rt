@@ -166,7 +166,7 @@ pub fn lex(alloc: Global, source: &Source) -> Result<Vec<Token>, LexFault>
     ensures ok { IfOk result (λ v. IsTokens source.now.bytes.items v.items) }
     ensures err { IfErr result (λ f. f ≢ OutOfMemory → IsFault source.now.bytes.items f) }
 
-    // So a source that has tokens gives just these, and one that has a fault gives just that, want of memory aside.
+    // So a source that has tokens gives just these, and one that has a fault gives just that, out of memory aside.
     ensures tokens { (ts : List Token) → IsTokens source.now.bytes.items ts →
         IfOk result (λ v. v.items ≡ ts) × IfErr result (λ f. f ≡ OutOfMemory) }
     ensures fault { (g : LexFault) → IsFault source.now.bytes.items g →

@@ -1,5 +1,5 @@
 //! Laws about the definitions, as functions with nothing to run. A text is cut in one way at most, has one list of
-//! tokens at most, one fault at most, and not both: so what `lex` answers is determined, want of memory aside. And of
+//! tokens at most, one fault at most, and not both: so what `lex` answers is determined, out of memory aside. And of
 //! ASCII the categories of letters and digits have just the letters and digits that people expect.
 
 ghost use Rattle.lexer.specs.Letters.{AsciiLetters};
