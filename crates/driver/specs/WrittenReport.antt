@@ -5,7 +5,7 @@
 use Rattle.std.specs.Prelude.{◌≡◌, ◌↔◌, ◌⊎◌, ⊤, ℕ, Bool, true, false, IsTrue, List, [], Option, Contains, map, codes, string_bytes}
 use Rattle.std.specs.Io.KnownBytes.{Appends}
 use Rattle.lexer.specs.declared.source.Source.{Source}
-use Rattle.tree.specs.Syntax.{SourceFile}
+use Rattle.path_tree.specs.Syntax.{SourceFile}
 use Rattle.judge.specs.Report.{Entry, entry_of, IsReportOf, IsPathCode, IsJudged, AreUnjudgedEntries, HasQuietFunctions, IsQuietPackage}
 use Rattle.judge.specs.declared.report.PackageReport.{PackageReport}
 use Rattle.command_line.specs.Words.{AsksForHelp}

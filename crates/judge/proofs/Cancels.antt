@@ -5,14 +5,14 @@ use Rattle.std.specs.Prelude.{Bool, true, false, if◌then◌else◌, codes, sli
 use Rattle.std.proofs.lemmas.Bool.{cases_Bool}
 use Rattle.std.proofs.lemmas.List.{map-append}
 use Rattle.std.proofs.lemmas.List.Elements.{Contains-append_left, Contains-append_right, Contains-append_cases, filter-append}
-use Rattle.tree.specs.declared.span.Span.{Span}
-use Rattle.tree.specs.Syntax.{Identifier, Expressions, Statement, define_statement, expression_statement, defer_statement, if_statement, block_statement, return_statement, Otherwise, no_else, else_block, Statements, no_statement, statement_and, Function}
-use Rattle.meaning.specs.Scopes.{is_among, Local, text_of, declares_nothing, declared_by, declared_at, declared_in, declared_in_else, known_after, parameter_name, locals_of, bound_by, bound_local}
-use Rattle.meaning.specs.Code.{Binding, binding_of, bindings_at, bindings_in, bindings_in_else, is_same_as, is_obtained, cancels_of}
-use Rattle.meaning.specs.FirstPath.{IsOneMaker, HasPathNames}
+use Rattle.path_tree.specs.declared.span.Span.{Span}
+use Rattle.path_tree.specs.Syntax.{Identifier, Expressions, Statement, define_statement, expression_statement, defer_statement, if_statement, block_statement, return_statement, Otherwise, no_else, else_block, Statements, no_statement, statement_and, Function}
+use Rattle.path_meaning.specs.Scopes.{is_among, Local, text_of, declares_nothing, declared_by, declared_at, declared_in, declared_in_else, known_after, parameter_name, locals_of, bound_by, bound_local}
+use Rattle.path_meaning.specs.PathCode.{Binding, binding_of, bindings_at, bindings_in, bindings_in_else, is_same_as, is_obtained, cancels_of}
+use Rattle.path_meaning.specs.FirstPath.{IsOneMaker, HasPathNames}
 use Rattle.judge.specs.Walk.{name_bound, bound_at, bound_in, bound_in_else}
 use Rattle.meaning.proofs.Membership.{contains_nil}
-use Rattle.meaning.proofs.Defined.{declared_local, declared_later, declared_now}
+use Rattle.path_meaning.proofs.Defined.{declared_local, declared_later, declared_now}
 use Rattle.soundness.proofs.Sources.{obtained_by}
 use Rattle.judge.proofs.Members.{contains_one_is}
 use Rattle.judge.proofs.Locals.{local_differs, unique_local, distinct_parts, obtained_by_none, filter_none}

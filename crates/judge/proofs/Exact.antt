@@ -4,13 +4,13 @@ use Rattle.std.specs.Prelude.{Bool, true, false, if◌then◌else◌, codes, sli
 use Rattle.std.proofs.lemmas.Bool.{cases_lt}
 use Rattle.std.proofs.lemmas.Option.{slice_get-get_or, slice_get_past}
 use Rattle.std.proofs.lemmas.List.Elements.{Contains-append_left, Contains-append_right, Contains-append_cases}
-use Rattle.tree.specs.Syntax.{Identifier, Expressions, Statement, define_statement, expression_statement, defer_statement, if_statement, block_statement, return_statement, Otherwise, no_else, else_block, Statements, no_statement, statement_and, Function, SourceFile}
-use Rattle.meaning.specs.Scopes.{is_blank, Local, text_of, known_after, parameter_name, locals_of}
-use Rattle.meaning.specs.Code.{Binding, Occurrence, binding_of, bindings_at, bindings_in, bindings_in_else, is_obtained, cancels_of, body_code}
 use Rattle.meaning.specs.Lists.{Reaches}
-use Rattle.meaning.specs.Classes.{Class, unset, opened, safe, class_from}
-use Rattle.meaning.specs.Faults.{discarded, not_called, too_many, Fault, most_tracked, IsFaultOf, at_blank, at_many, at_binding, at_return, IsFaultIn}
-use Rattle.meaning.specs.FirstPath.{IsOneMaker, ArePathStatements, ArePathFunctions, HasPathNames, HasPathShape, HasPathFileNames}
+use Rattle.path_tree.specs.Syntax.{Identifier, Expressions, Statement, define_statement, expression_statement, defer_statement, if_statement, block_statement, return_statement, Otherwise, no_else, else_block, Statements, no_statement, statement_and, Function, SourceFile}
+use Rattle.path_meaning.specs.Scopes.{is_blank, Local, text_of, known_after, parameter_name, locals_of}
+use Rattle.path_meaning.specs.PathCode.{Binding, PathOccurrence, binding_of, bindings_at, bindings_in, bindings_in_else, is_obtained, cancels_of, body_code}
+use Rattle.path_meaning.specs.Classes.{Class, unset, opened, safe, class_from}
+use Rattle.path_meaning.specs.Faults.{discarded, not_called, too_many, Fault, most_tracked, IsFaultOf, at_blank, at_many, at_binding, at_return, IsFaultIn}
+use Rattle.path_meaning.specs.FirstPath.{IsOneMaker, ArePathStatements, ArePathFunctions, HasPathNames, HasPathShape, HasPathFileNames}
 use Rattle.judge.specs.Walk.{fault_at, at_start, name_discarded, discarded_at, discarded_in, discarded_in_else, bound_in, after_in, found_in, if_open, found_of, found_for, found_by, found_in_function, found_in_functions}
 use Rattle.meaning.proofs.Membership.{contains_nil, contains_here, contains_there, contains_cases}
 use Rattle.judge.proofs.Members.{contains_one, contains_one_is}
@@ -221,7 +221,7 @@ module _ (f : Function) (names : HasPathNames f) (shape : ArePathStatements f.bo
       path_fault v _ l h ((judged_cancel v h).meets unset t o _ refl r c (bad_binding u place e s))
   complete x (at_return v t o l h r e c) = path_fault v _ l h ((judged_cancel v h).meets unset t o _ refl r c (bad_return e))
 
-  fault_from : (v : Local) (x : Fault) (o : Occurrence) (t : List Occurrence) → length (cancels_of f) ≤ most_tracked → Contains (cancels_of f) v → Reaches (body_code f) t o → class_from v unset t ≡ opened → IsBad v o x → IsFaultOf f x
+  fault_from : (v : Local) (x : Fault) (o : PathOccurrence) (t : List PathOccurrence) → length (cancels_of f) ≤ most_tracked → Contains (cancels_of f) v → Reaches (body_code f) t o → class_from v unset t ≡ opened → IsBad v o x → IsFaultOf f x
   fault_from v x o t l h r c (bad_return e) = at_return v t o l h r e c
   fault_from v x o t l h r c (bad_binding u place e s) = at_binding v u place t o l h r e s c
 

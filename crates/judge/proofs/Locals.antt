@@ -2,14 +2,14 @@
 use Rattle.std.proofs.Common.{◌≡◌, ℕ, ◌<◌, ◌≤◌, List, [], ◌∷◌, ◌++◌, map, Contains, Option, Some, None, refl, sym, ap, ◌∙◌, inl, inr, filter}
 use Rattle.std.specs.Prelude.{Bool, true, false, ◌&&◌, ◌==◌, nat_lt, if◌then◌else◌, codes}
 use Rattle.std.proofs.lemmas.Bool.{le-leb, lt-ltb, eq-eqb, cases_Bool, and_parts, and_from, and_left, and_right, both_ways}
-use Rattle.tree.specs.Syntax.{Identifier}
+use Rattle.path_tree.specs.Syntax.{Identifier}
 use Rattle.std.proofs.lemmas.List.Elements.{Contains-append_right}
-use Rattle.meaning.specs.Scopes.{same_text, is_among, Local, same_local, covers, inner_of, declaration_of, declared_here}
-use Rattle.meaning.specs.Code.{is_same_as, is_obtained, is_listed, Binding}
-use Rattle.meaning.specs.Scopes.{bound_local}
-use Rattle.meaning.specs.FirstPath.{local_text, AreDistinct, NoneAmong, reserved_names}
+use Rattle.path_meaning.specs.Scopes.{same_text, is_among, Local, same_local, covers, inner_of, declaration_of, declared_here}
+use Rattle.path_meaning.specs.PathCode.{is_same_as, is_obtained, is_listed, Binding}
+use Rattle.path_meaning.specs.Scopes.{bound_local}
+use Rattle.path_meaning.specs.FirstPath.{local_text, AreDistinct, NoneAmong, reserved_names}
 use Rattle.meaning.proofs.Membership.{contains_nil, contains_here, contains_there, contains_cases}
-use Rattle.meaning.proofs.SameNames.{same_text_is, same_text_of, same_local_itself}
+use Rattle.path_meaning.proofs.SameNames.{same_text_is, same_text_of, same_local_itself}
 
 pub text_differs : (xs ys : List ℕ) → (xs ≡ ys → ⊥) → same_text xs ys ≡ false
 text_differs xs ys h =

@@ -4,15 +4,15 @@ use Rattle.std.proofs.Common.{◌≡◌, ℕ, ◌+◌, ◌<◌, ◌≤◌, List,
 use Rattle.std.specs.Prelude.{Bool, true, false, if◌then◌else◌, codes, slice_get}
 use Rattle.std.proofs.lemmas.Bool.{cases_Bool, and_from, both_ways}
 use Rattle.std.proofs.lemmas.List.Elements.{Contains-append_left, Contains-append_right, Contains-append_cases}
-use Rattle.tree.specs.declared.span.Span.{Span}
-use Rattle.tree.specs.Syntax.{Identifier, Expression, name_expression, selector_expression, call_expression, Expressions, no_expression, expression_and, Statement, define_statement, expression_statement, defer_statement, if_statement, block_statement, return_statement, Otherwise, no_else, else_block, Statements, no_statement, statement_and, Function}
-use Rattle.meaning.specs.Scopes.{same_text, is_blank, is_among, Local, same_local, text_of, declares_nothing, declared_by, declared_at, declared_in, declared_in_else, known_after, parameter_name, locals_of, declaration_of, bound_by, bound_local, first_given}
-use Rattle.meaning.specs.Code.{through_import, maker_of, Binding, bound_from, binding_of, bindings_at, bindings_in, bindings_in_else, is_listed, if_listed, call_event, defer_event, obtain_event, binding_event, called_by}
-use Rattle.meaning.specs.FirstPath.{IsMaker, IsPair, IsOneMaker, IsPathStatement, ArePathStatements, IsPathElse, Use, is_called, is_deferred, is_used, Mention, used, expression_mentions, expressions_mentions, assigned_by, mentions_in, mentions_at, mentions_in_else, type_mentions, mentions_of, HasPathNames}
+use Rattle.path_tree.specs.declared.span.Span.{Span}
+use Rattle.path_tree.specs.Syntax.{Identifier, Expression, name_expression, selector_expression, call_expression, Expressions, no_expression, expression_and, Statement, define_statement, expression_statement, defer_statement, if_statement, block_statement, return_statement, Otherwise, no_else, else_block, Statements, no_statement, statement_and, Function}
+use Rattle.path_meaning.specs.Scopes.{same_text, is_blank, is_among, Local, same_local, text_of, declares_nothing, declared_by, declared_at, declared_in, declared_in_else, known_after, parameter_name, locals_of, declaration_of, bound_by, bound_local, first_given}
+use Rattle.path_meaning.specs.PathCode.{through_import, maker_of, Binding, bound_from, binding_of, bindings_at, bindings_in, bindings_in_else, is_listed, if_listed, call_event, defer_event, obtain_event, binding_event, called_by}
+use Rattle.path_meaning.specs.FirstPath.{IsMaker, IsPair, IsOneMaker, IsPathStatement, ArePathStatements, IsPathElse, Use, is_called, is_deferred, is_used, Mention, used, expression_mentions, expressions_mentions, assigned_by, mentions_in, mentions_at, mentions_in_else, type_mentions, mentions_of, HasPathNames}
 use Rattle.judge.specs.Walk.{is_named, called_name}
 use Rattle.meaning.proofs.Membership.{contains_nil, contains_cases}
-use Rattle.meaning.proofs.SameNames.{same_text_is, same_text_of}
-use Rattle.meaning.proofs.Defined.{assigned_later, assigned_now, declared_local, declared_later, declared_now}
+use Rattle.path_meaning.proofs.SameNames.{same_text_is, same_text_of}
+use Rattle.path_meaning.proofs.Defined.{assigned_later, assigned_now, declared_local, declared_later, declared_now}
 use Rattle.judge.proofs.Members.{contains_one}
 use Rattle.judge.proofs.Locals.{text_differs, local_differs, unique_local, not_reserved, declaration_none, declaration_found, declaration_text, declared_here_found, listed}
 use Rattle.judge.proofs.Paths.{quiet_other, quiet_obtain, quiet_call, quiet_defer, DefineIs, binds, binds_another, CallIs, is_call, is_defer, is_no_call, Agrees_at, Agrees_in, Agrees_else}

@@ -4,15 +4,15 @@ use Rattle.std.specs.Prelude.{Bool, true, false, ◌||◌, if◌then◌else◌, 
 use Rattle.std.proofs.lemmas.Bool.{cases_Bool, both_ways}
 use Rattle.std.proofs.lemmas.List.{map-append}
 use Rattle.std.proofs.lemmas.List.Elements.{Contains-append_cases}
-use Rattle.tree.specs.Syntax.{Identifier, Statement, define_statement, expression_statement, defer_statement, if_statement, block_statement, return_statement, Otherwise, no_else, else_block, Statements, no_statement, statement_and, Function, SourceFile}
-use Rattle.meaning.specs.Scopes.{same_text, is_blank, is_among, text_of, Local, locals_of}
-use Rattle.meaning.specs.Code.{bindings_in, is_obtained, cancels_of}
-use Rattle.meaning.specs.Faults.{discarded, overwritten, not_called, too_many, Fault, most_tracked, IsFaultOf, IsFaultIn}
-use Rattle.meaning.specs.FirstPath.{local_text, AreDistinct, ArePathStatements, HasPathNames, HasPathShape, HasPathFileNames}
+use Rattle.path_tree.specs.Syntax.{Identifier, Statement, define_statement, expression_statement, defer_statement, if_statement, block_statement, return_statement, Otherwise, no_else, else_block, Statements, no_statement, statement_and, Function, SourceFile}
+use Rattle.path_meaning.specs.Scopes.{same_text, is_blank, is_among, text_of, Local, locals_of}
+use Rattle.path_meaning.specs.PathCode.{bindings_in, is_obtained, cancels_of}
+use Rattle.path_meaning.specs.Faults.{discarded, overwritten, not_called, too_many, Fault, most_tracked, IsFaultOf, IsFaultIn}
+use Rattle.path_meaning.specs.FirstPath.{local_text, AreDistinct, ArePathStatements, HasPathNames, HasPathShape, HasPathFileNames}
 use Rattle.judge.specs.declared.pass.Classes.{Classes}
 use Rattle.judge.specs.Walk.{fault_at, name_bound, name_discarded, bound_at, bound_in, bound_in_else, discarded_at, discarded_in, discarded_in_else, is_named, called_name, obtained, called, at_start, after_define, after_at, after_in, after_in_else, if_open, found_define, found_at, found_in, found_in_else, found_of, found_by}
 use Rattle.meaning.proofs.Membership.{contains_nil}
-use Rattle.meaning.proofs.SameNames.{same_text_is, same_text_of}
+use Rattle.path_meaning.proofs.SameNames.{same_text_is, same_text_of}
 use Rattle.judge.proofs.Members.{contains_one_is}
 use Rattle.judge.proofs.Locals.{text_differs, neither}
 use Rattle.judge.proofs.Names.{not_blank}

@@ -5,17 +5,19 @@ use Rattle.std.specs.Prelude.{Bool, true, false, ◌||◌, if◌then◌else◌, 
 use Rattle.std.proofs.lemmas.Bool.{or_left, or_right, or_cases}
 use Rattle.std.proofs.lemmas.List.{same_from_push}
 use Rattle.std.proofs.lemmas.List.Elements.{Contains-append_left, Contains-append_right, Contains-append_cases}
-use Rattle.tree.specs.Syntax.{Identifier, Statement, define_statement, expression_statement, defer_statement, if_statement, block_statement, return_statement, Otherwise, no_else, else_block, Statements, no_statement, statement_and, Function}
-use Rattle.meaning.specs.Scopes.{same_text, Local, same_local, locals_of}
-use Rattle.meaning.specs.Code.{Event, other, obtains, calls, defers_call, returns_here, Occurrence, Way, Code, skip, does, leave, then_code, either, one, binding_of, binding_event, call_event, defer_event, called_by, code_at, code_in, code_in_else, body_code, cancels_of}
-use Rattle.meaning.specs.Grammar.{expression_start}
-use Rattle.meaning.specs.Lists.{Exit, stopped, falls, Lists, not_begun, skipped, done, just_done, left, ends_in_first, goes_on, in_first, in_second, ends_in_turn, turns_again, arrives, passes}
-use Rattle.meaning.specs.Classes.{Class, unset, opened, safe, change, class_from}
-use Rattle.meaning.specs.Faults.{overwritten, not_called, Fault}
+use Rattle.meaning.specs.Code.{Way, skip, does, leave, then_code, either}
+use Rattle.meaning.specs.Lists.{Exit, stopped, falls, Lists, not_begun, skipped, done, just_done, ends_in_first, goes_on, in_first, in_second}
+use Rattle.path_tree.specs.Syntax.{Identifier, Statement, define_statement, expression_statement, defer_statement, if_statement, block_statement, return_statement, Otherwise, no_else, else_block, Statements, no_statement, statement_and, Function}
+use Rattle.path_meaning.specs.Scopes.{same_text, Local, same_local, locals_of}
+use Rattle.path_meaning.specs.PathCode.{Event, other, obtains, calls, defers_call, returns_here, PathOccurrence, PathCode, one, binding_of, binding_event, call_event, defer_event, called_by, code_at, code_in, code_in_else, body_code, cancels_of}
+use Rattle.path_meaning.specs.Grammar.{expression_start}
+use Rattle.path_meaning.specs.Classes.{Class, unset, opened, safe, change, class_from}
+use Rattle.path_meaning.specs.Faults.{overwritten, not_called, Fault}
 use Rattle.judge.specs.declared.pass.Classes.{Classes}
 use Rattle.judge.specs.Walk.{fault_at, is_named, called_name, obtained, called, joined, nowhere, at_start, after_define, after_at, after_in, after_in_else, if_open, found_define, found_at, found_in, found_in_else}
 use Rattle.meaning.proofs.Membership.{contains_nil}
-use Rattle.meaning.proofs.SameNames.{same_local_itself}
+use Rattle.meaning.proofs.Fronts.{stops}
+use Rattle.path_meaning.proofs.SameNames.{same_local_itself}
 use Rattle.judge.proofs.Members.{contains_one, contains_one_is, snoc_nil, split_snoc}
 
 abbrev has : Classes → Class → Bool
@@ -27,72 +29,56 @@ abbrev pub Has : Classes → Class → Type 0
 Has k q = has k q ≡ true
 
 -- the occurrence is a fault where the variable is open
-pub data IsBad (v : Local) (o : Occurrence) : Fault → Type 0 where
+pub data IsBad (v : Local) (o : PathOccurrence) : Fault → Type 0 where
   bad_return : o.event ≡ returns_here → IsBad v o (fault_at o.at not_called v.text)
   bad_binding : (u : Local) (place : ℕ) → o.event ≡ obtains u place → IsTrue (same_local u v) → IsBad v o (fault_at place overwritten v.text)
 
 -- a list leaves the variable with this class
-pub record After (v : Local) (c : Code) (k : Classes) (q : Class) : Type 0 where
+pub record After (v : Local) (c : PathCode) (k : Classes) (q : Class) : Type 0 where
   pub first : Class
-  pub list : List Occurrence
+  pub list : List PathOccurrence
   pub begins : Has k first
   pub through : Lists c list falls
   pub leads : class_from v first list ≡ q
 
 -- a list meets this fault
-pub record Met (v : Local) (c : Code) (k : Classes) (x : Fault) : Type 0 where
+pub record Met (v : Local) (c : PathCode) (k : Classes) (x : Fault) : Type 0 where
   pub first : Class
-  pub list : List Occurrence
-  pub occurrence : Occurrence
+  pub list : List PathOccurrence
+  pub occurrence : PathOccurrence
   pub begins : Has k first
   pub reaches : Lists c (list ++ occurrence ∷ []) stopped
   pub is_open : class_from v first list ≡ opened
   pub bad : IsBad v occurrence x
 
 -- from the classes k, the lists of c leave exactly the classes j, and meet exactly these faults
-pub record Judged (v : Local) (c : Code) (k j : Classes) (found : List Fault) : Type 0 where
-  pub falls_to : (q : Class) (t : List Occurrence) → Has k q → Lists c t falls → Has j (class_from v q t)
+pub record Judged (v : Local) (c : PathCode) (k j : Classes) (found : List Fault) : Type 0 where
+  pub falls_to : (q : Class) (t : List PathOccurrence) → Has k q → Lists c t falls → Has j (class_from v q t)
   pub comes_from : (q : Class) → Has j q → After v c k q
-  pub meets : (q : Class) (t : List Occurrence) (o : Occurrence) (x : Fault) → Has k q → Lists c (t ++ o ∷ []) stopped → class_from v q t ≡ opened → IsBad v o x → Contains found x
+  pub meets : (q : Class) (t : List PathOccurrence) (o : PathOccurrence) (x : Fault) → Has k q → Lists c (t ++ o ∷ []) stopped → class_from v q t ≡ opened → IsBad v o x → Contains found x
   pub met : (x : Fault) → Contains found x → Met v c k x
 
--- each front of a list is a list that is stopped
-stops : {c : Code} {t : List Occurrence} {x : Exit} → Lists c t x → Lists c t stopped
-stops not_begun = not_begun
-stops skipped = not_begun
-stops done = just_done
-stops just_done = just_done
-stops left = not_begun
-stops (ends_in_first l h) = ends_in_first (stops l) (λ e. cc)
-stops (goes_on l m e) = goes_on l (stops m) e
-stops (in_first l) = in_first (stops l)
-stops (in_second l) = in_second (stops l)
-stops (ends_in_turn l h) = ends_in_turn (stops l) (λ e. cc)
-stops (turns_again l m e) = turns_again l (stops m) e
-stops (arrives l) = passes (stops l) (λ e. cc)
-stops (passes l h) = passes (stops l) (λ e. cc)
-
-class_from-append : (v : Local) (q : Class) (t u : List Occurrence) → class_from v q (t ++ u) ≡ class_from v (class_from v q t) u
+class_from-append : (v : Local) (q : Class) (t u : List PathOccurrence) → class_from v q (t ++ u) ≡ class_from v (class_from v q t) u
 class_from-append v q [] u = refl
 class_from-append v q (o ∷ t) u = class_from-append v (change v o.event q) t u
 
 -- one code after another
-record SequenceFalls (a b : Code) (r : List Occurrence) : Type 0 where
-  front : List Occurrence
-  back : List Occurrence
+record SequenceFalls (a b : PathCode) (r : List PathOccurrence) : Type 0 where
+  front : List PathOccurrence
+  back : List PathOccurrence
   first : Lists a front falls
   second : Lists b back falls
   is : r ≡ front ++ back
 
-sequence_falls : {a b : Code} {r : List Occurrence} → Lists (then_code a b) r falls → SequenceFalls a b r
+sequence_falls : {a b : PathCode} {r : List PathOccurrence} → Lists (then_code a b) r falls → SequenceFalls a b r
 sequence_falls (ends_in_first l h) = absurd (h refl)
 sequence_falls (goes_on {t = t} {u = u} l m e) = record { front = t; back = u; first = l; second = m; is = e }
 
-data SequenceReaches (a b : Code) (t : List Occurrence) (o : Occurrence) : Type 0 where
+data SequenceReaches (a b : PathCode) (t : List PathOccurrence) (o : PathOccurrence) : Type 0 where
   reaches_first : Lists a (t ++ o ∷ []) stopped → SequenceReaches a b t o
-  reaches_second : (front back : List Occurrence) → Lists a front falls → Lists b (back ++ o ∷ []) stopped → t ≡ front ++ back → SequenceReaches a b t o
+  reaches_second : (front back : List PathOccurrence) → Lists a front falls → Lists b (back ++ o ∷ []) stopped → t ≡ front ++ back → SequenceReaches a b t o
 
-sequence_reaches : {a b : Code} {r : List Occurrence} (t : List Occurrence) (o : Occurrence) → Lists (then_code a b) r stopped → r ≡ t ++ o ∷ [] → SequenceReaches a b t o
+sequence_reaches : {a b : PathCode} {r : List PathOccurrence} (t : List PathOccurrence) (o : PathOccurrence) → Lists (then_code a b) r stopped → r ≡ t ++ o ∷ [] → SequenceReaches a b t o
 sequence_reaches t o not_begun e = absurd (snoc_nil t o (sym e))
 sequence_reaches {a = a} t o (ends_in_first l h) e = reaches_first (subst (λ r. Lists a r stopped) e l)
 sequence_reaches {a = a} {b = b} t o (goes_on {t = t1} {u = u} l m e') e =
@@ -101,7 +87,7 @@ sequence_reaches {a = a} {b = b} t o (goes_on {t = t1} {u = u} l m e') e =
       | inr h ↦ reaches_second t1 h.0 l (subst (λ r. Lists b r stopped) h.1 m) h.2
     ]
 
-pub judged_sequence : {v : Local} {a b : Code} {k j i : Classes} {f g : List Fault} → Judged v a k j f → Judged v b j i g → Judged v (then_code a b) k i (f ++ g)
+pub judged_sequence : {v : Local} {a b : PathCode} {k j i : Classes} {f g : List Fault} → Judged v a k j f → Judged v b j i g → Judged v (then_code a b) k i (f ++ g)
 judged_sequence {v = v} {a = a} {b = b} {k = k} {j = j} {i = i} {f = f} {g = g} m n = record {
   falls_to = λ q t h l.
       let s = sequence_falls l in
@@ -126,7 +112,7 @@ judged_sequence {v = v} {a = a} {b = b} {k = k} {j = j} {i = i} {f = f} {g = g} 
 }
 
 -- one code or another
-either_lists : {a b : Code} {t : List Occurrence} {x : Exit} → Lists (either a b) t x → Lists a t x ⊎ Lists b t x
+either_lists : {a b : PathCode} {t : List PathOccurrence} {x : Exit} → Lists (either a b) t x → Lists a t x ⊎ Lists b t x
 either_lists not_begun = inl not_begun
 either_lists (in_first l) = inl l
 either_lists (in_second l) = inr l
@@ -136,7 +122,7 @@ has_joined j k unset = refl
 has_joined j k opened = refl
 has_joined j k safe = refl
 
-pub judged_either : {v : Local} {a b : Code} {k j i : Classes} {f g : List Fault} → Judged v a k j f → Judged v b k i g → Judged v (either a b) k (joined j i) (f ++ g)
+pub judged_either : {v : Local} {a b : PathCode} {k j i : Classes} {f g : List Fault} → Judged v a k j f → Judged v b k i g → Judged v (either a b) k (joined j i) (f ++ g)
 judged_either {v = v} {a = a} {b = b} {k = k} {j = j} {i = i} {f = f} {g = g} m n = record {
   falls_to = λ q t h l.
       elim (either_lists l) [
@@ -161,10 +147,10 @@ judged_either {v = v} {a = a} {b = b} {k = k} {j = j} {i = i} {f = f} {g = g} m 
 }
 
 -- nothing, and a way out
-skip_falls : {t : List Occurrence} → Lists skip t falls → t ≡ []
+skip_falls : {t : List PathOccurrence} → Lists skip t falls → t ≡ []
 skip_falls skipped = refl
 
-skip_stops : {t : List Occurrence} → Lists skip t stopped → t ≡ []
+skip_stops : {t : List PathOccurrence} → Lists skip t stopped → t ≡ []
 skip_stops not_begun = refl
 
 pub judged_skip : {v : Local} {k : Classes} → Judged v skip k k []
@@ -175,10 +161,10 @@ judged_skip {v = v} {k = k} = record {
   met = λ x h. absurd (contains_nil x h);
 }
 
-leave_falls : {w : Way} {t : List Occurrence} → Lists (leave w) t falls → ⊥
+leave_falls : {w : Way} {t : List PathOccurrence} → Lists (leave w) t falls → ⊥
 leave_falls l = elim l [ ]
 
-leave_stops : {w : Way} {t : List Occurrence} → Lists (leave w) t stopped → t ≡ []
+leave_stops : {w : Way} {t : List PathOccurrence} → Lists (leave w) t stopped → t ≡ []
 leave_stops not_begun = refl
 
 has_nowhere : (q : Class) → Has nowhere q → ⊥
@@ -195,19 +181,19 @@ judged_leave {v = v} {w = w} {k = k} = record {
 }
 
 -- one event
-does_falls : {o : Occurrence} {t : List Occurrence} → Lists (does o) t falls → t ≡ o ∷ []
+does_falls : {o : PathOccurrence} {t : List PathOccurrence} → Lists (does o) t falls → t ≡ o ∷ []
 does_falls done = refl
 
-does_stops : {o : Occurrence} {t : List Occurrence} → Lists (does o) t stopped → (t ≡ []) ⊎ (t ≡ o ∷ [])
+does_stops : {o : PathOccurrence} {t : List PathOccurrence} → Lists (does o) t stopped → (t ≡ []) ⊎ (t ≡ o ∷ [])
 does_stops not_begun = inl refl
 does_stops just_done = inr refl
 
-record From (v : Local) (o : Occurrence) (k : Classes) (q : Class) : Type 0 where
+record From (v : Local) (o : PathOccurrence) (k : Classes) (q : Class) : Type 0 where
   first : Class
   begins : Has k first
   leads : change v o.event first ≡ q
 
-module _ (v : Local) (o : Occurrence) (k j : Classes) (f : List Fault) where
+module _ (v : Local) (o : PathOccurrence) (k j : Classes) (f : List Fault) where
   judged_does : ((q : Class) → Has k q → Has j (change v o.event q)) → ((q : Class) → Has j q → From v o k q) → ((x : Fault) → Has k opened → IsBad v o x → Contains f x) → ((x : Fault) → Contains f x → (Has k opened) × IsBad v o x) → Judged v (does o) k j f
   judged_does moves from bad good = record {
     falls_to = λ q t h l. subst (λ u. Has j (class_from v q u)) (sym (does_falls l)) (moves q h);
@@ -251,7 +237,7 @@ quiet_binding {v = v} (quiet_obtain w at f) u place e s =
 quiet_binding (quiet_call w f) u place e s = cc
 quiet_binding (quiet_defer w f) u place e s = cc
 
-quiet_is_not_bad : {v : Local} {o : Occurrence} {x : Fault} → IsQuiet v o.event → IsBad v o x → ⊥
+quiet_is_not_bad : {v : Local} {o : PathOccurrence} {x : Fault} → IsQuiet v o.event → IsBad v o x → ⊥
 quiet_is_not_bad h (bad_return e) = quiet_return h e
 quiet_is_not_bad h (bad_binding u place e s) = quiet_binding h u place e s
 
@@ -316,7 +302,7 @@ open_out k x y h = by k.opened refl h
 judged_binds : (v : Local) (at place : ℕ) (k : Classes) → Judged v (one at (obtains v place)) k (obtained k) (if_open k (fault_at place overwritten v.text))
 judged_binds v at place k = judged_does v _ k (obtained k) _ moves from bad good
   where
-    o : Occurrence
+    o : PathOccurrence
     o = record { at = at; order = 0; event = obtains v place }
 
     moves : (q : Class) → Has k q → Has (obtained k) (if same_local v v then opened else q)

@@ -1,11 +1,11 @@
 -- From what the walk finds to the report of a file on the first path.
 use Rattle.std.proofs.Common.{◌≡◌, ℕ, Bool, true, false, IsTrue, List, [], ◌∷◌, length, get_or, map, Contains, AllPairs, refl, sym, ap, subst, arith}
-use Rattle.tree.specs.Syntax.{Function, SourceFile}
+use Rattle.path_tree.specs.Syntax.{Function, SourceFile}
 use Rattle.soundness.proofs.Theorem.{quiet_without_faults}
 use Rattle.meaning.proofs.Membership.{contains_nil, contains_map, contains_unmap}
-use Rattle.meaning.specs.FirstPath.{IsOnPath}
-use Rattle.meaning.specs.Scopes.{is_blank}
-use Rattle.meaning.specs.Faults.{Finding, discarded, overwritten, not_called, too_many, Fault, IsFaultOf, at_blank}
+use Rattle.path_meaning.specs.FirstPath.{IsOnPath}
+use Rattle.path_meaning.specs.Scopes.{is_blank}
+use Rattle.path_meaning.specs.Faults.{Finding, discarded, overwritten, not_called, too_many, Fault, IsFaultOf, at_blank}
 use Rattle.judge.specs.Report.{Entry, code_of, fault_entry, Precedes, IsReportOf, IsPathCode, HasQuietFunctions}
 use Rattle.judge.proofs.Overwrites.{never_overwritten}
 use Rattle.judge.specs.Walk.{found_in_functions}

@@ -3,12 +3,12 @@ use Rattle.std.proofs.Common.{◌≡◌, ℕ, zero, suc, ◌+◌, ◌<◌, ◌�
 use Rattle.std.proofs.lemmas.List.{map-append}
 use Rattle.std.proofs.lemmas.Bool.{ne_eqb}
 use Rattle.std.specs.Prelude.{Bool, true, false, ◌&&◌, ◌==◌, if◌then◌else◌}
-use Rattle.tree.specs.declared.expression.Expr.{Expr}
-use Rattle.tree.specs.declared.span.Span.{Span}
-use Rattle.tree.specs.Syntax.{Expression, name_expression, selector_expression, call_expression}
-use Rattle.tree.specs.View.{expressions_syntax}
-use Rattle.meaning.specs.Scopes.{same_text}
-use Rattle.meaning.specs.Faults.{Fault}
+use Rattle.path_tree.specs.declared.expression.Expr.{Expr}
+use Rattle.path_tree.specs.declared.span.Span.{Span}
+use Rattle.path_tree.specs.Syntax.{Expression, name_expression, selector_expression, call_expression}
+use Rattle.path_tree.specs.View.{expressions_syntax}
+use Rattle.path_meaning.specs.Scopes.{same_text}
+use Rattle.path_meaning.specs.Faults.{Fault}
 use Rattle.lexer.specs.declared.source.Source.{Source}
 use Rattle.judge.specs.Report.{Entry, entry_of, fault_entry, IsUnjudgedEntry, AreUnjudgedEntries}
 use Rattle.judge.specs.Walk.{Adds, entry_if, names_bare, is_named, called_name}

@@ -10,12 +10,12 @@ use Rattle.lexer.specs.declared.fault.LexFault.{LexFault}
 use Rattle.lexer.specs.declared.fault.LexFault.TheVariants as lex_fault
 use Rattle.lexer.specs.Tokens.{IsTokens}
 use Rattle.lexer.specs.Faults.{IsFault}
-use Rattle.tree.specs.Syntax.{Function, SourceFile}
-use Rattle.meaning.specs.Faults.{Finding, discarded, overwritten, not_called, too_many, Fault, IsFaultIn}
-use Rattle.meaning.specs.FirstPath.{IsOnPath}
-use Rattle.meaning.specs.Scopes.{is_blank, locals_of}
-use Rattle.meaning.specs.Code.{Binding, bindings_in}
-use Rattle.meaning.specs.Runs.{IsQuietFunction}
+use Rattle.path_tree.specs.Syntax.{Function, SourceFile}
+use Rattle.path_meaning.specs.Faults.{Finding, discarded, overwritten, not_called, too_many, Fault, IsFaultIn}
+use Rattle.path_meaning.specs.FirstPath.{IsOnPath}
+use Rattle.path_meaning.specs.Scopes.{is_blank, locals_of}
+use Rattle.path_meaning.specs.PathCode.{Binding, bindings_in}
+use Rattle.path_meaning.specs.Runs.{IsQuietFunction}
 use Rattle.judge.specs.declared.report.Code.{Code}
 use Rattle.judge.specs.declared.report.Code.TheVariants.{Unreadable, LeftOut, Discarded, Overwritten, NotCalled, TooMany}
 use Rattle.judge.specs.declared.report.TextFault.{TextFault}

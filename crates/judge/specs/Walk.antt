@@ -2,9 +2,9 @@
 -- one cancel variable at a time, the classes with which some list of events comes to each place. A variable
 -- is told by its name alone, since no name is declared twice on the first path.
 use Rattle.std.specs.Prelude.{◌≡◌, ℕ, ◌-◌, Bool, true, false, ◌||◌, ◌&&◌, if◌then◌else◌, List, [], ◌∷◌, ◌++◌, map, slice_get, Option, Some, None, codes}
-use Rattle.tree.specs.Syntax.{Identifier, Expression, name_expression, selector_expression, call_expression, no_expression, expression_and, Statement, define_statement, expression_statement, defer_statement, if_statement, block_statement, return_statement, Otherwise, no_else, else_block, Statements, no_statement, statement_and, Function}
-use Rattle.meaning.specs.Scopes.{same_text, is_blank}
-use Rattle.meaning.specs.Faults.{Finding, discarded, overwritten, not_called, too_many, Fault, most_tracked}
+use Rattle.path_tree.specs.Syntax.{Identifier, Expression, name_expression, selector_expression, call_expression, no_expression, expression_and, Statement, define_statement, expression_statement, defer_statement, if_statement, block_statement, return_statement, Otherwise, no_else, else_block, Statements, no_statement, statement_and, Function}
+use Rattle.path_meaning.specs.Scopes.{same_text, is_blank}
+use Rattle.path_meaning.specs.Faults.{Finding, discarded, overwritten, not_called, too_many, Fault, most_tracked}
 use Rattle.judge.specs.Report.{Entry, entry_of, fault_entry}
 use Rattle.judge.specs.declared.report.Diagnostic.{Diagnostic}
 use Rattle.judge.specs.declared.pass.Classes.{Classes}

@@ -2,14 +2,14 @@
 
 ghost use Rattle.std.specs.Prelude.{◌≡◌, [], ◌∷◌, ◌++◌, map, slice_get, OnOk};
 ghost use Rattle.std.specs.Option.{option_map};
-ghost use Rattle.tree.specs.View.{identifier_syntax, statement_syntax, statements_syntax};
-ghost use Rattle.meaning.specs.Scopes.{same_text};
+ghost use Rattle.path_tree.specs.View.{identifier_syntax, statement_syntax, statements_syntax};
+ghost use Rattle.path_meaning.specs.Scopes.{same_text};
 ghost use Rattle.judge.specs.Report.{entry_of};
 ghost use Rattle.judge.specs.Walk.{Adds, bound_at, bound_in, name_bound, discarded_at, discarded_in, name_discarded};
 
 use crate::report::{Code, Diagnostic};
+use path_tree::{Else, Identifier, Stmt};
 use std::alloc::{AllocError, Global};
-use tree::{Else, Identifier, Stmt};
 
 /// One more finding of the file.
 pub fn report(

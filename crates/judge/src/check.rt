@@ -2,9 +2,9 @@
 
 ghost use Rattle.std.specs.Prelude.{◌≡◌, ◌↔◌, [], map, Contains, IfOk, IsErr, IfSome, IsSomeAnd, IsTrue, string_bytes};
 ghost use Rattle.lexer.specs.declared.fault.LexFault.TheVariants.{OutOfMemory};
-ghost use Rattle.tree.specs.Syntax.{SourceFile};
+ghost use Rattle.path_tree.specs.Syntax.{SourceFile};
 ghost use Rattle.judge.specs.Report.{Entry, entry_of, IsReportOf, IsPathCode, IsJudged, HasQuietFunctions, IsQuietPackage, IsFaultAt, IsUnjudgedEntry, AreUnjudgedEntries};
-ghost use Rattle.meaning.specs.FirstPath.{IsOnPath};
+ghost use Rattle.path_meaning.specs.FirstPath.{IsOnPath};
 
 use crate::functions::file_diagnostics;
 use crate::report::{Code, Diagnostic, PackageReport, TextFault};

@@ -2,8 +2,8 @@
 
 ghost use Rattle.std.specs.Prelude.{map, slice_get, Contains, IfOk, OnOk};
 ghost use Rattle.std.specs.List.{AllPairs};
-ghost use Rattle.tree.specs.View.{identifier_syntax, block_syntax, function_syntax, file_syntax};
-ghost use Rattle.meaning.specs.Faults.{most_tracked};
+ghost use Rattle.path_tree.specs.View.{identifier_syntax, block_syntax, function_syntax, file_syntax};
+ghost use Rattle.path_meaning.specs.Faults.{most_tracked};
 ghost use Rattle.judge.specs.Report.{entry_of, fault_entry, Precedes, Entry};
 ghost use Rattle.judge.specs.Walk as walk;
 
@@ -11,8 +11,8 @@ use crate::bindings::{add_bindings, report};
 use crate::pass::{Classes, after_statements, report_open};
 use crate::report::{Code, Diagnostic};
 use meaning::MOST_TRACKED;
+use path_tree::{Block, File, Func, Identifier};
 use std::alloc::{AllocError, Global};
-use tree::{Block, File, Func, Identifier};
 
 /// The diagnostics of a file, in their order, each once.
 ///

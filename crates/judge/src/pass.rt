@@ -2,14 +2,14 @@
 //! place, and what is wrong there.
 
 ghost use Rattle.std.specs.Prelude.{◌≡◌, ◌++◌, map, slice_get, IfOk, OnOk};
-ghost use Rattle.tree.specs.View.{identifier_syntax, expression_syntax, statement_syntax, statements_syntax};
+ghost use Rattle.path_tree.specs.View.{identifier_syntax, expression_syntax, statement_syntax, statements_syntax};
 ghost use Rattle.judge.specs.Report.{entry_of};
 ghost use Rattle.judge.specs.Walk as walk;
 
 use crate::bindings::{report, same, second};
 use crate::report::{Code, Diagnostic};
+use path_tree::{Else, Expr, Identifier, Stmt};
 use std::alloc::{AllocError, Global};
-use tree::{Else, Expr, Identifier, Stmt};
 
 /// The classes that the variable can have at a place. None where no list of events comes there.
 #[derive(Clone, Copy, Debug)]

@@ -1,3 +1,8 @@
 pub mod Membership
-pub mod SameNames
-pub mod Defined
+pub mod Fronts
+pub mod Returns
+pub mod Spelled
+pub mod FirstTokens
+pub mod GuardOperand
+pub mod DelicateTrees
+pub mod RefusedTrees

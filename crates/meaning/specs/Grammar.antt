@@ -1,262 +1,472 @@
--- The tree of a text: which tokens spell which tree. There is one case for each rule of the grammar, and
--- `SpellsX x tokens rest` says that x takes the tokens from `tokens` up to `rest`. Semicolons that may be
--- missing, empty statements and trailing commas leave nothing in the tree. A semicolon may be missing
--- before `}`. (The Go specification, "Source file organization", "Function declarations",
--- "Blocks", "Statements", "Calls", "Selectors". The forms are those of the first path, FirstPath.antt.)
-use Rattle.std.specs.Prelude.{◌≡◌, ℕ, ◌-◌, ◌+◌, ◌≤◌, ◌⊎◌, List, [], ◌∷◌, slice_range}
-use Rattle.lexer.specs.declared.token.Token.{Token}
-use Rattle.lexer.specs.declared.token.TokenKind.{TokenKind}
-use Rattle.lexer.specs.declared.token.TokenKind.TheVariants.{Identifier as identifier_kind, InterpretedString, PackageKeyword, ImportKeyword, FuncKeyword, DeferKeyword, IfKeyword, ElseKeyword, ReturnKeyword, Define, LeftParenthesis, RightParenthesis, LeftBrace, RightBrace, Comma, Semicolon, Dot}
-use Rattle.lexer.specs.Tokens.{IsTokens}
+-- The tree of a text: which tokens spell which tree. There is one case for each rule of the grammar. Semicolons that
+-- may be missing, empty statements and commas after the last item leave nothing in the tree; brackets, groups and a
+-- header's lone semicolon are kept. WellFormed has the conditions that the cases name.
+-- (The Go specification, from "Source file organization" back to "Types". Left out: type parameters and arguments,
+-- `goto`, `fallthrough`, imports with a dot.)
+use Rattle.std.specs.Prelude.{◌≡◌, ℕ, ◌-◌, ◌+◌, Bool, true, false, List, [], ◌∷◌, Option, Some, None, slice_range}
+use Rattle.lexer.specs.declared.token.TokenKind.TheVariants.{BreakKeyword, CaseKeyword, ChanKeyword, ContinueKeyword, DefaultKeyword, DeferKeyword, ElseKeyword, ForKeyword, FuncKeyword, GoKeyword, IfKeyword, ImportKeyword, InterfaceKeyword, MapKeyword, PackageKeyword, RangeKeyword, ReturnKeyword, SelectKeyword, StructKeyword, SwitchKeyword, TypeKeyword, Star, Arrow, Increment, Decrement, Assign, Define, Ellipsis, LeftParenthesis, RightParenthesis, LeftBracket, RightBracket, LeftBrace, RightBrace, Comma, Dot, Colon}
 use Rattle.tree.specs.declared.span.Span.{Span}
-use Rattle.tree.specs.Syntax.{Identifier, Expression, name_expression, selector_expression, call_expression, Expressions, no_expression, expression_and, Statement, define_statement, expression_statement, defer_statement, if_statement, block_statement, return_statement, Otherwise, no_else, else_block, Statements, no_statement, statement_and, Parameter, Function, ImportDeclaration, SourceFile}
-use Rattle.tree.specs.Depth.{file_depth}
-use Rattle.meaning.specs.declared.TheConstants.{MOST_DEPTH}
+use Rattle.tree.specs.declared.operator.ChanDirection.{ChanDirection}
+use Rattle.tree.specs.declared.operator.ChanDirection.TheVariants.{Both, Send, Receive}
+use Rattle.tree.specs.declared.operator.DeclKeyword.{DeclKeyword}
+use Rattle.tree.specs.declared.operator.DeclKeyword.TheVariants.{Const, Var, «Type» as type_keyword}
+use Rattle.tree.specs.Syntax.{Identifier, TypeName, Expression, expression_node, ExpressionForm, name_expression, basic_literal, function_literal, composite_literal, literal_value, key_value, parenthesized, selector_expression, index_expression, slice_expression, type_assertion, call_expression, star_expression, unary_expression, binary_expression, array_type, ellipsis_array_type, slice_type, map_type, channel_type, function_type, struct_type, interface_type, Expressions, no_expression, expression_and, OptionalExpression, missing_expression, present_expression, Signature, signature_of, Parameters, no_parameter, named_and, unnamed_and, name_alone_and, Fields, no_field, fields_and, embedded_and, method_and, Statement, statement_node, StatementForm, empty_statement, declaration_statement, labeled_statement, expression_statement, send_statement, increment_statement, decrement_statement, assignment, operator_assignment, define_statement, go_statement, defer_statement, return_statement, break_statement, continue_statement, block_statement, if_statement, for_statement, range_assignment, range_definition, switch_statement, type_switch_statement, select_statement, Statements, no_statement, statement_and, OptionalStatement, missing_statement, present_statement, CaseClauses, no_case, case_and, CommunicationClauses, no_communication, communication_and, Declaration, declaration_of, Specs, no_spec, value_and, type_and, Block, Function, TopLevelDeclaration, function_declaration, general_declaration, ImportSpec, ImportDeclaration, SourceFile}
+use Rattle.meaning.specs.Cursor.{Cursor, Rule, ◌⨾◌, ◌⇒◌, nothing, never, optional, chosen, only_if, token, string_token, not_before, semicolon, semicolons, start_at, spanning, word, identifier, optional_identifier, identifiers}
+use Rattle.meaning.specs.OperatorTokens.{operator_token, assign_operator, unary_token, literal_token, keyword_token, can_begin_type, is_dot, is_arrow, is_left_brace}
+use Rattle.meaning.specs.WellFormed.{IsPrimary, IsUnaryOperand, NestByLevel, is_name, takes_elements, is_parenthesized, is_call, FitsHeader, FitHeader, OptionalFitsHeader, InitFitsHeader, IsCommunication, IsElse, IsKept, FitTogether}
 
--- a token of this kind, from `start` to `end`, stands first
-abbrev pub Takes : TokenKind → ℕ → ℕ → List Token → List Token → Type 0
-Takes kind start end tokens rest = tokens ≡ record { kind = kind; start = start; end = end } ∷ rest
+-- where an expression stands: where only a type can, where an expression can, at a key or a value among the elements of
+-- a composite literal, or as one of these elements
+pub data Position : Type 0 where
+  as_type : Position
+  as_expression : Position
+  as_value : Position
+  as_element : Position
 
--- a token of this kind stands first, wherever it begins and ends
-pub record TakesAny (kind : TokenKind) (tokens rest : List Token) : Type 0 where
-  pub start : ℕ
-  pub end : ℕ
-  pub taken : Takes kind start end tokens rest
+abbrev pub IsNoType : Position → Type 0
+IsNoType as_type = ⊥
+IsNoType place = Unit {0}
 
--- the first byte of an expression, and the byte after its last one
-abbrev pub expression_start : Expression → ℕ
-expression_start (name_expression n) = n.span.start
-expression_start (selector_expression e n) = expression_start e
-expression_start (call_expression e es span) = span.start
+abbrev pub IsAmongElements : Position → Type 0
+IsAmongElements as_value = Unit {0}
+IsAmongElements as_element = Unit {0}
+IsAmongElements place = ⊥
 
-abbrev pub expression_end : Expression → ℕ
-expression_end (name_expression n) = n.span.end
-expression_end (selector_expression e n) = n.span.end
-expression_end (call_expression e es span) = span.end
+-- where an operand in brackets, or after `*`, stands
+abbrev pub inside : Position → Position
+inside as_type = as_type
+inside place = as_expression
 
--- the end of the last of some expressions, or `before` where there are none
-abbrev pub expressions_end : ℕ → Expressions → ℕ
-expressions_end before no_expression = before
-expressions_end before (expression_and e es) = expressions_end (expression_end e) es
+-- a type is selected from a package, which is a name; a name or a method from any primary expression
+abbrev pub CanSelect : Position → Expression → Type 0
+CanSelect as_type e = is_name e ≡ true
+CanSelect place e = IsPrimary e
 
--- nothing but semicolons, each after an empty statement
-pub data Semicolons : List Token → List Token → Type 0 where
-  no_semicolon : {tokens : List Token} → Semicolons tokens tokens
-  semicolon_and : {tokens more rest : List Token}
-      → TakesAny Semicolon tokens more
-      → Semicolons more rest
-      → Semicolons tokens rest
+-- `*` makes a type of any type, and stands before an operand of an expression
+abbrev pub CanPoint : Position → Expression → Type 0
+CanPoint as_type e = Unit {0}
+CanPoint place e = IsUnaryOperand e
 
-abbrev pub names_start : List Identifier → ℕ
-names_start [] = 0
-names_start (n ∷ ns) = n.span.start
+-- a type's name takes a dot that follows
+abbrev pub end_of_name : Position → Rule
+end_of_name as_type = not_before is_dot
+end_of_name place = nothing
 
--- `defer` takes a call alone
-abbrev pub IsCall : Expression → Type 0
-IsCall (name_expression n) = ⊥
-IsCall (selector_expression e n) = ⊥
-IsCall (call_expression e es span) = Unit {0}
+-- No brace follows another type where a literal can stand: there it would begin a literal, of this type or, after a
+-- function's type, of a function.
+abbrev pub end_of_type : Position → Rule
+end_of_type as_type = nothing
+end_of_type place = not_before is_left_brace
 
-abbrev pub else_end : ℕ → Otherwise → ℕ
-else_end before no_else = before
-else_end before (else_block ss braces) = braces.end
+-- `<-` before `chan` begins a type only where no expression can stand; `<-` straight after `chan` belongs to it
+abbrev pub channel : Position → ChanDirection → Rule
+channel place Both = token ChanKeyword ⨾ not_before is_arrow
+channel place Send = token ChanKeyword ⨾ token Arrow
+channel as_type Receive = token Arrow ⨾ token ChanKeyword
+channel place Receive = never
 
--- something in braces
-abbrev pub InBraces : Span → (List Token → List Token → Type 0) → List Token → List Token → Type 0
-InBraces braces inner tokens rest =
-    (first close : List Token) × (brace_end close_start : ℕ)
-    × Takes LeftBrace braces.start brace_end tokens first
-    × inner first close
-    × Takes RightBrace close_start braces.end close rest
+-- arguments, perhaps with `...` after the last, and perhaps a comma after them
+abbrev pub arguments : Expressions → Bool → Rule → Rule
+arguments no_expression true list = never
+arguments no_expression false list = nothing
+arguments (expression_and e es) ellipsis list = list ⨾ only_if ellipsis (token Ellipsis) ⨾ optional (token Comma)
+
+-- a list that may be empty
+abbrev pub perhaps : Expressions → Rule → Rule
+perhaps no_expression list = nothing
+perhaps (expression_and e es) list = list
+
+-- something in brackets or braces
+abbrev pub in_parentheses : Rule → Rule
+in_parentheses inner = token LeftParenthesis ⨾ inner ⨾ token RightParenthesis
+
+abbrev pub in_brackets : Rule → Rule
+in_brackets inner = token LeftBracket ⨾ inner ⨾ token RightBracket
+
+abbrev pub in_braces : Rule → Rule
+in_braces inner = token LeftBrace ⨾ inner ⨾ token RightBrace
+
+-- a block, with the span of its braces
+abbrev pub block : Span → Rule → Rule
+block braces statements = spanning braces (in_braces statements)
+
+-- the elements of a composite literal, perhaps with a comma after the last
+abbrev pub elements : Expressions → Rule → Rule
+elements no_expression list = nothing
+elements (expression_and e es) list = list ⨾ optional (token Comma)
+
+-- a slice expression's third bound, after a second colon
+abbrev pub third_bound : OptionalExpression → Rule → Rule
+third_bound missing_expression bound = nothing
+third_bound (present_expression e) bound = token Colon ⨾ bound
+
+-- the name that a type switch declares
+abbrev pub guard_name : List ℕ → Option Identifier → Rule
+guard_name text None = nothing
+guard_name text (Some n) = identifier text n ⨾ token Define
+
+-- a header's first statement with its semicolon, a lone semicolon, or neither
+abbrev pub initial : OptionalStatement → Bool → Rule → Rule
+initial missing_statement false statement = nothing
+initial missing_statement true statement = semicolon
+initial (present_statement s) false statement = never
+initial (present_statement s) true statement = statement ⨾ semicolon
+
+-- no statement stands there
+abbrev pub IsMissing : OptionalStatement → Type 0
+IsMissing missing_statement = Unit {0}
+IsMissing (present_statement s) = ⊥
+
+-- before `range` stand variables and `=`, or nothing
+abbrev pub range_left : Expressions → Rule → Rule
+range_left no_expression list = nothing
+range_left (expression_and e es) list = list ⨾ token Assign
+
+abbrev pub case_head : Expressions → Rule → Rule
+case_head no_expression list = token DefaultKeyword
+case_head (expression_and e es) list = token CaseKeyword ⨾ list
+
+abbrev pub communication_head : OptionalStatement → Rule → Rule
+communication_head missing_statement statement = token DefaultKeyword
+communication_head (present_statement s) statement = token CaseKeyword ⨾ statement
+
+-- A spec of constants has a type only before values; one of variables has a type or values.
+abbrev pub ValueFits : DeclKeyword → OptionalExpression → Expressions → Type 0
+ValueFits Const missing_expression es = Unit {0}
+ValueFits Const (present_expression t) no_expression = ⊥
+ValueFits Const (present_expression t) (expression_and e es) = Unit {0}
+ValueFits Var missing_expression no_expression = ⊥
+ValueFits Var missing_expression (expression_and e es) = Unit {0}
+ValueFits Var (present_expression t) es = Unit {0}
+ValueFits type_keyword t es = ⊥
+
+abbrev pub IsTypeKeyword : DeclKeyword → Type 0
+IsTypeKeyword type_keyword = Unit {0}
+IsTypeKeyword keyword = ⊥
+
+abbrev pub IsLast : Specs → Type 0
+IsLast no_spec = Unit {0}
+IsLast specs = ⊥
+
+abbrev pub form_of : Statement → StatementForm
+form_of (statement_node form span) = form
+
+abbrev pub CommunicationFits : OptionalStatement → Type 0
+CommunicationFits missing_statement = Unit {0}
+CommunicationFits (present_statement s) = IsCommunication (form_of s)
+
+-- what the lines in braces belong to
+pub data Owner : Type 0 where
+  of_struct : Owner
+  of_interface : Owner
+
+abbrev pub IsStruct : Owner → Type 0
+IsStruct of_struct = Unit {0}
+IsStruct of_interface = ⊥
+
+-- in an interface neither `*` nor a tag stands at a type's name
+abbrev pub CanEmbed : Owner → Bool → Option Span → Type 0
+CanEmbed of_struct star tag = Unit {0}
+CanEmbed of_interface star tag = (star ≡ false) × (tag ≡ None)
+
+abbrev pub IsInterface : Owner → Type 0
+IsInterface of_struct = ⊥
+IsInterface of_interface = Unit {0}
+
+abbrev pub optional_tag : Option Span → Rule
+optional_tag None = nothing
+optional_tag (Some span) = spanning span string_token
+
+-- between the items of a list of parameters stand commas, and perhaps one after the last
+abbrev pub before_item : Bool → Rule
+before_item true = nothing
+before_item false = token Comma
+
+abbrev pub after_items : Bool → Rule
+after_items true = nothing
+after_items false = optional (token Comma)
+
+-- an empty statement stands where the token before it ends
+abbrev pub statement_start : StatementForm → Cursor → ℕ
+statement_start empty_statement from = from.end
+statement_start form from = start_at from
+
+-- the name of an embedded type
+abbrev pub qualifier : List ℕ → Option Identifier → Rule
+qualifier text None = nothing
+qualifier text (Some n) = identifier text n ⨾ token Dot
 
 module _ (text : List ℕ) where
-  abbrev pub SpellsName : Identifier → List Token → List Token → Type 0
-  SpellsName n tokens rest =
-      Takes identifier_kind n.span.start n.span.end tokens rest
-      × (n.text ≡ slice_range text n.span.start n.span.end)
+  abbrev pub type_name : TypeName → Rule
+  type_name n = spanning n.span (qualifier text n.qualifier ⨾ identifier text n.name)
 
-  abbrev mutual
-    pub SpellsExpression : Expression → List Token → List Token → Type 0
-    SpellsExpression (name_expression n) tokens rest = SpellsName n tokens rest
-    SpellsExpression (selector_expression e n) tokens rest =
-        (dot name : List Token)
-        × SpellsExpression e tokens dot
-        × TakesAny Dot dot name
-        × SpellsName n name rest
-    SpellsExpression (call_expression e es span) tokens rest =
-        (round first close : List Token) × (close_start : ℕ)
-        × SpellsExpression e tokens round
-        × TakesAny LeftParenthesis round first
-        × SpellsArguments es first close
-        × Takes RightParenthesis close_start span.end close rest
-        × (span.start ≡ expression_start e)
+  unfoldable mutual
+    pub SpellsExpression : Position → Expression → Rule
+    SpellsExpression place (expression_node form span) = spanning span (SpellsForm place form)
 
-    -- expressions with commas between, and perhaps one after the last
-    pub SpellsArguments : Expressions → List Token → List Token → Type 0
-    SpellsArguments no_expression tokens rest = tokens ≡ rest
-    SpellsArguments (expression_and e es) tokens rest =
-        (more : List Token) × SpellsExpression e tokens more × SpellsMoreArguments es more rest
+    pub SpellsForm : Position → ExpressionForm → Rule
+    SpellsForm place (name_expression name) = word text name ⨾ end_of_name place
+    SpellsForm place (basic_literal kind) = IsNoType place ⇒ token (literal_token kind)
+    SpellsForm place (function_literal signature ss braces) =
+        IsNoType place ⇒ token FuncKeyword ⨾ SpellsSignature signature ⨾ block braces (SpellsStatements ss)
+    SpellsForm place (composite_literal t es) =
+        IsNoType place ⇒ (takes_elements t ≡ true)
+        ⇒ SpellsExpression as_type t ⨾ in_braces (elements es (SpellsExpressions as_element es))
+    SpellsForm place (literal_value es) =
+        IsAmongElements place ⇒ in_braces (elements es (SpellsExpressions as_element es))
+    SpellsForm place (key_value k v) =
+        (place ≡ as_element) ⇒ SpellsExpression as_value k ⨾ token Colon ⨾ SpellsExpression as_value v
+    SpellsForm place (parenthesized e) = in_parentheses (SpellsExpression (inside place) e)
+    SpellsForm place (selector_expression e n) =
+        CanSelect place e ⇒ SpellsExpression as_expression e ⨾ token Dot ⨾ identifier text n
+    SpellsForm place (index_expression e i) =
+        IsNoType place ⇒ IsPrimary e ⇒ SpellsExpression as_expression e ⨾ in_brackets (SpellsExpression as_expression i)
+    SpellsForm place (slice_expression e low high most) =
+        IsNoType place ⇒ IsPrimary e
+        ⇒ SpellsExpression as_expression e
+        ⨾ in_brackets (SpellsOptional as_expression low ⨾ token Colon ⨾ SpellsOptional as_expression high
+        ⨾ third_bound most (SpellsOptional as_expression most))
+    SpellsForm place (type_assertion e t) =
+        IsNoType place ⇒ IsPrimary e
+        ⇒ SpellsExpression as_expression e ⨾ token Dot ⨾ in_parentheses (SpellsExpression as_type t)
+    SpellsForm place (call_expression e es ellipsis) =
+        IsNoType place ⇒ IsPrimary e
+        ⇒ SpellsExpression as_expression e
+        ⨾ in_parentheses (arguments es ellipsis (SpellsExpressions as_expression es))
+    SpellsForm place (star_expression e) = CanPoint place e ⇒ token Star ⨾ SpellsExpression (inside place) e
+    SpellsForm place (unary_expression op e) =
+        IsNoType place ⇒ IsUnaryOperand e ⇒ token (unary_token op) ⨾ SpellsExpression as_expression e
+    SpellsForm place (binary_expression op l r) =
+        IsNoType place ⇒ NestByLevel op l r
+        ⇒ SpellsExpression as_expression l ⨾ token (operator_token op) ⨾ SpellsExpression as_expression r
+    SpellsForm place (array_type n t) =
+        in_brackets (SpellsExpression as_expression n) ⨾ SpellsExpression as_type t ⨾ end_of_type place
+    SpellsForm place (ellipsis_array_type t) =
+        in_brackets (token Ellipsis) ⨾ SpellsExpression as_type t ⨾ end_of_type place
+    SpellsForm place (slice_type t) = in_brackets nothing ⨾ SpellsExpression as_type t ⨾ end_of_type place
+    SpellsForm place (map_type k t) =
+        token MapKeyword ⨾ in_brackets (SpellsExpression as_type k) ⨾ SpellsExpression as_type t ⨾ end_of_type place
+    SpellsForm place (channel_type direction t) =
+        channel place direction ⨾ SpellsExpression as_type t ⨾ end_of_type place
+    SpellsForm place (function_type signature) =
+        token FuncKeyword ⨾ SpellsSignature signature ⨾ end_of_type place
+    SpellsForm place (struct_type fs) =
+        token StructKeyword ⨾ in_braces (SpellsFields of_struct fs) ⨾ end_of_type place
+    SpellsForm place (interface_type fs) =
+        token InterfaceKeyword ⨾ in_braces (SpellsFields of_interface fs) ⨾ end_of_type place
 
-    pub SpellsMoreArguments : Expressions → List Token → List Token → Type 0
-    SpellsMoreArguments no_expression tokens rest = (tokens ≡ rest) ⊎ TakesAny Comma tokens rest
-    SpellsMoreArguments (expression_and e es) tokens rest =
-        (first more : List Token)
-        × TakesAny Comma tokens first
-        × SpellsExpression e first more
-        × SpellsMoreArguments es more rest
+    -- one expression or more, with commas between
+    pub SpellsExpressions : Position → Expressions → Rule
+    SpellsExpressions place no_expression = never
+    SpellsExpressions place (expression_and e es) = SpellsExpression place e ⨾ SpellsMore place es
 
-  -- one expression or more, with commas between and none after the last
-  abbrev mutual
-    pub SpellsExpressions : Expressions → List Token → List Token → Type 0
-    SpellsExpressions no_expression tokens rest = ⊥
-    SpellsExpressions (expression_and e es) tokens rest =
-        (more : List Token) × SpellsExpression e tokens more × SpellsMoreExpressions es more rest
+    pub SpellsMore : Position → Expressions → Rule
+    SpellsMore place no_expression = nothing
+    SpellsMore place (expression_and e es) = token Comma ⨾ SpellsExpression place e ⨾ SpellsMore place es
 
-    pub SpellsMoreExpressions : Expressions → List Token → List Token → Type 0
-    SpellsMoreExpressions no_expression tokens rest = tokens ≡ rest
-    SpellsMoreExpressions (expression_and e es) tokens rest =
-        (first more : List Token)
-        × TakesAny Comma tokens first
-        × SpellsExpression e first more
-        × SpellsMoreExpressions es more rest
+    pub SpellsOptional : Position → OptionalExpression → Rule
+    SpellsOptional place missing_expression = nothing
+    SpellsOptional place (present_expression e) = SpellsExpression place e
 
-  abbrev pub SpellsMoreNames : List Identifier → List Token → List Token → Type 0
-  SpellsMoreNames [] tokens rest = tokens ≡ rest
-  SpellsMoreNames (n ∷ ns) tokens rest =
-      (first more : List Token)
-      × TakesAny Comma tokens first
-      × SpellsName n first more
-      × SpellsMoreNames ns more rest
+    pub SpellsSignature : Signature → Rule
+    SpellsSignature (signature_of ps rs brackets) =
+        FitTogether ps ⇒ in_parentheses (SpellsItems true ps)
+        ⨾ chosen brackets (FitTogether rs ⇒ in_parentheses (SpellsItems true rs)) (SpellsResult rs)
 
-  abbrev pub SpellsNames : List Identifier → List Token → List Token → Type 0
-  SpellsNames [] tokens rest = ⊥
-  SpellsNames (n ∷ ns) tokens rest = (more : List Token) × SpellsName n tokens more × SpellsMoreNames ns more rest
+    -- a result without brackets, or none
+    pub SpellsResult : Parameters → Rule
+    SpellsResult no_parameter = not_before can_begin_type
+    SpellsResult (unnamed_and ellipsis t ps) =
+        (ellipsis ≡ false) ⇒ (ps ≡ no_parameter) ⇒ (is_parenthesized t ≡ false) ⇒ SpellsExpression as_type t
+    SpellsResult (named_and n ellipsis t ps) = never
+    SpellsResult (name_alone_and n ps) = never
 
-  -- the results of a `return`, perhaps none
-  abbrev pub SpellsResults : Expressions → List Token → List Token → Type 0
-  SpellsResults no_expression tokens rest = tokens ≡ rest
-  SpellsResults (expression_and e es) tokens rest =
-      (more : List Token) × SpellsExpression e tokens more × SpellsMoreExpressions es more rest
+    -- items of a list of parameters, from the first on or behind another
+    pub SpellsItems : Bool → Parameters → Rule
+    SpellsItems first no_parameter = after_items first
+    SpellsItems first (named_and n ellipsis t ps) =
+        before_item first ⨾ identifier text n ⨾ only_if ellipsis (token Ellipsis) ⨾ SpellsExpression as_type t
+        ⨾ SpellsItems false ps
+    SpellsItems first (unnamed_and ellipsis t ps) =
+        before_item first ⨾ only_if ellipsis (token Ellipsis) ⨾ SpellsExpression as_type t ⨾ SpellsItems false ps
+    SpellsItems first (name_alone_and n ps) = before_item first ⨾ identifier text n ⨾ SpellsItems false ps
 
-  abbrev mutual
-    pub SpellsStatement : Statement → List Token → List Token → Type 0
-    SpellsStatement (define_statement names values span) tokens rest =
-        (sign first : List Token)
-        × SpellsNames names tokens sign
-        × TakesAny Define sign first
-        × SpellsExpressions values first rest
-        × (span.start ≡ names_start names)
-        × (span.end ≡ expressions_end 0 values)
-    SpellsStatement (expression_statement e) tokens rest = SpellsExpression e tokens rest
-    SpellsStatement (defer_statement e span) tokens rest =
-        (first : List Token) × (word_end : ℕ)
-        × Takes DeferKeyword span.start word_end tokens first
-        × SpellsExpression e first rest
-        × IsCall e
-        × (span.end ≡ expression_end e)
-    SpellsStatement (if_statement e ss braces otherwise span) tokens rest =
-        (first brace after : List Token) × (word_end : ℕ)
-        × Takes IfKeyword span.start word_end tokens first
-        × SpellsExpression e first brace
-        × InBraces braces (SpellsStatements ss) brace after
-        × SpellsElse otherwise after rest
-        × (span.end ≡ else_end braces.end otherwise)
-    SpellsStatement (block_statement ss braces) tokens rest = InBraces braces (SpellsStatements ss) tokens rest
-    SpellsStatement (return_statement es span) tokens rest =
-        (first : List Token) × (word_end : ℕ)
-        × Takes ReturnKeyword span.start word_end tokens first
-        × SpellsResults es first rest
-        × (span.end ≡ expressions_end word_end es)
+    pub SpellsFields : Owner → Fields → Rule
+    SpellsFields owner no_field = nothing
+    SpellsFields owner (fields_and ns t tag span fs) =
+        IsStruct owner
+        ⇒ spanning span (identifiers text ns ⨾ SpellsExpression as_type t ⨾ optional_tag tag)
+        ⨾ semicolon ⨾ SpellsFields owner fs
+    SpellsFields owner (embedded_and star n tag span fs) =
+        CanEmbed owner star tag
+        ⇒ spanning span (only_if star (token Star) ⨾ type_name n ⨾ optional_tag tag)
+        ⨾ semicolon ⨾ SpellsFields owner fs
+    SpellsFields owner (method_and n signature span fs) =
+        IsInterface owner
+        ⇒ spanning span (identifier text n ⨾ SpellsSignature signature) ⨾ semicolon ⨾ SpellsFields owner fs
 
-    pub SpellsElse : Otherwise → List Token → List Token → Type 0
-    SpellsElse no_else tokens rest = tokens ≡ rest
-    SpellsElse (else_block ss braces) tokens rest =
-        (brace : List Token) × TakesAny ElseKeyword tokens brace × InBraces braces (SpellsStatements ss) brace rest
+    pub SpellsStatement : Statement → Rule
+    SpellsStatement (statement_node form span) from to =
+        SpellsStatementForm form from to × (span.start ≡ statement_start form from) × (span.end ≡ to.end)
 
-    -- statements up to a closing brace
-    pub SpellsStatements : Statements → List Token → List Token → Type 0
-    SpellsStatements no_statement tokens rest = Semicolons tokens rest
-    SpellsStatements (statement_and s ss) tokens rest =
-        (first after : List Token)
-        × Semicolons tokens first
-        × SpellsStatement s first after
-        × SpellsAfter ss after rest
+    pub SpellsStatementForm : StatementForm → Rule
+    SpellsStatementForm empty_statement = nothing
+    SpellsStatementForm (declaration_statement d) = SpellsDeclaration d
+    SpellsStatementForm (labeled_statement n s) = identifier text n ⨾ token Colon ⨾ SpellsStatement s
+    SpellsStatementForm (expression_statement e) = SpellsExpression as_expression e
+    SpellsStatementForm (send_statement c v) =
+        SpellsExpression as_expression c ⨾ token Arrow ⨾ SpellsExpression as_expression v
+    SpellsStatementForm (increment_statement e) = SpellsExpression as_expression e ⨾ token Increment
+    SpellsStatementForm (decrement_statement e) = SpellsExpression as_expression e ⨾ token Decrement
+    SpellsStatementForm (assignment ls rs) =
+        SpellsExpressions as_expression ls ⨾ token Assign ⨾ SpellsExpressions as_expression rs
+    SpellsStatementForm (operator_assignment op l r) =
+        SpellsExpression as_expression l ⨾ assign_operator op ⨾ SpellsExpression as_expression r
+    SpellsStatementForm (define_statement ns rs) =
+        identifiers text ns ⨾ token Define ⨾ SpellsExpressions as_expression rs
+    SpellsStatementForm (go_statement e) = (is_call e ≡ true) ⇒ token GoKeyword ⨾ SpellsExpression as_expression e
+    SpellsStatementForm (defer_statement e) =
+        (is_call e ≡ true) ⇒ token DeferKeyword ⨾ SpellsExpression as_expression e
+    SpellsStatementForm (return_statement es) = token ReturnKeyword ⨾ perhaps es (SpellsExpressions as_expression es)
+    SpellsStatementForm (break_statement n) = token BreakKeyword ⨾ optional_identifier text n
+    SpellsStatementForm (continue_statement n) = token ContinueKeyword ⨾ optional_identifier text n
+    SpellsStatementForm (block_statement ss braces) = block braces (SpellsStatements ss)
+    SpellsStatementForm (if_statement init has_semicolon c ss braces otherwise) =
+        InitFitsHeader init ⇒ FitsHeader c
+        ⇒ token IfKeyword
+        ⨾ initial init has_semicolon (SpellsOptionalStatement init)
+        ⨾ SpellsExpression as_expression c
+        ⨾ block braces (SpellsStatements ss)
+        ⨾ SpellsElse otherwise
+    SpellsStatementForm (for_statement init c post has_semicolons ss braces) =
+        InitFitsHeader init ⇒ OptionalFitsHeader c ⇒ InitFitsHeader post
+        ⇒ token ForKeyword
+        ⨾ chosen has_semicolons
+        (SpellsOptionalStatement init ⨾ semicolon ⨾ SpellsOptional as_expression c ⨾ semicolon
+        ⨾ SpellsOptionalStatement post)
+        (IsMissing init ⇒ IsMissing post ⇒ SpellsOptional as_expression c)
+        ⨾ block braces (SpellsStatements ss)
+    SpellsStatementForm (range_assignment ls e ss braces) =
+        FitHeader ls ⇒ FitsHeader e
+        ⇒ token ForKeyword
+        ⨾ range_left ls (SpellsExpressions as_expression ls)
+        ⨾ token RangeKeyword
+        ⨾ SpellsExpression as_expression e
+        ⨾ block braces (SpellsStatements ss)
+    SpellsStatementForm (range_definition ns e ss braces) =
+        FitsHeader e
+        ⇒ token ForKeyword
+        ⨾ identifiers text ns
+        ⨾ token Define
+        ⨾ token RangeKeyword
+        ⨾ SpellsExpression as_expression e
+        ⨾ block braces (SpellsStatements ss)
+    SpellsStatementForm (switch_statement init has_semicolon tag cs) =
+        InitFitsHeader init ⇒ OptionalFitsHeader tag
+        ⇒ token SwitchKeyword
+        ⨾ initial init has_semicolon (SpellsOptionalStatement init)
+        ⨾ SpellsOptional as_expression tag
+        ⨾ in_braces (SpellsCases cs)
+    SpellsStatementForm (type_switch_statement init has_semicolon n e cs) =
+        InitFitsHeader init ⇒ FitsHeader e ⇒ IsPrimary e
+        ⇒ token SwitchKeyword
+        ⨾ initial init has_semicolon (SpellsOptionalStatement init)
+        ⨾ guard_name text n
+        ⨾ SpellsExpression as_expression e
+        ⨾ token Dot
+        ⨾ in_parentheses (token TypeKeyword)
+        ⨾ in_braces (SpellsCases cs)
+    SpellsStatementForm (select_statement cs) = token SelectKeyword ⨾ in_braces (SpellsCommunications cs)
 
-    -- what follows a statement: a semicolon and more, or the end
-    pub SpellsAfter : Statements → List Token → List Token → Type 0
-    SpellsAfter no_statement tokens rest =
-        (tokens ≡ rest) ⊎ ((more : List Token) × TakesAny Semicolon tokens more × Semicolons more rest)
-    SpellsAfter (statement_and s ss) tokens rest =
-        (more first after : List Token)
-        × TakesAny Semicolon tokens more
-        × Semicolons more first
-        × SpellsStatement s first after
-        × SpellsAfter ss after rest
+    pub SpellsOptionalStatement : OptionalStatement → Rule
+    SpellsOptionalStatement missing_statement = nothing
+    SpellsOptionalStatement (present_statement s) = SpellsStatement s
 
-  abbrev pub SpellsParameter : Parameter → List Token → List Token → Type 0
-  SpellsParameter p tokens rest =
-      (kind : List Token) × SpellsName p.name tokens kind × SpellsExpression p.kind kind rest
+    pub SpellsElse : OptionalStatement → Rule
+    SpellsElse missing_statement = nothing
+    SpellsElse (present_statement s) = IsElse (form_of s) ⇒ token ElseKeyword ⨾ SpellsStatement s
 
-  abbrev pub SpellsMoreParameters : List Parameter → List Token → List Token → Type 0
-  SpellsMoreParameters [] tokens rest = (tokens ≡ rest) ⊎ TakesAny Comma tokens rest
-  SpellsMoreParameters (p ∷ ps) tokens rest =
-      (first more : List Token)
-      × TakesAny Comma tokens first
-      × SpellsParameter p first more
-      × SpellsMoreParameters ps more rest
+    -- statements up to a closing brace or the next clause
+    pub SpellsStatements : Statements → Rule
+    SpellsStatements no_statement = semicolons
+    SpellsStatements (statement_and s ss) =
+        semicolons ⨾ (IsKept (form_of s) ⇒ SpellsStatement s) ⨾ semicolon ⨾ SpellsStatements ss
 
-  abbrev pub SpellsParameters : List Parameter → List Token → List Token → Type 0
-  SpellsParameters [] tokens rest = tokens ≡ rest
-  SpellsParameters (p ∷ ps) tokens rest =
-      (more : List Token) × SpellsParameter p tokens more × SpellsMoreParameters ps more rest
+    pub SpellsCases : CaseClauses → Rule
+    SpellsCases no_case = nothing
+    SpellsCases (case_and es ss span cs) =
+        spanning span (case_head es (SpellsExpressions as_expression es) ⨾ token Colon ⨾ SpellsStatements ss)
+        ⨾ SpellsCases cs
 
-  abbrev pub SpellsFunction : Function → List Token → List Token → Type 0
-  SpellsFunction f tokens rest =
-      (name round first close brace : List Token) × (word_end : ℕ)
-      × Takes FuncKeyword f.span.start word_end tokens name
-      × SpellsName f.name name round
-      × TakesAny LeftParenthesis round first
-      × SpellsParameters f.params first close
-      × TakesAny RightParenthesis close brace
-      × InBraces f.braces (SpellsStatements f.body) brace rest
-      × (f.span.end ≡ f.braces.end)
+    pub SpellsCommunications : CommunicationClauses → Rule
+    SpellsCommunications no_communication = nothing
+    SpellsCommunications (communication_and c ss span cs) =
+        CommunicationFits c
+        ⇒ spanning span (communication_head c (SpellsOptionalStatement c) ⨾ token Colon ⨾ SpellsStatements ss)
+        ⨾ SpellsCommunications cs
 
-  abbrev pub SpellsImport : ImportDeclaration → List Token → List Token → Type 0
-  SpellsImport i tokens rest =
-      (path : List Token)
-      × TakesAny ImportKeyword tokens path
-      × Takes InterpretedString i.span.start i.span.end path rest
-      × (i.path ≡ slice_range text (i.span.start + 1) (i.span.end - 1))
+    pub SpellsDeclaration : Declaration → Rule
+    SpellsDeclaration (declaration_of keyword specs is_grouped span) =
+        spanning span (token (keyword_token keyword)
+        ⨾ chosen is_grouped (in_parentheses (SpellsSpecs keyword true specs)) (SpellsSpecs keyword false specs))
 
-  abbrev pub SpellsImports : List ImportDeclaration → List Token → List Token → Type 0
-  SpellsImports [] tokens rest = tokens ≡ rest
-  SpellsImports (i ∷ is) tokens rest =
-      (end more : List Token)
-      × SpellsImport i tokens end
-      × TakesAny Semicolon end more
-      × SpellsImports is more rest
+    -- the specs of a group, or the one of a declaration without brackets
+    pub SpellsSpecs : DeclKeyword → Bool → Specs → Rule
+    SpellsSpecs keyword is_grouped no_spec = chosen is_grouped nothing never
+    SpellsSpecs keyword is_grouped (value_and ns t es span specs) =
+        ValueFits keyword t es
+        ⇒ spanning span (identifiers text ns ⨾ SpellsOptional as_type t
+        ⨾ perhaps es (token Assign ⨾ SpellsExpressions as_expression es))
+        ⨾ chosen is_grouped (semicolon ⨾ SpellsSpecs keyword true specs) (IsLast specs ⇒ nothing)
+    SpellsSpecs keyword is_grouped (type_and n is_alias t span specs) =
+        IsTypeKeyword keyword
+        ⇒ spanning span (identifier text n ⨾ only_if is_alias (token Assign) ⨾ SpellsExpression as_type t)
+        ⨾ chosen is_grouped (semicolon ⨾ SpellsSpecs keyword true specs) (IsLast specs ⇒ nothing)
 
-  abbrev pub SpellsFunctions : List Function → List Token → List Token → Type 0
-  SpellsFunctions [] tokens rest = tokens ≡ rest
-  SpellsFunctions (f ∷ fs) tokens rest =
-      (end more : List Token)
-      × SpellsFunction f tokens end
-      × TakesAny Semicolon end more
-      × SpellsFunctions fs more rest
+  -- an import's path is the text between its quotes
+  abbrev pub SpellsImportSpec : ImportSpec → Rule
+  SpellsImportSpec i =
+      (i.path ≡ slice_range text (i.path_span.start + 1) (i.path_span.end - 1))
+      ⇒ spanning i.span (optional_identifier text i.name ⨾ spanning i.path_span string_token)
 
-  -- all tokens of the text
-  abbrev pub SpellsFile : SourceFile → List Token → Type 0
-  SpellsFile file tokens =
-      (name end imports functions : List Token)
-      × TakesAny PackageKeyword tokens name
-      × SpellsName file.package_name name end
-      × TakesAny Semicolon end imports
-      × SpellsImports file.imports imports functions
-      × SpellsFunctions file.functions functions []
+  -- the specs of a group
+  abbrev pub SpellsImportSpecs : List ImportSpec → Rule
+  SpellsImportSpecs [] = nothing
+  SpellsImportSpecs (i ∷ is) = SpellsImportSpec i ⨾ semicolon ⨾ SpellsImportSpecs is
 
--- a tree that the text's tokens spell, and that is not too deep
-pub record IsTreeOf (text : List ℕ) (file : SourceFile) : Type 0 where
-  pub tokens : List Token
-  pub cut : IsTokens text tokens
-  pub spelled : SpellsFile text file tokens
-  pub shallow : file_depth file ≤ MOST_DEPTH
+  abbrev pub SpellsOneImport : List ImportSpec → Rule
+  SpellsOneImport (i ∷ []) = SpellsImportSpec i
+  SpellsOneImport is = never
+
+  abbrev pub SpellsImports : List ImportDeclaration → Rule
+  SpellsImports [] = nothing
+  SpellsImports (d ∷ ds) =
+      spanning d.span (token ImportKeyword
+      ⨾ chosen d.is_grouped (in_parentheses (SpellsImportSpecs d.specs)) (SpellsOneImport d.specs))
+      ⨾ semicolon ⨾ SpellsImports ds
+
+  abbrev pub SpellsReceiver : Option Parameters → Rule
+  SpellsReceiver None = nothing
+  SpellsReceiver (Some ps) = FitTogether ps ⇒ in_parentheses (SpellsItems true ps)
+
+  abbrev pub SpellsBody : Option Block → Rule
+  SpellsBody None = nothing
+  SpellsBody (Some b) = block b.braces (SpellsStatements b.statements)
+
+  abbrev pub SpellsFunction : Function → Rule
+  SpellsFunction f =
+      spanning f.span (token FuncKeyword ⨾ SpellsReceiver f.receiver ⨾ identifier text f.name
+      ⨾ SpellsSignature f.signature ⨾ SpellsBody f.body)
+
+  abbrev pub SpellsTopLevel : TopLevelDeclaration → Rule
+  SpellsTopLevel (function_declaration f) = SpellsFunction f
+  SpellsTopLevel (general_declaration d) = SpellsDeclaration d
+
+  abbrev pub SpellsTopLevels : List TopLevelDeclaration → Rule
+  SpellsTopLevels [] = nothing
+  SpellsTopLevels (d ∷ ds) = SpellsTopLevel d ⨾ semicolon ⨾ SpellsTopLevels ds
+
+  abbrev pub SpellsFile : SourceFile → Rule
+  SpellsFile file =
+      spanning file.span (token PackageKeyword ⨾ identifier text file.package_name ⨾ semicolon
+      ⨾ SpellsImports file.imports ⨾ SpellsTopLevels file.declarations)

@@ -1,15 +1,14 @@
--- What a yes means, to be held against the Go specification and the documentation of package context: which
--- tree a text has, which files are judged, and what the world does as a function of such a file runs.
+-- Which tokens spell which tree, and which tree a text has: to be trusted.
+pub mod Cursor
+pub mod OperatorTokens
+pub mod WellFormed
 pub mod Grammar
-pub mod Scopes
+pub mod TreeOfText
+-- What a body does, and the lists of events that it may go through: to be trusted.
 pub mod Code
-pub mod FirstPath
-pub mod World
-pub mod Steps
-pub mod Runs
--- What a report names: the faults, by the lists of events that a body may go through and the classes of its
--- variables after them. That a function without faults is quiet is proved of them (crate soundness), so a yes
--- does not rest on them.
 pub mod Lists
-pub mod Classes
-pub mod Faults
+pub mod StatementCode
+-- What is proved of them.
+pub mod Laws
+-- For a reader of the grammar: texts and trees to try it on.
+pub mod TreeExamples

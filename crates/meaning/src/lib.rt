@@ -2,6 +2,9 @@
 //! runs nothing.
 #![tactic(auto)]
 
+ghost use Rattle.meaning.specs.Laws.{EachFrontStops, FallingOffReturns};
+ghost use Rattle.meaning.specs.TreeExamples.{DelicateTrees, RefusedTrees};
+
 /// The most that a tree may be deep, counted in statements and expressions. A text whose tree is deeper is
 /// not judged.
 pub const MOST_DEPTH: u32 = 200;
@@ -9,3 +12,26 @@ pub const MOST_DEPTH: u32 = 200;
 /// The most cancel variables that a function may have. Of one with more that is the fault, and its paths
 /// are not judged.
 pub const MOST_TRACKED: usize = 48;
+
+/// Each front of a list of events that a code may go through is one at which it may stop, whatever the
+/// events are.
+pub fn each_front_stops<E>()
+    ensures { EachFrontStops E }
+{}
+
+/// Falling off a body's end returns: the lists of events that come to the end of a body are those of its
+/// statements that fall off, and after them the return at its last brace. So it is for every body, whatever
+/// its sites give.
+pub fn falling_off_returns<E>()
+    ensures { FallingOffReturns E }
+{}
+
+/// The grammar is not empty where it is easily wrong: short texts, each with a tree that it has.
+pub fn delicate_trees_are_spelled()
+    ensures { DelicateTrees }
+{}
+
+/// The grammar refuses what a wrong one would accept: trees that look like those of a text and are none.
+pub fn other_trees_are_not()
+    ensures { RefusedTrees }
+{}

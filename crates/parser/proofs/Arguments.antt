@@ -3,9 +3,9 @@ use Rattle.std.proofs.Common.{◌≡◌, ℕ, ◌<◌, ◌≤◌, Bool, true, fa
 use Rattle.std.proofs.lemmas.List.{map_push}
 use Rattle.lexer.specs.declared.token.Token.{Token}
 use Rattle.lexer.specs.declared.token.TokenKind.TheVariants.{Identifier as identifier_kind, Comma}
-use Rattle.tree.specs.declared.expression.Expr.{Expr}
-use Rattle.tree.specs.Syntax.{Identifier, Expression, name_expression, Expressions, no_expression, expression_and, expressions_of}
-use Rattle.tree.specs.View.{expression_syntax, expressions_syntax}
+use Rattle.path_tree.specs.declared.expression.Expr.{Expr}
+use Rattle.path_tree.specs.Syntax.{Identifier, Expression, name_expression, Expressions, no_expression, expression_and, expressions_of}
+use Rattle.path_tree.specs.View.{expression_syntax, expressions_syntax}
 use Rattle.lexer.specs.Spelling.{same_kind}
 use Rattle.reader.specs.Reading.{Read, begins_with}
 use Rattle.reader.specs.Reading.{take as taken}

@@ -3,9 +3,9 @@ use Rattle.std.proofs.Common.{◌≡◌, ℕ, suc, true, false, List, [], ◌∷
 use Rattle.std.proofs.lemmas.List.{map_push}
 use Rattle.lexer.specs.declared.token.Token.{Token}
 use Rattle.lexer.specs.declared.token.TokenKind.TheVariants.{RightBrace, Semicolon}
-use Rattle.tree.specs.declared.statement.Stmt.{Stmt}
-use Rattle.tree.specs.Syntax.{Statement, Statements, no_statement, statement_and, statements_of}
-use Rattle.tree.specs.View.{statement_syntax, statements_syntax}
+use Rattle.path_tree.specs.declared.statement.Stmt.{Stmt}
+use Rattle.path_tree.specs.Syntax.{Statement, Statements, no_statement, statement_and, statements_of}
+use Rattle.path_tree.specs.View.{statement_syntax, statements_syntax}
 use Rattle.parser.specs.declared.stop.Stop.{Stop}
 use Rattle.parser.specs.Gives.{Stops}
 use Rattle.parser.proofs.Choice.{fails_too}

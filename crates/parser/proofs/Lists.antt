@@ -4,10 +4,10 @@ use Rattle.std.specs.Prelude.{◌==◌}
 use Rattle.std.proofs.lemmas.List.{map_push, append-nil, nil_from_length}
 use Rattle.lexer.specs.declared.token.Token.{Token}
 use Rattle.lexer.specs.declared.token.TokenKind.TheVariants.{RightParenthesis, Comma, Semicolon}
-use Rattle.tree.specs.declared.file.Param.{Param}
-use Rattle.tree.specs.declared.file.Func.{Func}
-use Rattle.tree.specs.Syntax.{Parameter, Function}
-use Rattle.tree.specs.View.{parameter_syntax, function_syntax}
+use Rattle.path_tree.specs.declared.file.Param.{Param}
+use Rattle.path_tree.specs.declared.file.Func.{Func}
+use Rattle.path_tree.specs.Syntax.{Parameter, Function}
+use Rattle.path_tree.specs.View.{parameter_syntax, function_syntax}
 use Rattle.parser.specs.declared.stop.Stop.{Stop}
 use Rattle.parser.specs.Gives.{Stops}
 use Rattle.reader.specs.Reading.{Read, begins_with}

@@ -4,7 +4,7 @@ use Rattle.std.specs.Prelude.{nat_le}
 use Rattle.std.proofs.lemmas.Bool.{lt-leb, le-leb}
 use Rattle.lexer.specs.declared.token.Token.{Token}
 use Rattle.lexer.specs.declared.token.TokenKind.TheVariants.{Identifier as identifier_kind, DeferKeyword, IfKeyword, ReturnKeyword}
-use Rattle.tree.specs.Syntax.{Statement}
+use Rattle.path_tree.specs.Syntax.{Statement}
 use Rattle.reader.specs.Reading.{Read, begins_with}
 use Rattle.reader.specs.Reader.{only_if, simple_at, defer_at, return_at, if_at, block_at, as_block, statement_with, statement_at}
 

@@ -1,9 +1,9 @@
 -- What the reader reads, as the parser's types hold it.
 use Rattle.std.specs.Prelude.{List, Some}
 use Rattle.lexer.specs.declared.token.Token.{Token}
-use Rattle.tree.specs.declared.statement.Block.{Block}
-use Rattle.tree.specs.Syntax.{Identifier, Expressions}
-use Rattle.tree.specs.View.{block_syntax}
+use Rattle.path_tree.specs.declared.statement.Block.{Block}
+use Rattle.path_tree.specs.Syntax.{Identifier, Expressions}
+use Rattle.path_tree.specs.View.{block_syntax}
 use Rattle.reader.specs.Reading.{Read}
 use Rattle.reader.specs.Reader.{Braced, names_as_expressions}
 

@@ -2,7 +2,7 @@
 //! "Function declarations").
 
 ghost use Rattle.std.specs.Prelude.{◌≡◌, ℕ, suc, List, length, map, IsAscii};
-ghost use Rattle.tree.specs.View.{parameter_syntax, function_syntax, import_syntax, file_syntax};
+ghost use Rattle.path_tree.specs.View.{parameter_syntax, function_syntax, import_syntax, file_syntax};
 ghost use Rattle.parser.specs.Gives.{Gives};
 ghost use Rattle.reader.specs.Reader.{parameter_at, more_parameters_at, parameters_at, function_at, functions_at, import_at, file_at};
 
@@ -13,8 +13,8 @@ use crate::statements::block;
 use crate::stop::Stop;
 use lexer::{Token, TokenKind};
 use meaning::MOST_DEPTH;
+use path_tree::{File, Func, Import, Param, Span};
 use std::alloc::Global;
-use tree::{File, Func, Import, Param, Span};
 
 /// `name T`.
 #[tactic(auto, unfolding(reader::specs::Reader::parameter_at))]

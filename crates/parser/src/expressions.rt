@@ -1,8 +1,8 @@
 //! Calls and types (the Go specification, "Calls", "Selectors", "Types").
 
 ghost use Rattle.std.specs.Prelude.{◌≡◌, ℕ, List, IsAscii};
-ghost use Rattle.tree.specs.View.{identifier_syntax, expression_syntax, expressions_syntax};
-ghost use Rattle.meaning.specs.Grammar.{expression_end};
+ghost use Rattle.path_tree.specs.View.{identifier_syntax, expression_syntax, expressions_syntax};
+ghost use Rattle.path_meaning.specs.Grammar.{expression_end};
 ghost use Rattle.parser.specs.Gives.{Gives};
 ghost use Rattle.parser.specs.Seen.{as_arguments};
 ghost use Rattle.reader.specs.Reader.{arguments_at, call_at, bare_call_at, past_comma, maker_at, type_at};
@@ -11,8 +11,8 @@ use crate::cursor::{after_first, expect, is_next};
 use crate::names::{identifier, is_text};
 use crate::stop::Stop;
 use lexer::{Token, TokenKind};
+use path_tree::{Expr, Identifier, Span, make};
 use std::alloc::Global;
-use tree::{Expr, Identifier, Span, make};
 
 /// The offset of the byte after an expression.
 pub(crate) fn end_of(expression: &Expr) -> u32

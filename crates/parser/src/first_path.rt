@@ -2,17 +2,17 @@
 
 ghost use Rattle.std.specs.Prelude.{◌≡◌, IfOk, IfSome, IsAscii, IsSomeAnd};
 ghost use Rattle.lexer.specs.Tokens.{IsTokens};
-ghost use Rattle.tree.specs.Syntax.{SourceFile};
-ghost use Rattle.tree.specs.View.{file_syntax};
-ghost use Rattle.meaning.specs.Grammar.{IsTreeOf};
-ghost use Rattle.meaning.specs.FirstPath.{HasPathShape};
+ghost use Rattle.path_tree.specs.Syntax.{SourceFile};
+ghost use Rattle.path_tree.specs.View.{file_syntax};
+ghost use Rattle.path_meaning.specs.Grammar.{IsTreeOf};
+ghost use Rattle.path_meaning.specs.FirstPath.{HasPathShape};
 
 use crate::declarations::read_file;
 use crate::stop::Stop;
 use lexer::{Token, one_token_list};
+use path_tree::File;
 use reader::{reads_all_that_is_spelled, reads_what_is_spelled};
 use std::alloc::{AllocError, Global};
-use tree::File;
 
 /// The tree of this text with these tokens, if it has one of the first path's shape that is within the
 /// depth limit. A text has at most one.

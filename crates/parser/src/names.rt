@@ -1,16 +1,16 @@
 //! Names and the bytes that they are written in.
 
 ghost use Rattle.std.specs.Prelude.{◌≡◌, List, IfOk, slice_range, string_bytes, codes, IsAscii};
-ghost use Rattle.meaning.specs.Scopes.{same_text};
-ghost use Rattle.tree.specs.View.{identifier_syntax};
+ghost use Rattle.path_meaning.specs.Scopes.{same_text};
+ghost use Rattle.path_tree.specs.View.{identifier_syntax};
 ghost use Rattle.parser.specs.Gives.{Gives};
 ghost use Rattle.reader.specs.Reader.{name_at};
 
 use crate::cursor::expect;
 use crate::stop::Stop;
 use lexer::{Token, TokenKind};
+use path_tree::{Identifier, Span};
 use std::alloc::{AllocError, Global};
-use tree::{Identifier, Span};
 
 /// Whether two texts are the same.
 pub(crate) fn is_text(name: &str, wanted: &str) -> bool

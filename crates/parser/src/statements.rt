@@ -1,8 +1,8 @@
 //! Statements and blocks (the Go specification, "Statements", "Blocks").
 
 ghost use Rattle.std.specs.Prelude.{◌≡◌, ℕ, suc, List, length, map, IsAscii};
-ghost use Rattle.tree.specs.View.{identifier_syntax, expression_syntax, statement_syntax, statements_syntax, else_syntax, block_syntax};
-ghost use Rattle.meaning.specs.Grammar.{else_end};
+ghost use Rattle.path_tree.specs.View.{identifier_syntax, expression_syntax, statement_syntax, statements_syntax, else_syntax, block_syntax};
+ghost use Rattle.path_meaning.specs.Grammar.{else_end};
 ghost use Rattle.parser.specs.Gives.{Gives};
 ghost use Rattle.reader.specs.Reader.{Braced, define_at, simple_at, defer_at, return_at, statement_at, statements_at, block_at, else_at, if_at};
 ghost use Rattle.parser.specs.Seen.{braced_syntax};
@@ -12,8 +12,8 @@ use crate::expressions::{bare_call_of, call_of, end_of, maker_call};
 use crate::names::identifier;
 use crate::stop::Stop;
 use lexer::{Token, TokenKind};
+use path_tree::{Block, Else, Identifier, Span, Stmt, make};
 use std::alloc::Global;
-use tree::{Block, Else, Identifier, Span, Stmt, make};
 
 /// `, b := context.WithCancel(p)` after a name.
 #[tactic(auto, unfolding(reader::specs::Reader::define_at))]

@@ -3,14 +3,14 @@ use Rattle.std.proofs.Common.{◌≡◌, ◌↔◌, ℕ, ◌<◌, ◌≤◌, ◌
 use Rattle.std.specs.Prelude.{Contains, codes}
 use Rattle.std.specs.Option.{option_to_list}
 use Rattle.std.proofs.lemmas.List.{map-append}
-use Rattle.tree.specs.Syntax.{Identifier, Expression, name_expression, selector_expression, call_expression, Expressions, no_expression, expression_and, Statement, define_statement, expression_statement, defer_statement, if_statement, block_statement, return_statement, Otherwise, no_else, else_block, Statements, no_statement, statement_and, Function}
-use Rattle.meaning.specs.Scopes.{same_text, is_blank, Local, covers, inner_of, declaration_of, locals_of}
-use Rattle.meaning.specs.Code.{Binding, through_import, maker_of, bound_from, binding_of, bindings_at, bindings_in, bindings_in_else}
-use Rattle.meaning.specs.FirstPath.{Mention, IsPair, IsMaker, IsOneMaker, IsPathStatement, ArePathStatements, IsPathElse, mentions_of, local_text, reserved_names, unused_names, NoneAmong, AreDistinct, HasPathNames}
+use Rattle.path_tree.specs.Syntax.{Identifier, Expression, name_expression, selector_expression, call_expression, Expressions, no_expression, expression_and, Statement, define_statement, expression_statement, defer_statement, if_statement, block_statement, return_statement, Otherwise, no_else, else_block, Statements, no_statement, statement_and, Function}
+use Rattle.path_meaning.specs.Scopes.{same_text, is_blank, Local, covers, inner_of, declaration_of, locals_of}
+use Rattle.path_meaning.specs.PathCode.{Binding, through_import, maker_of, bound_from, binding_of, bindings_at, bindings_in, bindings_in_else}
+use Rattle.path_meaning.specs.FirstPath.{Mention, IsPair, IsMaker, IsOneMaker, IsPathStatement, ArePathStatements, IsPathElse, mentions_of, local_text, reserved_names, unused_names, NoneAmong, AreDistinct, HasPathNames}
 use Rattle.path.specs.Gathered.{Scope, scope_of, scopes_of, second_text, seconds_at, seconds_in, seconds_in_else}
 use Rattle.path.specs.Rules.{scope_text, KeepsRules}
 use Rattle.meaning.proofs.Membership.{contains_map, contains_unmap}
-use Rattle.meaning.proofs.SameNames.{same_text_of}
+use Rattle.path_meaning.proofs.SameNames.{same_text_of}
 use Rattle.path.proofs.Texts.{apart_first}
 
 -- no local has a name that nothing may have

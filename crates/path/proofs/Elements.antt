@@ -1,9 +1,9 @@
 -- Being among some texts is being an element of them.
 use Rattle.std.proofs.Common.{◌≡◌, ℕ, ◌⊎◌, inl, inr, ⊎_elim, Bool, true, false, cond, List, [], ◌∷◌, refl, sym, ap, subst}
 use Rattle.std.specs.Prelude.{Contains}
-use Rattle.meaning.specs.Scopes.{same_text, is_among}
+use Rattle.path_meaning.specs.Scopes.{same_text, is_among}
 use Rattle.meaning.proofs.Membership.{contains_nil, contains_here, contains_there, contains_cases}
-use Rattle.meaning.proofs.SameNames.{same_text_is, same_text_of}
+use Rattle.path_meaning.proofs.SameNames.{same_text_is, same_text_of}
 
 after_test : (b c : Bool) → c ≡ true → cond b true c ≡ true
 after_test true c e = refl

@@ -4,15 +4,15 @@ use Rattle.std.proofs.lemmas.List.{map-append, append-nil}
 use Rattle.std.specs.Prelude.{string_bytes}
 use Rattle.std.specs.declared.vec.Vec.{Vec}
 use Rattle.std.specs.declared.alloc.Global.{Global}
-use Rattle.tree.specs.declared.span.Identifier.{Identifier as Written}
-use Rattle.tree.specs.declared.span.Span.{Span}
-use Rattle.tree.specs.declared.expression.Expr.{Expr}
-use Rattle.tree.specs.declared.statement.Stmt.{Stmt, Define, Evaluate, Defer, If', Nested', Return}
-use Rattle.tree.specs.View.{identifier_syntax, statement_syntax}
-use Rattle.tree.proofs.Views.{statement_syntax-Define}
-use Rattle.tree.specs.Syntax.{Identifier, Statement, define_statement, expression_statement, defer_statement, if_statement, block_statement, return_statement, Statements, no_statement, statement_and}
-use Rattle.meaning.specs.Scopes.{is_blank, is_among, declares_nothing, text_of, declared_by, declared_at, declared_in, known_after, Local}
-use Rattle.meaning.specs.FirstPath.{Mention, used, assigned_by, expressions_mentions, mentions_at, mentions_in}
+use Rattle.path_tree.specs.declared.span.Identifier.{Identifier as Written}
+use Rattle.path_tree.specs.declared.span.Span.{Span}
+use Rattle.path_tree.specs.declared.expression.Expr.{Expr}
+use Rattle.path_tree.specs.declared.statement.Stmt.{Stmt, Define, Evaluate, Defer, If', Nested', Return}
+use Rattle.path_tree.specs.View.{identifier_syntax, statement_syntax}
+use Rattle.path_tree.proofs.Views.{statement_syntax-Define}
+use Rattle.path_tree.specs.Syntax.{Identifier, Statement, define_statement, expression_statement, defer_statement, if_statement, block_statement, return_statement, Statements, no_statement, statement_and}
+use Rattle.path_meaning.specs.Scopes.{is_blank, is_among, declares_nothing, text_of, declared_by, declared_at, declared_in, known_after, Local}
+use Rattle.path_meaning.specs.FirstPath.{Mention, used, assigned_by, expressions_mentions, mentions_at, mentions_in}
 use Rattle.path.specs.declared.name.Names.{Names}
 use Rattle.path.specs.Gathered.{Scope, scope_of, scopes_of, kept_scopes, kept_mentions, kept_texts, Adds, AddsDefined, AddsStatement, AddsStatements, HaveSame}
 use Rattle.path.proofs.Texts.{is_among-append, is_among-swap}

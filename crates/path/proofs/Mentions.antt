@@ -4,13 +4,13 @@ use Rattle.std.proofs.lemmas.List.{map-append, append-nil}
 use Rattle.std.specs.declared.vec.Vec.{Vec}
 use Rattle.std.specs.declared.boxed.Box.{Box}
 use Rattle.std.specs.declared.alloc.Global.{Global}
-use Rattle.tree.specs.declared.span.Identifier.{Identifier as Written}
-use Rattle.tree.specs.declared.span.Span.{Span}
-use Rattle.tree.specs.declared.expression.Expr.{Expr, Name, Selector, Call}
-use Rattle.tree.specs.Syntax.{Expression, name_expression, selector_expression, call_expression, Expressions, no_expression, expression_and}
-use Rattle.tree.specs.View.{identifier_syntax, expression_syntax, expressions_syntax}
-use Rattle.tree.proofs.Views.{expression_syntax-Name, expression_syntax-Selector, expression_syntax-Call}
-use Rattle.meaning.specs.FirstPath.{Use, is_used, expression_mentions, expressions_mentions}
+use Rattle.path_tree.specs.declared.span.Identifier.{Identifier as Written}
+use Rattle.path_tree.specs.declared.span.Span.{Span}
+use Rattle.path_tree.specs.declared.expression.Expr.{Expr, Name, Selector, Call}
+use Rattle.path_tree.specs.Syntax.{Expression, name_expression, selector_expression, call_expression, Expressions, no_expression, expression_and}
+use Rattle.path_tree.specs.View.{identifier_syntax, expression_syntax, expressions_syntax}
+use Rattle.path_tree.proofs.Views.{expression_syntax-Name, expression_syntax-Selector, expression_syntax-Call}
+use Rattle.path_meaning.specs.FirstPath.{Use, is_used, expression_mentions, expressions_mentions}
 use Rattle.path.specs.Gathered.{kept_mention, kept_mentions, use_of, mentions_as, callee_use}
 use Rattle.path.specs.declared.name.Mention.{Mention as Noted}
 use Rattle.path.proofs.Lists.{drop_item, drop_past}

@@ -5,8 +5,8 @@ use Rattle.std.specs.List.{list_any}
 use Rattle.std.specs.List.Sorted.{IsPermutation}
 use Rattle.std.proofs.lemmas.List.{map-append, take_more, drop_more}
 use Rattle.std.proofs.lemmas.List.Sorted.{list_any-IsPermutation}
-use Rattle.meaning.specs.Scopes.{same_text, is_among}
-use Rattle.meaning.specs.FirstPath.{AreDistinct}
+use Rattle.path_meaning.specs.Scopes.{same_text, is_among}
+use Rattle.path_meaning.specs.FirstPath.{AreDistinct}
 use Rattle.path.specs.Rules.{text_now}
 use Rattle.path.proofs.Texts.{same_text_as_bytes, is_among-swap, or_is_cond, distinct_before}
 

@@ -5,19 +5,19 @@ use Rattle.std.specs.Prelude.{string_bytes}
 use Rattle.std.specs.Borrow.{Bor}
 use Rattle.std.specs.declared.vec.Vec.{Vec}
 use Rattle.std.specs.declared.alloc.Global.{Global}
-use Rattle.tree.specs.declared.span.Identifier.{Identifier as Written}
-use Rattle.tree.specs.declared.span.Span.{Span}
-use Rattle.tree.specs.declared.expression.Expr.{Expr}
-use Rattle.tree.specs.declared.statement.Stmt.{Stmt, Define, Evaluate, Defer, If, Nested, Return}
-use Rattle.tree.specs.declared.statement.Else.{Else, Missing, Present}
-use Rattle.tree.specs.declared.statement.Block.{Block}
-use Rattle.tree.specs.declared.file.Func.{Func}
-use Rattle.tree.specs.declared.file.Param.{Param}
-use Rattle.tree.specs.Syntax.{Identifier, Parameter, if_statement}
-use Rattle.tree.specs.View.{identifier_syntax, expression_syntax, expressions_syntax, statement_syntax, else_syntax, block_syntax, parameter_syntax, function_syntax}
-use Rattle.tree.proofs.Views.{statement_syntax-Define, statement_syntax-Evaluate, statement_syntax-Defer, statement_syntax-If, statement_syntax-Nested, statement_syntax-Return, else_syntax-Missing, else_syntax-Present}
-use Rattle.meaning.specs.Scopes.{is_blank, text_of, parameter_name, declared_by, declared_in}
-use Rattle.meaning.specs.FirstPath.{Mention, is_called, is_deferred, is_used, expression_mentions, expressions_mentions, assigned_by, mentions_in, type_mentions, mentions_of}
+use Rattle.path_tree.specs.declared.span.Identifier.{Identifier as Written}
+use Rattle.path_tree.specs.declared.span.Span.{Span}
+use Rattle.path_tree.specs.declared.expression.Expr.{Expr}
+use Rattle.path_tree.specs.declared.statement.Stmt.{Stmt, Define, Evaluate, Defer, If, Nested, Return}
+use Rattle.path_tree.specs.declared.statement.Else.{Else, Missing, Present}
+use Rattle.path_tree.specs.declared.statement.Block.{Block}
+use Rattle.path_tree.specs.declared.file.Func.{Func}
+use Rattle.path_tree.specs.declared.file.Param.{Param}
+use Rattle.path_tree.specs.Syntax.{Identifier, Parameter, if_statement}
+use Rattle.path_tree.specs.View.{identifier_syntax, expression_syntax, expressions_syntax, statement_syntax, else_syntax, block_syntax, parameter_syntax, function_syntax}
+use Rattle.path_tree.proofs.Views.{statement_syntax-Define, statement_syntax-Evaluate, statement_syntax-Defer, statement_syntax-If, statement_syntax-Nested, statement_syntax-Return, else_syntax-Missing, else_syntax-Present}
+use Rattle.path_meaning.specs.Scopes.{is_blank, text_of, parameter_name, declared_by, declared_in}
+use Rattle.path_meaning.specs.FirstPath.{Mention, is_called, is_deferred, is_used, expression_mentions, expressions_mentions, assigned_by, mentions_in, type_mentions, mentions_of}
 use Rattle.path.specs.declared.name.Names.{Names}
 use Rattle.path.specs.declared.name.Mention.{Mention as Noted}
 use Rattle.path.specs.Gathered.{scope_of, scopes_of, kept_scopes, kept_mentions, kept_text, kept_texts, second_text, seconds_in, mentions_as, Adds, AddsDefined, AddsStatement, AddsStatements, AreNamesOf}

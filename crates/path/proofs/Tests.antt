@@ -6,13 +6,13 @@ use Rattle.std.proofs.lemmas.List.Elements.{All-contains, All-weaker, All-contai
 use Rattle.std.proofs.lemmas.List.Sums.{AllPass-from_list_all, list_all-from_AllPass}
 use Rattle.std.proofs.lemmas.Bool.{false≢true, leb-true, le-leb, and_parts, and_from}
 use Rattle.std.proofs.lemmas.Bool.Decides.{Decides-and, Decides-ltb}
-use Rattle.meaning.proofs.SameNames.{same_text_is, same_text_of}
+use Rattle.path_meaning.proofs.SameNames.{same_text_is, same_text_of}
 use Rattle.path.proofs.Elements.{among_from_contains, contains_from_among}
-use Rattle.tree.specs.Syntax.{Identifier}
+use Rattle.path_tree.specs.Syntax.{Identifier}
 use Rattle.path.specs.Gathered.{Scope}
 use Rattle.path.specs.Rules.{MayDeclare, scope_text, none_of, allows, is_allowed, all_allowed, may_use, all_may_use, KeepsRules}
-use Rattle.meaning.specs.Scopes.{same_text, is_blank, is_among}
-use Rattle.meaning.specs.FirstPath.{Use, is_called, is_deferred, is_used, Mention, mention_text, AreDistinct, NoneAmong, reserved_names, unused_names}
+use Rattle.path_meaning.specs.Scopes.{same_text, is_blank, is_among}
+use Rattle.path_meaning.specs.FirstPath.{Use, is_called, is_deferred, is_used, Mention, mention_text, AreDistinct, NoneAmong, reserved_names, unused_names}
 
 not_true : (a : Bool) → not a ≡ true → a ≡ false
 not_true true e = cc

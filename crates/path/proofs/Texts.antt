@@ -3,9 +3,9 @@ use Rattle.std.proofs.Common.{◌≡◌, ℕ, ◌==◌, ◌&&◌, ◌||◌, Bool
 use Rattle.std.specs.Str.{bytes_eq}
 use Rattle.std.specs.List.{list_any}
 use Rattle.std.proofs.lemmas.Bool.Decides.{same_from_decides}
-use Rattle.meaning.specs.Scopes.{same_text, is_among}
-use Rattle.meaning.specs.FirstPath.{AreDistinct}
-use Rattle.meaning.proofs.SameNames.{same_text_is, same_text_of}
+use Rattle.path_meaning.specs.Scopes.{same_text, is_among}
+use Rattle.path_meaning.specs.FirstPath.{AreDistinct}
+use Rattle.path_meaning.proofs.SameNames.{same_text_is, same_text_of}
 
 pub same_text_as_bytes : (a b : List ℕ) → same_text a b ≡ bytes_eq a b
 same_text_as_bytes [] [] = refl

@@ -2,12 +2,12 @@
 -- second. (The Go specification, "Declarations and scope", "Short variable declarations".)
 use Rattle.std.specs.Prelude.{◌≡◌, ℕ, List, [], ◌∷◌, ◌++◌, map, string_bytes}
 use Rattle.std.specs.Borrow.{Bor}
-use Rattle.tree.specs.declared.span.Identifier.{Identifier as Written}
-use Rattle.tree.specs.declared.span.Span.{Span}
-use Rattle.tree.specs.Syntax.{Identifier, Expression, name_expression, selector_expression, call_expression, Expressions, no_expression, expression_and, Statement, define_statement, expression_statement, defer_statement, if_statement, block_statement, return_statement, Otherwise, no_else, else_block, Statements, no_statement, statement_and, Function}
-use Rattle.tree.specs.View.{identifier_syntax}
-use Rattle.meaning.specs.Scopes.{is_among, Local, declared_by, declared_at, declared_in, locals_of}
-use Rattle.meaning.specs.FirstPath.{Use, is_called, is_deferred, is_used, Mention, expression_mentions, assigned_by, mentions_at, mentions_in, mentions_of}
+use Rattle.path_tree.specs.declared.span.Identifier.{Identifier as Written}
+use Rattle.path_tree.specs.declared.span.Span.{Span}
+use Rattle.path_tree.specs.Syntax.{Identifier, Expression, name_expression, selector_expression, call_expression, Expressions, no_expression, expression_and, Statement, define_statement, expression_statement, defer_statement, if_statement, block_statement, return_statement, Otherwise, no_else, else_block, Statements, no_statement, statement_and, Function}
+use Rattle.path_tree.specs.View.{identifier_syntax}
+use Rattle.path_meaning.specs.Scopes.{is_among, Local, declared_by, declared_at, declared_in, locals_of}
+use Rattle.path_meaning.specs.FirstPath.{Use, is_called, is_deferred, is_used, Mention, expression_mentions, assigned_by, mentions_at, mentions_in, mentions_of}
 use Rattle.path.specs.declared.name.Use.{Use as Way}
 use Rattle.path.specs.declared.name.Use.TheVariants.{Called, Deferred, Other}
 use Rattle.path.specs.declared.name.Local.{Local as Kept}

@@ -1,11 +1,11 @@
 -- The rules for the names of a function, over what the program gathers of it. (The Go specification,
--- "Declarations and scope"; meaning/specs/FirstPath.antt.)
+-- "Declarations and scope"; path_meaning/specs/FirstPath.antt.)
 use Rattle.std.specs.Prelude.{◌≡◌, ◌≢◌, ℕ, ◌≤◌, ◌<◌, nat_le, nat_lt, Bool, true, false, not, ◌&&◌, ◌||◌, List, map, Contains}
 use Rattle.std.specs.List.{list_all}
 use Rattle.std.specs.Borrow.{Bor}
-use Rattle.tree.specs.Syntax.{Identifier}
-use Rattle.meaning.specs.Scopes.{same_text, is_blank, is_among}
-use Rattle.meaning.specs.FirstPath.{Use, is_called, is_deferred, is_used, Mention, mention_text, AreDistinct, NoneAmong, reserved_names, unused_names}
+use Rattle.path_tree.specs.Syntax.{Identifier}
+use Rattle.path_meaning.specs.Scopes.{same_text, is_blank, is_among}
+use Rattle.path_meaning.specs.FirstPath.{Use, is_called, is_deferred, is_used, Mention, mention_text, AreDistinct, NoneAmong, reserved_names, unused_names}
 use Rattle.path.specs.Gathered.{Scope}
 
 abbrev pub scope_text : Scope → List ℕ

@@ -1,15 +1,15 @@
 //! The rules for the names of a file.
 
 ghost use Rattle.std.specs.Prelude.{◌≡◌, ◌↔◌, IsTrue, IfOk, map, Contains};
-ghost use Rattle.tree.specs.View.{file_syntax, function_syntax, block_syntax};
-ghost use Rattle.tree.specs.Syntax.{Function};
-ghost use Rattle.meaning.specs.FirstPath.{ArePathStatements, ArePathFunctions, HasPathShape, HasPathNames, HasPathFileNames, function_text};
+ghost use Rattle.path_tree.specs.View.{file_syntax, function_syntax, block_syntax};
+ghost use Rattle.path_tree.specs.Syntax.{Function};
+ghost use Rattle.path_meaning.specs.FirstPath.{ArePathStatements, ArePathFunctions, HasPathShape, HasPathNames, HasPathFileNames, function_text};
 ghost use Rattle.path.specs.Rules.{text_now};
 
 use crate::gather::names_of;
 use crate::rules::{keep_rules, may_declare};
+use path_tree::{File, Func};
 use std::alloc::{AllocError, Global};
-use tree::{File, Func};
 
 /// Whether the names of a file of the first path's forms keep the path's rules: no two functions have one
 /// name, and no function declares a name but `_` twice; nothing is named `context`, `panic` or `recover`,

@@ -2,14 +2,14 @@
 //! declarations").
 
 ghost use Rattle.std.specs.Prelude.{◌≡◌, [], ◌∷◌, ◌++◌, map, IfOk, OnOk, string_bytes};
-ghost use Rattle.tree.specs.View.{identifier_syntax, expression_syntax, expressions_syntax, statement_syntax, block_syntax, function_syntax};
-ghost use Rattle.meaning.specs.Scopes.{is_blank, is_among, known_after};
-ghost use Rattle.meaning.specs.FirstPath.{expressions_mentions};
+ghost use Rattle.path_tree.specs.View.{identifier_syntax, expression_syntax, expressions_syntax, statement_syntax, block_syntax, function_syntax};
+ghost use Rattle.path_meaning.specs.Scopes.{is_blank, is_among, known_after};
+ghost use Rattle.path_meaning.specs.FirstPath.{expressions_mentions};
 ghost use Rattle.path.specs.Gathered.{use_of, kept_mentions, kept_text, kept_texts, second_text, mentions_as, callee_use, AddsDefined, AddsStatement, AddsStatements, AreNamesOf, HaveSame};
 
 use crate::name::{Local, Mention, Names, Use};
+use path_tree::{Block, Else, Expr, Func, Identifier, Span, Stmt};
 use std::alloc::{AllocError, Global};
-use tree::{Block, Else, Expr, Func, Identifier, Span, Stmt};
 
 /// The names of a function.
 pub(crate) fn names_of<'a>(alloc: Global, function: &'a Func) -> Result<Names<'a>, AllocError>

@@ -1,6 +1,6 @@
 //! The names of a function: those that it declares, those that it uses, and the second names of its `:=`.
 
-use tree::Identifier;
+use path_tree::Identifier;
 
 /// How a name is used.
 #[derive(Clone, Copy)]

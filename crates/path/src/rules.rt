@@ -1,17 +1,17 @@
 //! The rules for the names of a function.
 
 ghost use Rattle.std.specs.Prelude.{◌≡◌, ◌↔◌, ◌&&◌, not, IsTrue, IfOk, map, string_bytes};
-ghost use Rattle.tree.specs.View.{identifier_syntax};
-ghost use Rattle.meaning.specs.Scopes.{is_among};
-ghost use Rattle.meaning.specs.FirstPath.{AreDistinct, reserved_names, unused_names, mention_text};
+ghost use Rattle.path_tree.specs.View.{identifier_syntax};
+ghost use Rattle.path_meaning.specs.Scopes.{is_among};
+ghost use Rattle.path_meaning.specs.FirstPath.{AreDistinct, reserved_names, unused_names, mention_text};
 ghost use Rattle.path.specs.Gathered.{kept_scope, kept_scopes, kept_mention, kept_mentions, kept_texts, use_of};
 ghost use Rattle.path.specs.Rules.{MayDeclare, scope_text, text_now, none_of, allows, is_allowed, all_allowed, may_use, all_may_use, KeepsRules};
 
 use crate::gather::{is_blank, is_known};
 use crate::name::{Local, Mention, Names, Use};
+use path_tree::Identifier;
 use std::alloc::{AllocError, Global};
 use std::collections::HashSet;
-use tree::Identifier;
 
 /// Whether a function's names keep the rules.
 pub(crate) fn keep_rules(alloc: Global, names: &Names) -> Result<bool, AllocError>

@@ -6,10 +6,10 @@ use Rattle.std.proofs.lemmas.Option.{option_and_then_some, none-some}
 use Rattle.std.proofs.lemmas.Bool.{leb-true}
 use Rattle.lexer.specs.declared.token.Token.{Token}
 use Rattle.lexer.specs.declared.token.TokenKind.TheVariants.{Identifier as identifier_kind, DeferKeyword, IfKeyword, ElseKeyword, ReturnKeyword, LeftBrace, RightBrace, Semicolon}
-use Rattle.tree.specs.Syntax.{name_expression, Statement, if_statement, Otherwise, Statements, no_statement, statement_and}
-use Rattle.tree.specs.Depth.{else_depth, statements_depth}
-use Rattle.meaning.specs.Grammar.{TakesAny, InBraces, no_semicolon, semicolon_and, else_end, SpellsElse, SpellsStatements, SpellsAfter}
-use Rattle.meaning.specs.FirstPath.{ArePathStatements, IsPathElse}
+use Rattle.path_tree.specs.Syntax.{name_expression, Statement, if_statement, Otherwise, Statements, no_statement, statement_and}
+use Rattle.path_tree.specs.Depth.{else_depth, statements_depth}
+use Rattle.path_meaning.specs.Grammar.{TakesAny, InBraces, no_semicolon, semicolon_and, else_end, SpellsElse, SpellsStatements, SpellsAfter}
+use Rattle.path_meaning.specs.FirstPath.{ArePathStatements, IsPathElse}
 use Rattle.reader.specs.Reading.{Read, begins_with, take}
 use Rattle.reader.specs.Reader.{Braced, rest_of, with_statement, after_statement, as_else, as_block, name_at, statements_at, block_at, else_at, if_at, statement_with, statement_at}
 use Rattle.reader.proofs.Steps.{given, chosen, only_if_some, take_sound, begins_sound}

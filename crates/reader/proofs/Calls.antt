@@ -3,11 +3,11 @@ use Rattle.std.proofs.Common.{◌≡◌, ℕ, false, List, [], ◌∷◌, Some, 
 use Rattle.std.specs.Prelude.{codes}
 use Rattle.lexer.specs.declared.token.Token.{Token}
 use Rattle.lexer.specs.declared.token.TokenKind.TheVariants.{Identifier as identifier_kind, LeftParenthesis, RightParenthesis, Comma, Dot}
-use Rattle.tree.specs.declared.span.Span.{Span}
-use Rattle.tree.specs.Syntax.{Identifier, Expression, name_expression, selector_expression, call_expression, Expressions, no_expression, expression_and}
-use Rattle.tree.specs.Depth.{expression_depth}
-use Rattle.meaning.specs.Grammar.{Takes, TakesAny, SpellsExpression, SpellsArguments, SpellsMoreArguments}
-use Rattle.meaning.specs.FirstPath.{AreNames, IsType, IsMaker}
+use Rattle.path_tree.specs.declared.span.Span.{Span}
+use Rattle.path_tree.specs.Syntax.{Identifier, Expression, name_expression, selector_expression, call_expression, Expressions, no_expression, expression_and}
+use Rattle.path_tree.specs.Depth.{expression_depth}
+use Rattle.path_meaning.specs.Grammar.{Takes, TakesAny, SpellsExpression, SpellsArguments, SpellsMoreArguments}
+use Rattle.path_meaning.specs.FirstPath.{AreNames, IsType, IsMaker}
 use Rattle.lexer.specs.Spelling.{same_kind}
 use Rattle.reader.specs.Reading.{begins_with, take}
 use Rattle.reader.specs.Reader.{names_as_expressions, with_first, selected, name_of, name_at, more_names_at, arguments_at, call_at, bare_call_at, past_comma, maker_at, type_at}

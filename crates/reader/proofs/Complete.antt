@@ -3,14 +3,14 @@ use Rattle.std.proofs.Common.{◌≡◌, ℕ, zero, suc, ◌+◌, ◌-◌, ◌�
 use Rattle.std.specs.Prelude.{codes, slice_range}
 use Rattle.lexer.specs.declared.token.Token.{Token}
 use Rattle.lexer.specs.declared.token.TokenKind.TheVariants.{FuncKeyword}
-use Rattle.tree.specs.declared.span.Span.{Span}
-use Rattle.tree.specs.Syntax.{Identifier, Statements, Function, ImportDeclaration, SourceFile}
-use Rattle.tree.specs.Depth.{statements_depth, function_depth, functions_depth, file_depth}
 use Rattle.meaning.specs.declared.TheConstants.{MOST_DEPTH}
-use Rattle.meaning.specs.Grammar.{Takes, InBraces, SpellsStatements, SpellsFunction, SpellsFunctions, SpellsImport, SpellsFile}
-use Rattle.meaning.specs.FirstPath.{HavePathTypes, ArePathStatements, ArePathFunctions, ImportsContext, HasPathShape}
+use Rattle.path_tree.specs.declared.span.Span.{Span}
+use Rattle.path_tree.specs.Syntax.{Identifier, Statements, Function, ImportDeclaration, SourceFile}
+use Rattle.path_tree.specs.Depth.{statements_depth, function_depth, functions_depth, file_depth}
+use Rattle.path_meaning.specs.Grammar.{Takes, InBraces, SpellsStatements, SpellsFunction, SpellsFunctions, SpellsImport, SpellsFile}
+use Rattle.path_meaning.specs.FirstPath.{HavePathTypes, ArePathStatements, ArePathFunctions, ImportsContext, HasPathShape}
 use Rattle.reader.specs.Reader.{with_function, after_function, block_at, statement_at, function_at, functions_at, import_at, file_at}
-use Rattle.meaning.proofs.SameNames.{same_text_of}
+use Rattle.path_meaning.proofs.SameNames.{same_text_of}
 use Rattle.reader.proofs.Taken.{step, when_true, only_true, take_gives, take_any, begins_gives, name_gives, rest_gives, span_is}
 use Rattle.reader.proofs.Lengths.{any_shorter, function_shorter}
 use Rattle.reader.proofs.Nested.{block_gives, statement_gives}

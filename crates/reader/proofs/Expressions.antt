@@ -5,15 +5,15 @@ use Rattle.std.proofs.lemmas.Option.{option_and_then_some, none-some}
 use Rattle.lexer.specs.declared.token.Token.{Token}
 use Rattle.lexer.specs.declared.token.TokenKind.{TokenKind}
 use Rattle.lexer.specs.declared.token.TokenKind.TheVariants.{Identifier as identifier_kind, LeftParenthesis, RightParenthesis, Comma, Dot}
-use Rattle.tree.specs.Syntax.{Identifier, Expression, no_expression}
-use Rattle.tree.specs.Depth.{expression_depth, expressions_depth}
-use Rattle.meaning.specs.Scopes.{same_text}
-use Rattle.meaning.specs.Grammar.{TakesAny, SpellsName, SpellsExpression, SpellsArguments, SpellsMoreArguments}
-use Rattle.meaning.specs.FirstPath.{AreNames, IsType, IsMaker, IsPlainCall, IsBareCall}
+use Rattle.path_tree.specs.Syntax.{Identifier, Expression, no_expression}
+use Rattle.path_tree.specs.Depth.{expression_depth, expressions_depth}
+use Rattle.path_meaning.specs.Scopes.{same_text}
+use Rattle.path_meaning.specs.Grammar.{TakesAny, SpellsName, SpellsExpression, SpellsArguments, SpellsMoreArguments}
+use Rattle.path_meaning.specs.FirstPath.{AreNames, IsType, IsMaker, IsPlainCall, IsBareCall}
 use Rattle.reader.specs.Reading.{Read, begins_with, take}
 use Rattle.reader.specs.Reader.{names_as_expressions, rest_of, selected, name_of, name_at, more_names_at, arguments_at, call_at, bare_call_at, past_comma, maker_at, type_at}
 use Rattle.std.proofs.lemmas.Bool.{and_parts}
-use Rattle.meaning.proofs.SameNames.{same_text_is}
+use Rattle.path_meaning.proofs.SameNames.{same_text_is}
 use Rattle.reader.proofs.Steps.{given, chosen, by_test, first_taken, only_if_some, take_sound, take_any, begins_sound}
 
 -- `e` is read, of a form and of a depth

@@ -5,14 +5,14 @@ use Rattle.std.specs.Prelude.{Option, Some, None, codes}
 use Rattle.std.proofs.lemmas.Option.{option_and_then_some, none-some}
 use Rattle.lexer.specs.declared.token.Token.{Token}
 use Rattle.lexer.specs.declared.token.TokenKind.TheVariants.{InterpretedString, ImportKeyword, FuncKeyword, LeftParenthesis, RightParenthesis, Comma, Semicolon}
-use Rattle.tree.specs.Syntax.{Parameter, Function, ImportDeclaration}
-use Rattle.tree.specs.Depth.{expression_depth, parameters_depth, function_depth, functions_depth}
 use Rattle.meaning.specs.declared.TheConstants.{MOST_DEPTH}
-use Rattle.meaning.specs.Grammar.{TakesAny, SpellsParameter, SpellsMoreParameters, SpellsParameters, SpellsFunction, SpellsImport, SpellsFunctions}
-use Rattle.meaning.specs.FirstPath.{IsType, HavePathTypes, ArePathStatements, ArePathFunctions}
+use Rattle.path_tree.specs.Syntax.{Parameter, Function, ImportDeclaration}
+use Rattle.path_tree.specs.Depth.{expression_depth, parameters_depth, function_depth, functions_depth}
+use Rattle.path_meaning.specs.Grammar.{TakesAny, SpellsParameter, SpellsMoreParameters, SpellsParameters, SpellsFunction, SpellsImport, SpellsFunctions}
+use Rattle.path_meaning.specs.FirstPath.{IsType, HavePathTypes, ArePathStatements, ArePathFunctions}
 use Rattle.reader.specs.Reading.{Read, begins_with, take}
 use Rattle.reader.specs.Reader.{rest_of, with_parameter, after_parameter, with_function, after_function, name_at, block_at, statement_at, type_at, parameter_at, more_parameters_at, parameters_at, function_at, functions_at, import_at}
-use Rattle.meaning.proofs.SameNames.{same_text_is}
+use Rattle.path_meaning.proofs.SameNames.{same_text_is}
 use Rattle.reader.proofs.Steps.{given, chosen, only_if_some, take_sound, take_any, begins_sound}
 use Rattle.reader.proofs.Expressions.{name_sound, type_sound}
 use Rattle.reader.proofs.Blocks.{block_sound, statement_sound}

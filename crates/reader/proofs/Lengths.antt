@@ -2,8 +2,8 @@
 use Rattle.std.proofs.Common.{◌≡◌, ℕ, suc, ◌≤◌, ◌<◌, List, [], ◌∷◌, length, ap, arith, inl, inr}
 use Rattle.lexer.specs.declared.token.Token.{Token}
 use Rattle.lexer.specs.declared.token.TokenKind.{TokenKind}
-use Rattle.tree.specs.Syntax.{Identifier, Expression, name_expression, selector_expression, call_expression, Expressions, no_expression, expression_and, Statement, define_statement, expression_statement, defer_statement, if_statement, block_statement, return_statement, Otherwise, no_else, else_block, Statements, no_statement, statement_and, Parameter, Function}
-use Rattle.meaning.specs.Grammar.{Takes, TakesAny, Semicolons, no_semicolon, semicolon_and, SpellsNames, SpellsMoreNames, SpellsExpression, SpellsExpressions, SpellsMoreExpressions, SpellsResults, SpellsArguments, SpellsMoreArguments, SpellsStatement, SpellsElse, SpellsStatements, SpellsAfter, SpellsParameter, SpellsMoreParameters, SpellsParameters, SpellsFunction}
+use Rattle.path_tree.specs.Syntax.{Identifier, Expression, name_expression, selector_expression, call_expression, Expressions, no_expression, expression_and, Statement, define_statement, expression_statement, defer_statement, if_statement, block_statement, return_statement, Otherwise, no_else, else_block, Statements, no_statement, statement_and, Parameter, Function}
+use Rattle.path_meaning.specs.Grammar.{Takes, TakesAny, Semicolons, no_semicolon, semicolon_and, SpellsNames, SpellsMoreNames, SpellsExpression, SpellsExpressions, SpellsMoreExpressions, SpellsResults, SpellsArguments, SpellsMoreArguments, SpellsStatement, SpellsElse, SpellsStatements, SpellsAfter, SpellsParameter, SpellsMoreParameters, SpellsParameters, SpellsFunction}
 
 pub takes_shorter : {kind : TokenKind} {start end : ℕ} {tokens rest : List Token} → Takes kind start end tokens rest → length tokens ≡ suc (length rest)
 takes_shorter e = ap length e

@@ -5,11 +5,11 @@ use Rattle.std.proofs.lemmas.Bool.{le-leb}
 use Rattle.lexer.specs.declared.token.Token.{Token}
 use Rattle.lexer.specs.declared.token.TokenKind.{TokenKind}
 use Rattle.lexer.specs.declared.token.TokenKind.TheVariants.{Identifier as identifier_kind, DeferKeyword, IfKeyword, ElseKeyword, ReturnKeyword, RightBrace, Semicolon}
-use Rattle.tree.specs.declared.span.Span.{Span}
-use Rattle.tree.specs.Syntax.{Expression, name_expression, selector_expression, call_expression, Statement, define_statement, expression_statement, defer_statement, if_statement, block_statement, return_statement, Otherwise, no_else, else_block, Statements, no_statement, statement_and}
-use Rattle.tree.specs.Depth.{expression_depth, statement_depth, else_depth, statements_depth}
-use Rattle.meaning.specs.Grammar.{Takes, TakesAny, Semicolons, no_semicolon, semicolon_and, InBraces, SpellsStatement, SpellsElse, SpellsStatements, SpellsAfter}
-use Rattle.meaning.specs.FirstPath.{IsName, IsPathStatement, ArePathStatements, IsPathElse}
+use Rattle.path_tree.specs.declared.span.Span.{Span}
+use Rattle.path_tree.specs.Syntax.{Expression, name_expression, selector_expression, call_expression, Statement, define_statement, expression_statement, defer_statement, if_statement, block_statement, return_statement, Otherwise, no_else, else_block, Statements, no_statement, statement_and}
+use Rattle.path_tree.specs.Depth.{expression_depth, statement_depth, else_depth, statements_depth}
+use Rattle.path_meaning.specs.Grammar.{Takes, TakesAny, Semicolons, no_semicolon, semicolon_and, InBraces, SpellsStatement, SpellsElse, SpellsStatements, SpellsAfter}
+use Rattle.path_meaning.specs.FirstPath.{IsName, IsPathStatement, ArePathStatements, IsPathElse}
 use Rattle.lexer.specs.Spelling.{same_kind}
 use Rattle.reader.specs.Reading.{Read, begins_with}
 use Rattle.reader.specs.Reader.{with_statement, after_statement, as_else, as_block, statements_at, block_at, else_at, if_at, statement_with, statement_at}

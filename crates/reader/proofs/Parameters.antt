@@ -2,9 +2,9 @@
 use Rattle.std.proofs.Common.{◌≡◌, ℕ, zero, suc, ◌<◌, false, List, [], ◌∷◌, length, Some, refl, ap, ◌∙◌, arith, inl, inr}
 use Rattle.lexer.specs.declared.token.Token.{Token}
 use Rattle.lexer.specs.declared.token.TokenKind.TheVariants.{Identifier as identifier_kind, RightParenthesis, Comma, Dot}
-use Rattle.tree.specs.Syntax.{Parameter}
-use Rattle.meaning.specs.Grammar.{TakesAny, SpellsParameter, SpellsParameters, SpellsMoreParameters}
-use Rattle.meaning.specs.FirstPath.{IsType, HavePathTypes}
+use Rattle.path_tree.specs.Syntax.{Parameter}
+use Rattle.path_meaning.specs.Grammar.{TakesAny, SpellsParameter, SpellsParameters, SpellsMoreParameters}
+use Rattle.path_meaning.specs.FirstPath.{IsType, HavePathTypes}
 use Rattle.lexer.specs.Spelling.{same_kind}
 use Rattle.reader.specs.Reading.{begins_with}
 use Rattle.reader.specs.Reader.{with_parameter, after_parameter, parameter_at, more_parameters_at, parameters_at}

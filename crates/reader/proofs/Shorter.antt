@@ -2,7 +2,7 @@
 use Rattle.std.proofs.Common.{◌≡◌, ℕ, ◌<◌, length, List, arith}
 use Rattle.std.specs.Prelude.{Some}
 use Rattle.lexer.specs.declared.token.Token.{Token}
-use Rattle.tree.specs.Syntax.{Statement}
+use Rattle.path_tree.specs.Syntax.{Statement}
 use Rattle.reader.specs.Reader.{Braced, statement_at, block_at}
 use Rattle.reader.proofs.Blocks.{block_sound, statement_sound}
 use Rattle.reader.proofs.Lengths.{takes_shorter, statement_shorter as spelled_shorter, statements_shorter}

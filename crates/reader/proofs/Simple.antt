@@ -3,11 +3,11 @@ use Rattle.std.proofs.Common.{◌≡◌, ℕ, suc, ◌≤◌, false, List, [], �
 use Rattle.std.proofs.lemmas.Bool.{le-leb}
 use Rattle.lexer.specs.declared.token.Token.{Token}
 use Rattle.lexer.specs.declared.token.TokenKind.TheVariants.{LeftParenthesis, Comma, Define}
-use Rattle.tree.specs.declared.span.Span.{Span}
-use Rattle.tree.specs.Syntax.{Identifier, Expression, name_expression, selector_expression, call_expression, Expressions, no_expression, expression_and, define_statement, expression_statement, defer_statement, return_statement}
-use Rattle.tree.specs.Depth.{expression_depth, expressions_depth}
-use Rattle.meaning.specs.Grammar.{TakesAny, SpellsName, SpellsExpression, SpellsStatement, expression_end}
-use Rattle.meaning.specs.FirstPath.{IsMaker, IsOneMaker, IsPair, IsPlainCall, IsBareCall}
+use Rattle.path_tree.specs.declared.span.Span.{Span}
+use Rattle.path_tree.specs.Syntax.{Identifier, Expression, name_expression, selector_expression, call_expression, Expressions, no_expression, expression_and, define_statement, expression_statement, defer_statement, return_statement}
+use Rattle.path_tree.specs.Depth.{expression_depth, expressions_depth}
+use Rattle.path_meaning.specs.Grammar.{TakesAny, SpellsName, SpellsExpression, SpellsStatement, expression_end}
+use Rattle.path_meaning.specs.FirstPath.{IsMaker, IsOneMaker, IsPair, IsPlainCall, IsBareCall}
 use Rattle.lexer.specs.Spelling.{same_kind}
 use Rattle.reader.specs.Reading.{take}
 use Rattle.reader.specs.Reader.{evaluated, define_at, simple_at, defer_at, return_at}

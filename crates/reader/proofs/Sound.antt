@@ -5,11 +5,11 @@ use Rattle.std.specs.Prelude.{Some}
 use Rattle.std.proofs.lemmas.Option.{option_and_then_some}
 use Rattle.lexer.specs.declared.token.Token.{Token}
 use Rattle.lexer.specs.declared.token.TokenKind.TheVariants.{PackageKeyword, Semicolon}
-use Rattle.tree.specs.Syntax.{SourceFile}
-use Rattle.tree.specs.Depth.{file_depth}
 use Rattle.meaning.specs.declared.TheConstants.{MOST_DEPTH}
-use Rattle.meaning.specs.Grammar.{SpellsFile}
-use Rattle.meaning.specs.FirstPath.{HasPathShape}
+use Rattle.path_tree.specs.Syntax.{SourceFile}
+use Rattle.path_tree.specs.Depth.{file_depth}
+use Rattle.path_meaning.specs.Grammar.{SpellsFile}
+use Rattle.path_meaning.specs.FirstPath.{HasPathShape}
 use Rattle.reader.specs.Reading.{take}
 use Rattle.reader.specs.Reader.{name_at, import_at, functions_at, file_at}
 use Rattle.reader.proofs.Steps.{given, take_any}

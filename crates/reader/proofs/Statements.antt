@@ -6,10 +6,10 @@ use Rattle.std.proofs.lemmas.Option.{option_and_then_some, none-some}
 use Rattle.std.proofs.lemmas.Bool.{leb-true}
 use Rattle.lexer.specs.declared.token.Token.{Token}
 use Rattle.lexer.specs.declared.token.TokenKind.TheVariants.{Comma, Define, DeferKeyword, ReturnKeyword}
-use Rattle.tree.specs.Syntax.{Identifier, Expression, name_expression, selector_expression, call_expression, no_expression, expression_and, Statement, define_statement, defer_statement}
-use Rattle.tree.specs.Depth.{statement_depth}
-use Rattle.meaning.specs.Grammar.{expression_end, IsCall, SpellsName, SpellsStatement}
-use Rattle.meaning.specs.FirstPath.{IsPlainCall, IsBareCall, IsPathStatement}
+use Rattle.path_tree.specs.Syntax.{Identifier, Expression, name_expression, selector_expression, call_expression, no_expression, expression_and, Statement, define_statement, defer_statement}
+use Rattle.path_tree.specs.Depth.{statement_depth}
+use Rattle.path_meaning.specs.Grammar.{expression_end, IsCall, SpellsName, SpellsStatement}
+use Rattle.path_meaning.specs.FirstPath.{IsPlainCall, IsBareCall, IsPathStatement}
 use Rattle.reader.specs.Reading.{Read, begins_with, take}
 use Rattle.reader.specs.Reader.{evaluated, name_at, call_at, bare_call_at, maker_at, define_at, simple_at, defer_at, return_at}
 use Rattle.reader.proofs.Steps.{given, chosen, only_if_some, take_sound, take_any}

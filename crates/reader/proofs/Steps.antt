@@ -6,7 +6,7 @@ use denote.Enum.Bare.{same_true}
 use Rattle.lexer.specs.contracts.token.TokenKind.{the_type}
 use Rattle.lexer.specs.declared.token.Token.{Token}
 use Rattle.lexer.specs.declared.token.TokenKind.{TokenKind}
-use Rattle.meaning.specs.Grammar.{Takes, TakesAny}
+use Rattle.path_meaning.specs.Grammar.{Takes, TakesAny}
 use Rattle.lexer.specs.Spelling.{same_kind}
 use Rattle.reader.specs.Reading.{begins_with, take}
 use Rattle.reader.specs.Reader.{only_if, rest_of}

@@ -7,14 +7,14 @@ use Rattle.lexer.specs.contracts.token.TokenKind.{the_type}
 use Rattle.lexer.specs.declared.token.Token.{Token}
 use Rattle.lexer.specs.declared.token.TokenKind.{TokenKind}
 use Rattle.lexer.specs.declared.token.TokenKind.TheVariants.{Identifier as identifier_kind}
-use Rattle.tree.specs.Syntax.{Identifier}
-use Rattle.meaning.specs.Scopes.{same_text}
-use Rattle.meaning.specs.Grammar.{Takes, TakesAny, SpellsName}
+use Rattle.path_tree.specs.Syntax.{Identifier}
+use Rattle.path_meaning.specs.Scopes.{same_text}
+use Rattle.path_meaning.specs.Grammar.{Takes, TakesAny, SpellsName}
 use Rattle.lexer.specs.Spelling.{same_kind}
 use Rattle.reader.specs.Reading.{◌>>=◌, begins_with, take}
 use Rattle.reader.specs.Reader.{name_of, name_at, only_if, rest_of}
-use Rattle.tree.specs.declared.span.Span.{Span}
-use Rattle.meaning.proofs.SameNames.{same_text_of}
+use Rattle.path_tree.specs.declared.span.Span.{Span}
+use Rattle.path_meaning.proofs.SameNames.{same_text_of}
 
 abbrev pub token_of : TokenKind → ℕ → ℕ → Token
 token_of kind start end = record { kind = kind; start = start; end = end }

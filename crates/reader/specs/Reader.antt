@@ -4,11 +4,11 @@
 use Rattle.std.specs.Prelude.{ℕ, zero, suc, ◌+◌, ◌-◌, nat_le, Bool, true, false, ◌&&◌, if◌then◌else◌, List, [], ◌∷◌, length, Option, Some, None, slice_range, codes}
 use Rattle.lexer.specs.declared.token.Token.{Token}
 use Rattle.lexer.specs.declared.token.TokenKind.TheVariants.{Identifier as identifier_kind, InterpretedString, PackageKeyword, ImportKeyword, FuncKeyword, DeferKeyword, IfKeyword, ElseKeyword, ReturnKeyword, Define, LeftParenthesis, RightParenthesis, LeftBrace, RightBrace, Comma, Semicolon, Dot}
-use Rattle.tree.specs.declared.span.Span.{Span}
-use Rattle.tree.specs.Syntax.{Identifier, Expression, name_expression, selector_expression, call_expression, Expressions, no_expression, expression_and, Statement, define_statement, expression_statement, defer_statement, if_statement, block_statement, return_statement, Otherwise, no_else, else_block, Statements, no_statement, statement_and, Parameter, Function, ImportDeclaration, SourceFile}
-use Rattle.meaning.specs.Scopes.{same_text}
-use Rattle.meaning.specs.Grammar.{else_end, expression_end}
 use Rattle.meaning.specs.declared.TheConstants.{MOST_DEPTH}
+use Rattle.path_tree.specs.declared.span.Span.{Span}
+use Rattle.path_tree.specs.Syntax.{Identifier, Expression, name_expression, selector_expression, call_expression, Expressions, no_expression, expression_and, Statement, define_statement, expression_statement, defer_statement, if_statement, block_statement, return_statement, Otherwise, no_else, else_block, Statements, no_statement, statement_and, Parameter, Function, ImportDeclaration, SourceFile}
+use Rattle.path_meaning.specs.Scopes.{same_text}
+use Rattle.path_meaning.specs.Grammar.{else_end, expression_end}
 use Rattle.reader.specs.Reading.{Read, ◌>>=◌, begins_with, take}
 
 -- a list of names as expressions

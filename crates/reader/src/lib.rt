@@ -5,11 +5,11 @@
 
 ghost use Rattle.std.specs.Prelude.{◌≡◌, ℕ, ◌≤◌, List, Some};
 ghost use Rattle.lexer.specs.declared.token.Token.{Token};
-ghost use Rattle.tree.specs.Syntax.{SourceFile};
-ghost use Rattle.tree.specs.Depth.{file_depth};
-ghost use Rattle.meaning.specs.Grammar.{SpellsFile};
 ghost use Rattle.meaning.specs.declared.TheConstants.{MOST_DEPTH};
-ghost use Rattle.meaning.specs.FirstPath.{HasPathShape};
+ghost use Rattle.path_tree.specs.Syntax.{SourceFile};
+ghost use Rattle.path_tree.specs.Depth.{file_depth};
+ghost use Rattle.path_meaning.specs.Grammar.{SpellsFile};
+ghost use Rattle.path_meaning.specs.FirstPath.{HasPathShape};
 ghost use Rattle.reader.specs.Reader.{file_at};
 
 /// What is read is spelled by the tokens, has the path's shape and is at most `MOST_DEPTH` deep.

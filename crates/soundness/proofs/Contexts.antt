@@ -1,7 +1,7 @@
 -- What holds of the contexts, the cancel functions and the cells of every world of a run.
 use Rattle.std.proofs.Common.{◌≡◌, ℕ, ◌+◌, ◌<◌, ◌⊎◌, inl, inr, Bool, true, false, cond, Option, Some, refl, sym, ap, ◌∙◌, subst, arith}
 use Rattle.std.proofs.lemmas.Bool.{eq-eqb, ne_eqb, cases_eq}
-use Rattle.meaning.specs.World.{Value, cancel_function, ContextState, CancelState, World, put_at, IsBelow, itself, made_from, Ends, IsEarlier, is_ended, made}
+use Rattle.path_meaning.specs.World.{Value, cancel_function, ContextState, CancelState, World, put_at, IsBelow, itself, made_from, Ends, IsEarlier, is_ended, made}
 
 pub put_at-same : {A : Type 0} (f : ℕ → A) (n : ℕ) (x : A) → put_at f n x n ≡ x
 put_at-same f n x = ap (λ b. cond b x (f n)) (eq-eqb n n refl)

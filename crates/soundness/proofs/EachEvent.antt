@@ -4,13 +4,14 @@ use Rattle.std.proofs.Common.{List, [], Option, Some, None}
 use Rattle.std.specs.List.{Contains}
 use Rattle.std.specs.Option.{option_to_list}
 use Rattle.std.proofs.lemmas.List.Elements.{Contains-append_left, Contains-append_right}
-use Rattle.tree.specs.Syntax.{Statement, define_statement, expression_statement, defer_statement, if_statement, block_statement, return_statement, Otherwise, no_else, else_block, Statements, no_statement, statement_and, Function}
-use Rattle.meaning.specs.Scopes.{Local, locals_of}
-use Rattle.meaning.specs.Code.{Event, other, calls, defers_call, returns_here, Occurrence, Code, skip, does, leave, then_code, either, repeats, up_to, Binding, binding_of, bindings_at, bindings_in, bindings_in_else, cancels_of, call_event, defer_event, binding_event, called_by, code_at, code_in, code_in_else, body_code}
-use Rattle.meaning.specs.Steps.{Moves, happens, first_moves, first_is_done, first_leaves, picks_first, picks_second, turns, inside, gets_there, goes_past, gets_out}
+use Rattle.meaning.specs.Code.{skip, does, leave, then_code, either, repeats, up_to}
+use Rattle.path_tree.specs.Syntax.{Statement, define_statement, expression_statement, defer_statement, if_statement, block_statement, return_statement, Otherwise, no_else, else_block, Statements, no_statement, statement_and, Function}
+use Rattle.path_meaning.specs.Scopes.{Local, locals_of}
+use Rattle.path_meaning.specs.PathCode.{Event, other, calls, defers_call, returns_here, PathOccurrence, PathCode, Binding, binding_of, bindings_at, bindings_in, bindings_in_else, cancels_of, call_event, defer_event, binding_event, called_by, code_at, code_in, code_in_else, body_code}
+use Rattle.path_meaning.specs.Steps.{Moves, happens, first_moves, first_is_done, first_leaves, picks_first, picks_second, turns, inside, gets_there, goes_past, gets_out}
 use Rattle.meaning.proofs.Membership.{contains_here}
 
-abbrev pub EachEvent : (Event → Type 0) → Code → Type 0
+abbrev pub EachEvent : (Event → Type 0) → PathCode → Type 0
 EachEvent P skip = Unit {0}
 EachEvent P (does o) = P o.event
 EachEvent P (leave w) = Unit {0}
@@ -20,11 +21,11 @@ EachEvent P (repeats a) = EachEvent P a
 EachEvent P (up_to w a) = EachEvent P a
 
 -- a move's event, if it has one
-abbrev pub OfMove : (Event → Type 0) → Option Occurrence → Type 0
+abbrev pub OfMove : (Event → Type 0) → Option PathOccurrence → Type 0
 OfMove P None = Unit {0}
 OfMove P (Some o) = P o.event
 
-pub move_keeps : (P : Event → Type 0) (c d : Code) (o : Option Occurrence) → Moves c o d → EachEvent P c → OfMove P o × EachEvent P d
+pub move_keeps : (P : Event → Type 0) (c d : PathCode) (o : Option PathOccurrence) → Moves c o d → EachEvent P c → OfMove P o × EachEvent P d
 move_keeps P c d o happens h = (h, tt)
 move_keeps P c d o (first_moves {a} {b} {rest} m) h = let k = move_keeps P a rest o m h.0 in (k.0, (k.1, h.1))
 move_keeps P c d o first_is_done h = (tt, h.1)

@@ -1,14 +1,14 @@
 -- The faults of the examples: each body that comes short of calls has its fault, where it stands.
 use Rattle.std.proofs.Common.{ℕ, List, [], ◌∷◌, refl, arith}
 use Rattle.std.specs.Prelude.{codes}
-use Rattle.meaning.specs.Scopes.{Local}
-use Rattle.meaning.specs.Code.{Event, other, obtains, calls, returns_here, Occurrence}
 use Rattle.meaning.specs.Lists.{skipped, done, just_done, ends_in_first, goes_on, in_first, in_second}
-use Rattle.meaning.specs.Faults.{IsFaultOf, at_return, at_blank, not_called, discarded}
+use Rattle.path_meaning.specs.Scopes.{Local}
+use Rattle.path_meaning.specs.PathCode.{Event, other, obtains, calls, returns_here, PathOccurrence}
+use Rattle.path_meaning.specs.Faults.{IsFaultOf, at_return, at_blank, not_called, discarded}
 use Rattle.soundness.specs.Examples.{missing, late_defer, one_branch, other_called, blank}
-use Rattle.soundness.proofs.Simulation.{stopped≢falls}
+use Rattle.meaning.proofs.Fronts.{stopped≢falls}
 
-abbrev event_at : ℕ → Event → Occurrence
+abbrev event_at : ℕ → Event → PathOccurrence
 event_at at event = record { at = at; order = 0; event = event }
 
 abbrev variable : List ℕ → ℕ → ℕ → ℕ → ℕ → Local

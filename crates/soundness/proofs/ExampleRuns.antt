@@ -1,34 +1,34 @@
 -- A run of each example.
 use Rattle.std.proofs.Common.{◌≡◌, ℕ, ◌⊎◌, inl, inr, subst, Bool, true, false, cond, eqb, List, [], ◌∷◌, Some, None, refl, sym, ap, arith}
 use Rattle.std.specs.List.{Contains}
-use Rattle.meaning.specs.Scopes.{Local}
-use Rattle.meaning.specs.Code.{other, obtains, defers_call, returns_here, Occurrence, Code}
+use Rattle.path_meaning.specs.Scopes.{Local}
+use Rattle.path_meaning.specs.PathCode.{other, obtains, defers_call, returns_here, PathOccurrence, PathCode}
 use Rattle.soundness.proofs.Contexts.{below-same_parents, one_done, ends_alone}
 use Rattle.meaning.proofs.Membership.{contains_cases, contains_nil}
-use Rattle.meaning.specs.World.{cancel_function, Saved, saved_call, put_at, IsBelow, ContextState, CancelState, runs, exits, Frame, World, with_stack, Ends, after_call, of_cancel, held, made, obtaining}
-use Rattle.meaning.specs.Steps.{Moves, happens, first_moves, first_is_done, at_code, saving, moves_on, passes_by, obtains_one, saves_call, comes_to_return, runs_saved, new_frame, start_of}
-use Rattle.meaning.specs.Runs.{Run, no_step, step_more}
+use Rattle.path_meaning.specs.World.{cancel_function, Saved, saved_call, put_at, IsBelow, ContextState, CancelState, runs, exits, Frame, World, with_stack, Ends, after_call, of_cancel, held, made, obtaining}
+use Rattle.path_meaning.specs.Steps.{Moves, happens, first_moves, first_is_done, at_code, saving, moves_on, passes_by, obtains_one, saves_call, comes_to_return, runs_saved, new_frame, start_of}
+use Rattle.path_meaning.specs.Runs.{Run, no_step, step_more}
 use Rattle.soundness.proofs.RunsOfLists.{moving}
 use Rattle.soundness.specs.Returns.{HasQuietReturn, HasLoudReturn}
 use Rattle.soundness.specs.Examples.{calling, missing}
 
 -- steps of the one goroutine with its one frame
-silent : (s w : World) (f : Frame) (c d : Code) → Run s w → w.stacks 0 ≡ f ∷ [] → f.stage ≡ runs c → Moves c None d → Run s (with_stack w 0 (at_code f d ∷ []))
+silent : (s w : World) (f : Frame) (c d : PathCode) → Run s w → w.stacks 0 ≡ f ∷ [] → f.stage ≡ runs c → Moves c None d → Run s (with_stack w 0 (at_code f d ∷ []))
 silent s w f c d r at e m = step_more r (moves_on record { move = moving w f None c d at e m; next_is = refl })
 
-passing : (s w : World) (f : Frame) (o : Occurrence) (c d : Code) → Run s w → w.stacks 0 ≡ f ∷ [] → f.stage ≡ runs c → Moves c (Some o) d → o.event ≡ other → Run s (with_stack w 0 (at_code f d ∷ []))
+passing : (s w : World) (f : Frame) (o : PathOccurrence) (c d : PathCode) → Run s w → w.stacks 0 ≡ f ∷ [] → f.stage ≡ runs c → Moves c (Some o) d → o.event ≡ other → Run s (with_stack w 0 (at_code f d ∷ []))
 passing s w f o c d r at e m q =
     step_more r (passes_by record { occurrence = o; move = moving w f (Some o) c d at e m; event = q; next_is = refl })
 
-obtaining_one : (s w : World) (f : Frame) (o : Occurrence) (v : Local) (offset : ℕ) (c d : Code) → Run s w → w.stacks 0 ≡ f ∷ [] → f.stage ≡ runs c → Moves c (Some o) d → o.event ≡ obtains v offset → offset ≡ v.at → Run s (with_stack (made w None false) 0 (obtaining w f v d ∷ []))
+obtaining_one : (s w : World) (f : Frame) (o : PathOccurrence) (v : Local) (offset : ℕ) (c d : PathCode) → Run s w → w.stacks 0 ≡ f ∷ [] → f.stage ≡ runs c → Moves c (Some o) d → o.event ≡ obtains v offset → offset ≡ v.at → Run s (with_stack (made w None false) 0 (obtaining w f v d ∷ []))
 obtaining_one s w f o v offset c d r at e m q here =
     step_more r (obtains_one record { occurrence = o; move = moving w f (Some o) c d at e m; variable = v; offset = offset; event = q; declared_there = here; parent = None; timed = false; earlier = tt; next_is = refl })
 
-saving_one : (s w : World) (f : Frame) (o : Occurrence) (v : Local) (c d : Code) → Run s w → w.stacks 0 ≡ f ∷ [] → f.stage ≡ runs c → Moves c (Some o) d → o.event ≡ defers_call v → Run s (with_stack w 0 (saving f (held w f v) d ∷ []))
+saving_one : (s w : World) (f : Frame) (o : PathOccurrence) (v : Local) (c d : PathCode) → Run s w → w.stacks 0 ≡ f ∷ [] → f.stage ≡ runs c → Moves c (Some o) d → o.event ≡ defers_call v → Run s (with_stack w 0 (saving f (held w f v) d ∷ []))
 saving_one s w f o v c d r at e m q =
     step_more r (saves_call record { occurrence = o; move = moving w f (Some o) c d at e m; variable = v; event = q; next_is = refl })
 
-coming_to_return : (s w : World) (f : Frame) (o : Occurrence) (c d : Code) → Run s w → w.stacks 0 ≡ f ∷ [] → f.stage ≡ runs c → Moves c (Some o) d → o.event ≡ returns_here → Run s (with_stack w 0 ((record f { stage = exits }) ∷ []))
+coming_to_return : (s w : World) (f : Frame) (o : PathOccurrence) (c d : PathCode) → Run s w → w.stacks 0 ≡ f ∷ [] → f.stage ≡ runs c → Moves c (Some o) d → o.event ≡ returns_here → Run s (with_stack w 0 ((record f { stage = exits }) ∷ []))
 coming_to_return s w f o c d r at e m q =
     step_more r (comes_to_return record { occurrence = o; move = moving w f (Some o) c d at e m; event = q; next_is = refl })
 

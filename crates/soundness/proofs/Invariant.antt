@@ -2,16 +2,16 @@
 use Rattle.std.proofs.Common.{◌≡◌, ℕ, ◌+◌, ◌<◌, ◌≤◌, ◌⊎◌, inl, inr, Bool, true, false, cond, if◌then◌else◌, List, [], ◌∷◌, ◌++◌, length, Option, Some, None, refl, sym, ap, ◌∙◌, subst, arith, append_assoc}
 use Rattle.std.specs.List.{Contains}
 use Rattle.std.proofs.lemmas.Bool.{cases_Bool}
-use Rattle.tree.specs.Syntax.{Function}
-use Rattle.meaning.specs.Scopes.{Local, same_local}
-use Rattle.meaning.specs.Code.{Event, other, obtains, calls, defers_call, returns_here, Occurrence, Code, cancels_of, body_code}
 use Rattle.meaning.specs.Lists.{Exit, stopped, Lists, Reaches}
-use Rattle.meaning.specs.Classes.{Class, unset, opened, safe, change, class_from, class_after}
-use Rattle.meaning.specs.Faults.{most_tracked, IsFaultOf, at_binding, at_return, Fault}
-use Rattle.meaning.specs.World.{Value, nothing, cancel_function, Saved, saved_call, CancelState, Stage, runs, exits, Frame, World, put_at, in_cell, held, IsEarlier, made, obtaining}
-use Rattle.meaning.specs.Steps.{Moves, at_code}
+use Rattle.path_tree.specs.Syntax.{Function}
+use Rattle.path_meaning.specs.Scopes.{Local, same_local}
+use Rattle.path_meaning.specs.PathCode.{Event, other, obtains, calls, defers_call, returns_here, PathOccurrence, PathCode, cancels_of, body_code}
+use Rattle.path_meaning.specs.Classes.{Class, unset, opened, safe, change, class_from, class_after}
+use Rattle.path_meaning.specs.Faults.{most_tracked, IsFaultOf, at_binding, at_return, Fault}
+use Rattle.path_meaning.specs.World.{Value, nothing, cancel_function, Saved, saved_call, CancelState, Stage, runs, exits, Frame, World, put_at, in_cell, held, IsEarlier, made, obtaining}
+use Rattle.path_meaning.specs.Steps.{Moves, at_code}
 use Rattle.meaning.proofs.Membership.{contains_here, contains_there, contains_cases, contains_nil}
-use Rattle.meaning.proofs.SameNames.{same_local_itself}
+use Rattle.path_meaning.proofs.SameNames.{same_local_itself}
 use Rattle.soundness.proofs.Locals.{same_local-swap}
 use Rattle.soundness.proofs.Simulation.{simulates, stops-after_move}
 use Rattle.soundness.proofs.EachEvent.{move_keeps}
@@ -20,7 +20,7 @@ use Rattle.soundness.proofs.Contexts.{put_at-same, put_at-other, IsSoundWorld, m
 
 -- How a frame's owed cancel function is safe: it was called; or its call is saved; or it is in the newest
 -- cell of a cancel variable that is open; or it was passed up to a frame that must call it.
-pub data IsSettled (cs : List Local) (cancels : ℕ → CancelState) (cells : ℕ → Value) (saved : List Saved) (newest : Local → Option ℕ) (above : List Frame) (t : List Occurrence) (a : ℕ) : Type 0 where
+pub data IsSettled (cs : List Local) (cancels : ℕ → CancelState) (cells : ℕ → Value) (saved : List Saved) (newest : Local → Option ℕ) (above : List Frame) (t : List PathOccurrence) (a : ℕ) : Type 0 where
   was_called : (cancels a).called ≡ true → IsSettled cs cancels cells saved newest above t a
   is_saved : Contains saved (saved_call (cancel_function a)) → IsSettled cs cancels cells saved newest above t a
   is_held : (v : Local) (k : ℕ) → Contains cs v → class_after v t ≡ opened → newest v ≡ Some k → cells k ≡ cancel_function a → IsSettled cs cancels cells saved newest above t a
@@ -30,12 +30,12 @@ saved-inj : (x y : Value) → saved_call x ≡ saved_call y → x ≡ y
 saved-inj x y e = cc
 
 -- the classes after one more event
-pub class_from-push : (v : Local) (k : Class) (t : List Occurrence) (o : Occurrence) → class_from v k (t ++ o ∷ []) ≡ change v o.event (class_from v k t)
+pub class_from-push : (v : Local) (k : Class) (t : List PathOccurrence) (o : PathOccurrence) → class_from v k (t ++ o ∷ []) ≡ change v o.event (class_from v k t)
 class_from-push v k [] o = refl
 class_from-push v k (p ∷ t) o = class_from-push v (change v p.event k) t o
 
 -- an event that leaves a variable's class
-keeps_open : (v : Local) (t : List Occurrence) (o : Occurrence) (e : Event) → o.event ≡ e → change v e opened ≡ opened → class_after v t ≡ opened → class_after v (t ++ o ∷ []) ≡ opened
+keeps_open : (v : Local) (t : List PathOccurrence) (o : PathOccurrence) (e : Event) → o.event ≡ e → change v e opened ≡ opened → class_after v t ≡ opened → class_after v (t ++ o ∷ []) ≡ opened
 keeps_open v t o e is_event stays was =
     class_from-push v unset t o ∙ ap (λ x. change v x (class_after v t)) is_event ∙ ap (change v e) was ∙ stays
 
@@ -45,12 +45,12 @@ module _ (function : Function) (quiet : (fault : Fault) → IsFaultOf function f
 
   -- The body's lists continue the events so far with the lists of what is left; and at a return no
   -- variable was open.
-  abbrev pub IsAt : List Occurrence → Stage → Type 0
-  IsAt t (runs c) = ((u : List Occurrence) (x : Exit) → Lists c u x → Lists (body_code function) (t ++ u) x) × AreSourced cs c
+  abbrev pub IsAt : List PathOccurrence → Stage → Type 0
+  IsAt t (runs c) = ((u : List PathOccurrence) (x : Exit) → Lists c u x → Lists (body_code function) (t ++ u) x) × AreSourced cs c
   IsAt t exits = (v : Local) → Contains cs v → class_after v t ≡ opened → ⊥
 
   pub record IsFine (cancels : ℕ → CancelState) (cancel_count : ℕ) (cells : ℕ → Value) (cell_count : ℕ) (above : List Frame) (f : Frame) : Type 0 where
-    pub events : List Occurrence
+    pub events : List PathOccurrence
     pub stage : IsAt events f.stage
     pub settled : (a : ℕ) → Contains f.obtained a → IsSettled cs cancels cells f.saved f.newest above events a
     pub saved_in : (a : ℕ) → Contains f.saved (saved_call (cancel_function a)) → a < cancel_count
@@ -90,20 +90,20 @@ module _ (function : Function) (quiet : (fault : Fault) → IsFaultOf function f
         absurd (n (there.0 ∙ sym here.0))
 
   -- after a move, where the code goes on
-  stage_silent : (t : List Occurrence) (c d : Code) → Moves c None d → IsAt t (runs c) → IsAt t (runs d)
+  stage_silent : (t : List PathOccurrence) (c d : PathCode) → Moves c None d → IsAt t (runs c) → IsAt t (runs d)
   stage_silent t c d m (lists, sourced) =
       (λ u x l. lists u x (simulates c d None u x m l), (move_keeps (IsSourced cs) c d None m sourced).1)
 
-  stage_event : (t : List Occurrence) (c d : Code) (o : Occurrence) → Moves c (Some o) d → IsAt t (runs c) → IsAt (t ++ o ∷ []) (runs d)
+  stage_event : (t : List PathOccurrence) (c d : PathCode) (o : PathOccurrence) → Moves c (Some o) d → IsAt t (runs c) → IsAt (t ++ o ∷ []) (runs d)
   stage_event t c d o m (lists, sourced) =
       (λ u x l. subst (λ r. Lists (body_code function) r x) (sym (append_assoc t (o ∷ []) u)) (lists (o ∷ u) x (simulates c d (Some o) u x m l)), (move_keeps (IsSourced cs) c d (Some o) m sourced).1)
 
   -- the event of a move can come next in the body
-  reached : (t : List Occurrence) (c d : Code) (o : Occurrence) → Moves c (Some o) d → IsAt t (runs c) → Reaches (body_code function) t o
+  reached : (t : List PathOccurrence) (c d : PathCode) (o : PathOccurrence) → Moves c (Some o) d → IsAt t (runs c) → Reaches (body_code function) t o
   reached t c d o m (lists, sourced) = lists (o ∷ []) stopped (stops-after_move c d o m)
 
   -- how a function stays safe
-  module _ (cancels after : ℕ → CancelState) (cells cells' : ℕ → Value) (saved saved' : List Saved) (newest newest' : Local → Option ℕ) (t t' : List Occurrence) (a : ℕ) (stays : (cancels a).called ≡ true → (after a).called ≡ true) (keeps : Contains saved (saved_call (cancel_function a)) → IsSettled cs after cells' saved' newest' [] t' a) (holds : (v : Local) (k : ℕ) → Contains cs v → class_after v t ≡ opened → newest v ≡ Some k → cells k ≡ cancel_function a → IsSettled cs after cells' saved' newest' [] t' a) where
+  module _ (cancels after : ℕ → CancelState) (cells cells' : ℕ → Value) (saved saved' : List Saved) (newest newest' : Local → Option ℕ) (t t' : List PathOccurrence) (a : ℕ) (stays : (cancels a).called ≡ true → (after a).called ≡ true) (keeps : Contains saved (saved_call (cancel_function a)) → IsSettled cs after cells' saved' newest' [] t' a) (holds : (v : Local) (k : ℕ) → Contains cs v → class_after v t ≡ opened → newest v ≡ Some k → cells k ≡ cancel_function a → IsSettled cs after cells' saved' newest' [] t' a) where
     stays_settled : IsSettled cs cancels cells saved newest [] t a → IsSettled cs after cells' saved' newest' [] t' a
     stays_settled (was_called h) = was_called (stays h)
     stays_settled (is_saved h) = keeps h
@@ -111,7 +111,7 @@ module _ (function : Function) (quiet : (fault : Fault) → IsFaultOf function f
     stays_settled (is_passed_up g among must) = absurd (contains_nil g among)
 
   -- a step without an event, or whose event does nothing
-  pub fine_silent : (w : World) (f : Frame) (c d : Code) → f.stage ≡ runs c → Moves c None d → IsFineIn w f → IsFineIn w (at_code f d)
+  pub fine_silent : (w : World) (f : Frame) (c d : PathCode) → f.stage ≡ runs c → Moves c None d → IsFineIn w f → IsFineIn w (at_code f d)
   fine_silent w f c d e m fine = record {
     events = fine.events;
     stage = stage_silent fine.events c d m (subst (IsAt fine.events) e fine.stage);
@@ -121,7 +121,7 @@ module _ (function : Function) (quiet : (fault : Fault) → IsFaultOf function f
     one_cell = fine.one_cell;
   }
 
-  pub fine_passing : (w : World) (f : Frame) (c d : Code) (o : Occurrence) → f.stage ≡ runs c → Moves c (Some o) d → o.event ≡ other → IsFineIn w f → IsFineIn w (at_code f d)
+  pub fine_passing : (w : World) (f : Frame) (c d : PathCode) (o : PathOccurrence) → f.stage ≡ runs c → Moves c (Some o) d → o.event ≡ other → IsFineIn w f → IsFineIn w (at_code f d)
   fine_passing w f c d o e m is_other fine = record {
     events = fine.events ++ o ∷ [];
     stage = stage_event fine.events c d o m (subst (IsAt fine.events) e fine.stage);
@@ -132,11 +132,11 @@ module _ (function : Function) (quiet : (fault : Fault) → IsFaultOf function f
   }
 
   -- a maker's call
-  module _ (w : World) (f : Frame) (c d : Code) (o : Occurrence) (v : Local) (offset : ℕ) (parent : Option ℕ) (timed : Bool) (earlier : IsEarlier w parent) (e : f.stage ≡ runs c) (m : Moves c (Some o) d) (obtains_v : o.event ≡ obtains v offset) (s : IsSoundWorld w) (fine : IsFineIn w f) where
+  module _ (w : World) (f : Frame) (c d : PathCode) (o : PathOccurrence) (v : Local) (offset : ℕ) (parent : Option ℕ) (timed : Bool) (earlier : IsEarlier w parent) (e : f.stage ≡ runs c) (m : Moves c (Some o) d) (obtains_v : o.event ≡ obtains v offset) (s : IsSoundWorld w) (fine : IsFineIn w f) where
     before : IsAt fine.events (runs c)
     before = subst (IsAt fine.events) e fine.stage
 
-    extended : List Occurrence
+    extended : List PathOccurrence
     extended = fine.events ++ o ∷ []
 
     v_among : Contains cs v
@@ -184,10 +184,10 @@ module _ (function : Function) (quiet : (fault : Fault) → IsFaultOf function f
     }
 
   -- the class of another variable, and of the same one, after a call of v
-  after_call : (v u : Local) (t : List Occurrence) (o : Occurrence) → o.event ≡ calls v → class_after u t ≡ opened → same_local v u ≡ false → class_after u (t ++ o ∷ []) ≡ opened
+  after_call : (v u : Local) (t : List PathOccurrence) (o : PathOccurrence) → o.event ≡ calls v → class_after u t ≡ opened → same_local v u ≡ false → class_after u (t ++ o ∷ []) ≡ opened
   after_call v u t o is_call was differ = keeps_open u t o (calls v) is_call (ap (λ b. cond b safe opened) differ) was
 
-  after_defer : (v u : Local) (t : List Occurrence) (o : Occurrence) → o.event ≡ defers_call v → class_after u t ≡ opened → same_local v u ≡ false → class_after u (t ++ o ∷ []) ≡ opened
+  after_defer : (v u : Local) (t : List PathOccurrence) (o : PathOccurrence) → o.event ≡ defers_call v → class_after u t ≡ opened → same_local v u ≡ false → class_after u (t ++ o ∷ []) ≡ opened
   after_defer v u t o is_defer was differ =
       keeps_open u t o (defers_call v) is_defer (ap (λ b. cond b safe opened) differ) was
 
@@ -204,7 +204,7 @@ module _ (function : Function) (quiet : (fault : Fault) → IsFaultOf function f
       by_cell (Some k) p = s.cells_in k a p
 
   -- the call of a variable's function
-  module _ (w after : World) (f : Frame) (c d : Code) (o : Occurrence) (v : Local) (e : f.stage ≡ runs c) (m : Moves c (Some o) d) (calls_v : o.event ≡ calls v) (fine : IsFineIn w f) where
+  module _ (w after : World) (f : Frame) (c d : PathCode) (o : PathOccurrence) (v : Local) (e : f.stage ≡ runs c) (m : Moves c (Some o) d) (calls_v : o.event ≡ calls v) (fine : IsFineIn w f) where
     settled_after_call : (cancels : ℕ → CancelState) (a : ℕ) → ((b : ℕ) → (w.cancels b).called ≡ true → (cancels b).called ≡ true) → (held w f v ≡ cancel_function a → (cancels a).called ≡ true) → Contains f.obtained a → IsSettled cs cancels w.cells f.saved f.newest [] (fine.events ++ o ∷ []) a
     settled_after_call cancels a stays called h =
         stays_settled w.cancels cancels w.cells w.cells f.saved f.saved f.newest f.newest fine.events (fine.events ++ o ∷ []) a (stays a) (λ x. is_saved x) (λ u k among was cell value. by_name u k among was cell value (cases_Bool (same_local v u))) (fine.settled a h)
@@ -225,7 +225,7 @@ module _ (function : Function) (quiet : (fault : Fault) → IsFaultOf function f
     }
 
   -- the call of a variable's function is saved
-  module _ (w : World) (f : Frame) (c d : Code) (o : Occurrence) (v : Local) (e : f.stage ≡ runs c) (m : Moves c (Some o) d) (defers_v : o.event ≡ defers_call v) (s : IsSoundWorld w) (fine : IsFineIn w f) where
+  module _ (w : World) (f : Frame) (c d : PathCode) (o : PathOccurrence) (v : Local) (e : f.stage ≡ runs c) (m : Moves c (Some o) d) (defers_v : o.event ≡ defers_call v) (s : IsSoundWorld w) (fine : IsFineIn w f) where
     settled_after_defer : (a : ℕ) → Contains f.obtained a → IsSettled cs w.cancels w.cells (saved_call (held w f v) ∷ f.saved) f.newest [] (fine.events ++ o ∷ []) a
     settled_after_defer a h =
         stays_settled w.cancels w.cancels w.cells w.cells f.saved (saved_call (held w f v) ∷ f.saved) f.newest f.newest fine.events (fine.events ++ o ∷ []) a (λ x. x) (λ x. is_saved (contains_there (saved_call (held w f v)) (saved_call (cancel_function a)) f.saved x)) (λ u k among was cell value. by_name u k among was cell value (cases_Bool (same_local v u))) (fine.settled a h)
@@ -251,7 +251,7 @@ module _ (function : Function) (quiet : (fault : Fault) → IsFaultOf function f
     }
 
   -- a return: no variable is open there
-  pub fine_returning : (w : World) (f : Frame) (c d : Code) (o : Occurrence) → f.stage ≡ runs c → Moves c (Some o) d → o.event ≡ returns_here → IsFineIn w f → IsFineIn w (record f { stage = exits })
+  pub fine_returning : (w : World) (f : Frame) (c d : PathCode) (o : PathOccurrence) → f.stage ≡ runs c → Moves c (Some o) d → o.event ≡ returns_here → IsFineIn w f → IsFineIn w (record f { stage = exits })
   fine_returning w f c d o e m is_return fine = record {
     events = fine.events;
     stage = λ v among open_there. quiet _ (at_return v fine.events o few among (reached fine.events c d o m (subst (IsAt fine.events) e fine.stage)) is_return open_there);

@@ -2,10 +2,10 @@
 use Rattle.std.proofs.Common.{◌≡◌, Bool, true, false, cond, ◌&&◌, eqb, List, [], ◌∷◌, Option, Some, None, refl, ap, ◌∙◌}
 use Rattle.std.specs.List.{Contains}
 use Rattle.std.proofs.lemmas.Bool.{eqb-true, and_parts}
-use Rattle.tree.specs.Syntax.{Identifier}
-use Rattle.meaning.specs.Scopes.{same_text, is_blank, Local, same_local, covers, inner_of, declaration_of, declared_here, first_given, bound_by, bound_local}
+use Rattle.path_tree.specs.Syntax.{Identifier}
+use Rattle.path_meaning.specs.Scopes.{same_text, is_blank, Local, same_local, covers, inner_of, declaration_of, declared_here, first_given, bound_by, bound_local}
 use Rattle.meaning.proofs.Membership.{contains_here, contains_there}
-use Rattle.meaning.proofs.SameNames.{same_text_is}
+use Rattle.path_meaning.proofs.SameNames.{same_text_is}
 
 -- one local for another, in a comparison
 pub same_local-swap : (c u v : Local) → same_local u v ≡ true → same_local c u ≡ same_local c v

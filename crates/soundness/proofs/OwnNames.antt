@@ -6,14 +6,14 @@ use Rattle.std.specs.List.{Contains}
 use Rattle.std.specs.Option.{option_to_list}
 use Rattle.std.proofs.lemmas.Bool.{cases_Bool, eqb-true, eq-eqb, and_parts, and_from, both_ways}
 use Rattle.std.proofs.lemmas.List.Elements.{Contains-append_left, Contains-append_right, Contains-append_cases}
-use Rattle.tree.specs.declared.span.Span.{Span}
-use Rattle.tree.specs.Syntax.{Identifier, Expressions, no_expression, expression_and, Statement, define_statement, expression_statement, defer_statement, if_statement, block_statement, return_statement, Otherwise, no_else, else_block, Statements, no_statement, statement_and, Function}
-use Rattle.meaning.specs.Scopes.{same_text, is_blank, is_among, Local, text_of, declares_nothing, declared_by, declared_at, declared_in, declared_in_else, known_after, parameter_name, locals_of, declaration_of, declared_here, first_given, bound_by, bound_local}
-use Rattle.meaning.specs.Code.{Event, other, obtains, calls, defers_call, returns_here, maker_of, Binding, bound_from, binding_of, bindings_at, bindings_in, bindings_in_else, obtain_event, body_code}
-use Rattle.meaning.specs.FirstPath.{Mention, used, is_used, expression_mentions, expressions_mentions, assigned_by, mentions_in, mentions_at, mentions_in_else, type_mentions, mentions_of, HasPathNames}
+use Rattle.path_tree.specs.declared.span.Span.{Span}
+use Rattle.path_tree.specs.Syntax.{Identifier, Expressions, no_expression, expression_and, Statement, define_statement, expression_statement, defer_statement, if_statement, block_statement, return_statement, Otherwise, no_else, else_block, Statements, no_statement, statement_and, Function}
+use Rattle.path_meaning.specs.Scopes.{same_text, is_blank, is_among, Local, text_of, declares_nothing, declared_by, declared_at, declared_in, declared_in_else, known_after, parameter_name, locals_of, declaration_of, declared_here, first_given, bound_by, bound_local}
+use Rattle.path_meaning.specs.PathCode.{Event, other, obtains, calls, defers_call, returns_here, maker_of, Binding, bound_from, binding_of, bindings_at, bindings_in, bindings_in_else, obtain_event, body_code}
+use Rattle.path_meaning.specs.FirstPath.{Mention, used, is_used, expression_mentions, expressions_mentions, assigned_by, mentions_in, mentions_at, mentions_in_else, type_mentions, mentions_of, HasPathNames}
 use Rattle.meaning.proofs.Membership.{contains_nil, contains_cases}
-use Rattle.meaning.proofs.SameNames.{same_text_of}
-use Rattle.meaning.proofs.Defined.{assigned_later, assigned_now, declared_local, declared_later, declared_now}
+use Rattle.path_meaning.proofs.SameNames.{same_text_of}
+use Rattle.path_meaning.proofs.Defined.{assigned_later, assigned_now, declared_local, declared_later, declared_now}
 use Rattle.soundness.proofs.EachEvent.{EachEvent, body_each}
 
 -- a name that is found to declare a local begins where the local does

@@ -2,14 +2,14 @@
 -- here no context is made from another, so that each ends alone.
 use Rattle.std.proofs.Common.{◌≡◌, ℕ, ◌⊎◌, inl, inr, false, List, [], ◌∷◌, ◌++◌, Option, Some, None, refl, sym, ap, ◌∙◌, subst, append_assoc, append-nil}
 use Rattle.std.proofs.lemmas.Bool.{cases_eq}
-use Rattle.tree.specs.Syntax.{Function}
-use Rattle.meaning.specs.Scopes.{Local}
-use Rattle.meaning.specs.Code.{Event, other, obtains, calls, defers_call, returns_here, Occurrence, Code, body_code}
 use Rattle.meaning.specs.Lists.{Exit, Lists}
-use Rattle.meaning.specs.FirstPath.{HasPathNames}
-use Rattle.meaning.specs.World.{Value, nothing, cancel_function, ContextState, runs, exits, Frame, World, put_at, with_stack, after_call, CallOf, of_nothing, of_cancel, held, made, obtaining}
-use Rattle.meaning.specs.Steps.{Moves, Moving, at_code, saving, moves_on, passes_by, obtains_one, calls_one, saves_call, comes_to_return, new_frame, start_of}
-use Rattle.meaning.specs.Runs.{Run, no_step, step_more}
+use Rattle.path_tree.specs.Syntax.{Function}
+use Rattle.path_meaning.specs.Scopes.{Local}
+use Rattle.path_meaning.specs.PathCode.{Event, other, obtains, calls, defers_call, returns_here, PathOccurrence, PathCode, body_code}
+use Rattle.path_meaning.specs.FirstPath.{HasPathNames}
+use Rattle.path_meaning.specs.World.{Value, nothing, cancel_function, ContextState, runs, exits, Frame, World, put_at, with_stack, after_call, CallOf, of_nothing, of_cancel, held, made, obtaining}
+use Rattle.path_meaning.specs.Steps.{Moves, Moving, at_code, saving, moves_on, passes_by, obtains_one, calls_one, saves_call, comes_to_return, new_frame, start_of}
+use Rattle.path_meaning.specs.Runs.{Run, no_step, step_more}
 use Rattle.soundness.specs.Doings.{Does, stays, silently, by_event}
 use Rattle.soundness.specs.Events.{events_of, HasRun}
 use Rattle.soundness.proofs.Adequacy.{list_is_done}
@@ -19,7 +19,7 @@ use Rattle.soundness.proofs.LastReturn.{EndsAtReturn, body_last}
 use Rattle.soundness.proofs.OwnNames.{IsOwn, body_own}
 
 -- a move of the one goroutine with its one frame
-abbrev pub moving : (w : World) (f : Frame) (o : Option Occurrence) (c d : Code) → w.stacks 0 ≡ f ∷ [] → f.stage ≡ runs c → Moves c o d → Moving w o
+abbrev pub moving : (w : World) (f : Frame) (o : Option PathOccurrence) (c d : PathCode) → w.stacks 0 ≡ f ∷ [] → f.stage ≡ runs c → Moves c o d → Moving w o
 moving w f o c d at e m =
     record { goroutine = 0; frame = f; others = []; code = c; rest = d; running = at; stage = e; moves = m }
 
@@ -46,20 +46,20 @@ returns_or_not returns_here = inl refl
 
 module _ (function : Function) where
   -- the one goroutine with its one frame has this code left
-  record IsReady (w : World) (c : Code) : Type 0 where
+  record IsReady (w : World) (c : PathCode) : Type 0 where
     frame : Frame
     running : w.stacks 0 ≡ frame ∷ []
     stage : frame.stage ≡ runs c
     alone : IsAlone w.contexts
 
   -- a run that went through these events, with this code left
-  record HasCome (t : List Occurrence) (c : Code) : Type 0 where
+  record HasCome (t : List PathOccurrence) (c : PathCode) : Type 0 where
     world : World
     run : Run (start_of function) world
     events : events_of run ≡ t
     ready : IsReady world c
 
-  module _ (t : List Occurrence) (c d : Code) (come : HasCome t c) where
+  module _ (t : List PathOccurrence) (c d : PathCode) (come : HasCome t c) where
     silent_step : Moves c None d → HasCome t d
     silent_step m = record {
       world = with_stack come.world 0 (at_code come.ready.frame d ∷ []);
@@ -68,7 +68,7 @@ module _ (function : Function) where
       ready = record { frame = at_code come.ready.frame d; running = refl; stage = refl; alone = come.ready.alone };
     }
 
-    module _ (o : Occurrence) (m : Moves c (Some o) d) where
+    module _ (o : PathOccurrence) (m : Moves c (Some o) d) where
       abbrev move : Moving come.world (Some o)
       move = moving come.world come.ready.frame (Some o) c d come.ready.running come.ready.stage m
 
@@ -127,7 +127,7 @@ module _ (function : Function) where
           (with_stack come.world 0 ((record come.ready.frame { stage = exits }) ∷ []), step_more come.run (comes_to_return record { occurrence = o; move = move; event = e; next_is = refl }), more_events)
 
   -- from a run on, along what its code does
-  goes_through : (t u : List Occurrence) (c rest : Code) → Does c u rest → HasCome t c → EachEvent IsOwn c → EndsAtReturn u → HasRun function (t ++ u)
+  goes_through : (t u : List PathOccurrence) (c rest : PathCode) → Does c u rest → HasCome t c → EachEvent IsOwn c → EndsAtReturn u → HasRun function (t ++ u)
   goes_through t u c rest stays come own last = (come.world, come.run, come.events ∙ sym (append-nil t))
   goes_through t u c rest (silently {d = d} m r) come own last =
       goes_through t u d rest r (silent_step t c d come m) (move_keeps IsOwn c d None m own).1 last
@@ -152,7 +152,7 @@ module _ (function : Function) where
     };
   }
 
-  pub list_has_run : HasPathNames function → (t : List Occurrence) (x : Exit) → Lists (body_code function) t x → HasRun function t
+  pub list_has_run : HasPathNames function → (t : List PathOccurrence) (x : Exit) → Lists (body_code function) t x → HasRun function t
   list_has_run names t x l =
       let can = list_is_done (body_code function) t x l in
       goes_through [] t (body_code function) can.rest can.does_it start_come (body_own function names) (body_last function t x l)

@@ -1,20 +1,19 @@
 -- What code does by small moves is one of its lists.
 use Rattle.std.proofs.Common.{◌≡◌, ◌≢◌, List, [], ◌∷◌, ◌++◌, Option, Some, None, refl, sym, ap, ◌∙◌}
-use Rattle.meaning.specs.Code.{Occurrence, Way, Code}
+use Rattle.meaning.specs.Code.{Way}
 use Rattle.meaning.specs.Lists.{Exit, stopped, falls, leaves, Lists, not_begun, skipped, done, just_done, left, ends_in_first, goes_on, in_first, in_second, ends_in_turn, turns_again, arrives, passes}
-use Rattle.meaning.specs.Steps.{Moves, happens, first_moves, first_is_done, first_leaves, picks_first, picks_second, turns, inside, gets_there, goes_past, gets_out}
+use Rattle.path_meaning.specs.PathCode.{PathOccurrence, PathCode}
+use Rattle.meaning.proofs.Fronts.{stopped≢falls, stopped≢leaves}
+use Rattle.path_meaning.specs.Steps.{Moves, happens, first_moves, first_is_done, first_leaves, picks_first, picks_second, turns, inside, gets_there, goes_past, gets_out}
 
 -- a list with the event of a move before it
-abbrev pub with_move : Option Occurrence → List Occurrence → List Occurrence
+abbrev pub with_move : Option PathOccurrence → List PathOccurrence → List PathOccurrence
 with_move None u = u
 with_move (Some o) u = o ∷ u
 
-with_move-append : (o : Option Occurrence) (t u : List Occurrence) → with_move o (t ++ u) ≡ with_move o t ++ u
+with_move-append : (o : Option PathOccurrence) (t u : List PathOccurrence) → with_move o (t ++ u) ≡ with_move o t ++ u
 with_move-append None t u = refl
 with_move-append (Some o) t u = refl
-
-pub stopped≢falls : stopped ≢ falls
-stopped≢falls e = cc
 
 leaves≢falls : (w : Way) → leaves w ≢ falls
 leaves≢falls w e = cc
@@ -22,14 +21,11 @@ leaves≢falls w e = cc
 falls≢leaves : (w : Way) → falls ≢ leaves w
 falls≢leaves w e = cc
 
-stopped≢leaves : (w : Way) → stopped ≢ leaves w
-stopped≢leaves w e = cc
-
 leaves-inj : (w v : Way) → leaves w ≡ leaves v → w ≡ v
 leaves-inj w v e = cc
 
 -- a code can stop at once after a move
-pub simulates : (c d : Code) (o : Option Occurrence) (u : List Occurrence) (x : Exit) → Moves c o d → Lists d u x → Lists c (with_move o u) x
+pub simulates : (c d : PathCode) (o : Option PathOccurrence) (u : List PathOccurrence) (x : Exit) → Moves c o d → Lists d u x → Lists c (with_move o u) x
 simulates c d o u x happens (not_begun) = just_done
 simulates c d o u x happens (skipped) = done
 simulates c d o u x (first_moves {a} {b} {rest} m) (not_begun) = ends_in_first (simulates a rest o [] stopped m not_begun) stopped≢falls
@@ -54,5 +50,5 @@ simulates c d o u x (gets_out {w}) (not_begun) = not_begun
 simulates c d o u x (gets_out {w}) (skipped) = passes skipped (falls≢leaves w)
 
 -- the first of some events can come at once after a move, where the code goes on
-pub stops-after_move : (c d : Code) (o : Occurrence) → Moves c (Some o) d → Lists c (o ∷ []) stopped
+pub stops-after_move : (c d : PathCode) (o : PathOccurrence) → Moves c (Some o) d → Lists c (o ∷ []) stopped
 stops-after_move c d o m = simulates c d (Some o) [] stopped m not_begun

@@ -1,11 +1,11 @@
 -- Each local that an event of a body obtains is one of its cancel variables.
 use Rattle.std.proofs.Common.{◌≡◌, Bool, true, false, cond, ◌⊎◌, inl, inr, List, [], ◌∷◌, Option, Some, None, refl, ap, ◌∙◌}
 use Rattle.std.specs.List.{Contains}
-use Rattle.tree.specs.Syntax.{Function}
-use Rattle.meaning.specs.Scopes.{Local, locals_of, bound_local}
-use Rattle.meaning.specs.Code.{Event, other, obtains, calls, defers_call, returns_here, Code, Binding, bindings_in, is_same_as, is_obtained, cancels_of, obtain_event, body_code}
+use Rattle.path_tree.specs.Syntax.{Function}
+use Rattle.path_meaning.specs.Scopes.{Local, locals_of, bound_local}
+use Rattle.path_meaning.specs.PathCode.{Event, other, obtains, calls, defers_call, returns_here, PathCode, Binding, bindings_in, is_same_as, is_obtained, cancels_of, obtain_event, body_code}
 use Rattle.meaning.proofs.Membership.{contains_cases, contains_nil, contains_filter}
-use Rattle.meaning.proofs.SameNames.{same_local_itself}
+use Rattle.path_meaning.proofs.SameNames.{same_local_itself}
 use Rattle.soundness.proofs.Locals.{bound_local-member}
 use Rattle.soundness.proofs.EachEvent.{EachEvent, body_each}
 
@@ -17,7 +17,7 @@ IsSourced cs (calls u) = Unit {0}
 IsSourced cs (defers_call u) = Unit {0}
 IsSourced cs returns_here = Unit {0}
 
-abbrev pub AreSourced : List Local → Code → Type 0
+abbrev pub AreSourced : List Local → PathCode → Type 0
 AreSourced cs c = EachEvent (IsSourced cs) c
 
 test_true : (t b : Bool) → t ≡ true → cond t true b ≡ true

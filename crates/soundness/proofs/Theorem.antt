@@ -4,13 +4,13 @@ use Rattle.std.specs.List.{Contains}
 use Rattle.std.specs.Prelude.{slice_get}
 use Rattle.std.proofs.lemmas.Bool.{cases_eq, cases_lt}
 use Rattle.std.proofs.lemmas.Option.{slice_get-get_or}
-use Rattle.tree.specs.Syntax.{Function}
-use Rattle.meaning.specs.Scopes.{Local}
-use Rattle.meaning.specs.Code.{Occurrence, cancels_of}
-use Rattle.meaning.specs.Faults.{most_tracked, IsFaultOf, at_many, Fault}
-use Rattle.meaning.specs.World.{Value, nothing, cancel_function, saved_call, CancelState, exits, Frame, World, put_at, with_stack, CallOf, of_nothing, of_cancel, held, made, obtaining}
-use Rattle.meaning.specs.Steps.{Moving, with_frame, at_code, saving, Step, moves_on, passes_by, obtains_one, calls_one, saves_call, comes_to_return, runs_saved, returns_now, ends_context, new_frame, start_of}
-use Rattle.meaning.specs.Runs.{Run, no_step, step_more, IsQuietFunction}
+use Rattle.path_tree.specs.Syntax.{Function}
+use Rattle.path_meaning.specs.Scopes.{Local}
+use Rattle.path_meaning.specs.PathCode.{PathOccurrence, cancels_of}
+use Rattle.path_meaning.specs.Faults.{most_tracked, IsFaultOf, at_many, Fault}
+use Rattle.path_meaning.specs.World.{Value, nothing, cancel_function, saved_call, CancelState, exits, Frame, World, put_at, with_stack, CallOf, of_nothing, of_cancel, held, made, obtaining}
+use Rattle.path_meaning.specs.Steps.{Moving, with_frame, at_code, saving, Step, moves_on, passes_by, obtains_one, calls_one, saves_call, comes_to_return, runs_saved, returns_now, ends_context, new_frame, start_of}
+use Rattle.path_meaning.specs.Runs.{Run, no_step, step_more, IsQuietFunction}
 use Rattle.meaning.proofs.Membership.{contains_here, contains_nil}
 use Rattle.soundness.proofs.Sources.{body_sourced}
 use Rattle.soundness.proofs.Contexts.{put_at-same, put_at-other, IsSoundWorld, ends_sound, called_now, stays_called, is_called_now, call_sound, made_sound}
@@ -44,10 +44,10 @@ module _ (function : Function) (quiet : (fault : Fault) → IsFaultOf function f
       kept_after w (record w { contexts = contexts; cancels = called_now w a contexts ends }) g f next others at k refl (call_sound w a contexts ends (within a refl) k.sound) (fine (called_now w a contexts ends) (stays_called w a contexts ends) (λ b e. let same : a ≡ b = cc in subst (λ n. (called_now w a contexts ends n).called ≡ true) same (is_called_now w a contexts ends)))
 
   -- the frame that moves
-  fine_moving : (w : World) (o : Option Occurrence) (m : Moving w o) → Kept w → FineIn w m.frame
+  fine_moving : (w : World) (o : Option PathOccurrence) (m : Moving w o) → Kept w → FineIn w m.frame
   fine_moving w o m k = fine_at w m.goroutine m.frame m.others m.running k
 
-  kept_moving : (w after : World) (o : Option Occurrence) (m : Moving w o) (next : Frame) → Kept w → after.stacks ≡ w.stacks → IsSoundWorld after → FineIn after next → Kept (with_frame after m next)
+  kept_moving : (w after : World) (o : Option PathOccurrence) (m : Moving w o) (next : Frame) → Kept w → after.stacks ≡ w.stacks → IsSoundWorld after → FineIn after next → Kept (with_frame after m next)
   kept_moving w after o m next k same s fine = kept_after w after m.goroutine m.frame next m.others m.running k same s fine
 
   step_kept : (w next : World) → Step w next → Kept w → Kept next

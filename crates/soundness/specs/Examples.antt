@@ -1,8 +1,8 @@
 -- Functions to try the definitions on: the trees of the texts above them. Each text stands after the lines
 -- `package a`, an empty one, `import "context"` and an empty one, so that `func` begins at offset 29.
 use Rattle.std.specs.Prelude.{ℕ, ◌+◌, List, [], ◌∷◌, length, codes}
-use Rattle.tree.specs.declared.span.Span.{Span}
-use Rattle.tree.specs.Syntax.{Identifier, Expression, name_expression, selector_expression, call_expression, no_expression, expression_and, Statement, define_statement, expression_statement, defer_statement, if_statement, return_statement, no_else, statements_of, Parameter, Function}
+use Rattle.path_tree.specs.declared.span.Span.{Span}
+use Rattle.path_tree.specs.Syntax.{Identifier, Expression, name_expression, selector_expression, call_expression, no_expression, expression_and, Statement, define_statement, expression_statement, defer_statement, if_statement, return_statement, no_else, statements_of, Parameter, Function}
 
 abbrev pub from_to : ℕ → ℕ → Span
 from_to start end = record { start = start; end = end }

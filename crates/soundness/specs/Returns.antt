@@ -1,10 +1,10 @@
 -- What shows that the definitions of runs are not empty: a run that comes to a return at which the frame
--- owes a cancel function. (Crate meaning, Runs.antt.)
+-- owes a cancel function. (Crate path_meaning, Runs.antt.)
 use Rattle.std.specs.Prelude.{ℕ}
-use Rattle.tree.specs.Syntax.{Function}
-use Rattle.meaning.specs.World.{Frame, World}
-use Rattle.meaning.specs.Steps.{start_of}
-use Rattle.meaning.specs.Runs.{Run, Owes, IsReturning, IsQuiet}
+use Rattle.path_tree.specs.Syntax.{Function}
+use Rattle.path_meaning.specs.World.{Frame, World}
+use Rattle.path_meaning.specs.Steps.{start_of}
+use Rattle.path_meaning.specs.Runs.{Run, Owes, IsReturning, IsQuiet}
 
 pub record HasOwingReturn (function : Function) (w : World) (f : Frame) : Type 0 where
   pub run : Run (start_of function) w

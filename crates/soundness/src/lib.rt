@@ -1,13 +1,14 @@
-//! What a function without faults does in every run: laws over the definitions of crate `meaning`.
+//! What a function without faults does in every run: laws over the definitions of crates `path_meaning` and
+//! `meaning`.
 #![tactic(auto)]
 
-ghost use Rattle.tree.specs.Syntax.{Function};
-ghost use Rattle.std.specs.Prelude.{List, codes};
-ghost use Rattle.meaning.specs.Faults.{Fault, IsFaultOf, not_called, discarded};
-ghost use Rattle.meaning.specs.Code.{Code, Occurrence, body_code};
-ghost use Rattle.meaning.specs.FirstPath.{HasPathNames};
 ghost use Rattle.meaning.specs.Lists.{Exit, Lists};
-ghost use Rattle.meaning.specs.Runs.{IsQuietFunction};
+ghost use Rattle.path_tree.specs.Syntax.{Function};
+ghost use Rattle.std.specs.Prelude.{List, codes};
+ghost use Rattle.path_meaning.specs.Faults.{Fault, IsFaultOf, not_called, discarded};
+ghost use Rattle.path_meaning.specs.PathCode.{PathCode, PathOccurrence, body_code};
+ghost use Rattle.path_meaning.specs.FirstPath.{HasPathNames};
+ghost use Rattle.path_meaning.specs.Runs.{IsQuietFunction};
 ghost use Rattle.soundness.specs.Doings.{CanDo};
 ghost use Rattle.soundness.specs.Events.{HasRun};
 ghost use Rattle.soundness.specs.Examples.{calling, missing, late_defer, one_branch, other_called, blank};
@@ -46,7 +47,7 @@ pub fn faults_exist()
 /// done by its moves, one after another, and what is left then fits the way that the list ends. This is
 /// said of code alone, and not of the machine's steps, of which some ask more than a move.
 pub fn moves_do_each_list()
-    ensures { (c : Code) (t : List Occurrence) (x : Exit) → Lists c t x → CanDo c t x }
+    ensures { (c : PathCode) (t : List PathOccurrence) (x : Exit) → Lists c t x → CanDo c t x }
 {}
 
 /// The runs leave no list of events out: of a function that keeps the rules of the first path for names,
@@ -54,7 +55,7 @@ pub fn moves_do_each_list()
 pub fn runs_go_through_each_list()
     ensures { (function : Function)
         → HasPathNames function
-        → (t : List Occurrence) (x : Exit)
+        → (t : List PathOccurrence) (x : Exit)
         → Lists (body_code function) t x
         → HasRun function t }
 {}

@@ -1,36 +1,49 @@
-//! Files and their top-level declarations (the Go specification, "Packages").
+//! Files and what stands in them (the Go specification, "Packages", "Function declarations", "Method declarations").
 
-use crate::expression::Expr;
+use crate::declaration::Decl;
+use crate::expression::{Param, Signature};
 use crate::span::{Identifier, Span};
 use crate::statement::Block;
 
-/// A file: its package clause's name, its imports and its functions, in the order of the text.
-#[derive(Debug, Drop)]
+/// A file: its package clause's name, its imports and its declarations, in the order of the text.
+#[derive(Drop)]
 pub struct File {
     pub package_name: Identifier,
-    pub imports: Vec<Import>,
-    pub functions: Vec<Func>,
+    pub imports: Vec<ImportDecl>,
+    pub declarations: Vec<TopLevelDecl>,
+    pub span: Span,
 }
 
-/// An import: the text between its path's quotes, and the place of the path's token.
-#[derive(Debug, Drop)]
-pub struct Import {
+/// An import declaration; whether its specs stand in brackets.
+#[derive(Drop)]
+pub struct ImportDecl {
+    pub specs: Vec<ImportSpec>,
+    pub is_grouped: bool,
+    pub span: Span,
+}
+
+/// `"path"`, or `name "path"`: the text between the path's quotes, and the bytes of the path's token.
+#[derive(Drop)]
+pub struct ImportSpec {
+    pub name: Option<Identifier>,
     pub path: String,
+    pub path_span: Span,
     pub span: Span,
 }
 
-/// A function declaration, from `func` to the body's last brace.
-#[derive(Debug, Drop)]
+/// A declaration outside all functions.
+#[derive(Drop)]
+pub enum TopLevelDecl {
+    Func(Func),
+    Decl(Decl),
+}
+
+/// A function, or a method, which has a receiver; one without a body is written elsewhere.
+#[derive(Drop)]
 pub struct Func {
+    pub receiver: Option<Vec<Param>>,
     pub name: Identifier,
-    pub params: Vec<Param>,
-    pub body: Block,
+    pub signature: Signature,
+    pub body: Option<Block>,
     pub span: Span,
-}
-
-/// A parameter: its name and its type.
-#[derive(Debug, Drop)]
-pub struct Param {
-    pub name: Identifier,
-    pub kind: Expr,
 }

@@ -1,14 +1,18 @@
-//! The syntax tree of a Go file (the Go specification, from "Source file organization" back to
-//! "Blocks"), each node with the bytes that it takes.
+//! The syntax tree of a Go file (the Go specification, from "Source file organization" back to "Types"), each node
+//! with the bytes that it takes. It is named as Go's own `go/ast` and the specification name it.
 #![tactic(auto)]
 
+pub mod declaration;
+pub mod depth;
 pub mod expression;
 pub mod file;
-pub mod make;
+pub mod operator;
 pub mod span;
 pub mod statement;
 
-pub use expression::Expr;
-pub use file::{File, Func, Import, Param};
-pub use span::{Identifier, Span};
-pub use statement::{Block, Else, Stmt};
+pub use declaration::{Decl, Spec};
+pub use expression::{Expr, ExprKind, Field, Literal, Param, Signature};
+pub use file::{File, Func, ImportDecl, ImportSpec, TopLevelDecl};
+pub use operator::{BasicLitKind, BinaryOperator, ChanDirection, DeclKeyword, UnaryOperator};
+pub use span::{Identifier, Span, TypeName};
+pub use statement::{Block, CaseClause, CommClause, Stmt, StmtKind};

@@ -8,8 +8,17 @@ pub struct Span {
 }
 
 /// A name as it is written in one place (the Go specification, "Identifiers").
-#[derive(Debug, Drop)]
+#[derive(Drop)]
 pub struct Identifier {
     pub text: String,
+    pub span: Span,
+}
+
+/// The name of a type, perhaps of another package's: `name` or `package.name` (the Go specification, "Type
+/// identifiers", "Qualified identifiers").
+#[derive(Drop)]
+pub struct TypeName {
+    pub package: Option<Identifier>,
+    pub name: Identifier,
     pub span: Span,
 }

@@ -1,7 +1,7 @@
 use Rattle.std.proofs.Common.{◌++◌, map, sym, ap, ◌∙◌, append-nil, append_assoc}
 use Rattle.std.proofs.lemmas.Result.{IfOk-equal, on_ok_weaker}
-use Rattle.tree.specs.View.{identifier_syntax, statements_syntax}
-use Rattle.tree.proofs.Views.{statement_syntax-Define, statement_syntax-Evaluate, statement_syntax-Defer, statement_syntax-If, statement_syntax-Nested, statement_syntax-Return, else_syntax-Missing, else_syntax-Present}
+use Rattle.path_tree.specs.View.{identifier_syntax, statements_syntax}
+use Rattle.path_tree.proofs.Views.{statement_syntax-Define, statement_syntax-Evaluate, statement_syntax-Defer, statement_syntax-If, statement_syntax-Nested, statement_syntax-Return, else_syntax-Missing, else_syntax-Present}
 use Rattle.judge.specs.Walk.{bound_in}
 use Rattle.judge.proofs.Steps.{adds_two}
 use Rattle.judge.proofs.bindings.+bindings.Goals as goal

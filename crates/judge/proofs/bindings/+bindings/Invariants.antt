@@ -1,5 +1,5 @@
 use Rattle.std.proofs.Common.{◌≡◌, ◌++◌, map, drop}
-use Rattle.tree.specs.View.{identifier_syntax, statements_syntax}
+use Rattle.path_tree.specs.View.{identifier_syntax, statements_syntax}
 use Rattle.judge.specs.Report.{entry_of, fault_entry}
 use Rattle.judge.specs.Walk.{bound_in, discarded_in}
 use Rattle.judge.proofs.bindings.+bindings.Given as goal

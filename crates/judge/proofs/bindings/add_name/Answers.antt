@@ -1,5 +1,5 @@
 use Rattle.std.proofs.Common.{◌≡◌, sym, ap, ◌∙◌, append-nil, true, string_bytes}
-use Rattle.meaning.specs.Scopes.{is_blank}
+use Rattle.path_meaning.specs.Scopes.{is_blank}
 use Rattle.judge.proofs.bindings.add_name.Goals as goal
 
 pub returns-in-None-clause-cancels : goal.returns-in-None-clause-cancels

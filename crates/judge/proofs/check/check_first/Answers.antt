@@ -1,7 +1,7 @@
 use Rattle.std.proofs.Common.{◌≡◌, ℕ, true, List, [], ◌∷◌, length, vec_len, map, IfSome, IsSomeAnd, inl, inr, refl, ap, subst, sym, ◌∙◌, arith}
 use Rattle.std.specs.Prelude.{◌==◌}
 use Rattle.std.proofs.lemmas.Bool.{eqb-true}
-use Rattle.tree.specs.Syntax.{SourceFile}
+use Rattle.path_tree.specs.Syntax.{SourceFile}
 use Rattle.judge.specs.Report.{entry_of, IsReportOf, IsJudged, AreUnjudgedEntries}
 use Rattle.judge.proofs.Reports.{path_codes, quiet_if_none}
 use Rattle.judge.proofs.Steps.{no_file}

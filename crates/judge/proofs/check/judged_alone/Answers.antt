@@ -1,6 +1,6 @@
 use Rattle.std.proofs.Common.{◌≡◌, ◌∙◌, true, false, map, IsSomeAnd, subst, sym}
-use Rattle.tree.specs.View.{file_syntax}
-use Rattle.meaning.specs.FirstPath.{IsOnPath, HasPathFileNames}
+use Rattle.path_tree.specs.View.{file_syntax}
+use Rattle.path_meaning.specs.FirstPath.{IsOnPath, HasPathFileNames}
 use Rattle.judge.specs.Report.{entry_of, IsReportOf}
 use Rattle.judge.proofs.Reports.{report_of}
 use Rattle.judge.proofs.check.judged_alone.Goals as goal

@@ -1,5 +1,5 @@
 use Rattle.std.proofs.Common.{◌≡◌, ◌++◌, map, drop}
-use Rattle.tree.specs.View.{function_syntax}
+use Rattle.path_tree.specs.View.{function_syntax}
 use Rattle.judge.specs.Report.{entry_of, fault_entry}
 use Rattle.judge.specs.Walk.{found_in_functions}
 use Rattle.judge.proofs.functions.add_functions.Given as goal

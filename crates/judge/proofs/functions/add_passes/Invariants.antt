@@ -1,5 +1,5 @@
 use Rattle.std.proofs.Common.{◌≡◌, ◌++◌, map, drop}
-use Rattle.tree.specs.View.{identifier_syntax, block_syntax}
+use Rattle.path_tree.specs.View.{identifier_syntax, block_syntax}
 use Rattle.judge.specs.Report.{entry_of, fault_entry}
 use Rattle.judge.specs.Walk.{found_for}
 use Rattle.judge.proofs.functions.add_passes.Given as goal

@@ -1,6 +1,6 @@
 use Rattle.std.proofs.Common.{◌≡◌, ◌++◌, map, Contains, sym, ap, ◌∙◌, subst}
 use Rattle.std.proofs.lemmas.List.Filters.{dedup_is}
-use Rattle.tree.specs.View.{function_syntax}
+use Rattle.path_tree.specs.View.{function_syntax}
 use Rattle.judge.specs.Report.{entry_of, fault_entry}
 use Rattle.judge.specs.Walk.{found_in_functions}
 use Rattle.judge.proofs.Order.{once_sorted, once_complete, once_sound}

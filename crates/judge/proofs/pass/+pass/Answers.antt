@@ -1,5 +1,5 @@
 use Rattle.std.proofs.Common.{refl, append-nil}
-use Rattle.tree.proofs.Views.{statement_syntax-Define, statement_syntax-Evaluate, statement_syntax-Defer, statement_syntax-If, statement_syntax-Nested, statement_syntax-Return, else_syntax-Missing, else_syntax-Present}
+use Rattle.path_tree.proofs.Views.{statement_syntax-Define, statement_syntax-Evaluate, statement_syntax-Defer, statement_syntax-If, statement_syntax-Nested, statement_syntax-Return, else_syntax-Missing, else_syntax-Present}
 use Rattle.judge.proofs.Steps.{adds_two, adds_none, entry_if_open}
 use Rattle.judge.proofs.pass.+pass.Goals as goal
 

@@ -1,5 +1,5 @@
 use Rattle.std.proofs.Common.{◌≡◌, ◌++◌, map, drop}
-use Rattle.tree.specs.View.{statements_syntax}
+use Rattle.path_tree.specs.View.{statements_syntax}
 use Rattle.judge.specs.Report.{entry_of, fault_entry}
 use Rattle.judge.specs.Walk.{after_in, found_in}
 use Rattle.judge.proofs.pass.+pass.Given as goal

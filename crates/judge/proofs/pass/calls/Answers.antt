@@ -1,6 +1,6 @@
 use Rattle.std.proofs.Common.{ap, ◌∙◌}
 use Rattle.std.specs.Prelude.{◌==◌}
-use Rattle.tree.proofs.Views.{expression_syntax-Name, expression_syntax-Selector, expression_syntax-Call}
+use Rattle.path_tree.proofs.Views.{expression_syntax-Name, expression_syntax-Selector, expression_syntax-Call}
 use Rattle.judge.proofs.Steps.{calls_bare}
 use Rattle.judge.proofs.pass.calls.Goals as goal
 

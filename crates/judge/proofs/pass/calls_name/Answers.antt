@@ -1,6 +1,6 @@
 use Rattle.std.proofs.Common.{ap, ◌∙◌}
-use Rattle.tree.proofs.Views.{expression_syntax-Name, expression_syntax-Selector, expression_syntax-Call}
-use Rattle.meaning.specs.Scopes.{same_text}
+use Rattle.path_tree.proofs.Views.{expression_syntax-Name, expression_syntax-Selector, expression_syntax-Call}
+use Rattle.path_meaning.specs.Scopes.{same_text}
 use Rattle.judge.proofs.pass.calls_name.Goals as goal
 
 pub returns-then-bare : goal.returns-then-bare

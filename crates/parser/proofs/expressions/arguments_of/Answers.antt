@@ -1,6 +1,6 @@
 use Rattle.std.proofs.Common.{sym, ap, ◌∙◌, arith, length}
 use Rattle.std.proofs.lemmas.Result.{err_from_is_err_and}
-use Rattle.tree.specs.View.{identifier_syntax}
+use Rattle.path_tree.specs.View.{identifier_syntax}
 use Rattle.reader.specs.Reader.{name_at, arguments_at}
 use Rattle.parser.specs.Seen.{as_arguments}
 use Rattle.parser.proofs.Choice.{never_off}

@@ -1,5 +1,5 @@
 use Rattle.std.proofs.Common.{refl}
-use Rattle.tree.proofs.Views.{expression_syntax-Name, expression_syntax-Selector, expression_syntax-Call}
+use Rattle.path_tree.proofs.Views.{expression_syntax-Name, expression_syntax-Selector, expression_syntax-Call}
 use Rattle.parser.proofs.expressions.end_of.Goals as goal
 
 pub returns-in-Name : goal.returns-in-Name

@@ -1,8 +1,8 @@
 use Rattle.std.proofs.Common.{◌≡◌, ℕ, List, Some, None, sym, subst, ◌∙◌}
 use Rattle.lexer.specs.declared.token.Token.{Token}
 use Rattle.lexer.specs.Tokens.{IsTokens, OneTokenList}
-use Rattle.tree.specs.Syntax.{SourceFile}
-use Rattle.tree.specs.View.{file_syntax}
+use Rattle.path_tree.specs.Syntax.{SourceFile}
+use Rattle.path_tree.specs.View.{file_syntax}
 use Rattle.reader.specs.Reader.{file_at}
 use Rattle.parser.proofs.first_path.parse.Goals as goal
 

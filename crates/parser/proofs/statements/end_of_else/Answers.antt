@@ -1,5 +1,5 @@
 use Rattle.std.proofs.Common.{refl}
-use Rattle.tree.proofs.Views.{else_syntax-Missing, else_syntax-Present}
+use Rattle.path_tree.proofs.Views.{else_syntax-Missing, else_syntax-Present}
 use Rattle.parser.proofs.statements.end_of_else.Goals as goal
 
 pub returns-in-Missing : goal.returns-in-Missing

@@ -1,6 +1,6 @@
 use Rattle.std.proofs.Common.{◌≡◌, map, take}
-use Rattle.tree.specs.View.{function_syntax}
-use Rattle.meaning.specs.FirstPath.{function_text}
+use Rattle.path_tree.specs.View.{function_syntax}
+use Rattle.path_meaning.specs.FirstPath.{function_text}
 use Rattle.path.specs.Rules.{text_now}
 use Rattle.path.proofs.file.function_texts.Given as goal
 

@@ -1,5 +1,5 @@
 use Rattle.std.proofs.lemmas.Result.{IfOk-weaker}
-use Rattle.tree.specs.View.{function_syntax}
+use Rattle.path_tree.specs.View.{function_syntax}
 use Rattle.path.specs.Gathered.{kept_scopes, kept_mentions, kept_texts}
 use Rattle.path.proofs.Bindings.{function_kept}
 use Rattle.path.proofs.file.has_names.Goals as goal

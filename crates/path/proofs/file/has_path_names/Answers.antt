@@ -1,10 +1,10 @@
 use Rattle.std.proofs.Common.{◌≡◌, ◌↔◌, Bool, true, List, map, sym, ap, ◌∙◌, subst}
 use Rattle.std.specs.Prelude.{Contains}
 use Rattle.std.proofs.lemmas.Result.{IfOk-weaker}
-use Rattle.tree.specs.declared.file.Func.{Func}
-use Rattle.tree.specs.Syntax.{Function, SourceFile}
-use Rattle.tree.specs.View.{function_syntax, file_syntax}
-use Rattle.meaning.specs.FirstPath.{function_text, HasPathNames, HasPathFileNames}
+use Rattle.path_tree.specs.declared.file.Func.{Func}
+use Rattle.path_tree.specs.Syntax.{Function, SourceFile}
+use Rattle.path_tree.specs.View.{function_syntax, file_syntax}
+use Rattle.path_meaning.specs.FirstPath.{function_text, HasPathNames, HasPathFileNames}
 use Rattle.path.specs.Rules.{MayDeclare, text_now}
 use Rattle.path.proofs.file.has_path_names.Goals as goal
 

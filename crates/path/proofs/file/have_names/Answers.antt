@@ -3,10 +3,10 @@ use Rattle.std.specs.Prelude.{Contains}
 use Rattle.std.proofs.lemmas.Bool.{false≢true}
 use Rattle.std.proofs.lemmas.List.{take_all, map-append}
 use Rattle.std.proofs.lemmas.List.Elements.{Contains-push_cases}
-use Rattle.tree.specs.declared.file.Func.{Func}
-use Rattle.tree.specs.Syntax.{Function}
-use Rattle.tree.specs.View.{function_syntax}
-use Rattle.meaning.specs.FirstPath.{ArePathFunctions, HasPathNames}
+use Rattle.path_tree.specs.declared.file.Func.{Func}
+use Rattle.path_tree.specs.Syntax.{Function}
+use Rattle.path_tree.specs.View.{function_syntax}
+use Rattle.path_meaning.specs.FirstPath.{ArePathFunctions, HasPathNames}
 use Rattle.path.proofs.Lists.{drop_item, take_item, contains_item}
 use Rattle.meaning.proofs.Membership.{contains_map}
 use Rattle.path.proofs.file.have_names.Goals as goal

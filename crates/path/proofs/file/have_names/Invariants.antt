@@ -1,8 +1,8 @@
 use Rattle.std.proofs.Common.{map, take, drop}
 use Rattle.std.specs.Prelude.{Contains}
-use Rattle.tree.specs.Syntax.{Function}
-use Rattle.tree.specs.View.{function_syntax}
-use Rattle.meaning.specs.FirstPath.{ArePathFunctions, HasPathNames}
+use Rattle.path_tree.specs.Syntax.{Function}
+use Rattle.path_tree.specs.View.{function_syntax}
+use Rattle.path_meaning.specs.FirstPath.{ArePathFunctions, HasPathNames}
 use Rattle.path.proofs.file.have_names.Given as goal
 
 abbrev pub invariant-loop-function : goal.invariant-loop-function

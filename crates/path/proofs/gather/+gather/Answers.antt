@@ -1,8 +1,8 @@
 use Rattle.std.proofs.Common.{◌+◌, drop, Bor, List, sym, subst}
 use Rattle.std.proofs.lemmas.Result.{on_ok_weaker}
-use Rattle.tree.specs.declared.span.Identifier.{Identifier}
-use Rattle.tree.specs.declared.statement.Stmt.{Stmt}
-use Rattle.tree.specs.View.{statement_syntax, statements_syntax}
+use Rattle.path_tree.specs.declared.span.Identifier.{Identifier}
+use Rattle.path_tree.specs.declared.statement.Stmt.{Stmt}
+use Rattle.path_tree.specs.View.{statement_syntax, statements_syntax}
 use Rattle.path.specs.Gathered.{kept_texts, AddsStatement, AddsStatements}
 use Rattle.path.proofs.Lists.{drop_item}
 use Rattle.path.proofs.Gathering.{adds_statement_and}

@@ -1,5 +1,5 @@
 use Rattle.std.proofs.Common.{drop}
-use Rattle.tree.specs.View.{statements_syntax}
+use Rattle.path_tree.specs.View.{statements_syntax}
 use Rattle.path.specs.declared.name.Names.{Names}
 use Rattle.path.specs.Gathered.{kept_texts, AddsStatements}
 use Rattle.path.proofs.gather.+gather.Given as goal

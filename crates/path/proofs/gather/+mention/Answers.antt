@@ -1,6 +1,6 @@
 use Rattle.std.proofs.Common.{◌++◌, refl, sym, ap, ◌∙◌}
 use Rattle.std.proofs.lemmas.Result.{on_ok_weaker}
-use Rattle.tree.specs.View.{expressions_syntax}
+use Rattle.path_tree.specs.View.{expressions_syntax}
 use Rattle.path.specs.Gathered.{use_of, kept_mentions, callee_use}
 use Rattle.path.proofs.Mentions.{name_pushed, at_selector, mention_step, mention_end, call_added}
 use Rattle.path.proofs.gather.+mention.Goals as goal

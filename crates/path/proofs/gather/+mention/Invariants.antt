@@ -1,6 +1,6 @@
 use Rattle.std.proofs.Common.{◌≡◌, ◌++◌, drop}
-use Rattle.tree.specs.View.{expressions_syntax}
-use Rattle.meaning.specs.FirstPath.{expressions_mentions}
+use Rattle.path_tree.specs.View.{expressions_syntax}
+use Rattle.path_meaning.specs.FirstPath.{expressions_mentions}
 use Rattle.path.specs.Gathered.{kept_mentions}
 use Rattle.path.proofs.gather.+mention.Given as goal
 

@@ -1,6 +1,6 @@
 use Rattle.std.proofs.Common.{◌+◌, List, map, drop, sym, subst}
-use Rattle.tree.specs.declared.span.Identifier.{Identifier}
-use Rattle.tree.specs.View.{identifier_syntax}
+use Rattle.path_tree.specs.declared.span.Identifier.{Identifier}
+use Rattle.path_tree.specs.View.{identifier_syntax}
 use Rattle.path.specs.Gathered.{AddsDefined, kept_texts}
 use Rattle.path.proofs.Lists.{drop_item, drop_past}
 use Rattle.path.proofs.Gathering.{adds_name_and, adds_nothing}

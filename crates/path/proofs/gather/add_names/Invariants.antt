@@ -1,5 +1,5 @@
 use Rattle.std.proofs.Common.{map, drop}
-use Rattle.tree.specs.View.{identifier_syntax}
+use Rattle.path_tree.specs.View.{identifier_syntax}
 use Rattle.path.specs.declared.name.Names.{Names}
 use Rattle.path.specs.Gathered.{AddsDefined, kept_texts}
 use Rattle.path.proofs.gather.add_names.Given as goal

@@ -3,7 +3,7 @@ use Rattle.std.specs.Prelude.{string_bytes}
 use Rattle.std.specs.Str.{bytes_eq}
 use Rattle.std.proofs.lemmas.Iterator.{YieldsList-from_slice}
 use Rattle.std.proofs.lemmas.Iterator.Search.{any_from_yields_List}
-use Rattle.tree.specs.declared.span.Identifier.{Identifier}
+use Rattle.path_tree.specs.declared.span.Identifier.{Identifier}
 use Rattle.path.specs.Gathered.{kept_text}
 use Rattle.path.proofs.Texts.{is_among_any}
 use Rattle.path.proofs.gather.is_known.Goals as goal

@@ -1,6 +1,6 @@
 use Rattle.std.proofs.Common.{◌+◌, ◌++◌, List, drop, map, refl, sym, ap, ◌∙◌, subst}
-use Rattle.tree.specs.declared.file.Param.{Param}
-use Rattle.tree.specs.View.{parameter_syntax}
+use Rattle.path_tree.specs.declared.file.Param.{Param}
+use Rattle.path_tree.specs.View.{parameter_syntax}
 use Rattle.path.specs.declared.name.Names.{Names}
 use Rattle.path.specs.Gathered.{kept_scopes, kept_mentions, kept_texts}
 use Rattle.path.proofs.Lists.{drop_item, drop_past}

@@ -1,5 +1,5 @@
 use Rattle.std.proofs.Common.{◌≡◌, ◌++◌, drop, map}
-use Rattle.tree.specs.View.{parameter_syntax}
+use Rattle.path_tree.specs.View.{parameter_syntax}
 use Rattle.path.specs.declared.name.Names.{Names}
 use Rattle.path.specs.Gathered.{kept_texts}
 use Rattle.path.proofs.Statements.{AddsParameters, parameter_texts}

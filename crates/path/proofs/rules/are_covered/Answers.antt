@@ -2,7 +2,7 @@ use Rattle.std.proofs.Common.{◌∙◌, sym, rules, tests}
 use Rattle.std.specs.List.{list_all}
 use Rattle.std.proofs.lemmas.Iterator.{YieldsList-from_slice}
 use Rattle.std.proofs.lemmas.Iterator.Search.{all_from_yields_List}
-use Rattle.meaning.specs.FirstPath.{Mention}
+use Rattle.path_meaning.specs.FirstPath.{Mention}
 use Rattle.path.specs.declared.name.Mention.{Mention as Noted}
 use Rattle.path.specs.Gathered.{kept_mention, kept_scopes}
 use Rattle.path.specs.Rules.{allows}

@@ -4,8 +4,8 @@ use Rattle.std.specs.Str.{bytes_eq}
 use Rattle.std.proofs.lemmas.Bool.{false≢true}
 use Rattle.std.specs.List.Sorted.{IsPermutation}
 use Rattle.std.specs.Bool.{MatchBool}
-use Rattle.meaning.specs.Scopes.{is_among}
-use Rattle.meaning.specs.FirstPath.{AreDistinct}
+use Rattle.path_meaning.specs.Scopes.{is_among}
+use Rattle.path_meaning.specs.FirstPath.{AreDistinct}
 use Rattle.path.specs.Rules.{text_now}
 use Rattle.std.proofs.lemmas.List.{take_all}
 use Rattle.path.proofs.Texts.{distinct_push}

@@ -1,8 +1,8 @@
 use Rattle.std.proofs.Common.{◌≡◌, ℕ, List, Bor, map, take}
 use Rattle.std.specs.HashSet.{contains_by}
 use Rattle.std.specs.Str.{bytes_eq}
-use Rattle.meaning.specs.Scopes.{is_among}
-use Rattle.meaning.specs.FirstPath.{AreDistinct}
+use Rattle.path_meaning.specs.Scopes.{is_among}
+use Rattle.path_meaning.specs.FirstPath.{AreDistinct}
 use Rattle.path.specs.Rules.{text_now}
 use Rattle.path.proofs.rules.are_distinct.Given as goal
 

@@ -1,8 +1,8 @@
 use Rattle.std.proofs.Common.{ℕ, List, Bor, not, sym, ◌∙◌, rules, tests}
 use Rattle.std.proofs.lemmas.Iterator.{YieldsList-from_slice}
 use Rattle.std.proofs.lemmas.Iterator.Search.{all_from_yields_List}
-use Rattle.meaning.specs.Scopes.{is_among}
-use Rattle.meaning.specs.FirstPath.{reserved_names}
+use Rattle.path_meaning.specs.Scopes.{is_among}
+use Rattle.path_meaning.specs.FirstPath.{reserved_names}
 use Rattle.path.specs.Rules.{text_now}
 use Rattle.std.proofs.lemmas.List.Folds.{list_all-map}
 use Rattle.path.proofs.rules.are_free.Goals as goal

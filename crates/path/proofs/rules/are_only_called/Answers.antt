@@ -2,7 +2,7 @@ use Rattle.std.proofs.Common.{◌∙◌, sym, rules, tests}
 use Rattle.std.proofs.lemmas.Iterator.{YieldsList-from_slice}
 use Rattle.std.proofs.lemmas.Iterator.Search.{all_from_yields_List}
 use Rattle.std.specs.Prelude.{string_bytes}
-use Rattle.meaning.specs.FirstPath.{Mention}
+use Rattle.path_meaning.specs.FirstPath.{Mention}
 use Rattle.path.specs.declared.name.Mention.{Mention as Noted}
 use Rattle.path.specs.Gathered.{kept_mention, kept_texts, use_of}
 use Rattle.path.specs.Rules.{may_use}

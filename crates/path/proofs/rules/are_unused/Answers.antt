@@ -3,8 +3,8 @@ use Rattle.std.specs.Prelude.{string_bytes}
 use Rattle.std.proofs.lemmas.Iterator.{YieldsList-from_slice}
 use Rattle.std.proofs.lemmas.Iterator.Search.{all_from_yields_List}
 use Rattle.std.proofs.lemmas.List.Folds.{list_all-map}
-use Rattle.meaning.specs.Scopes.{is_among}
-use Rattle.meaning.specs.FirstPath.{Mention, unused_names, mention_text}
+use Rattle.path_meaning.specs.Scopes.{is_among}
+use Rattle.path_meaning.specs.FirstPath.{Mention, unused_names, mention_text}
 use Rattle.path.specs.declared.name.Mention.{Mention as Noted}
 use Rattle.path.specs.Gathered.{kept_mention}
 use Rattle.path.proofs.rules.are_unused.Goals as goal

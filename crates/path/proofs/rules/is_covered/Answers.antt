@@ -1,7 +1,7 @@
 use Rattle.std.proofs.Common.{◌∙◌, sym, rules, tests}
 use Rattle.std.proofs.lemmas.Iterator.{YieldsList-from_slice}
 use Rattle.std.proofs.lemmas.Iterator.Search.{all_from_yields_List}
-use Rattle.tree.specs.View.{identifier_syntax}
+use Rattle.path_tree.specs.View.{identifier_syntax}
 use Rattle.path.specs.declared.name.Local.{Local}
 use Rattle.path.specs.Gathered.{Scope, kept_scope}
 use Rattle.path.specs.Rules.{allows}

@@ -1,5 +1,0 @@
-use Rattle.tree.proofs.Views.{statement_syntax-Return}
-use Rattle.tree.proofs.make.leave.Goals as goal
-
-pub returns : goal.returns
-returns c = statement_syntax-Return c.args.values c.args.span

@@ -1,0 +1,7 @@
+use Rattle.std.proofs.Common.{ap}
+use Rattle.tree.proofs.Views.{expression_form-StructType}
+use Rattle.tree.specs.Syntax.{expression_node}
+use Rattle.tree_make.proofs.types.struct_type.Goals as goal
+
+pub returns : goal.returns
+returns c = ap (λ form. expression_node form c.args.span) (expression_form-StructType c.args.fields)

@@ -1,0 +1,66 @@
+//! Trees of a depth that is asked for.
+
+use std::alloc::{AllocError, Global};
+use tree::{Expr, Identifier, Span, Stmt};
+use tree_make::{control, expression, statement};
+
+const NOWHERE: Span = Span { start: 0, end: 0 };
+
+fn identifier(alloc: Global) -> Result<Identifier, AllocError> {
+    let text = String::from_str(alloc, "a")?;
+    Ok(Identifier {
+        text,
+        span: NOWHERE,
+    })
+}
+
+/// A name, which is one deep.
+pub fn name(alloc: Global) -> Result<Expr, AllocError> {
+    Ok(expression::name_expression(String::from_str(alloc, "a")?, NOWHERE))
+}
+
+/// A name in `brackets` pairs of brackets.
+pub fn in_brackets(alloc: Global, brackets: u32) -> Result<Expr, AllocError> {
+    let mut built = name(alloc)?;
+    for _ in 0..brackets {
+        built = expression::parenthesized(Box::new(alloc, built)?, NOWHERE);
+    }
+    Ok(built)
+}
+
+/// `a.a` and so on: a name with `selectors` selectors after it.
+pub fn selected(alloc: Global, selectors: u32) -> Result<Expr, AllocError> {
+    let mut built = name(alloc)?;
+    for _ in 0..selectors {
+        let operand = Box::new(alloc, built)?;
+        built = expression::selector_expression(operand, identifier(alloc)?, NOWHERE);
+    }
+    Ok(built)
+}
+
+/// Blocks in one another, the innermost empty.
+pub fn blocks(alloc: Global, count: u32) -> Result<Stmt, AllocError> {
+    let mut built = statement::empty_statement(NOWHERE);
+    for _ in 0..count {
+        let mut statements = Vec::new(alloc);
+        statements.push(built)?;
+        built = statement::block_statement(control::block(statements, NOWHERE), NOWHERE);
+    }
+    Ok(built)
+}
+
+/// `if a {}`, and its `else`, if any.
+fn if_name(alloc: Global, otherwise: Option<Box<Stmt>>) -> Result<Stmt, AllocError> {
+    let condition = Box::new(alloc, name(alloc)?)?;
+    let body = control::block(Vec::new(alloc), NOWHERE);
+    Ok(control::if_statement(None, false, condition, body, otherwise, NOWHERE))
+}
+
+/// `if a {} else if a {}` and so on, without a last `else`.
+pub fn else_ifs(alloc: Global, count: u32) -> Result<Stmt, AllocError> {
+    let mut built = if_name(alloc, None)?;
+    for _ in 0..count {
+        built = if_name(alloc, Some(Box::new(alloc, built)?))?;
+    }
+    Ok(built)
+}

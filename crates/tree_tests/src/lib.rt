@@ -1,0 +1,8 @@
+//! The depths of trees that are built by the constructors, against numbers counted by hand, and that trees of the
+//! deepest kind are dropped safely: no proof bounds the stack.
+#![tactic(auto)]
+
+#[cfg(test)]
+mod build;
+#[cfg(test)]
+mod depths;
