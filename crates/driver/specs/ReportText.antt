@@ -5,6 +5,8 @@ use Rattle.lexer.specs.declared.source.Source.{Source}
 use Rattle.judge.specs.declared.report.Code.{Code}
 use Rattle.judge.specs.declared.report.TextFault.{TextFault}
 use Rattle.judge.specs.declared.report.TextFault.TheVariants.{NotUtf8, Nul, UnclosedString, UnclosedComment, UnclosedRune, UnknownCharacter, TooLong}
+use Rattle.judge.specs.declared.report.TreeFault.{TreeFault}
+use Rattle.judge.specs.declared.report.TreeFault.TheVariants.{UnexpectedToken, TypeParameters, Goto, Fallthrough, DotImport, TooDeep, FirstPath}
 use Rattle.judge.specs.declared.report.Code.TheVariants.{Unreadable, LeftOut, Discarded, Overwritten, NotCalled, TooMany}
 use Rattle.judge.specs.declared.report.Diagnostic.{Diagnostic}
 use Rattle.judge.specs.declared.report.PackageReport.{PackageReport}
@@ -20,10 +22,20 @@ text_of_fault UnclosedRune = codes "rune not ended"
 text_of_fault UnknownCharacter = codes "character of no token"
 text_of_fault TooLong = codes "file over 1 MiB"
 
+-- why a file has no tree, or is not judged
+abbrev pub text_of_tree_fault : TreeFault → List ℕ
+text_of_tree_fault UnexpectedToken = codes "unexpected token"
+text_of_tree_fault TypeParameters = codes "left out: type parameters"
+text_of_tree_fault Goto = codes "left out: goto"
+text_of_tree_fault Fallthrough = codes "left out: fallthrough"
+text_of_tree_fault DotImport = codes "left out: dot import"
+text_of_tree_fault TooDeep = codes "deeper than 200"
+text_of_tree_fault FirstPath = codes "left out: first path"
+
 -- the number of a code, and what it says
 abbrev pub number_and_text : Code → List ℕ × List ℕ
 number_and_text (Unreadable why) = (codes "LC01", text_of_fault why)
-number_and_text LeftOut = (codes "LC02", codes "left out: first path")
+number_and_text (LeftOut why) = (codes "LC02", text_of_tree_fault why)
 number_and_text Discarded = (codes "LC03", codes "cancel function discarded")
 number_and_text Overwritten = (codes "LC04", codes "overwritten before it is called")
 number_and_text NotCalled = (codes "LC05", codes "may not have been called at this return")

@@ -1,11 +1,11 @@
 //! The text of a report.
 
 ghost use Rattle.std.specs.Prelude.{◌≡◌, ◌++◌, IfOk, OnOk, slice_get, string_bytes};
-ghost use Rattle.driver.specs.ReportText.{number_and_text, text_of_fault, bytes_of, verdict_text, diagnostic_line, report_text};
+ghost use Rattle.driver.specs.ReportText.{number_and_text, text_of_fault, text_of_tree_fault, bytes_of, verdict_text, diagnostic_line, report_text};
 ghost use Rattle.lexer.specs.Place.{line_of, column_of};
 
 use crate::position::{first_byte, moved};
-use judge::{Code, Diagnostic, PackageReport, TextFault};
+use judge::{Code, Diagnostic, PackageReport, TextFault, TreeFault};
 use lexer::{Place, Source};
 use std::alloc::{AllocError, Global};
 
@@ -15,7 +15,7 @@ fn number_and_text(code: Code) -> (&'static str, &'static str)
 {
     match code {
         Code::Unreadable(why) => ("LC01", text_of_fault(why)),
-        Code::LeftOut => ("LC02", "left out: first path"),
+        Code::LeftOut(why) => ("LC02", text_of_tree_fault(why)),
         Code::Discarded => ("LC03", "cancel function discarded"),
         Code::Overwritten => ("LC04", "overwritten before it is called"),
         Code::NotCalled => ("LC05", "may not have been called at this return"),
@@ -35,6 +35,21 @@ fn text_of_fault(why: TextFault) -> &'static str
         TextFault::UnclosedRune => "rune not ended",
         TextFault::UnknownCharacter => "character of no token",
         TextFault::TooLong => "file over 1 MiB",
+    }
+}
+
+/// Why a file has no tree, or is not judged, as the report prints it.
+fn text_of_tree_fault(why: TreeFault) -> &'static str
+    ensures { result.now ≡ text_of_tree_fault why }
+{
+    match why {
+        TreeFault::UnexpectedToken => "unexpected token",
+        TreeFault::TypeParameters => "left out: type parameters",
+        TreeFault::Goto => "left out: goto",
+        TreeFault::Fallthrough => "left out: fallthrough",
+        TreeFault::DotImport => "left out: dot import",
+        TreeFault::TooDeep => "deeper than 200",
+        TreeFault::FirstPath => "left out: first path",
     }
 }
 

@@ -8,3 +8,4 @@ pub mod Exact
 pub mod Order
 pub mod Reports
 pub mod Overwrites
+pub mod Trees

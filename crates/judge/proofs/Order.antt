@@ -18,6 +18,7 @@ use Rattle.std.specs.Cmp.{IsTotalOrder, IsEquivalence, then_total, on_total, nat
 use Rattle.std.proofs.Common.{true}
 use Rattle.judge.specs.declared.report.Code.{Code}
 use Rattle.judge.specs.declared.report.TextFault.TheVariants.{NotUtf8, Nul, UnclosedString, UnclosedComment, UnclosedRune, UnknownCharacter, TooLong}
+use Rattle.judge.specs.declared.report.TreeFault.TheVariants.{UnexpectedToken, TypeParameters, Goto, Fallthrough, DotImport, TooDeep, FirstPath}
 use Rattle.judge.specs.declared.report.Code.TheVariants.{Unreadable, LeftOut, Discarded, Overwritten, NotCalled, TooMany}
 use Rattle.judge.specs.declared.report.Diagnostic.{Diagnostic}
 use Rattle.judge.specs.Report.{Entry, entry_of, code_rank, TextPrecedes, Precedes, earlier_file, earlier_offset, earlier_code, earlier_name}
@@ -49,16 +50,23 @@ code_at n =
     else if n == 4 then Unreadable UnclosedRune
     else if n == 5 then Unreadable UnknownCharacter
     else if n == 6 then Unreadable TooLong
-    else if n == 7 then LeftOut
-    else if n == 8 then Discarded
-    else if n == 9 then Overwritten
-    else if n == 10 then NotCalled
+    else if n == 7 then LeftOut UnexpectedToken
+    else if n == 8 then LeftOut TypeParameters
+    else if n == 9 then LeftOut Goto
+    else if n == 10 then LeftOut Fallthrough
+    else if n == 11 then LeftOut DotImport
+    else if n == 12 then LeftOut TooDeep
+    else if n == 13 then LeftOut FirstPath
+    else if n == 14 then Discarded
+    else if n == 15 then Overwritten
+    else if n == 16 then NotCalled
     else TooMany
 
 ranked_back : (x : Code) → code_at (code_rank x) ≡ x
 ranked_back (Unreadable NotUtf8) = refl
 ranked_back (Unreadable _) = refl
-ranked_back LeftOut = refl
+ranked_back (LeftOut UnexpectedToken) = refl
+ranked_back (LeftOut _) = refl
 ranked_back _ = refl
 
 rank_same : (x y : Code) → code_rank x ≡ code_rank y → x ≡ y

@@ -10,7 +10,7 @@ use Rattle.meaning.specs.Lists.{Exit, stopped, falls, Lists, not_begun, skipped,
 use Rattle.path_tree.specs.Syntax.{Identifier, Statement, define_statement, expression_statement, defer_statement, if_statement, block_statement, return_statement, Otherwise, no_else, else_block, Statements, no_statement, statement_and, Function}
 use Rattle.path_meaning.specs.Scopes.{same_text, Local, same_local, locals_of}
 use Rattle.path_meaning.specs.PathCode.{Event, other, obtains, calls, defers_call, returns_here, PathOccurrence, PathCode, one, binding_of, binding_event, call_event, defer_event, called_by, code_at, code_in, code_in_else, body_code, cancels_of}
-use Rattle.path_meaning.specs.Grammar.{expression_start}
+use Rattle.path_tree.specs.Syntax.{expression_start}
 use Rattle.path_meaning.specs.Classes.{Class, unset, opened, safe, change, class_from}
 use Rattle.path_meaning.specs.Faults.{overwritten, not_called, Fault}
 use Rattle.judge.specs.declared.pass.Classes.{Classes}

@@ -2,3 +2,4 @@
 pub mod Report
 -- What only serves proofs: the walk that finds the faults.
 pub mod Walk
+pub mod Trees

@@ -1,8 +1,8 @@
 -- What the report of a package says. A package is judged where it is one file on the first path and its
 -- import path is not `context`; its diagnostics are then the faults of that file, in order, each once. In every
--- other package each file has one entry: why it has no tokens, or else that it is left out. (The
+-- other package each file has one entry: why it has no tokens or no tree, or else that it is left out. (The
 -- documentation of package context: the cancel function must be called on all paths.)
-use Rattle.std.specs.Prelude.{◌≡◌, ◌≢◌, ℕ, ◌<◌, ◌⊎◌, suc, false, List, [], ◌∷◌, Contains, codes, string_bytes}
+use Rattle.std.specs.Prelude.{◌≡◌, ◌≢◌, ℕ, ◌<◌, ◌≤◌, ◌⊎◌, suc, false, List, [], ◌∷◌, length, Contains, codes, string_bytes}
 use Rattle.std.specs.List.{AllPairs}
 use Rattle.lexer.specs.declared.source.Source.{Source}
 use Rattle.lexer.specs.declared.token.Token.{Token}
@@ -11,12 +11,16 @@ use Rattle.lexer.specs.declared.fault.LexFault.TheVariants as lex_fault
 use Rattle.lexer.specs.Tokens.{IsTokens}
 use Rattle.lexer.specs.Faults.{IsFault}
 use Rattle.path_tree.specs.Syntax.{Function, SourceFile}
+use Rattle.tree.specs.Syntax.{SourceFile as WholeFile}
+use Rattle.meaning.specs.TreeOfText.{IsTreeOf}
 use Rattle.path_meaning.specs.Faults.{Finding, discarded, overwritten, not_called, too_many, Fault, IsFaultIn}
 use Rattle.path_meaning.specs.FirstPath.{IsOnPath}
 use Rattle.path_meaning.specs.Scopes.{is_blank, locals_of}
 use Rattle.path_meaning.specs.PathCode.{Binding, bindings_in}
 use Rattle.path_meaning.specs.Runs.{IsQuietFunction}
 use Rattle.judge.specs.declared.report.Code.{Code}
+use Rattle.judge.specs.declared.report.TreeFault.{TreeFault}
+use Rattle.judge.specs.declared.report.TreeFault.TheVariants.{UnexpectedToken, TypeParameters, Goto, Fallthrough, DotImport, TooDeep, FirstPath}
 use Rattle.judge.specs.declared.report.Code.TheVariants.{Unreadable, LeftOut, Discarded, Overwritten, NotCalled, TooMany}
 use Rattle.judge.specs.declared.report.TextFault.{TextFault}
 use Rattle.judge.specs.declared.report.TextFault.TheVariants.{NotUtf8, Nul, UnclosedString, UnclosedComment, UnclosedRune, UnknownCharacter, TooLong}
@@ -51,11 +55,17 @@ code_rank (Unreadable UnclosedComment) = 3
 code_rank (Unreadable UnclosedRune) = 4
 code_rank (Unreadable UnknownCharacter) = 5
 code_rank (Unreadable TooLong) = 6
-code_rank LeftOut = 7
-code_rank Discarded = 8
-code_rank Overwritten = 9
-code_rank NotCalled = 10
-code_rank TooMany = 11
+code_rank (LeftOut UnexpectedToken) = 7
+code_rank (LeftOut TypeParameters) = 8
+code_rank (LeftOut Goto) = 9
+code_rank (LeftOut Fallthrough) = 10
+code_rank (LeftOut DotImport) = 11
+code_rank (LeftOut TooDeep) = 12
+code_rank (LeftOut FirstPath) = 13
+code_rank Discarded = 14
+code_rank Overwritten = 15
+code_rank NotCalled = 16
+code_rank TooMany = 17
 
 -- one text stands before another, byte by byte
 abbrev pub TextPrecedes : List ℕ → List ℕ → Type 0
@@ -80,7 +90,7 @@ pub record IsReportOf (file : SourceFile) (entries : List Entry) : Type 0 where
 -- what can be said of a file on the first path: no variable is overwritten there
 abbrev pub IsPathCode : Code → Type 0
 IsPathCode (Unreadable why) = ⊥
-IsPathCode LeftOut = ⊥
+IsPathCode (LeftOut why) = ⊥
 IsPathCode Discarded = Unit {0}
 IsPathCode Overwritten = ⊥
 IsPathCode NotCalled = Unit {0}
@@ -125,25 +135,37 @@ pub record IsFaultAt (fault : LexFault) (at : ℕ) (why : TextFault) : Type 0 wh
 abbrev pub IsUnreadable : List ℕ → ℕ → TextFault → Type 0
 IsUnreadable text at why = (fault : LexFault) × IsFault text fault × IsFaultAt fault at why
 
-abbrev pub unreadable_entry : ℕ → ℕ → TextFault → Entry
-unreadable_entry file at why = record { file = file; offset = at; code = Unreadable why; name = codes "-" }
+-- a text has tokens and no tree for this reason, which stands at this offset
+pub record IsUnparsed (text : List ℕ) (at : ℕ) (why : TreeFault) : Type 0 where
+  pub tokens : List Token
+  pub cut : IsTokens text tokens
+  pub no_tree : (tree : WholeFile) → IsTreeOf text tree → ⊥
+  pub within : at ≤ length text
+  pub of_tree : why ≢ FirstPath
 
-abbrev pub left_out_entry : ℕ → Entry
-left_out_entry file = record { file = file; offset = 0; code = LeftOut; name = codes "-" }
+-- the diagnostic of a whole file
+abbrev pub file_entry : ℕ → ℕ → Code → Entry
+file_entry file at code = record { file = file; offset = at; code = code; name = codes "-" }
 
--- the file has no tokens, and the entry says why
-abbrev pub IsUnreadableEntry : ℕ → Source → Entry → Type 0
-IsUnreadableEntry file source entry =
-    (at : ℕ) × (why : TextFault) × IsUnreadable source.bytes.items at why × (entry ≡ unreadable_entry file at why)
+-- the file has no tokens or no tree, and this says why and where
+abbrev pub IsRefused : List ℕ → ℕ → Code → Type 0
+IsRefused text at (Unreadable why) = IsUnreadable text at why
+IsRefused text at (LeftOut why) = IsUnparsed text at why
+IsRefused text at code = ⊥
 
--- the file has tokens, and the entry says that it is left out
+-- the entry says why the file has no tokens or no tree
+abbrev pub IsRefusedEntry : ℕ → Source → Entry → Type 0
+IsRefusedEntry file source entry =
+    (at : ℕ) × (code : Code) × IsRefused source.bytes.items at code × (entry ≡ file_entry file at code)
+
+-- the file has a tree, and the entry says that it is left out
 abbrev pub IsLeftOutEntry : ℕ → Source → Entry → Type 0
 IsLeftOutEntry file source entry =
-    (tokens : List Token) × IsTokens source.bytes.items tokens × (entry ≡ left_out_entry file)
+    (tree : WholeFile) × IsTreeOf source.bytes.items tree × (entry ≡ file_entry file 0 (LeftOut FirstPath))
 
 -- the entry of a file of a package that is not judged
 abbrev pub IsUnjudgedEntry : ℕ → Source → Entry → Type 0
-IsUnjudgedEntry file source entry = IsUnreadableEntry file source entry ⊎ IsLeftOutEntry file source entry
+IsUnjudgedEntry file source entry = IsRefusedEntry file source entry ⊎ IsLeftOutEntry file source entry
 
 -- one entry for each file, numbered from here
 abbrev pub AreUnjudgedEntries : ℕ → List Source → List Entry → Type 0
@@ -151,3 +173,9 @@ AreUnjudgedEntries file [] [] = Unit {0}
 AreUnjudgedEntries file [] (e ∷ es) = ⊥
 AreUnjudgedEntries file (s ∷ ss) [] = ⊥
 AreUnjudgedEntries file (s ∷ ss) (e ∷ es) = IsUnjudgedEntry file s e × AreUnjudgedEntries (suc file) ss es
+
+-- The report of a package is that of its file where it is judged, and else has one entry for each file.
+abbrev pub IsFound : List ℕ → List Source → List Entry → Type 0
+IsFound path sources entries =
+    ((file : SourceFile) × IsJudged path sources file × IsReportOf file entries)
+    ⊎ (((file : SourceFile) → IsJudged path sources file → ⊥) × AreUnjudgedEntries 0 sources entries)

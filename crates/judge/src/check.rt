@@ -1,22 +1,27 @@
 //! The judgement of one package.
 
-ghost use Rattle.std.specs.Prelude.{◌≡◌, ◌↔◌, [], map, Contains, IfOk, IsErr, IfSome, IsSomeAnd, IsTrue, string_bytes};
+ghost use Rattle.std.specs.Prelude.{◌≡◌, ◌↔◌, [], ◌∷◌, map, Contains, IfOk, IsErr, IsTrue, string_bytes};
 ghost use Rattle.lexer.specs.declared.fault.LexFault.TheVariants.{OutOfMemory};
+ghost use Rattle.parser.specs.declared.fault.ParseFault.TheVariants.{OutOfMemory as NoMemory};
 ghost use Rattle.path_tree.specs.Syntax.{SourceFile};
-ghost use Rattle.judge.specs.Report.{Entry, entry_of, IsReportOf, IsPathCode, IsJudged, HasQuietFunctions, IsQuietPackage, IsFaultAt, IsUnjudgedEntry, AreUnjudgedEntries};
-ghost use Rattle.path_meaning.specs.FirstPath.{IsOnPath};
+ghost use Rattle.tree.specs.View.{file_syntax as whole_file};
+ghost use Rattle.judge.specs.Report.{Entry, entry_of, IsReportOf, IsPathCode, IsJudged, HasQuietFunctions, IsQuietPackage, IsFaultAt, file_entry, IsUnjudgedEntry, AreUnjudgedEntries, IsFound};
+ghost use Rattle.judge.specs.Trees.{fault_of_form, IsTreeFaultAt, IsRead, IsFoundIn, IsFoundAlone};
 
 use crate::functions::file_diagnostics;
-use crate::report::{Code, Diagnostic, PackageReport, TextFault};
-use lexer::{LexFault, Source, lex, plain};
-use parser::parse;
-use path::has_path_names;
+use crate::report::{Code, Diagnostic, PackageReport, TextFault, TreeFault};
+use lexer::{LexFault, Source, lex};
+use on_path::small_tree;
+use parser::{LeftOut, ParseFault, parse};
+use path::{has_path_names, has_path_shape};
 use std::alloc::{AllocError, Global};
+use tree::File;
+use tree_hold::release;
 
 /// The report of the package of this path with these files. A package that is one file on the first
 /// path, and is of another path than `context`, is judged: its diagnostics are exactly the faults of
-/// the file. In every other package each file has one diagnostic: why it has no tokens, at the fault's
-/// place, or else that it is left out.
+/// the file. In every other package each file has one diagnostic: why it has no tokens or no tree, at the
+/// fault's place, or else that it is left out.
 ///
 /// # Errors
 ///
@@ -40,10 +45,7 @@ pub fn check_first(
         → IfOk result (λ r. AreUnjudgedEntries 0 sources.now (map entry_of r.diagnostics.items)) }
     ensures none { sources.now ≡ [] → IfOk result (λ r. r.diagnostics.items ≡ []) }
 {
-    let diagnostics = match judged(alloc, path, sources)? {
-        Some(found) => found,
-        None => unjudged(alloc, sources)?,
-    };
+    let diagnostics = found(alloc, path, sources)?;
     let path = String::from_str(alloc, path)?;
     Ok(PackageReport {
         path,
@@ -52,41 +54,71 @@ pub fn check_first(
     })
 }
 
-/// The diagnostics of a package that is judged.
-fn judged(
-    alloc: Global,
-    path: &str,
-    sources: &[Source],
-) -> Result<Option<Vec<Diagnostic>>, AllocError>
-    ensures some { IfOk result (λ o. IfSome o (λ v.
-        (file : SourceFile) × IsJudged path.now sources.now file × IsReportOf file (map entry_of v.items))) }
-    ensures only { (file : SourceFile) → IsJudged path.now sources.now file
-        → IfOk result (λ o. IsSomeAnd o (λ v. IsReportOf file (map entry_of v.items))) }
+/// The diagnostics of a package.
+fn found(alloc: Global, path: &str, sources: &[Source]) -> Result<Vec<Diagnostic>, AllocError>
+    ensures { IfOk result (λ v. IsFound path.now sources.now (map entry_of v.items)) }
 {
     if path == "context" || sources.len() != 1 {
-        return Ok(None);
+        return unjudged(alloc, sources);
     }
-    judged_alone(alloc, &sources[0])
+    found_alone(alloc, &sources[0])
 }
 
-/// The diagnostics of one file, if it is on the first path: its tokens, then its tree, then whether its
-/// names keep the rules, then what is wrong with its functions.
-fn judged_alone(alloc: Global, source: &Source) -> Result<Option<Vec<Diagnostic>>, AllocError>
-    ensures some { IfOk result (λ o. IfSome o (λ v.
-        (file : SourceFile) × IsOnPath source.now.bytes.items file × IsReportOf file (map entry_of v.items))) }
-    ensures only { (file : SourceFile) → IsOnPath source.now.bytes.items file
-        → IfOk result (λ o. IsSomeAnd o (λ v. IsReportOf file (map entry_of v.items))) }
+/// The diagnostics of a package of one file: its tokens, then its tree, then whether it is on the first
+/// path, then what is wrong with its functions.
+fn found_alone(alloc: Global, source: &Source) -> Result<Vec<Diagnostic>, AllocError>
+    ensures { IfOk result (λ v. IsFoundAlone source.now (map entry_of v.items)) }
 {
-    let Some(tokens) = plain(alloc, source)? else {
-        return Ok(None);
-    };
-    let Some(file) = parse(alloc, &source.bytes, &tokens)? else {
-        return Ok(None);
-    };
-    if !has_path_names(alloc, &file)? {
-        return Ok(None);
+    match tree_of(alloc, source)? {
+        Parsed::Whole(tree) => found_in(alloc, tree),
+        Parsed::Refused(offset, code) => only_diagnostic(alloc, offset, code),
     }
-    Ok(Some(file_diagnostics(alloc, &file)?))
+}
+
+/// The diagnostics of a file with this tree.
+fn found_in(alloc: Global, tree: File) -> Result<Vec<Diagnostic>, AllocError>
+    ensures { IfOk result (λ v. IsFoundIn (whole_file tree) (map entry_of v.items)) }
+{
+    let small = small_tree(alloc, &tree);
+    release::file(tree);
+    let Some(file) = small? else {
+        return only_diagnostic(alloc, 0, Code::LeftOut(TreeFault::FirstPath));
+    };
+    if !has_path_shape(&file) {
+        return only_diagnostic(alloc, 0, Code::LeftOut(TreeFault::FirstPath));
+    }
+    if !has_path_names(alloc, &file)? {
+        return only_diagnostic(alloc, 0, Code::LeftOut(TreeFault::FirstPath));
+    }
+    let diagnostics = file_diagnostics(alloc, &file)?;
+    Ok(diagnostics)
+}
+
+/// One diagnostic of the first file.
+fn only_diagnostic(alloc: Global, offset: u32, code: Code) -> Result<Vec<Diagnostic>, AllocError>
+    ensures { IfOk result (λ v. map entry_of v.items ≡ file_entry 0 offset code ∷ []) }
+{
+    let mut diagnostics = Vec::new(alloc);
+    diagnostics.push(whole_file_diagnostic(alloc, 0, offset, code)?)?;
+    Ok(diagnostics)
+}
+
+/// A diagnostic of a whole file, which speaks of no name.
+fn whole_file_diagnostic(
+    alloc: Global,
+    file: usize,
+    offset: u32,
+    code: Code,
+) -> Result<Diagnostic, AllocError>
+    ensures { IfOk result (λ d. entry_of d ≡ file_entry file offset code) }
+{
+    let name = String::from_str(alloc, "-")?;
+    Ok(Diagnostic {
+        file,
+        offset,
+        code,
+        name,
+    })
 }
 
 /// One diagnostic for each file of a package that is not judged.
@@ -101,24 +133,67 @@ fn unjudged(alloc: Global, sources: &[Source]) -> Result<Vec<Diagnostic>, AllocE
     Ok(diagnostics)
 }
 
-/// The diagnostic of such a file: why it has no tokens, or that it is left out.
+/// The diagnostic of such a file: why it has no tokens or no tree, or that it is left out.
 fn unjudged_file(alloc: Global, file: usize, source: &Source) -> Result<Diagnostic, AllocError>
     ensures { IfOk result (λ d. IsUnjudgedEntry file source.now (entry_of d)) }
 {
-    let (offset, code) = match lex(alloc, source) {
-        Ok(_) => (0, Code::LeftOut),
+    match tree_of(alloc, source)? {
+        Parsed::Whole(tree) => {
+            release::file(tree);
+            whole_file_diagnostic(alloc, file, 0, Code::LeftOut(TreeFault::FirstPath))
+        }
+        Parsed::Refused(offset, code) => whole_file_diagnostic(alloc, file, offset, code),
+    }
+}
+
+/// What a file has: a tree, or a reason at an offset why it has none.
+enum Parsed {
+    Whole(File),
+    Refused(u32, Code),
+}
+
+/// The tree of a source, by its tokens.
+fn tree_of(alloc: Global, source: &Source) -> Result<Parsed, AllocError>
+    ensures { IfOk result (λ p. IsRead source.now.bytes.items p) }
+{
+    match lex(alloc, source) {
+        Ok(tokens) => match parse(alloc, &source.bytes, &tokens) {
+            Ok(tree) => Ok(Parsed::Whole(tree)),
+            Err(fault) => {
+                let (offset, why) = tree_fault(fault)?;
+                Ok(Parsed::Refused(offset, Code::LeftOut(why)))
+            }
+        },
         Err(fault) => {
             let (offset, why) = text_fault(fault)?;
-            (offset, Code::Unreadable(why))
+            Ok(Parsed::Refused(offset, Code::Unreadable(why)))
         }
-    };
-    let name = String::from_str(alloc, "-")?;
-    Ok(Diagnostic {
-        file,
-        offset,
-        code,
-        name,
-    })
+    }
+}
+
+/// Why a text has no tree, and the offset where the fault stands.
+fn tree_fault(fault: ParseFault) -> Result<(u32, TreeFault), AllocError>
+    ensures ok { IfOk result (λ f. IsTreeFaultAt fault f.0 f.1) }
+    ensures err { IsErr result → fault ≡ NoMemory }
+{
+    match fault {
+        ParseFault::Unexpected(at) => Ok((at, TreeFault::UnexpectedToken)),
+        ParseFault::LeftOut(form, at) => Ok((at, left_out_form(form))),
+        ParseFault::TooDeep(at) => Ok((at, TreeFault::TooDeep)),
+        ParseFault::OutOfMemory => Err(AllocError),
+    }
+}
+
+/// That a form of Go is left out.
+fn left_out_form(form: LeftOut) -> TreeFault
+    ensures { result ≡ fault_of_form form }
+{
+    match form {
+        LeftOut::TypeParameters => TreeFault::TypeParameters,
+        LeftOut::Goto => TreeFault::Goto,
+        LeftOut::Fallthrough => TreeFault::Fallthrough,
+        LeftOut::DotImport => TreeFault::DotImport,
+    }
 }
 
 /// A text's fault and the offset where it stands. A text that is too long has it at its start.

@@ -8,4 +8,4 @@ mod pass;
 pub mod report;
 
 pub use check::check_first;
-pub use report::{Code, Diagnostic, PackageReport, TextFault};
+pub use report::{Code, Diagnostic, PackageReport, TextFault, TreeFault};

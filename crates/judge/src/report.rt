@@ -21,13 +21,26 @@ pub enum TextFault {
     TooLong,
 }
 
+/// Why a file has no tree (`parser::parse`), or is not judged.
+#[derive(Clone, Copy, Debug, PartialEq, Eq)]
+pub enum TreeFault {
+    UnexpectedToken,
+    TypeParameters,
+    Goto,
+    Fallthrough,
+    DotImport,
+    TooDeep,
+    /// It has a tree, and is off the first path.
+    FirstPath,
+}
+
 /// What a diagnostic says. Codes are ordered by their ranks.
 #[derive(Clone, Copy, Debug)]
 pub enum Code {
     /// LC01: the file has no tokens.
     Unreadable(TextFault),
-    /// LC02: the file is off the first path.
-    LeftOut,
+    /// LC02: the file has no tree, or is off the first path.
+    LeftOut(TreeFault),
     /// LC03: a cancel function is given the name `_`.
     Discarded,
     /// LC04: a cancel function is bound again before it is called.
@@ -51,11 +64,17 @@ impl Code {
             Code::Unreadable(TextFault::UnclosedRune) => 4,
             Code::Unreadable(TextFault::UnknownCharacter) => 5,
             Code::Unreadable(TextFault::TooLong) => 6,
-            Code::LeftOut => 7,
-            Code::Discarded => 8,
-            Code::Overwritten => 9,
-            Code::NotCalled => 10,
-            Code::TooMany => 11,
+            Code::LeftOut(TreeFault::UnexpectedToken) => 7,
+            Code::LeftOut(TreeFault::TypeParameters) => 8,
+            Code::LeftOut(TreeFault::Goto) => 9,
+            Code::LeftOut(TreeFault::Fallthrough) => 10,
+            Code::LeftOut(TreeFault::DotImport) => 11,
+            Code::LeftOut(TreeFault::TooDeep) => 12,
+            Code::LeftOut(TreeFault::FirstPath) => 13,
+            Code::Discarded => 14,
+            Code::Overwritten => 15,
+            Code::NotCalled => 16,
+            Code::TooMany => 17,
         }
     }
 }

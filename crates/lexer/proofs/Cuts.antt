@@ -1,13 +1,9 @@
 -- A text has one cut, and what a step adds to it.
-use Rattle.std.proofs.Common.{◌≡◌, ℕ, zero, suc, ◌+◌, List, [], ◌∷◌, ◌++◌, take, drop, Option, None, refl, sym, ap, ◌∙◌, subst, arith, append_assoc}
-use Rattle.std.specs.Prelude.{All, IsFalse}
+use Rattle.std.proofs.Common.{◌≡◌, ℕ, zero, suc, List, [], ◌∷◌, ◌++◌, take, drop, refl, sym, ap, ◌∙◌, subst, arith}
 use Rattle.std.proofs.lemmas.List.{append-nil}
-use Rattle.std.proofs.lemmas.List.Elements.{All-push}
-use Rattle.lexer.specs.declared.token.Token.{Token}
 use Rattle.lexer.specs.declared.pieces.Piece.{Piece}
 use Rattle.lexer.specs.Pieces.{Reads}
-use Rattle.lexer.specs.Cut.{CanBegin, IsLongest, Cut, is_comment}
-use Rattle.lexer.specs.Semicolons.{tokens_from, tokens_at, due_after, semicolon}
+use Rattle.lexer.specs.Cut.{CanBegin, IsLongest, Cut}
 use Rattle.lexer.proofs.PieceKinds.{one_kind, nonempty}
 
 -- one piece is the longest
@@ -51,32 +47,3 @@ pub cut_more : (text : List ℕ) (ps : List Piece) (rest : List ℕ) (p : Piece)
 unfolding Cut
 cut_more text [] rest p c h = (subst (IsLongest p) (sym c) h, ap (drop p.size) c)
 cut_more text (q ∷ ps) rest p c h = (c.0, cut_more (drop q.size text) ps rest p c.1 h)
-
--- how far the lexer has come: the pieces so far, of which none is a comment, and the tokens so far with those to come
-pub record IsRead (text rest : List ℕ) (at : ℕ) (due : Option ℕ) (tokens : List Token) : Type 0 where
-  pub pieces : List Piece
-  pub cut : Cut text pieces rest
-  pub plain : All (λ p. IsFalse (is_comment p.kind)) pieces
-  pub to_come : (qs : List Piece) → tokens_from 0 None (pieces ++ qs) ≡ tokens ++ tokens_from at due qs
-
-pub read_none : (text : List ℕ) → IsRead text text 0 None []
-unfolding Cut
-read_none text = record { pieces = []; cut = refl; plain = λ k d h. absurd (omega arith); to_come = λ qs. refl }
-
-pub read_more : (text rest : List ℕ) (at : ℕ) (due : Option ℕ) (tokens : List Token) (p : Piece) → IsRead text rest at due tokens → IsLongest p rest → IsFalse (is_comment p.kind) → IsRead text (drop p.size rest) (at + p.size) (due_after p.kind (at + p.size) due) (tokens ++ tokens_at p.kind at (at + p.size) due)
-unfolding tokens_from
-read_more text rest at due tokens p r h plain =
-    record {
-      pieces = r.pieces ++ p ∷ [];
-      cut = cut_more text r.pieces rest p r.cut h;
-      plain = All-push (λ q. IsFalse (is_comment q.kind)) r.pieces p r.plain plain;
-      to_come = λ qs.
-          let next = at + p.size in
-          ap (tokens_from 0 None) (append_assoc r.pieces (p ∷ []) qs)
-          ∙ (r.to_come (p ∷ qs) ∙ sym (append_assoc tokens (tokens_at p.kind at next due) (tokens_from next (due_after p.kind next due) qs)));
-    }
-
--- at the end of the text
-pub read_all : (text : List ℕ) (at : ℕ) (due : Option ℕ) (tokens : List Token) → (r : IsRead text [] at due tokens) → tokens ++ semicolon due ≡ tokens_from 0 None r.pieces
-unfolding tokens_from
-read_all text at due tokens r = sym (r.to_come []) ∙ ap (tokens_from 0 None) (append-nil r.pieces)

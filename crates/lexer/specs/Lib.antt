@@ -1,4 +1,4 @@
--- what the contracts of `lex`, `plain` and `place` and the laws mean, and so what is to be trusted
+-- what the contracts of `lex` and `place` and the laws mean, and so what is to be trusted
 pub mod Bytes
 pub mod Letters
 pub mod Spelling

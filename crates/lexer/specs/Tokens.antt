@@ -2,13 +2,13 @@
 -- semicolons.
 -- A byte order mark is skipped at the start of the text alone.
 -- (The Go specification, "Source code representation", "Tokens" and "Semicolons".)
-use Rattle.std.specs.Prelude.{◌≡◌, ◌≢◌, ℕ, Bool, ◌<◌, ◌≤◌, ◌&&◌, ◌==◌, if◌then◌else◌, IsFalse, None, List, [], length, drop, slice_index, All}
-use Rattle.std.specs.Str.{IsUtf8, IsAscii}
+use Rattle.std.specs.Prelude.{◌≡◌, ◌≢◌, ℕ, Bool, ◌<◌, ◌≤◌, ◌&&◌, ◌==◌, if◌then◌else◌, None, List, [], length, drop, slice_index}
+use Rattle.std.specs.Str.{IsUtf8}
 use Rattle.lexer.specs.declared.source.TheConstants.{MOST_BYTES}
 use Rattle.lexer.specs.declared.token.Token.{Token}
 use Rattle.lexer.specs.Bytes.{nul, mark_first, mark_second, mark_third}
 use Rattle.lexer.specs.declared.pieces.Piece.{Piece}
-use Rattle.lexer.specs.Cut.{Cut, is_comment}
+use Rattle.lexer.specs.Cut.{Cut}
 use Rattle.lexer.specs.Semicolons.{tokens_from}
 
 -- the text begins with the byte order mark
@@ -35,12 +35,6 @@ pub record IsTokens (text : List ℕ) (tokens : List Token) : Type 0 where
   pub pieces : List Piece
   pub cut : IsCutInto text pieces
   pub listed : tokens ≡ tokens_from (mark_size text) None pieces
-
--- the text is ASCII, and its cut has no comment
-pub record IsPlain (text : List ℕ) : Type 0 where
-  pub ascii : IsAscii text
-  pub no_comment :
-      (pieces : List Piece) → IsCutInto text pieces → All (λ p. IsFalse (is_comment p.kind)) pieces
 
 -- a text is cut in one way at most
 abbrev pub OneCut : Type 0

@@ -1,5 +1,4 @@
 use crate::expect::{expect, shown, source};
-use lexer::plain;
 use std::test::Fail;
 
 /// Texts with their tokens, or with their fault where a character is no letter or digit.
@@ -94,31 +93,6 @@ fn tokens(rt: HostRuntime) -> Result<(), Fail> {
     for row in &TOKENS {
         let (text, wanted) = *row;
         expect(&rt, text.as_bytes(), wanted)?;
-    }
-    Ok(())
-}
-
-/// `plain` gives the tokens of a text in ASCII without comments, and of no other.
-#[test]
-fn plain_texts(rt: HostRuntime) -> Result<(), Fail> {
-    let alloc = rt.alloc();
-    for (text, wanted) in [
-        ("", Some("")),
-        (
-            "x\n+ 1",
-            Some("Identifier 0-1;Semicolon 1-1;Plus 2-3;Number 4-5;Semicolon 5-5;"),
-        ),
-        ("`a\n\\`", Some("RawString 0-5;Semicolon 5-5;")),
-        ("x // c", None),
-        ("\u{e9}", None),
-        ("\"", None),
-        ("x\0", None),
-    ] {
-        let found = match plain(alloc, &source(alloc, text.as_bytes())?)? {
-            Some(tokens) => Some(shown(alloc, Ok(tokens))?),
-            None => None,
-        };
-        assert_eq!(rt; found.as_deref(), wanted, "at {text:?}");
     }
     Ok(())
 }

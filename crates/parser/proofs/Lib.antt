@@ -1,6 +1,6 @@
-pub mod Leading
-pub mod Choice
-pub mod Arguments
-pub mod Blocks
-pub mod Steps
-pub mod Lists
+pub mod FileLists
+pub mod Refusals
+pub mod TextTrees
+pub mod TokenWords
+pub mod TypeParameters
+pub mod WholeFiles

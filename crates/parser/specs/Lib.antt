@@ -1,3 +1,3 @@
--- What only serves the proofs: how a function of the parser gives what the reader reads.
-pub mod Gives
-pub mod Seen
+pub mod Faults
+pub mod FileParts
+pub mod Parsed

@@ -1,12 +1,11 @@
-//! From tokens to a tree.
+//! The tree of a text, from its tokens.
 #![tactic(auto)]
 
-mod cursor;
-mod declarations;
-mod expressions;
-mod first_path;
-mod names;
-mod statements;
-mod stop;
+pub mod fault;
+mod files;
+mod node;
+mod text;
 
-pub use first_path::parse;
+pub use fault::ParseFault;
+pub use parser_base::fault::LeftOut;
+pub use text::parse;

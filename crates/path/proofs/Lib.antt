@@ -7,3 +7,4 @@ pub mod Elements
 pub mod Bindings
 pub mod Tests
 pub mod Seen
+pub mod Forms

@@ -1,13 +1,14 @@
 -- The first path: the files of Go that this version judges. They import `context` alone, and have
 -- functions with parameters of the types `T` and `context.Context`, the statements
 -- `a, b := context.WithCancel(c)`, `f(a, b)`, `defer f()`, `if a { .. } else { .. }`, blocks and `return`,
--- and no comment or character past ASCII. And: no two functions have one name; no name but `_` is declared
+-- and nothing else. And: no two functions have one name; no name but `_` is declared
 -- twice in a function; nothing is named `context`, `panic` or `recover`, and the last two are not used;
 -- a local is used only in its scope; and the second name of a binding only as `c()` and `defer c()`.
-use Rattle.std.specs.Prelude.{◌≡◌, ◌≢◌, ℕ, ◌≤◌, ◌<◌, false, if◌then◌else◌, List, [], ◌∷◌, ◌++◌, map, Contains, codes}
-use Rattle.lexer.specs.Tokens.{IsPlain}
+use Rattle.std.specs.Prelude.{◌≡◌, ◌≢◌, ℕ, ◌≤◌, ◌<◌, false, if◌then◌else◌, List, [], ◌∷◌, ◌++◌, Some, map, Contains, codes}
+use Rattle.tree.specs.Syntax.{SourceFile as WholeFile}
+use Rattle.meaning.specs.TreeOfText.{IsTreeOf}
 use Rattle.path_tree.specs.Syntax.{Identifier, Expression, name_expression, selector_expression, call_expression, Expressions, no_expression, expression_and, Statement, define_statement, expression_statement, defer_statement, if_statement, block_statement, return_statement, Otherwise, no_else, else_block, Statements, no_statement, statement_and, Parameter, Function, ImportDeclaration, SourceFile}
-use Rattle.path_meaning.specs.Grammar.{IsTreeOf}
+use Rattle.path_meaning.specs.SmallTree.{small_tree}
 use Rattle.path_meaning.specs.Scopes.{is_blank, is_among, known_after, Local, parameter_name, text_of, locals_of}
 use Rattle.path_meaning.specs.PathCode.{Binding, bindings_in}
 
@@ -212,9 +213,10 @@ pub record HasPathFileNames (file : SourceFile) : Type 0 where
   pub free : NoneAmong (map function_text file.functions) reserved_names
   pub each : (f : Function) → Contains file.functions f → HasPathNames f
 
--- the text is on the path, with this tree
+-- the text is on the path: this is the small tree of its whole one, and keeps the rules
 pub record IsOnPath (text : List ℕ) (file : SourceFile) : Type 0 where
-  pub plain : IsPlain text
-  pub tree : IsTreeOf text file
+  pub whole : WholeFile
+  pub tree : IsTreeOf text whole
+  pub small : small_tree whole ≡ Some file
   pub shape : HasPathShape file
   pub names : HasPathFileNames file

@@ -1,7 +1,7 @@
 -- What a yes means, to be held against the Go specification and the documentation of package context: which
 -- tree a text has, which files are judged, and what the world does as a function of such a file runs. Codes
 -- and their lists of events are those of crate meaning.
-pub mod Grammar
+pub mod SmallTree
 pub mod Scopes
 pub mod PathCode
 pub mod FirstPath

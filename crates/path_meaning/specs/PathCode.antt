@@ -6,7 +6,7 @@ use Rattle.std.specs.Option.{option_to_list}
 use Rattle.meaning.specs.Code.{Occurrence, Code, returning, skip, does, leave, then_code, either}
 use Rattle.path_tree.specs.Syntax.{Identifier, Expression, name_expression, selector_expression, call_expression, Expressions, no_expression, expression_and, Statement, define_statement, expression_statement, defer_statement, if_statement, block_statement, return_statement, Otherwise, no_else, else_block, Statements, no_statement, statement_and, Function}
 use Rattle.path_meaning.specs.Scopes.{same_text, Local, same_local, locals_of, declaration_of, bound_local}
-use Rattle.path_meaning.specs.Grammar.{expression_start}
+use Rattle.path_tree.specs.Syntax.{expression_start}
 
 -- what one statement does to the tracked variables
 pub data Event : Type 0 where

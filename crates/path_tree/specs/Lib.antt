@@ -1,5 +1,4 @@
--- What a tree is, and how deep it is: to be trusted.
+-- What a tree is: to be trusted.
 pub mod Syntax
-pub mod Depth
 -- Which tree a value in memory stands for: what contracts say of the program's values.
 pub mod View

@@ -68,3 +68,9 @@ expressions_of (e ∷ es) = expression_and e (expressions_of es)
 abbrev pub statements_of : List Statement → Statements
 statements_of [] = no_statement
 statements_of (s ∷ ss) = statement_and s (statements_of ss)
+
+-- the first byte of an expression
+abbrev pub expression_start : Expression → ℕ
+expression_start (name_expression n) = n.span.start
+expression_start (selector_expression e n) = expression_start e
+expression_start (call_expression e es span) = span.start

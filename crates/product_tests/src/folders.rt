@@ -71,7 +71,7 @@ const ROWS: &[Row] = &[
     (
         &[("a.go", EMPTY), ("B.go", EMPTY)],
         1,
-        "DIR/B.go:1:1: LC02 - left out: first path\nDIR/a.go:1:1: LC02 - left out: first path\nno a\n",
+        "DIR/B.go:1:1: LC02 - unexpected token\nDIR/a.go:1:1: LC02 - unexpected token\nno a\n",
         "",
     ),
     // Links are followed.
@@ -83,7 +83,7 @@ const ROWS: &[Row] = &[
             ("b.go", Entry::Link("text")),
         ],
         1,
-        "DIR/b.go:1:1: LC02 - left out: first path\nno a\n",
+        "DIR/b.go:1:1: LC02 - unexpected token\nno a\n",
         "",
     ),
     // No file stands there: nothing, a device, a link to itself.
@@ -163,7 +163,7 @@ fn names_of_folders(rt: HostRuntime) -> Result<(), Fail> {
             fs::create_dir(&rt, folder.as_str())?;
             make(&rt, folder.as_str(), "a.go", EMPTY)?;
         }
-        let out = format!(in rt.alloc(); "{file}:1:1: LC02 - left out: first path\nno a\n")?;
+        let out = format!(in rt.alloc(); "{file}:1:1: LC02 - unexpected token\nno a\n")?;
         expect_check(&rt, folder.as_str(), 1, out.as_str(), "")?;
     }
     // No folder, and folders that no line could name.

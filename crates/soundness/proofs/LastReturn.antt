@@ -5,7 +5,7 @@ use Rattle.meaning.specs.Code.{leave, returning, then_code, either}
 use Rattle.meaning.specs.Lists.{Exit, falls, Lists, not_begun, skipped, done, just_done, left, ends_in_first, goes_on, in_first, in_second}
 use Rattle.path_tree.specs.Syntax.{Statement, define_statement, expression_statement, defer_statement, if_statement, block_statement, return_statement, Otherwise, no_else, else_block, Statements, no_statement, statement_and, Function}
 use Rattle.path_meaning.specs.Scopes.{Local, locals_of, bound_local}
-use Rattle.path_meaning.specs.Grammar.{expression_start}
+use Rattle.path_tree.specs.Syntax.{expression_start}
 use Rattle.path_meaning.specs.PathCode.{Event, other, returns_here, PathOccurrence, PathCode, Binding, binding_of, cancels_of, call_event, defer_event, obtain_event, binding_event, one, called_by, code_at, code_in, code_in_else, body_code}
 
 -- no return among the events, and none but as the last

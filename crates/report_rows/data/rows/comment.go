@@ -1,1 +1,2 @@
-/* want LC02 - left out: first path */// a
+// a
+/* want LC02 - unexpected token */

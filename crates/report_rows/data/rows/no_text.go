@@ -1,1 +1,1 @@
-/* want LC02 - left out: first path */
+/* want LC02 - unexpected token */

@@ -1,5 +1,5 @@
-/* want LC02 - left out: first path */package a
+package a
 
 import "context"
 
-func f() { return return }
+func f() { return /* want LC02 - unexpected token */return }

@@ -1,0 +1,127 @@
+"""What bench/lexer and bench/parser share: Go texts, and how programs are built and timed."""
+
+import os
+import random
+import shutil
+import subprocess
+import sys
+import time
+
+ROOT = os.path.dirname(os.path.dirname(os.path.abspath(__file__)))
+LIMIT = 1_048_576
+TURNS = 9
+
+WORDS = "ctx cancel err result value index count buffer request response handler server client config".split()
+PROSE = "the a of it is to and returns waits for until if was closed before an error value".split() + WORDS
+TYPES = "int string error []byte map[string]int context.Context *Server time.Duration".split()
+
+
+def name(source):
+    """An exported or local name of one to three words."""
+    words = source.choices(WORDS, k=source.randrange(1, 4))
+    return words[0] + "".join(word.title() for word in words[1:])
+
+
+def comment(source, indent, lines):
+    """Some lines of comment."""
+    return [f"{indent}// " + " ".join(source.choices(PROSE, k=source.randrange(6, 14))) for _ in range(lines)]
+
+
+def statement(source):
+    """One statement, as people write them; one of three has a comment before it."""
+    one, other, third = name(source), name(source), name(source)
+    number = source.randrange(1000)
+    lines = source.choice(
+        [
+            [f'\t{one}, err := s.{other}(ctx, {number}, "{third}/{other}\\n")',
+             "\tif err != nil {", f'\t\treturn nil, fmt.Errorf("{third}: %w", err)', "\t}"],
+            [f"\tfor i := 0; i < len({one}); i++ {{", f"\t\t{other}[i] += {one}[i]&0x{number:x} | 1<<3", "\t}"],
+            [f"\tif {one} == nil || len({other}) > {number} && {one}.{third} != 'x' {{",
+             f"\t\t{one} = make([]byte, {number})", "\t} else {", f"\t\t{other}.Close() // {third}", "\t}"],
+            [f"\tgo func() {{ {one} <- {other} }}()"],
+            [f"\tswitch {one}.{other} {{", f"\tcase {number}, {number / 64}:",
+             f"\t\tlog.Printf(`%v {third}`, {other})", "\tdefault:", "\t\tbreak", "\t}"],
+        ]
+    )
+    return comment(source, "\t", source.choice([0, 0, 1])) + lines
+
+
+def go_function(source):
+    """A function with its comment."""
+    kinds = source.choices(TYPES, k=2)
+    head = f"func (s *Server) {name(source)}(ctx context.Context, {name(source)} {kinds[0]}) ({kinds[1]}, error) {{"
+    lines = comment(source, "", source.randrange(1, 4)) + [head]
+    lines += ["\tctx, cancel := context.WithTimeout(ctx, 5*time.Second)", "\tdefer cancel()"]
+    for _ in range(source.randrange(3, 12)):
+        lines += statement(source)
+    return "\n".join(lines + [f"\treturn {name(source)}, nil", "}", "", ""])
+
+
+def generate_go(folder, size):
+    """Files of Go of about 40 kB each, `size` bytes in all, the same at each run."""
+    source, names, made = random.Random(1), [], 0
+    while made < size:
+        text = 'package bench\n\nimport (\n\t"context"\n\t"fmt"\n\t"time"\n)\n\n'
+        while len(text) < 40_000:
+            text += go_function(source)
+        names.append(write(folder, f"go{len(names)}.go", text.encode()))
+        made += len(text)
+    return names
+
+
+def write(folder, name, data):
+    path = os.path.join(folder, name)
+    with open(path, "wb") as file:
+        file.write(data)
+    return path
+
+
+def build(crate):
+    """Builds the program of a crate that reads the files that it is given, and gives its path."""
+    folder = os.path.join(ROOT, "crates", crate)
+    if subprocess.run(["rt", "run", "--", os.devnull], cwd=folder, stdout=subprocess.DEVNULL).returncode != 0:
+        sys.exit(f"{sys.argv[0]}: crates/{crate} could not be built")
+    return os.path.join(folder, "out", crate)
+
+
+def build_go(folder, name):
+    """Builds bench/NAME.go, and gives the program's path, or None where Go isn't installed."""
+    if shutil.which("go") is None:
+        return None
+    program = os.path.join(folder, name)
+    source = os.path.join(ROOT, "bench", f"{name}.go")
+    environment = dict(os.environ, GOFLAGS="-mod=mod", GOCACHE=os.path.join(folder, "cache"))
+    subprocess.run(["go", "build", "-o", program, source], check=True, cwd=folder, env=environment)
+    return program
+
+
+def run(words):
+    """The seconds that a command takes, and its output."""
+    start = time.perf_counter()
+    done = subprocess.run(words, stdout=subprocess.PIPE, text=True)
+    seconds = time.perf_counter() - start
+    if done.returncode != 0:
+        sys.exit(f"{sys.argv[0]}: {words[0]} failed")
+    return seconds, done.stdout
+
+
+def best(words):
+    """As `run`, with the shortest time of some turns."""
+    return min(run(words) for _ in range(TURNS))
+
+
+def counts(out):
+    words = out.split()
+    return {words[i]: int(words[i + 1]) for i in range(0, len(words), 2)}
+
+
+def throughput(label, words, files):
+    seconds, out = best(words + files)
+    found = counts(out)
+    speed = found["bytes"] / seconds / 1e6
+    print(f"{label}: {out.strip()}: {speed:.0f} MB/s")
+    return speed, found
+
+
+def on_one_processor():
+    os.sched_setaffinity(0, {min(os.sched_getaffinity(0))})

@@ -1,0 +1,7 @@
+package a
+
+// f returns.
+func f(é int) string {
+	return `x
+	y` + "\n"
+}

@@ -1,0 +1,25 @@
+//! The program `inspect`, for people who look into ctxvet: hands the words of its command line and its streams to the
+//! library `inspection`.
+#![tactic(auto)]
+
+use inspection::{Fault, fail, run, words_fault};
+use std::env;
+use std::process::ExitCode;
+
+/// Runs the program and ends with its status.
+fn main(rt: HostRuntime) -> ExitCode {
+    let mut err = rt.stderr();
+    let status = match words(&rt) {
+        Ok(words) => run(&rt, &words, &mut rt.stdout(), &mut err),
+        Err(fault) => fail(&mut err, &fault),
+    };
+    ExitCode::from(status)
+}
+
+/// The words after the program's name.
+fn words(rt: &HostRuntime) -> Result<Vec<String>, Fault> {
+    match env::args(rt) {
+        Ok(words) => Ok(words.skip(1).collect::<Vec<String>>(rt.alloc())?),
+        Err(error) => Err(words_fault(&error)),
+    }
+}

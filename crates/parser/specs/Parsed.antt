@@ -1,0 +1,18 @@
+-- What is known of the answer to a text: a tree is the text's, and only a text without a tree has a fault, which lies
+-- in the text or at its end. Where memory runs out the text may have a tree.
+use Rattle.std.specs.Prelude.{◌≢◌, ℕ, ◌≤◌, List, length, Result, IfOk, IfErr}
+use Rattle.tree.specs.declared.file.File.{File}
+use Rattle.tree.specs.Syntax.{SourceFile}
+use Rattle.tree.specs.View.{file_syntax}
+use Rattle.meaning.specs.TreeOfText.{IsTreeOf}
+use Rattle.parser.specs.declared.fault.ParseFault.{ParseFault}
+use Rattle.parser.specs.declared.fault.ParseFault.TheVariants.{OutOfMemory}
+use Rattle.parser.specs.Faults.{offset_of}
+
+abbrev pub HasNoTree : List ℕ → Type 0
+HasNoTree text = (file : SourceFile) → IsTreeOf text file → ⊥
+
+pub record IsParsed (text : List ℕ) (result : Result File ParseFault) : Type 0 where
+  pub tree : IfOk result (λ file. IsTreeOf text (file_syntax file))
+  pub no_tree : IfErr result (λ fault. fault ≢ OutOfMemory → HasNoTree text)
+  pub offset : IfErr result (λ fault. offset_of fault ≤ length text)

@@ -1,0 +1,82 @@
+//! What the parts of a node are read by (the Go specification, "Expressions", "Types", "Statements"). Here the ends of
+//! the parser are tied: each node reads its parts by what reads nodes that may be one less deep.
+
+ghost use Rattle.tree.specs.View.{expression_syntax, statement_syntax};
+ghost use Rattle.parser_base.specs.Gives.{Gives};
+ghost use Rattle.parser_base.specs.Parts.{read_wanted};
+ghost use Rattle.parser_base.specs.Places.{cursor, seen, parts_of};
+
+use parser_base::cursor::{Place, Read, Source};
+use parser_base::fault::Stop;
+use parser_base::parts::Wanted;
+use parser_parts::expressions::{expression_of, type_of, value_of};
+use parser_statements::statements::statement_of;
+use tree::{Expr, Stmt};
+
+/// An expression, a type or an element, at most as deep as the source lets it be.
+///
+/// # Errors
+///
+/// Where another token stands, where it is too deep, and out of memory.
+#[cycle(node)]
+#[tactic(auto, unfolding(tree_reader::specs::Reader::readers))]
+pub fn node(source: Source<'_>, wanted: Wanted, place: Place) -> Read<Expr>
+    ensures { Gives (seen source.entry expression_syntax) result (read_wanted (parts_of source.entry) wanted (cursor
+        source.entry place)) }
+{
+    if source.below == 0 {
+        return Err(Stop::TooDeep);
+    }
+    let inner = Source {
+        alloc: source.alloc,
+        text: source.text,
+        tokens: source.tokens,
+        below: source.below - 1,
+    };
+    let parts = |wanted: Wanted, place: Place| -> Read<Expr>
+        ensures { Gives (seen inner.entry expression_syntax) result (read_wanted (parts_of inner.entry) wanted (cursor
+            inner.entry place)) }
+    { node(inner, wanted, place) };
+    let statements = |place: Place| -> Read<Stmt>
+        ensures { Gives (seen inner.entry statement_syntax) result ((parts_of inner.entry).read_statement (cursor
+            inner.entry place)) }
+    { statement_node(inner, place) };
+    match wanted {
+        Wanted::Expression(header, least) => {
+            expression_of(inner, &parts, &statements, header, least, place)
+        }
+        Wanted::TypeExpression => type_of(inner, &parts, place),
+        Wanted::Element => value_of(inner, &parts, &statements, place),
+    }
+}
+
+/// A statement, at most as deep as the source lets it be.
+///
+/// # Errors
+///
+/// Where another token stands, where it is too deep, and out of memory.
+#[cycle(node)]
+#[tactic(auto, unfolding(tree_reader::specs::Reader::readers))]
+pub fn statement_node(source: Source<'_>, place: Place) -> Read<Stmt>
+    ensures { Gives (seen source.entry statement_syntax) result ((parts_of source.entry).read_statement (cursor
+        source.entry place)) }
+{
+    if source.below == 0 {
+        return Err(Stop::TooDeep);
+    }
+    let inner = Source {
+        alloc: source.alloc,
+        text: source.text,
+        tokens: source.tokens,
+        below: source.below - 1,
+    };
+    let parts = |wanted: Wanted, place: Place| -> Read<Expr>
+        ensures { Gives (seen inner.entry expression_syntax) result (read_wanted (parts_of inner.entry) wanted (cursor
+            inner.entry place)) }
+    { node(inner, wanted, place) };
+    let statements = |place: Place| -> Read<Stmt>
+        ensures { Gives (seen inner.entry statement_syntax) result ((parts_of inner.entry).read_statement (cursor
+            inner.entry place)) }
+    { statement_node(inner, place) };
+    statement_of(inner, &parts, &statements, place)
+}

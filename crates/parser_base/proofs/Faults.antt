@@ -1,0 +1,18 @@
+-- A reading that failed makes the whole one fail.
+use Rattle.std.proofs.Common.{◌≡◌, Option, None}
+use Rattle.parser_base.specs.declared.fault.Stop.{Stop}
+use Rattle.parser_base.specs.declared.fault.Stop.TheVariants.{Unexpected, LeftOut, TooDeep, Memory}
+use Rattle.parser_base.specs.Gives.{Stops}
+
+pub fails_too : {A B : Type 0} (e : Stop) (a : Option A) (b : Option B) → Stops e a → (a ≡ None → b ≡ None) → Stops e b
+fails_too (Unexpected at) a b h then_none = then_none h
+fails_too (LeftOut form at) a b h then_none = then_none h
+fails_too TooDeep a b h then_none = then_none h
+fails_too Memory a b h then_none = tt
+
+-- any fault may come where nothing is read
+pub is_stopped : {A : Type 0} (e : Stop) (a : Option A) → a ≡ None → Stops e a
+is_stopped (Unexpected at) a h = h
+is_stopped (LeftOut form at) a h = h
+is_stopped TooDeep a h = h
+is_stopped Memory a h = tt

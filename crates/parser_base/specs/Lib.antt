@@ -1,0 +1,4 @@
+pub mod Words
+pub mod Gives
+pub mod Places
+pub mod Parts

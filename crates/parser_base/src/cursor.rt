@@ -1,0 +1,373 @@
+//! Going through tokens.
+
+ghost use Rattle.std.specs.Prelude.{◌≤◌};
+ghost use Rattle.meaning.specs.declared.TheConstants.{MOST_DEPTH};
+ghost use Rattle.parser_base.specs.Words.{HasWords};
+
+use crate::fault::{LeftOut, Stop};
+use crate::kinds::{
+    assigning_operator, binary_operator, can_begin_type, declaration_keyword, ends_statements,
+    follows_embedded, is_closing, is_end, is_string, literal_kind, unary_operator,
+};
+use lexer::{Token, TokenKind};
+use std::alloc::Global;
+use tree::{BasicLitKind, BinaryOperator, DeclKeyword, Span, UnaryOperator};
+
+/// A text, its tokens, how deep the parts of what is read of them may be, and what allocates the tree. The texts that
+/// the tree keeps of tokens are UTF-8.
+#[derive(Clone, Copy)]
+pub struct Source<'a> {
+    pub alloc: Global,
+    pub text: &'a [u8],
+    pub tokens: &'a [Token],
+    pub below: u32,
+    pub ghost words: { HasWords text.now tokens.now },
+    pub ghost bounded: { below ≤ MOST_DEPTH },
+}
+
+/// A place among tokens: the index of the next one, and the offset in bytes of the end of the last one that was taken.
+/// A semicolon leaves that end as it was.
+#[derive(Clone, Copy)]
+pub struct Place {
+    pub at: usize,
+    pub end: u32,
+}
+
+/// What is read, and the place after it.
+pub type Read<T> = Result<(T, Place), Stop>;
+
+impl Source<'_> {
+    ghost use Rattle.std.specs.Prelude.{◌≡◌, length, suc};
+    ghost use Rattle.lexer.specs.Spelling.{same_kind};
+    ghost use Rattle.parser_base.specs.Gives.{Gives, IsNoMemory};
+    ghost use Rattle.parser_base.specs.Places.{cursor};
+    ghost use Rattle.meaning.specs.Cursor.{start_at, is_next, is_closing};
+    ghost use Rattle.meaning.specs.OperatorTokens.{can_begin_type};
+    ghost use Rattle.tree_reader.specs.Reader.{
+      of_next,
+      is_string,
+      is_end,
+      ends_statements,
+      follows_embedded,
+      unary_operator,
+      binary_operator,
+      assigning_operator,
+      literal_kind,
+      declaration_keyword,
+    };
+    ghost use Rattle.tree_reader.specs.Reading.{
+      stands,
+      behind,
+      take,
+      past,
+      behind_semicolon,
+      take_semicolon,
+      skip_semicolons,
+      steps,
+      span_between,
+    };
+
+    /// The kind of the next token.
+    pub fn peek(self, place: Place) -> Option<TokenKind>
+        ensures { result ≡ of_next (λ kind. Some kind) (cursor self.entry place) }
+    {
+        match self.tokens.get(place.at) {
+            Some(first) => Some(first.kind),
+            None => None,
+        }
+    }
+
+    /// Whether a token of this kind stands next.
+    #[tactic(auto, unfolding(tree_reader::specs::Reading::stands, lexer::specs::Spelling::same_kind))]
+    pub fn stands(self, place: Place, kind: TokenKind) -> bool
+        ensures { result ≡ stands kind (cursor self.entry place) }
+    {
+        match self.tokens.get(place.at) {
+            Some(first) => first.kind == kind,
+            None => false,
+        }
+    }
+
+    /// The place after the next token.
+    pub fn behind(self, place: Place) -> Place
+        ensures { cursor self.entry result ≡ behind (cursor self.entry place) }
+    {
+        match self.tokens.get(place.at) {
+            Some(first) => Place {
+                at: place.at + 1,
+                end: first.end,
+            },
+            None => place,
+        }
+    }
+
+    /// The place after the next token, of this kind.
+    ///
+    /// # Errors
+    ///
+    /// Where another token stands.
+    #[tactic(auto, unfolding(tree_reader::specs::Reading::take))]
+    pub fn take(self, place: Place, kind: TokenKind) -> Result<Place, Stop>
+        ensures { Gives (cursor self.entry) result (take kind (cursor self.entry place)) }
+    {
+        if self.stands(place, kind) {
+            Ok(self.behind(place))
+        } else {
+            Err(self.unexpected(place))
+        }
+    }
+
+    /// The place after the next token, where it is of this kind.
+    #[tactic(auto, unfolding(tree_reader::specs::Reading::past))]
+    pub fn past(self, place: Place, kind: TokenKind) -> Place
+        ensures { cursor self.entry result ≡ past kind (cursor self.entry place) }
+    {
+        if self.stands(place, kind) {
+            self.behind(place)
+        } else {
+            place
+        }
+    }
+
+    /// The place after the next token, a semicolon, which ends nothing.
+    pub fn behind_semicolon(self, place: Place) -> Place
+        ensures { cursor self.entry result ≡ behind_semicolon (cursor self.entry place) }
+    {
+        Place {
+            at: self.behind(place).at,
+            end: place.end,
+        }
+    }
+
+    /// Whether a closing bracket or brace stands next.
+    pub fn closes(self, place: Place) -> bool
+        ensures { result ≡ is_next is_closing (cursor self.entry place) }
+    {
+        match self.tokens.get(place.at) {
+            Some(first) => is_closing(first.kind),
+            None => false,
+        }
+    }
+
+    /// Whether a type can begin with the next token.
+    pub fn begins_type(self, place: Place) -> bool
+        ensures { result ≡ is_next can_begin_type (cursor self.entry place) }
+    {
+        match self.tokens.get(place.at) {
+            Some(first) => can_begin_type(first.kind),
+            None => false,
+        }
+    }
+
+    /// Whether a string stands next.
+    pub fn has_string(self, place: Place) -> bool
+        ensures { result ≡ is_next is_string (cursor self.entry place) }
+    {
+        match self.tokens.get(place.at) {
+            Some(first) => is_string(first.kind),
+            None => false,
+        }
+    }
+
+    /// Whether a statement that could go on with an expression ends before the next token.
+    pub fn ends(self, place: Place) -> bool
+        ensures { result ≡ is_next is_end (cursor self.entry place) }
+    {
+        match self.tokens.get(place.at) {
+            Some(first) => is_end(first.kind),
+            None => false,
+        }
+    }
+
+    /// Whether the statements of a block or a clause end before the next token.
+    pub fn ends_statements(self, place: Place) -> bool
+        ensures { result ≡ is_next ends_statements (cursor self.entry place) }
+    {
+        match self.tokens.get(place.at) {
+            Some(first) => ends_statements(first.kind),
+            None => false,
+        }
+    }
+
+    /// Whether the next token can follow the name of an embedded type.
+    pub fn follows_embedded(self, place: Place) -> bool
+        ensures { result ≡ is_next follows_embedded (cursor self.entry place) }
+    {
+        match self.tokens.get(place.at) {
+            Some(first) => follows_embedded(first.kind),
+            None => false,
+        }
+    }
+
+    /// The operator before an operand that stands next.
+    pub fn next_unary_operator(self, place: Place) -> Option<UnaryOperator>
+        ensures { result ≡ of_next unary_operator (cursor self.entry place) }
+    {
+        match self.tokens.get(place.at) {
+            Some(first) => unary_operator(first.kind),
+            None => None,
+        }
+    }
+
+    /// The operator between two operands that stands next.
+    pub fn next_binary_operator(self, place: Place) -> Option<BinaryOperator>
+        ensures { result ≡ of_next binary_operator (cursor self.entry place) }
+    {
+        match self.tokens.get(place.at) {
+            Some(first) => binary_operator(first.kind),
+            None => None,
+        }
+    }
+
+    /// The operator of an assignment such as `+=` that stands next.
+    pub fn next_assigning_operator(self, place: Place) -> Option<BinaryOperator>
+        ensures { result ≡ of_next assigning_operator (cursor self.entry place) }
+    {
+        match self.tokens.get(place.at) {
+            Some(first) => assigning_operator(first.kind),
+            None => None,
+        }
+    }
+
+    /// The literal of one token that stands next.
+    pub fn next_literal_kind(self, place: Place) -> Option<BasicLitKind>
+        ensures { result ≡ of_next literal_kind (cursor self.entry place) }
+    {
+        match self.tokens.get(place.at) {
+            Some(first) => literal_kind(first.kind),
+            None => None,
+        }
+    }
+
+    /// The word of a declaration that stands next.
+    pub fn next_declaration_keyword(self, place: Place) -> Option<DeclKeyword>
+        ensures { result ≡ of_next declaration_keyword (cursor self.entry place) }
+    {
+        match self.tokens.get(place.at) {
+            Some(first) => declaration_keyword(first.kind),
+            None => None,
+        }
+    }
+
+    /// The place after a semicolon, which may be missing before a closing bracket or brace.
+    ///
+    /// # Errors
+    ///
+    /// Where another token stands.
+    #[tactic(auto, unfolding(tree_reader::specs::Reading::take_semicolon))]
+    pub fn semicolon(self, place: Place) -> Result<Place, Stop>
+        ensures { Gives (cursor self.entry) result (take_semicolon (cursor self.entry place)) }
+    {
+        if self.stands(place, TokenKind::Semicolon) {
+            return Ok(self.behind_semicolon(place));
+        }
+        if self.closes(place) {
+            Ok(place)
+        } else {
+            Err(self.unexpected(place))
+        }
+    }
+
+    /// How many tokens are left, and one more.
+    pub fn steps(self, place: Place) -> usize
+        ensures { result ≡ steps (cursor self.entry place) }
+    {
+        self.tokens.len().saturating_sub(place.at) + 1
+    }
+
+    /// The place after all semicolons that stand next.
+    pub fn skip_semicolons(self, place: Place) -> Place
+        ensures { cursor self.entry result ≡ skip_semicolons (cursor self.entry place) }
+    {
+        let mut after = place;
+        while self.stands(after, TokenKind::Semicolon) {
+            after = self.behind_semicolon(after);
+        }
+        after
+    }
+
+    /// The offset at which the next token begins.
+    pub fn start(self, place: Place) -> u32
+        ensures { result ≡ start_at (cursor self.entry place) }
+    {
+        match self.tokens.get(place.at) {
+            Some(first) => first.start,
+            None => place.end,
+        }
+    }
+
+    /// The bytes from the next token up to the end of the last one that was taken before `end`.
+    pub fn span_to(self, place: Place, end: Place) -> Span
+        ensures { result ≡ span_between (cursor self.entry place) (cursor self.entry end) }
+    {
+        Span {
+            start: self.start(place),
+            end: end.end,
+        }
+    }
+
+    /// That the next token can't stand here, or is of a form that is left out. At the end of the tokens it is the
+    /// text's end; a longer text than an offset can name has no tokens. Where the tokens go on as an expression that
+    /// asks for a type as only a `switch` does, the word `type` is what can't stand here.
+    pub fn unexpected(self, place: Place) -> Stop
+        ensures { IsNoMemory result }
+    {
+        let wrong = if self.asks_for_type(place) {
+            self.behind(self.behind(place))
+        } else {
+            place
+        };
+        match self.tokens.get(wrong.at) {
+            None => Stop::Unexpected(self.text.len().min(u32::MAX as usize) as u32),
+            Some(first) => match first.kind {
+                TokenKind::GotoKeyword => Stop::LeftOut(LeftOut::Goto, first.start),
+                TokenKind::FallthroughKeyword => Stop::LeftOut(LeftOut::Fallthrough, first.start),
+                TokenKind::Tilde => Stop::LeftOut(LeftOut::TypeParameters, first.start),
+                _ => Stop::Unexpected(first.start),
+            },
+        }
+    }
+
+    /// Whether `.(type` stands next, after what can be the end of an operand.
+    fn asks_for_type(self, place: Place) -> bool {
+        let inner = self.behind(place);
+        let before = Place {
+            at: place.at.saturating_sub(1),
+            end: place.end,
+        };
+        self.stands(place, TokenKind::Dot)
+            && self.stands(inner, TokenKind::LeftParenthesis)
+            && self.stands(self.behind(inner), TokenKind::TypeKeyword)
+            && self.ends_operand(before)
+    }
+
+    /// Whether an operand can end with the next token.
+    fn ends_operand(self, place: Place) -> bool {
+        match self.peek(place) {
+            Some(kind) => matches!(
+                kind,
+                TokenKind::Identifier
+                    | TokenKind::Number
+                    | TokenKind::Rune
+                    | TokenKind::InterpretedString
+                    | TokenKind::RawString
+                    | TokenKind::RightParenthesis
+                    | TokenKind::RightBracket
+                    | TokenKind::RightBrace
+            ),
+            None => false,
+        }
+    }
+
+    /// The place of the first token from here on that begins at this offset or after it.
+    pub fn first_from(self, place: Place, offset: u32) -> Place {
+        let mut at = place.at;
+        for _ in 0..self.tokens.len() {
+            match self.tokens.get(at) {
+                Some(token) if token.start < offset => at += 1,
+                _ => break,
+            }
+        }
+        Place { at, end: place.end }
+    }
+}

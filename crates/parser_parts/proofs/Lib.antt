@@ -1,0 +1,10 @@
+pub mod ExpressionLists
+pub mod StatementLists
+pub mod ElementLists
+pub mod FieldLists
+pub mod ParameterLists
+pub mod NamedItems
+pub mod SpecLists
+pub mod Operators
+pub mod Suffixes
+pub mod GrownExpressions

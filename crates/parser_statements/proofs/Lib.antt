@@ -1,0 +1,7 @@
+pub mod SimpleParts
+pub mod Begins
+pub mod LoopHeads
+pub mod ShallowCalls
+pub mod ClauseLists
+pub mod Communications
+pub mod TypeGuards

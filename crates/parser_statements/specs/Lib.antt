@@ -1,0 +1,4 @@
+pub mod Headers
+pub mod Guards
+pub mod Clauses
+pub mod Starts

@@ -1,0 +1,256 @@
+//! `for` (the Go specification, "For statements").
+
+ghost use Rattle.std.specs.Prelude.{◌≡◌, ◌&&◌, map};
+ghost use Rattle.lexer.specs.declared.token.TokenKind.TheVariants.{RangeKeyword};
+ghost use Rattle.tree.specs.Syntax.{for_statement, range_assignment, range_definition};
+ghost use Rattle.tree.specs.View.{identifier_syntax, expressions_syntax, optional_expression_syntax, optional_statement_syntax, statement_syntax};
+ghost use Rattle.parser_base.specs.Gives.{Gives};
+ghost use Rattle.parser_base.specs.Parts.{ReadsExpressions, ReadsStatements};
+ghost use Rattle.parser_base.specs.Places.{cursor, seen, parts_of};
+ghost use Rattle.tree_reader.specs.Reader.{read_loop, read_post, read_clauses, read_range, read_for_after, read_for};
+ghost use Rattle.tree_reader.specs.Reading.{stands, behind};
+
+use crate::simple::{as_part, names_of, only_expression, simple, simple_after};
+use lexer::TokenKind;
+use parser_base::cursor::{Place, Read, Source};
+use parser_base::fault::Stop;
+use parser_base::holding;
+use parser_base::parts::{Wanted, expression};
+use parser_parts::blocks::block;
+use parser_parts::lists::{expression_unless, expressions};
+use tree::{Expr, Identifier, Stmt};
+use tree_hold::boxed;
+use tree_make as make;
+
+/// What stands between `for` and the block, where that is no range.
+struct LoopHead {
+    init: Option<Box<Stmt>>,
+    condition: Option<Box<Expr>>,
+    post: Option<Box<Stmt>>,
+    has_semicolons: bool,
+}
+
+/// The block of a loop that began at `from` with this head.
+#[tactic(auto, unfolding(tree_reader::specs::Reader::read_loop))]
+fn loop_of<S: Fn(Place) -> Read<Stmt>>(
+    source: Source<'_>,
+    statements: &S,
+    from: Place,
+    head: LoopHead,
+    place: Place,
+) -> Read<Stmt>
+    requires { ReadsStatements source (S.pre statements.now) (S.post statements.now) }
+    ensures { Gives (seen source.entry statement_syntax) result (read_loop source.entry.text.now (parts_of source.entry)
+        source.entry.below (cursor source.entry from) (for_statement (optional_statement_syntax head.init)
+        (optional_expression_syntax head.condition) (optional_statement_syntax head.post) head.has_semicolons)
+        (cursor source.entry place)) }
+{
+    let LoopHead {
+        init,
+        condition,
+        post,
+        has_semicolons,
+    } = head;
+    let (body, end) =
+        holding!(optional_statement: init, optional_expression: condition, optional_statement: post; block(source,
+            statements, place));
+    let span = source.span_to(from, end);
+    Ok((
+        make::control::for_statement(init, condition, post, has_semicolons, body, span),
+        end,
+    ))
+}
+
+/// `range operand` and the block of a loop that began at `from` and assigns to these expressions.
+#[tactic(auto, unfolding(tree_reader::specs::Reader::read_range, tree_reader::specs::Reader::read_loop))]
+fn assigned_range<F: Fn(Wanted, Place) -> Read<Expr>, S: Fn(Place) -> Read<Stmt>>(
+    source: Source<'_>,
+    parts: &F,
+    statements: &S,
+    from: Place,
+    left: Vec<Expr>,
+    place: Place,
+) -> Read<Stmt>
+    requires expressions { ReadsExpressions source (F.pre parts.now) (F.post parts.now) }
+    requires statements { ReadsStatements source (S.pre statements.now) (S.post statements.now) }
+    ensures { Gives (seen source.entry statement_syntax) result (read_range source.entry.text.now (parts_of
+        source.entry) source.entry.below (cursor source.entry from) (range_assignment (expressions_syntax left.items))
+        (cursor source.entry place)) }
+{
+    let (operand, rest) =
+        holding!(expressions: left; expression(source, parts, true, 1, source.behind(place)));
+    let kept = holding!(expressions: left; memory boxed::expression(source.alloc, operand));
+    let (body, end) =
+        holding!(expressions: left, boxed_expression: kept; block(source, statements, rest));
+    let span = source.span_to(from, end);
+    Ok((make::control::range_assignment(left, kept, body, span), end))
+}
+
+/// `range operand` and the block of a loop that began at `from` and defines these names.
+#[tactic(auto, unfolding(tree_reader::specs::Reader::read_range, tree_reader::specs::Reader::read_loop))]
+fn defined_range<F: Fn(Wanted, Place) -> Read<Expr>, S: Fn(Place) -> Read<Stmt>>(
+    source: Source<'_>,
+    parts: &F,
+    statements: &S,
+    from: Place,
+    names: Vec<Identifier>,
+    place: Place,
+) -> Read<Stmt>
+    requires expressions { ReadsExpressions source (F.pre parts.now) (F.post parts.now) }
+    requires statements { ReadsStatements source (S.pre statements.now) (S.post statements.now) }
+    ensures { Gives (seen source.entry statement_syntax) result (read_range source.entry.text.now (parts_of
+        source.entry) source.entry.below (cursor source.entry from) (range_definition (map identifier_syntax
+        names.items)) (cursor source.entry place)) }
+{
+    let (operand, rest) = expression(source, parts, true, 1, source.behind(place))?;
+    let kept = boxed::expression(source.alloc, operand)?;
+    let (body, end) = holding!(boxed_expression: kept; block(source, statements, rest));
+    let span = source.span_to(from, end);
+    Ok((
+        make::control::range_definition(names, kept, body, span),
+        end,
+    ))
+}
+
+/// The statement after a loop's second semicolon, or none before its block.
+fn read_post<F: Fn(Wanted, Place) -> Read<Expr>>(
+    source: Source<'_>,
+    parts: &F,
+    place: Place,
+) -> Read<Option<Box<Stmt>>>
+    requires { ReadsExpressions source (F.pre parts.now) (F.post parts.now) }
+    ensures { Gives (seen source.entry optional_statement_syntax) result (read_post source.entry.text.now (parts_of
+        source.entry) source.entry.below (cursor source.entry place)) }
+{
+    if source.stands(place, TokenKind::LeftBrace) {
+        return Ok((None, place));
+    }
+    let (post, end) = simple(source, parts, true, place)?;
+    let kept = as_part(source, post)?;
+    Ok((kept, end))
+}
+
+/// `condition; post` and the block, after the first semicolon of a loop that began at `from`.
+#[tactic(auto, unfolding(tree_reader::specs::Reader::read_clauses))]
+fn clauses<F: Fn(Wanted, Place) -> Read<Expr>, S: Fn(Place) -> Read<Stmt>>(
+    source: Source<'_>,
+    parts: &F,
+    statements: &S,
+    from: Place,
+    init: Option<Box<Stmt>>,
+    place: Place,
+) -> Read<Stmt>
+    requires expressions { ReadsExpressions source (F.pre parts.now) (F.post parts.now) }
+    requires statements { ReadsStatements source (S.pre statements.now) (S.post statements.now) }
+    ensures { Gives (seen source.entry statement_syntax) result (read_clauses source.entry.text.now (parts_of
+        source.entry) source.entry.below (cursor source.entry from) (optional_statement_syntax init) (cursor
+        source.entry place)) }
+{
+    let (condition, rest) =
+        holding!(optional_statement: init; expression_unless(source, parts, TokenKind::Semicolon, true, place));
+    holding!(optional_statement: init, optional_expression: condition; source.take(rest, TokenKind::Semicolon));
+    let after = source.behind_semicolon(rest);
+    let (post, end) =
+        holding!(optional_statement: init, optional_expression: condition; read_post(source, parts, after));
+    let head = LoopHead {
+        init,
+        condition,
+        post,
+        has_semicolons: true,
+    };
+    loop_of(source, statements, from, head, end)
+}
+
+/// Whether a token of this kind and `range` stand next.
+fn has_range(source: Source<'_>, kind: TokenKind, place: Place) -> bool
+    ensures { result ≡ (stands kind (cursor source.entry place) && stands RangeKeyword (behind (cursor source.entry
+        place))) }
+{
+    source.stands(place, kind) && source.stands(source.behind(place), TokenKind::RangeKeyword)
+}
+
+/// A loop that began at `from` and whose header begins at `start` with these expressions.
+#[tactic(auto, unfolding(tree_reader::specs::Reader::read_for_after))]
+fn loop_after<F: Fn(Wanted, Place) -> Read<Expr>, S: Fn(Place) -> Read<Stmt>>(
+    source: Source<'_>,
+    parts: &F,
+    statements: &S,
+    from: Place,
+    start: Place,
+    left: Vec<Expr>,
+    place: Place,
+) -> Read<Stmt>
+    requires expressions { ReadsExpressions source (F.pre parts.now) (F.post parts.now) }
+    requires statements { ReadsStatements source (S.pre statements.now) (S.post statements.now) }
+    ensures { Gives (seen source.entry statement_syntax) result (read_for_after source.entry.text.now (parts_of
+        source.entry) source.entry.below (cursor source.entry from) (cursor source.entry start) (expressions_syntax
+        left.items) (cursor source.entry place)) }
+{
+    if has_range(source, TokenKind::Define, place) {
+        let names = names_of(source, left, place)?;
+        return defined_range(source, parts, statements, from, names, source.behind(place));
+    }
+    if has_range(source, TokenKind::Assign, place) {
+        return assigned_range(source, parts, statements, from, left, source.behind(place));
+    }
+    let (first, rest) = simple_after(source, parts, true, start, left, place)?;
+    if source.stands(rest, TokenKind::Semicolon) {
+        let init = as_part(source, first)?;
+        return clauses(
+            source,
+            parts,
+            statements,
+            from,
+            init,
+            source.behind_semicolon(rest),
+        );
+    }
+    let condition = only_expression(source, first, rest)?;
+    let kept = boxed::expression(source.alloc, condition)?;
+    let head = LoopHead {
+        init: None,
+        condition: Some(kept),
+        post: None,
+        has_semicolons: false,
+    };
+    loop_of(source, statements, from, head, rest)
+}
+
+/// `for`, at its word.
+///
+/// # Errors
+///
+/// Where another token stands, where it is too deep, and out of memory.
+#[tactic(auto, unfolding(tree_reader::specs::Reader::read_for))]
+pub fn repetition<F: Fn(Wanted, Place) -> Read<Expr>, S: Fn(Place) -> Read<Stmt>>(
+    source: Source<'_>,
+    parts: &F,
+    statements: &S,
+    place: Place,
+) -> Read<Stmt>
+    requires expressions { ReadsExpressions source (F.pre parts.now) (F.post parts.now) }
+    requires statements { ReadsStatements source (S.pre statements.now) (S.post statements.now) }
+    ensures { Gives (seen source.entry statement_syntax) result (read_for source.entry.text.now (parts_of source.entry)
+        source.entry.below (cursor source.entry place)) }
+{
+    let start = source.behind(place);
+    if source.stands(start, TokenKind::LeftBrace) {
+        let head = LoopHead {
+            init: None,
+            condition: None,
+            post: None,
+            has_semicolons: false,
+        };
+        return loop_of(source, statements, place, head, start);
+    }
+    if source.stands(start, TokenKind::RangeKeyword) {
+        let left = Vec::new(source.alloc);
+        return assigned_range(source, parts, statements, place, left, start);
+    }
+    if source.stands(start, TokenKind::Semicolon) {
+        let after = source.behind_semicolon(start);
+        return clauses(source, parts, statements, place, None, after);
+    }
+    let (left, rest) = expressions(source, parts, true, start)?;
+    loop_after(source, parts, statements, place, start, left, rest)
+}

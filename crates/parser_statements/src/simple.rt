@@ -1,0 +1,220 @@
+//! Simple statements (the Go specification, "Simple statements").
+
+ghost use Rattle.std.specs.Prelude.{◌≡◌, false, map};
+ghost use Rattle.lexer.specs.declared.token.TokenKind.TheVariants.{Define as define_token, Assign as assign_token};
+ghost use Rattle.tree.specs.Syntax.{expression_and, no_expression};
+ghost use Rattle.tree.specs.View.{identifier_syntax, expression_syntax, expressions_syntax, optional_statement_syntax, statement_syntax};
+ghost use Rattle.parser_base.specs.Gives.{Gives};
+ghost use Rattle.parser_base.specs.Parts.{ReadsExpressions};
+ghost use Rattle.parser_base.specs.Places.{cursor, seen, parts_of};
+ghost use Rattle.tree_reader.specs.Reader.{as_identifier, as_identifiers, single, read_simple, read_simple_after, as_part, statement_expression};
+ghost use Rattle.tree_reader.specs.Reading.{stands};
+
+use lexer::TokenKind;
+use parser_base::cursor::{Place, Read, Source};
+use parser_base::fault::Stop;
+use parser_base::holding;
+use parser_base::parts::{Wanted, expression, statement_fits};
+use parser_parts::lists::expressions;
+use tree::{Expr, ExprKind, Identifier, Stmt, StmtKind};
+use tree_hold::{boxed, release};
+use tree_make as make;
+
+/// The name that an expression is.
+///
+/// # Errors
+///
+/// Where it is another expression.
+fn name_of(source: Source<'_>, item: Expr, place: Place) -> Result<Identifier, Stop>
+    ensures { Gives identifier_syntax result (as_identifier (expression_syntax item)) }
+{
+    let Expr { kind, span } = item;
+    match kind {
+        ExprKind::Name(text) => Ok(Identifier { text, span }),
+        other => {
+            release::expression(Expr { kind: other, span });
+            Err(source.unexpected(place))
+        }
+    }
+}
+
+/// The names that expressions are.
+///
+/// # Errors
+///
+/// Where one of them is another expression, and out of memory.
+pub fn names_of(source: Source<'_>, list: Vec<Expr>, place: Place) -> Result<Vec<Identifier>, Stop>
+    ensures { Gives (λ ns. map identifier_syntax ns.items) result (as_identifiers (expressions_syntax list.items)) }
+{
+    let mut left = list;
+    left.reverse();
+    let mut names = Vec::new(source.alloc);
+    while let Some(item) = left.pop() {
+        let name = holding!(expressions: left; name_of(source, item, place));
+        holding!(expressions: left; memory names.push(name));
+    }
+    release::expressions(left);
+    Ok(names)
+}
+
+/// The only one of some expressions.
+///
+/// # Errors
+///
+/// Where there are none or more.
+pub fn single(source: Source<'_>, list: Vec<Expr>, place: Place) -> Result<Expr, Stop>
+    ensures { Gives expression_syntax result (single (expressions_syntax list.items)) }
+{
+    let mut left = list;
+    match left.pop() {
+        Some(only) => if left.is_empty() {
+            release::expressions(left);
+            Ok(only)
+        } else {
+            release::expression(only);
+            release::expressions(left);
+            Err(source.unexpected(place))
+        },
+        None => {
+            release::expressions(left);
+            Err(source.unexpected(place))
+        }
+    }
+}
+
+/// A simple statement that began at `from` with one expression.
+///
+/// # Errors
+///
+/// Where another token stands, and out of memory.
+#[tactic(auto, unfolding(tree_reader::specs::Reader::read_simple_after))]
+fn one_operand<F: Fn(Wanted, Place) -> Read<Expr>>(
+    source: Source<'_>,
+    parts: &F,
+    header: bool,
+    from: Place,
+    left: Expr,
+    place: Place,
+) -> Read<Stmt>
+    requires expressions { ReadsExpressions source (F.pre parts.now) (F.post parts.now) }
+    requires defines_none { stands define_token (cursor source place) ≡ false }
+    requires assigns_none { stands assign_token (cursor source place) ≡ false }
+    ensures { Gives (seen source.entry statement_syntax) result (read_simple_after source.entry.text.now (parts_of
+        source.entry) source.entry.below header (cursor source.entry from) (expression_and (expression_syntax left)
+        no_expression) (cursor source.entry place)) }
+{
+    let end = source.behind(place);
+    if let Some(operator) = source.next_assigning_operator(place) {
+        let (right, end) = holding!(expression: left; expression(source, parts, header, 1, end));
+        let span = source.span_to(from, end);
+        return Ok((
+            make::statement::operator_assignment(operator, left, right, span),
+            end,
+        ));
+    }
+    if source.stands(place, TokenKind::Arrow) {
+        let (value, end) = holding!(expression: left; expression(source, parts, header, 1, end));
+        let span = source.span_to(from, end);
+        return Ok((make::statement::send_statement(left, value, span), end));
+    }
+    let span = source.span_to(from, end);
+    if source.stands(place, TokenKind::Increment) {
+        return Ok((make::statement::increment_statement(left, span), end));
+    }
+    if source.stands(place, TokenKind::Decrement) {
+        return Ok((make::statement::decrement_statement(left, span), end));
+    }
+    let span = source.span_to(from, place);
+    Ok((make::statement::expression_statement(left, span), place))
+}
+
+/// A simple statement that began at `from` with these expressions.
+///
+/// # Errors
+///
+/// Where another token stands, and out of memory.
+#[tactic(auto, unfolding(tree_reader::specs::Reader::read_simple_after))]
+pub fn simple_after<F: Fn(Wanted, Place) -> Read<Expr>>(
+    source: Source<'_>,
+    parts: &F,
+    header: bool,
+    from: Place,
+    left: Vec<Expr>,
+    place: Place,
+) -> Read<Stmt>
+    requires { ReadsExpressions source (F.pre parts.now) (F.post parts.now) }
+    ensures { Gives (seen source.entry statement_syntax) result (read_simple_after source.entry.text.now (parts_of
+        source.entry) source.entry.below header (cursor source.entry from) (expressions_syntax left.items) (cursor
+        source.entry place)) }
+{
+    if source.stands(place, TokenKind::Define) {
+        let names = names_of(source, left, place)?;
+        let (right, end) = expressions(source, parts, header, source.behind(place))?;
+        let span = source.span_to(from, end);
+        return Ok((make::statement::define_statement(names, right, span), end));
+    }
+    if source.stands(place, TokenKind::Assign) {
+        let (right, end) =
+            holding!(expressions: left; expressions(source, parts, header, source.behind(place)));
+        let span = source.span_to(from, end);
+        return Ok((make::statement::assignment(left, right, span), end));
+    }
+    let only = single(source, left, place)?;
+    one_operand(source, parts, header, from, only, place)
+}
+
+/// A simple statement.
+///
+/// # Errors
+///
+/// Where another token stands, and out of memory.
+#[tactic(auto, unfolding(tree_reader::specs::Reader::read_simple))]
+pub fn simple<F: Fn(Wanted, Place) -> Read<Expr>>(
+    source: Source<'_>,
+    parts: &F,
+    header: bool,
+    place: Place,
+) -> Read<Stmt>
+    requires { ReadsExpressions source (F.pre parts.now) (F.post parts.now) }
+    ensures { Gives (seen source.entry statement_syntax) result (read_simple source.entry.text.now (parts_of
+        source.entry) source.entry.below header (cursor source.entry place)) }
+{
+    let (left, rest) = expressions(source, parts, header, place)?;
+    simple_after(source, parts, header, place, left, rest)
+}
+
+/// A statement as a part of another.
+///
+/// # Errors
+///
+/// Where it is too deep, and out of memory.
+pub fn as_part(source: Source<'_>, part: Stmt) -> Result<Option<Box<Stmt>>, Stop>
+    ensures { Gives (optional_statement_syntax) result (as_part source.entry.text.now (parts_of source.entry)
+        source.entry.below (statement_syntax part)) }
+{
+    if !statement_fits(source, &part) {
+        release::statement(part);
+        return Err(Stop::TooDeep);
+    }
+    let kept = boxed::statement(source.alloc, part)?;
+    Ok(Some(kept))
+}
+
+/// The expression that a statement is, which ends before this place.
+///
+/// # Errors
+///
+/// Where it is another statement.
+pub fn only_expression(source: Source<'_>, statement: Stmt, place: Place) -> Result<Expr, Stop>
+    ensures { Gives (expression_syntax) result (statement_expression source.entry.text.now (parts_of source.entry)
+        source.entry.below (statement_syntax statement)) }
+{
+    let Stmt { kind, span } = statement;
+    match kind {
+        StmtKind::Expr(only) => Ok(only),
+        other => {
+            release::statement(Stmt { kind: other, span });
+            Err(source.unexpected(place))
+        }
+    }
+}

@@ -1,0 +1,303 @@
+//! Statements (the Go specification, "Statements").
+
+ghost use Rattle.std.specs.Prelude.{◌≡◌, true, nat_le, if◌then◌else◌};
+ghost use Rattle.tree.specs.Syntax.{go_statement, defer_statement, break_statement, continue_statement};
+ghost use Rattle.tree.specs.View.{expression_syntax, statement_syntax};
+ghost use Rattle.meaning.specs.WellFormed.{is_call};
+ghost use Rattle.parser_base.specs.Gives.{Gives};
+ghost use Rattle.parser_base.specs.Parts.{ReadsExpressions, ReadsStatements};
+ghost use Rattle.parser_base.specs.Places.{cursor, seen, parts_of};
+ghost use Rattle.parser_statements.specs.Starts.{start_of, next_start, read_named, read_start};
+ghost use Rattle.tree_reader.specs.Reader.{read_after_label, read_labeled, read_started, read_return, read_branch, read_block_statement, read_other_statement, read_statement_of};
+
+use crate::branches::choice;
+use crate::loops::repetition;
+use crate::selects::select;
+use crate::simple::simple;
+use crate::switches::switch;
+use lexer::TokenKind;
+use parser_base::cursor::{Place, Read, Source};
+use parser_base::fault::Stop;
+use parser_base::names::{identifier, optional_identifier};
+use parser_base::parts::{Wanted, expression, statement};
+use parser_parts::blocks::block;
+use parser_parts::declarations::declaration;
+use parser_parts::lists::expressions;
+use tree::{Expr, ExprKind, Span, Stmt};
+use tree_hold::{boxed, release};
+use tree_make as make;
+
+/// The level of primary expressions.
+const PRIMARY_LEVEL: u32 = 7;
+
+/// What a statement is that begins with a token, but for declarations.
+#[derive(Clone, Copy)]
+enum Start {
+    Name,
+    Block,
+    If,
+    For,
+    Switch,
+    Select,
+    Return,
+    Go,
+    Defer,
+    Break,
+    Continue,
+    Simple,
+}
+
+/// What a statement is that begins with such a token.
+fn start_of(kind: TokenKind) -> Start
+    ensures { result ≡ start_of kind }
+{
+    match kind {
+        TokenKind::Identifier => Start::Name,
+        TokenKind::LeftBrace => Start::Block,
+        TokenKind::IfKeyword => Start::If,
+        TokenKind::ForKeyword => Start::For,
+        TokenKind::SwitchKeyword => Start::Switch,
+        TokenKind::SelectKeyword => Start::Select,
+        TokenKind::ReturnKeyword => Start::Return,
+        TokenKind::GoKeyword => Start::Go,
+        TokenKind::DeferKeyword => Start::Defer,
+        TokenKind::BreakKeyword => Start::Break,
+        TokenKind::ContinueKeyword => Start::Continue,
+        _ => Start::Simple,
+    }
+}
+
+/// What a statement is that begins with the next token.
+fn next_start(source: Source<'_>, place: Place) -> Start
+    ensures { result ≡ next_start (cursor source.entry place) }
+{
+    match source.tokens.get(place.at) {
+        Some(first) => start_of(first.kind),
+        None => Start::Simple,
+    }
+}
+
+/// The statement after a label, which may be empty.
+fn after_label<S: Fn(Place) -> Read<Stmt>>(
+    source: Source<'_>,
+    statements: &S,
+    place: Place,
+) -> Read<Stmt>
+    requires { ReadsStatements source (S.pre statements.now) (S.post statements.now) }
+    ensures { Gives (seen source.entry statement_syntax) result (read_after_label source.entry.text.now (parts_of
+        source.entry) source.entry.below (cursor source.entry place)) }
+{
+    if !source.ends(place) {
+        return statement(source, statements, place);
+    }
+    if 1 <= source.below {
+        let span = Span {
+            start: place.end,
+            end: place.end,
+        };
+        return Ok((make::statement::empty_statement(span), place));
+    }
+    Err(Stop::TooDeep)
+}
+
+/// A label and its statement.
+#[tactic(auto, unfolding(tree_reader::specs::Reader::read_labeled))]
+fn labeled<S: Fn(Place) -> Read<Stmt>>(
+    source: Source<'_>,
+    statements: &S,
+    place: Place,
+) -> Read<Stmt>
+    requires { ReadsStatements source (S.pre statements.now) (S.post statements.now) }
+    ensures { Gives (seen source.entry statement_syntax) result (read_labeled source.entry.text.now (parts_of
+        source.entry) source.entry.below (cursor source.entry place)) }
+{
+    let (label, rest) = identifier(source, place)?;
+    let (inner, end) = after_label(source, statements, source.behind(rest))?;
+    let kept = boxed::statement(source.alloc, inner)?;
+    Ok((
+        make::statement::labeled_statement(label, kept, source.span_to(place, end)),
+        end,
+    ))
+}
+
+/// A statement that begins with a name.
+fn named<F: Fn(Wanted, Place) -> Read<Expr>, S: Fn(Place) -> Read<Stmt>>(
+    source: Source<'_>,
+    parts: &F,
+    statements: &S,
+    place: Place,
+) -> Read<Stmt>
+    requires expressions { ReadsExpressions source (F.pre parts.now) (F.post parts.now) }
+    requires statements { ReadsStatements source (S.pre statements.now) (S.post statements.now) }
+    ensures { Gives (seen source.entry statement_syntax) result (read_named source.entry.text.now (parts_of
+        source.entry) source.entry.below (cursor source.entry place)) }
+{
+    if source.stands(source.behind(place), TokenKind::Colon) {
+        labeled(source, statements, place)
+    } else {
+        simple(source, parts, false, place)
+    }
+}
+
+/// Whether it is a call.
+#[tactic(auto, unfolding(tree::specs::View::expression_form))]
+fn is_call(operand: &Expr) -> bool
+    ensures { result ≡ is_call (expression_syntax operand.now) }
+{
+    matches!(operand.kind, ExprKind::Call(_, _, _))
+}
+
+/// The call that `go` and `defer` take, after the word.
+#[tactic(auto, unfolding(tree_reader::specs::Reader::read_started))]
+fn started<F: Fn(Wanted, Place) -> Read<Expr>>(
+    source: Source<'_>,
+    parts: &F,
+    is_deferred: bool,
+    place: Place,
+) -> Read<Stmt>
+    requires { ReadsExpressions source (F.pre parts.now) (F.post parts.now) }
+    ensures { Gives (seen source.entry statement_syntax) result (read_started source.entry.text.now (parts_of
+        source.entry) source.entry.below (if is_deferred then defer_statement else go_statement) (cursor source.entry
+        place)) }
+{
+    // A call has an operand.
+    if source.below < 2 {
+        return Err(Stop::TooDeep);
+    }
+    let (call, end) = expression(source, parts, false, PRIMARY_LEVEL, source.behind(place))?;
+    if !is_call(&call) {
+        release::expression(call);
+        return Err(source.unexpected(end));
+    }
+    let span = source.span_to(place, end);
+    if is_deferred {
+        return Ok((make::statement::defer_statement(call, span), end));
+    }
+    Ok((make::statement::go_statement(call, span), end))
+}
+
+/// `return`.
+#[tactic(auto, unfolding(tree_reader::specs::Reader::read_return))]
+fn leave<F: Fn(Wanted, Place) -> Read<Expr>>(
+    source: Source<'_>,
+    parts: &F,
+    place: Place,
+) -> Read<Stmt>
+    requires { ReadsExpressions source (F.pre parts.now) (F.post parts.now) }
+    ensures { Gives (seen source.entry statement_syntax) result (read_return source.entry.text.now (parts_of
+        source.entry) source.entry.below (cursor source.entry place)) }
+{
+    let inner = source.behind(place);
+    if source.ends(inner) {
+        let span = source.span_to(place, inner);
+        return Ok((
+            make::statement::return_statement(Vec::new(source.alloc), span),
+            inner,
+        ));
+    }
+    let (values, end) = expressions(source, parts, false, inner)?;
+    Ok((
+        make::statement::return_statement(values, source.span_to(place, end)),
+        end,
+    ))
+}
+
+/// `break`, perhaps with a label.
+#[tactic(auto, unfolding(tree_reader::specs::Reader::read_branch))]
+fn broken(source: Source<'_>, place: Place) -> Read<Stmt>
+    ensures { Gives (seen source.entry statement_syntax) result (read_branch source.entry.text.now (parts_of
+        source.entry) source.entry.below break_statement (cursor source.entry place)) }
+{
+    let (label, end) = optional_identifier(source, source.behind(place))?;
+    Ok((
+        make::statement::break_statement(label, source.span_to(place, end)),
+        end,
+    ))
+}
+
+/// `continue`, perhaps with a label.
+#[tactic(auto, unfolding(tree_reader::specs::Reader::read_branch))]
+fn continued(source: Source<'_>, place: Place) -> Read<Stmt>
+    ensures { Gives (seen source.entry statement_syntax) result (read_branch source.entry.text.now (parts_of
+        source.entry) source.entry.below continue_statement (cursor source.entry place)) }
+{
+    let (label, end) = optional_identifier(source, source.behind(place))?;
+    Ok((
+        make::statement::continue_statement(label, source.span_to(place, end)),
+        end,
+    ))
+}
+
+/// A block as a statement.
+#[tactic(auto, unfolding(tree_reader::specs::Reader::read_block_statement))]
+fn braced<S: Fn(Place) -> Read<Stmt>>(
+    source: Source<'_>,
+    statements: &S,
+    place: Place,
+) -> Read<Stmt>
+    requires { ReadsStatements source (S.pre statements.now) (S.post statements.now) }
+    ensures { Gives (seen source.entry statement_syntax) result (read_block_statement source.entry.text.now (parts_of
+        source.entry) source.entry.below (cursor source.entry place)) }
+{
+    let (body, end) = block(source, statements, place)?;
+    Ok((
+        make::statement::block_statement(body, source.span_to(place, end)),
+        end,
+    ))
+}
+
+/// A statement that begins so.
+fn begun<F: Fn(Wanted, Place) -> Read<Expr>, S: Fn(Place) -> Read<Stmt>>(
+    source: Source<'_>,
+    parts: &F,
+    statements: &S,
+    start: Start,
+    place: Place,
+) -> Read<Stmt>
+    requires expressions { ReadsExpressions source (F.pre parts.now) (F.post parts.now) }
+    requires statements { ReadsStatements source (S.pre statements.now) (S.post statements.now) }
+    ensures { Gives (seen source.entry statement_syntax) result (read_start source.entry.text.now (parts_of
+        source.entry) source.entry.below start (cursor source.entry place)) }
+{
+    match start {
+        Start::Name => named(source, parts, statements, place),
+        Start::Block => braced(source, statements, place),
+        Start::If => choice(source, parts, statements, place),
+        Start::For => repetition(source, parts, statements, place),
+        Start::Switch => switch(source, parts, statements, place),
+        Start::Select => select(source, parts, statements, place),
+        Start::Return => leave(source, parts, place),
+        Start::Go => started(source, parts, false, place),
+        Start::Defer => started(source, parts, true, place),
+        Start::Break => broken(source, place),
+        Start::Continue => continued(source, place),
+        Start::Simple => simple(source, parts, false, place),
+    }
+}
+
+/// A statement.
+///
+/// # Errors
+///
+/// Where another token stands, where it is too deep, and out of memory.
+#[tactic(auto, using(crate::proofs::Begins::by_start), unfolding(tree_reader::specs::Reader::read_statement_of))]
+pub fn statement_of<F: Fn(Wanted, Place) -> Read<Expr>, S: Fn(Place) -> Read<Stmt>>(
+    source: Source<'_>,
+    parts: &F,
+    statements: &S,
+    place: Place,
+) -> Read<Stmt>
+    requires expressions { ReadsExpressions source (F.pre parts.now) (F.post parts.now) }
+    requires statements { ReadsStatements source (S.pre statements.now) (S.post statements.now) }
+    ensures { Gives (seen source.entry statement_syntax) result (read_statement_of source.entry.text.now (parts_of
+        source.entry) source.entry.below (cursor source.entry place)) }
+{
+    match source.next_declaration_keyword(place) {
+        Some(keyword) => {
+            let (declared, end) = declaration(source, parts, keyword, place)?;
+            let span = source.span_to(place, end);
+            Ok((make::statement::declaration_statement(declared, span), end))
+        }
+        None => begun(source, parts, statements, next_start(source, place), place),
+    }
+}

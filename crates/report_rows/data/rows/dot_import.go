@@ -1,0 +1,3 @@
+package a
+
+import /* want LC02 - left out: dot import */. "context"

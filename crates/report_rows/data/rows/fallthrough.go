@@ -1,0 +1,9 @@
+package a
+
+func f(x T) {
+	switch x {
+	case x:
+		/* want LC02 - left out: fallthrough */fallthrough
+	default:
+	}
+}

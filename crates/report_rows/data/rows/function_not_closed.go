@@ -1,0 +1,4 @@
+package a
+
+func f() {
+	return/* want LC02 - unexpected token */

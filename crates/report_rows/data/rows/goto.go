@@ -1,0 +1,5 @@
+package a
+
+func f() {
+	/* want LC02 - left out: goto */goto x
+}

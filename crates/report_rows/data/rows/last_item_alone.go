@@ -1,0 +1,3 @@
+package a
+
+func f(a int, b/* want LC02 - unexpected token */) {}

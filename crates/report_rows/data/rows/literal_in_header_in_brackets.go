@@ -1,0 +1,6 @@
+/* want LC02 - left out: first path */package a
+
+func f(x T) {
+	if x == (T{}) {
+	}
+}

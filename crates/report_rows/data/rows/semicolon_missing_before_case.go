@@ -1,0 +1,7 @@
+package a
+
+func f(x T) {
+	switch x {
+	case x: f(x) /* want LC02 - unexpected token */case y:
+	}
+}

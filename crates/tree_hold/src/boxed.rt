@@ -1,0 +1,50 @@
+//! Parts in boxes. Where memory runs out, the part is let go.
+
+ghost use Rattle.std.specs.Prelude.{◌≡◌, IfOk};
+
+use std::alloc::{AllocError, Global};
+use tree::{Expr, Literal, Signature, Stmt};
+
+/// An expression in a box.
+///
+/// # Errors
+///
+/// Out of memory.
+pub fn expression(alloc: Global, part: Expr) -> Result<Box<Expr>, AllocError>
+    ensures { IfOk result (λ kept. kept.value ≡ part) }
+{
+    Ok(Box::new(alloc, part)?)
+}
+
+/// A statement in a box.
+///
+/// # Errors
+///
+/// Out of memory.
+pub fn statement(alloc: Global, part: Stmt) -> Result<Box<Stmt>, AllocError>
+    ensures { IfOk result (λ kept. kept.value ≡ part) }
+{
+    Ok(Box::new(alloc, part)?)
+}
+
+/// A function literal in a box.
+///
+/// # Errors
+///
+/// Out of memory.
+pub fn literal(alloc: Global, part: Literal) -> Result<Box<Literal>, AllocError>
+    ensures { IfOk result (λ kept. kept.value ≡ part) }
+{
+    Ok(Box::new(alloc, part)?)
+}
+
+/// A signature in a box.
+///
+/// # Errors
+///
+/// Out of memory.
+pub fn signature(alloc: Global, part: Signature) -> Result<Box<Signature>, AllocError>
+    ensures { IfOk result (λ kept. kept.value ≡ part) }
+{
+    Ok(Box::new(alloc, part)?)
+}

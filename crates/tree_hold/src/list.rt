@@ -1,0 +1,111 @@
+//! Lists that grow by one part. Where memory runs out, all of it is let go.
+
+ghost use Rattle.std.specs.Prelude.{◌≡◌, ◌++◌, ◌∷◌, [], IfOk};
+
+use std::alloc::AllocError;
+use tree::{CaseClause, CommClause, Expr, Field, Param, Spec, Stmt, TopLevelDecl};
+
+/// A list, and an expression after it.
+///
+/// # Errors
+///
+/// Out of memory.
+pub fn with_expression(mut list: Vec<Expr>, part: Expr) -> Result<Vec<Expr>, AllocError>
+    ensures { IfOk result (λ longer. longer.items ≡ list.items ++ (part ∷ [])) }
+{
+    list.push(part)?;
+    Ok(list)
+}
+
+/// A list, and a statement after it.
+///
+/// # Errors
+///
+/// Out of memory.
+pub fn with_statement(mut list: Vec<Stmt>, part: Stmt) -> Result<Vec<Stmt>, AllocError>
+    ensures { IfOk result (λ longer. longer.items ≡ list.items ++ (part ∷ [])) }
+{
+    list.push(part)?;
+    Ok(list)
+}
+
+/// A list, and an item of a list of parameters after it.
+///
+/// # Errors
+///
+/// Out of memory.
+pub fn with_param(mut list: Vec<Param>, part: Param) -> Result<Vec<Param>, AllocError>
+    ensures { IfOk result (λ longer. longer.items ≡ list.items ++ (part ∷ [])) }
+{
+    list.push(part)?;
+    Ok(list)
+}
+
+/// A list, and a line of a struct or interface type after it.
+///
+/// # Errors
+///
+/// Out of memory.
+pub fn with_field(mut list: Vec<Field>, part: Field) -> Result<Vec<Field>, AllocError>
+    ensures { IfOk result (λ longer. longer.items ≡ list.items ++ (part ∷ [])) }
+{
+    list.push(part)?;
+    Ok(list)
+}
+
+/// A list, and a spec after it.
+///
+/// # Errors
+///
+/// Out of memory.
+pub fn with_spec(mut list: Vec<Spec>, part: Spec) -> Result<Vec<Spec>, AllocError>
+    ensures { IfOk result (λ longer. longer.items ≡ list.items ++ (part ∷ [])) }
+{
+    list.push(part)?;
+    Ok(list)
+}
+
+/// A list, and a clause of a `switch` after it.
+///
+/// # Errors
+///
+/// Out of memory.
+pub fn with_case_clause(
+    mut list: Vec<CaseClause>,
+    part: CaseClause,
+) -> Result<Vec<CaseClause>, AllocError>
+    ensures { IfOk result (λ longer. longer.items ≡ list.items ++ (part ∷ [])) }
+{
+    list.push(part)?;
+    Ok(list)
+}
+
+/// A list, and a clause of a `select` after it.
+///
+/// # Errors
+///
+/// Out of memory.
+pub fn with_communication_clause(
+    mut list: Vec<CommClause>,
+    part: CommClause,
+) -> Result<Vec<CommClause>, AllocError>
+    ensures { IfOk result (λ longer. longer.items ≡ list.items ++ (part ∷ [])) }
+{
+    list.push(part)?;
+    Ok(list)
+}
+
+/// A list, and a declaration after it.
+///
+/// # Errors
+///
+/// Out of memory.
+pub fn with_top_level(
+    mut list: Vec<TopLevelDecl>,
+    part: TopLevelDecl,
+) -> Result<Vec<TopLevelDecl>, AllocError>
+    ensures { IfOk result (λ longer. longer.items ≡ list.items ++ (part ∷ [])) }
+{
+    list.push(part)?;
+    Ok(list)
+}
