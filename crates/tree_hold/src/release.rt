@@ -1,7 +1,7 @@
 //! Letting parts go.
 
 use tree::{
-    Block, CaseClause, CommClause, Expr, Field, File, Func, Param, Signature, Spec, Stmt,
+    Block, CaseClause, CommClause, Decl, Expr, Field, File, Func, Param, Signature, Spec, Stmt,
     TopLevelDecl,
 };
 
@@ -20,6 +20,9 @@ pub fn expressions(_part: Vec<Expr>) {}
 /// Lets a statement go.
 pub fn statement(_part: Stmt) {}
 
+/// Lets a statement in a box go.
+pub fn boxed_statement(_part: Box<Stmt>) {}
+
 /// Lets a statement that may be missing go.
 pub fn optional_statement(_part: Option<Box<Stmt>>) {}
 
@@ -37,6 +40,9 @@ pub fn params(_part: Vec<Param>) {}
 
 /// Lets a signature go.
 pub fn signature(_part: Signature) {}
+
+/// Lets a line of a struct or interface type go.
+pub fn field(_part: Field) {}
 
 /// Lets lines of a struct or interface type go.
 pub fn fields(_part: Vec<Field>) {}
@@ -61,6 +67,24 @@ pub fn top_levels(_part: Vec<TopLevelDecl>) {}
 
 /// Lets a receiver that may be missing go.
 pub fn optional_params(_part: Option<Vec<Param>>) {}
+
+/// Lets a declaration go.
+pub fn decl(_part: Decl) {}
+
+/// Lets a clause of a `switch` go.
+pub fn case_clause(_part: CaseClause) {}
+
+/// Lets a clause of a `select` go.
+pub fn communication_clause(_part: CommClause) {}
+
+/// Lets an expression that may be missing, in no box go.
+pub fn optional_bare_expression(_part: Option<Expr>) {}
+
+/// Lets a statement that may be missing, in no box go.
+pub fn optional_bare_statement(_part: Option<Stmt>) {}
+
+/// Lets a block that may be missing go.
+pub fn optional_block(_part: Option<Block>) {}
 
 /// Lets a function go.
 pub fn function(_part: Func) {}
