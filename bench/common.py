@@ -57,14 +57,20 @@ def go_function(source):
     return "\n".join(lines + [f"\treturn {name(source)}, nil", "}", "", ""])
 
 
+def go_file(source, size):
+    """The text of a Go file of little over `size` bytes."""
+    text = 'package bench\n\nimport (\n\t"context"\n\t"fmt"\n\t"time"\n)\n\n'
+    while len(text) < size:
+        text += go_function(source)
+    return text.encode()
+
+
 def generate_go(folder, size):
     """Files of Go of about 40 kB each, `size` bytes in all, the same at each run."""
     source, names, made = random.Random(1), [], 0
     while made < size:
-        text = 'package bench\n\nimport (\n\t"context"\n\t"fmt"\n\t"time"\n)\n\n'
-        while len(text) < 40_000:
-            text += go_function(source)
-        names.append(write(folder, f"go{len(names)}.go", text.encode()))
+        text = go_file(source, 40_000)
+        names.append(write(folder, f"go{len(names)}.go", text))
         made += len(text)
     return names
 

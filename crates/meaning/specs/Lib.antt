@@ -8,6 +8,11 @@ pub mod TreeOfText
 pub mod Code
 pub mod Lists
 pub mod StatementCode
+-- Which declaration a name means: to be trusted.
+pub mod Scopes
+pub mod OuterBlocks
+pub mod TwoFunctions
+pub mod Declarations
 -- What is proved of them.
 pub mod Laws
 -- For a reader of the grammar: texts and trees to try it on.

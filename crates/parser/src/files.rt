@@ -21,8 +21,8 @@ use parser_base::holding;
 use parser_base::names::identifier;
 use parser_base::parts::Wanted;
 use parser_parts::blocks::block;
-use parser_parts::declarations::declaration;
 use parser_parts::signatures::{parameters, signature};
+use parser_statements::declarations::declaration;
 use tree::{Block, Expr, File, Func, Identifier, ImportDecl, Param, Stmt, TopLevelDecl};
 use tree_hold::{list, release};
 

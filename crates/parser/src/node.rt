@@ -1,6 +1,7 @@
 //! What the parts of a node are read by (the Go specification, "Expressions", "Types", "Statements"). Here the ends of
 //! the parser are tied: each node reads its parts by what reads nodes that may be one less deep.
 
+ghost use Rattle.std.specs.Prelude.{◌≡◌, ◌-◌};
 ghost use Rattle.tree.specs.View.{expression_syntax, statement_syntax};
 ghost use Rattle.parser_base.specs.Gives.{Gives};
 ghost use Rattle.parser_base.specs.Parts.{read_wanted};
@@ -9,9 +10,23 @@ ghost use Rattle.parser_base.specs.Places.{cursor, seen, parts_of};
 use parser_base::cursor::{Place, Read, Source};
 use parser_base::fault::Stop;
 use parser_base::parts::Wanted;
-use parser_parts::expressions::{expression_of, type_of, value_of};
+use parser_expressions::expressions::{expression_of, type_of, value_of};
 use parser_statements::statements::statement_of;
 use tree::{Expr, Stmt};
+
+/// The source of the parts of a node, which may be one less deep.
+fn one_less_deep(source: Source<'_>) -> Source<'_>
+    ensures text { result.text.now ≡ source.entry.text.now }
+    ensures tokens { result.tokens.now ≡ source.entry.tokens.now }
+    ensures below { result.below ≡ source.entry.below - 1 }
+{
+    Source {
+        alloc: source.alloc,
+        text: source.text,
+        tokens: source.tokens,
+        below: source.below.saturating_sub(1),
+    }
+}
 
 /// An expression, a type or an element, at most as deep as the source lets it be.
 ///
@@ -27,12 +42,7 @@ pub fn node(source: Source<'_>, wanted: Wanted, place: Place) -> Read<Expr>
     if source.below == 0 {
         return Err(Stop::TooDeep);
     }
-    let inner = Source {
-        alloc: source.alloc,
-        text: source.text,
-        tokens: source.tokens,
-        below: source.below - 1,
-    };
+    let inner = one_less_deep(source);
     let parts = |wanted: Wanted, place: Place| -> Read<Expr>
         ensures { Gives (seen inner.entry expression_syntax) result (read_wanted (parts_of inner.entry) wanted (cursor
             inner.entry place)) }
@@ -64,12 +74,7 @@ pub fn statement_node(source: Source<'_>, place: Place) -> Read<Stmt>
     if source.below == 0 {
         return Err(Stop::TooDeep);
     }
-    let inner = Source {
-        alloc: source.alloc,
-        text: source.text,
-        tokens: source.tokens,
-        below: source.below - 1,
-    };
+    let inner = one_less_deep(source);
     let parts = |wanted: Wanted, place: Place| -> Read<Expr>
         ensures { Gives (seen inner.entry expression_syntax) result (read_wanted (parts_of inner.entry) wanted (cursor
             inner.entry place)) }

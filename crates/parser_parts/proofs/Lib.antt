@@ -4,7 +4,3 @@ pub mod ElementLists
 pub mod FieldLists
 pub mod ParameterLists
 pub mod NamedItems
-pub mod SpecLists
-pub mod Operators
-pub mod Suffixes
-pub mod GrownExpressions

@@ -1,7 +1,5 @@
-pub mod SimpleParts
 pub mod Begins
 pub mod LoopHeads
 pub mod ShallowCalls
-pub mod ClauseLists
-pub mod Communications
-pub mod TypeGuards
+pub mod ShallowVariables
+pub mod SpecLists

@@ -1,4 +1,1 @@
-pub mod Headers
-pub mod Guards
-pub mod Clauses
 pub mod Starts

@@ -7,13 +7,13 @@ ghost use Rattle.parser_base.specs.Parts.{ReadsExpressions, ReadsStatements};
 ghost use Rattle.parser_base.specs.Places.{cursor, seen, parts_of};
 ghost use Rattle.tree_reader.specs.Reader.{read_condition, read_else, read_if};
 
-use crate::headers::{Header, read_header};
-use crate::simple::only_expression;
 use lexer::TokenKind;
 use parser_base::cursor::{Place, Read, Source};
 use parser_base::fault::Stop;
 use parser_base::holding;
 use parser_base::parts::{Wanted, expression, statement};
+use parser_clauses::headers::{Header, read_header};
+use parser_clauses::simple::only_expression;
 use parser_parts::blocks::block;
 use tree::{Expr, Stmt};
 use tree_hold::{boxed, release};

@@ -1,10 +1,7 @@
-//! How the statements of a file are read from its tokens, each from its parts.
+//! How the declarations and the statements of a file are read from its tokens, each from its parts.
 #![tactic(auto)]
 
 pub mod branches;
-pub mod headers;
+pub mod declarations;
 pub mod loops;
-pub mod selects;
-pub mod simple;
 pub mod statements;
-pub mod switches;

@@ -10,12 +10,12 @@ ghost use Rattle.parser_base.specs.Places.{cursor, seen, parts_of};
 ghost use Rattle.tree_reader.specs.Reader.{read_loop, read_post, read_clauses, read_range, read_for_after, read_for};
 ghost use Rattle.tree_reader.specs.Reading.{stands, behind};
 
-use crate::simple::{as_part, names_of, only_expression, simple, simple_after};
 use lexer::TokenKind;
 use parser_base::cursor::{Place, Read, Source};
 use parser_base::fault::Stop;
 use parser_base::holding;
 use parser_base::parts::{Wanted, expression};
+use parser_clauses::simple::{as_part, names_of, only_expression, simple, simple_after};
 use parser_parts::blocks::block;
 use parser_parts::lists::{expression_unless, expressions};
 use tree::{Expr, Identifier, Stmt};

@@ -11,17 +11,17 @@ ghost use Rattle.parser_statements.specs.Starts.{start_of, next_start, read_name
 ghost use Rattle.tree_reader.specs.Reader.{read_after_label, read_labeled, read_started, read_return, read_branch, read_block_statement, read_other_statement, read_statement_of};
 
 use crate::branches::choice;
+use crate::declarations::declaration;
 use crate::loops::repetition;
-use crate::selects::select;
-use crate::simple::simple;
-use crate::switches::switch;
 use lexer::TokenKind;
 use parser_base::cursor::{Place, Read, Source};
 use parser_base::fault::Stop;
 use parser_base::names::{identifier, optional_identifier};
 use parser_base::parts::{Wanted, expression, statement};
+use parser_clauses::selects::select;
+use parser_clauses::simple::simple;
+use parser_clauses::switches::switch;
 use parser_parts::blocks::block;
-use parser_parts::declarations::declaration;
 use parser_parts::lists::expressions;
 use tree::{Expr, ExprKind, Span, Stmt};
 use tree_hold::{boxed, release};
@@ -202,30 +202,19 @@ fn leave<F: Fn(Wanted, Place) -> Read<Expr>>(
     ))
 }
 
-/// `break`, perhaps with a label.
+/// `break` or `continue`, perhaps with a label.
 #[tactic(auto, unfolding(tree_reader::specs::Reader::read_branch))]
-fn broken(source: Source<'_>, place: Place) -> Read<Stmt>
+fn branch(source: Source<'_>, is_break: bool, place: Place) -> Read<Stmt>
     ensures { Gives (seen source.entry statement_syntax) result (read_branch source.entry.text.now (parts_of
-        source.entry) source.entry.below break_statement (cursor source.entry place)) }
+        source.entry) source.entry.below (if is_break then break_statement else continue_statement) (cursor
+        source.entry place)) }
 {
     let (label, end) = optional_identifier(source, source.behind(place))?;
-    Ok((
-        make::statement::break_statement(label, source.span_to(place, end)),
-        end,
-    ))
-}
-
-/// `continue`, perhaps with a label.
-#[tactic(auto, unfolding(tree_reader::specs::Reader::read_branch))]
-fn continued(source: Source<'_>, place: Place) -> Read<Stmt>
-    ensures { Gives (seen source.entry statement_syntax) result (read_branch source.entry.text.now (parts_of
-        source.entry) source.entry.below continue_statement (cursor source.entry place)) }
-{
-    let (label, end) = optional_identifier(source, source.behind(place))?;
-    Ok((
-        make::statement::continue_statement(label, source.span_to(place, end)),
-        end,
-    ))
+    let span = source.span_to(place, end);
+    if is_break {
+        return Ok((make::statement::break_statement(label, span), end));
+    }
+    Ok((make::statement::continue_statement(label, span), end))
 }
 
 /// A block as a statement.
@@ -269,8 +258,8 @@ fn begun<F: Fn(Wanted, Place) -> Read<Expr>, S: Fn(Place) -> Read<Stmt>>(
         Start::Return => leave(source, parts, place),
         Start::Go => started(source, parts, false, place),
         Start::Defer => started(source, parts, true, place),
-        Start::Break => broken(source, place),
-        Start::Continue => continued(source, place),
+        Start::Break => branch(source, true, place),
+        Start::Continue => branch(source, false, place),
         Start::Simple => simple(source, parts, false, place),
     }
 }

@@ -5,6 +5,17 @@ ghost use Rattle.std.specs.Prelude.{◌≡◌, IfOk};
 use std::alloc::{AllocError, Global};
 use tree::{Expr, Literal, Signature, Stmt};
 
+/// A part in a box.
+///
+/// # Errors
+///
+/// Out of memory.
+fn boxed<T: Drop>(alloc: Global, part: T) -> Result<Box<T>, AllocError>
+    ensures { IfOk result (λ kept. kept.value ≡ part) }
+{
+    Ok(Box::new(alloc, part)?)
+}
+
 /// An expression in a box.
 ///
 /// # Errors
@@ -13,7 +24,7 @@ use tree::{Expr, Literal, Signature, Stmt};
 pub fn expression(alloc: Global, part: Expr) -> Result<Box<Expr>, AllocError>
     ensures { IfOk result (λ kept. kept.value ≡ part) }
 {
-    Ok(Box::new(alloc, part)?)
+    boxed(alloc, part)
 }
 
 /// A statement in a box.
@@ -24,7 +35,7 @@ pub fn expression(alloc: Global, part: Expr) -> Result<Box<Expr>, AllocError>
 pub fn statement(alloc: Global, part: Stmt) -> Result<Box<Stmt>, AllocError>
     ensures { IfOk result (λ kept. kept.value ≡ part) }
 {
-    Ok(Box::new(alloc, part)?)
+    boxed(alloc, part)
 }
 
 /// A function literal in a box.
@@ -35,7 +46,7 @@ pub fn statement(alloc: Global, part: Stmt) -> Result<Box<Stmt>, AllocError>
 pub fn literal(alloc: Global, part: Literal) -> Result<Box<Literal>, AllocError>
     ensures { IfOk result (λ kept. kept.value ≡ part) }
 {
-    Ok(Box::new(alloc, part)?)
+    boxed(alloc, part)
 }
 
 /// A signature in a box.
@@ -46,5 +57,5 @@ pub fn literal(alloc: Global, part: Literal) -> Result<Box<Literal>, AllocError>
 pub fn signature(alloc: Global, part: Signature) -> Result<Box<Signature>, AllocError>
     ensures { IfOk result (λ kept. kept.value ≡ part) }
 {
-    Ok(Box::new(alloc, part)?)
+    boxed(alloc, part)
 }

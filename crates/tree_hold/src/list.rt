@@ -5,16 +5,27 @@ ghost use Rattle.std.specs.Prelude.{◌≡◌, ◌++◌, ◌∷◌, [], IfOk};
 use std::alloc::AllocError;
 use tree::{CaseClause, CommClause, Expr, Field, Param, Spec, Stmt, TopLevelDecl};
 
+/// A list, and a part after it.
+///
+/// # Errors
+///
+/// Out of memory.
+fn with_part<T: Drop>(mut list: Vec<T>, part: T) -> Result<Vec<T>, AllocError>
+    ensures { IfOk result (λ longer. longer.items ≡ list.items ++ (part ∷ [])) }
+{
+    list.push(part)?;
+    Ok(list)
+}
+
 /// A list, and an expression after it.
 ///
 /// # Errors
 ///
 /// Out of memory.
-pub fn with_expression(mut list: Vec<Expr>, part: Expr) -> Result<Vec<Expr>, AllocError>
+pub fn with_expression(list: Vec<Expr>, part: Expr) -> Result<Vec<Expr>, AllocError>
     ensures { IfOk result (λ longer. longer.items ≡ list.items ++ (part ∷ [])) }
 {
-    list.push(part)?;
-    Ok(list)
+    with_part(list, part)
 }
 
 /// A list, and a statement after it.
@@ -22,11 +33,10 @@ pub fn with_expression(mut list: Vec<Expr>, part: Expr) -> Result<Vec<Expr>, All
 /// # Errors
 ///
 /// Out of memory.
-pub fn with_statement(mut list: Vec<Stmt>, part: Stmt) -> Result<Vec<Stmt>, AllocError>
+pub fn with_statement(list: Vec<Stmt>, part: Stmt) -> Result<Vec<Stmt>, AllocError>
     ensures { IfOk result (λ longer. longer.items ≡ list.items ++ (part ∷ [])) }
 {
-    list.push(part)?;
-    Ok(list)
+    with_part(list, part)
 }
 
 /// A list, and an item of a list of parameters after it.
@@ -34,11 +44,10 @@ pub fn with_statement(mut list: Vec<Stmt>, part: Stmt) -> Result<Vec<Stmt>, Allo
 /// # Errors
 ///
 /// Out of memory.
-pub fn with_param(mut list: Vec<Param>, part: Param) -> Result<Vec<Param>, AllocError>
+pub fn with_param(list: Vec<Param>, part: Param) -> Result<Vec<Param>, AllocError>
     ensures { IfOk result (λ longer. longer.items ≡ list.items ++ (part ∷ [])) }
 {
-    list.push(part)?;
-    Ok(list)
+    with_part(list, part)
 }
 
 /// A list, and a line of a struct or interface type after it.
@@ -46,11 +55,10 @@ pub fn with_param(mut list: Vec<Param>, part: Param) -> Result<Vec<Param>, Alloc
 /// # Errors
 ///
 /// Out of memory.
-pub fn with_field(mut list: Vec<Field>, part: Field) -> Result<Vec<Field>, AllocError>
+pub fn with_field(list: Vec<Field>, part: Field) -> Result<Vec<Field>, AllocError>
     ensures { IfOk result (λ longer. longer.items ≡ list.items ++ (part ∷ [])) }
 {
-    list.push(part)?;
-    Ok(list)
+    with_part(list, part)
 }
 
 /// A list, and a spec after it.
@@ -58,11 +66,10 @@ pub fn with_field(mut list: Vec<Field>, part: Field) -> Result<Vec<Field>, Alloc
 /// # Errors
 ///
 /// Out of memory.
-pub fn with_spec(mut list: Vec<Spec>, part: Spec) -> Result<Vec<Spec>, AllocError>
+pub fn with_spec(list: Vec<Spec>, part: Spec) -> Result<Vec<Spec>, AllocError>
     ensures { IfOk result (λ longer. longer.items ≡ list.items ++ (part ∷ [])) }
 {
-    list.push(part)?;
-    Ok(list)
+    with_part(list, part)
 }
 
 /// A list, and a clause of a `switch` after it.
@@ -71,13 +78,12 @@ pub fn with_spec(mut list: Vec<Spec>, part: Spec) -> Result<Vec<Spec>, AllocErro
 ///
 /// Out of memory.
 pub fn with_case_clause(
-    mut list: Vec<CaseClause>,
+    list: Vec<CaseClause>,
     part: CaseClause,
 ) -> Result<Vec<CaseClause>, AllocError>
     ensures { IfOk result (λ longer. longer.items ≡ list.items ++ (part ∷ [])) }
 {
-    list.push(part)?;
-    Ok(list)
+    with_part(list, part)
 }
 
 /// A list, and a clause of a `select` after it.
@@ -86,13 +92,12 @@ pub fn with_case_clause(
 ///
 /// Out of memory.
 pub fn with_communication_clause(
-    mut list: Vec<CommClause>,
+    list: Vec<CommClause>,
     part: CommClause,
 ) -> Result<Vec<CommClause>, AllocError>
     ensures { IfOk result (λ longer. longer.items ≡ list.items ++ (part ∷ [])) }
 {
-    list.push(part)?;
-    Ok(list)
+    with_part(list, part)
 }
 
 /// A list, and a declaration after it.
@@ -101,11 +106,10 @@ pub fn with_communication_clause(
 ///
 /// Out of memory.
 pub fn with_top_level(
-    mut list: Vec<TopLevelDecl>,
+    list: Vec<TopLevelDecl>,
     part: TopLevelDecl,
 ) -> Result<Vec<TopLevelDecl>, AllocError>
     ensures { IfOk result (λ longer. longer.items ≡ list.items ++ (part ∷ [])) }
 {
-    list.push(part)?;
-    Ok(list)
+    with_part(list, part)
 }

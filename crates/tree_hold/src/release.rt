@@ -1,93 +1,108 @@
 //! Letting parts go.
 
 use tree::{
-    Block, CaseClause, CommClause, Decl, Expr, Field, File, Func, Param, Signature, Spec, Stmt,
-    TopLevelDecl,
+    Block, CaseClause, CommClause, Expr, Field, File, Param, Signature, Spec, Stmt, TopLevelDecl,
 };
 
+/// Lets a part go.
+fn let_go<T: Drop>(_part: T) {}
+
 /// Lets an expression go.
-pub fn expression(_part: Expr) {}
+pub fn expression(part: Expr) {
+    let_go(part);
+}
 
 /// Lets an expression in a box go.
-pub fn boxed_expression(_part: Box<Expr>) {}
+pub fn boxed_expression(part: Box<Expr>) {
+    let_go(part);
+}
 
 /// Lets an expression that may be missing go.
-pub fn optional_expression(_part: Option<Box<Expr>>) {}
+pub fn optional_expression(part: Option<Box<Expr>>) {
+    let_go(part);
+}
 
 /// Lets expressions go.
-pub fn expressions(_part: Vec<Expr>) {}
+pub fn expressions(part: Vec<Expr>) {
+    let_go(part);
+}
 
 /// Lets a statement go.
-pub fn statement(_part: Stmt) {}
+pub fn statement(part: Stmt) {
+    let_go(part);
+}
 
 /// Lets a statement in a box go.
-pub fn boxed_statement(_part: Box<Stmt>) {}
+pub fn boxed_statement(part: Box<Stmt>) {
+    let_go(part);
+}
 
 /// Lets a statement that may be missing go.
-pub fn optional_statement(_part: Option<Box<Stmt>>) {}
+pub fn optional_statement(part: Option<Box<Stmt>>) {
+    let_go(part);
+}
 
 /// Lets statements go.
-pub fn statements(_part: Vec<Stmt>) {}
+pub fn statements(part: Vec<Stmt>) {
+    let_go(part);
+}
 
 /// Lets a block go.
-pub fn block(_part: Block) {}
-
-/// Lets an item of a list of parameters go.
-pub fn param(_part: Param) {}
+pub fn block(part: Block) {
+    let_go(part);
+}
 
 /// Lets items of a list of parameters go.
-pub fn params(_part: Vec<Param>) {}
+pub fn params(part: Vec<Param>) {
+    let_go(part);
+}
 
 /// Lets a signature go.
-pub fn signature(_part: Signature) {}
-
-/// Lets a line of a struct or interface type go.
-pub fn field(_part: Field) {}
+pub fn signature(part: Signature) {
+    let_go(part);
+}
 
 /// Lets lines of a struct or interface type go.
-pub fn fields(_part: Vec<Field>) {}
+pub fn fields(part: Vec<Field>) {
+    let_go(part);
+}
 
 /// Lets a spec go.
-pub fn spec(_part: Spec) {}
+pub fn spec(part: Spec) {
+    let_go(part);
+}
 
 /// Lets specs go.
-pub fn specs(_part: Vec<Spec>) {}
+pub fn specs(part: Vec<Spec>) {
+    let_go(part);
+}
 
 /// Lets clauses of a `switch` go.
-pub fn case_clauses(_part: Vec<CaseClause>) {}
+pub fn case_clauses(part: Vec<CaseClause>) {
+    let_go(part);
+}
 
 /// Lets clauses of a `select` go.
-pub fn communication_clauses(_part: Vec<CommClause>) {}
+pub fn communication_clauses(part: Vec<CommClause>) {
+    let_go(part);
+}
 
 /// Lets a declaration of a file go.
-pub fn top_level(_part: TopLevelDecl) {}
+pub fn top_level(part: TopLevelDecl) {
+    let_go(part);
+}
 
 /// Lets declarations of a file go.
-pub fn top_levels(_part: Vec<TopLevelDecl>) {}
+pub fn top_levels(part: Vec<TopLevelDecl>) {
+    let_go(part);
+}
 
 /// Lets a receiver that may be missing go.
-pub fn optional_params(_part: Option<Vec<Param>>) {}
-
-/// Lets a declaration go.
-pub fn decl(_part: Decl) {}
-
-/// Lets a clause of a `switch` go.
-pub fn case_clause(_part: CaseClause) {}
-
-/// Lets a clause of a `select` go.
-pub fn communication_clause(_part: CommClause) {}
-
-/// Lets an expression that may be missing, in no box go.
-pub fn optional_bare_expression(_part: Option<Expr>) {}
-
-/// Lets a statement that may be missing, in no box go.
-pub fn optional_bare_statement(_part: Option<Stmt>) {}
-
-/// Lets a block that may be missing go.
-pub fn optional_block(_part: Option<Block>) {}
-
-/// Lets a function go.
-pub fn function(_part: Func) {}
+pub fn optional_params(part: Option<Vec<Param>>) {
+    let_go(part);
+}
 
 /// Lets a file go.
-pub fn file(_part: File) {}
+pub fn file(part: File) {
+    let_go(part);
+}

@@ -1,7 +1,8 @@
-//! Trees of a depth that is asked for.
+//! Trees of a depth that is asked for. `tree_hold` lets them go, also where memory runs out.
 
 use std::alloc::{AllocError, Global};
 use tree::{Expr, Identifier, Span, Stmt};
+use tree_hold::{boxed, list, release};
 use tree_make::{control, expression, statement};
 
 const NOWHERE: Span = Span { start: 0, end: 0 };
@@ -23,7 +24,7 @@ pub fn name(alloc: Global) -> Result<Expr, AllocError> {
 pub fn in_brackets(alloc: Global, brackets: u32) -> Result<Expr, AllocError> {
     let mut built = name(alloc)?;
     for _ in 0..brackets {
-        built = expression::parenthesized(Box::new(alloc, built)?, NOWHERE);
+        built = expression::parenthesized(boxed::expression(alloc, built)?, NOWHERE);
     }
     Ok(built)
 }
@@ -32,8 +33,16 @@ pub fn in_brackets(alloc: Global, brackets: u32) -> Result<Expr, AllocError> {
 pub fn selected(alloc: Global, selectors: u32) -> Result<Expr, AllocError> {
     let mut built = name(alloc)?;
     for _ in 0..selectors {
-        let operand = Box::new(alloc, built)?;
-        built = expression::selector_expression(operand, identifier(alloc)?, NOWHERE);
+        let operand = boxed::expression(alloc, built)?;
+        match identifier(alloc) {
+            Ok(selected) => {
+                built = expression::selector_expression(operand, selected, NOWHERE);
+            }
+            Err(refused) => {
+                release::boxed_expression(operand);
+                return Err(refused);
+            }
+        }
     }
     Ok(built)
 }
@@ -42,8 +51,7 @@ pub fn selected(alloc: Global, selectors: u32) -> Result<Expr, AllocError> {
 pub fn blocks(alloc: Global, count: u32) -> Result<Stmt, AllocError> {
     let mut built = statement::empty_statement(NOWHERE);
     for _ in 0..count {
-        let mut statements = Vec::new(alloc);
-        statements.push(built)?;
+        let statements = list::with_statement(Vec::new(alloc), built)?;
         built = statement::block_statement(control::block(statements, NOWHERE), NOWHERE);
     }
     Ok(built)
@@ -51,16 +59,41 @@ pub fn blocks(alloc: Global, count: u32) -> Result<Stmt, AllocError> {
 
 /// `if a {}`, and its `else`, if any.
 fn if_name(alloc: Global, otherwise: Option<Box<Stmt>>) -> Result<Stmt, AllocError> {
-    let condition = Box::new(alloc, name(alloc)?)?;
-    let body = control::block(Vec::new(alloc), NOWHERE);
-    Ok(control::if_statement(None, false, condition, body, otherwise, NOWHERE))
+    match condition(alloc) {
+        Ok(condition) => {
+            let body = control::block(Vec::new(alloc), NOWHERE);
+            Ok(control::if_statement(None, false, condition, body, otherwise, NOWHERE))
+        }
+        Err(refused) => {
+            release::optional_statement(otherwise);
+            Err(refused)
+        }
+    }
+}
+
+fn condition(alloc: Global) -> Result<Box<Expr>, AllocError> {
+    boxed::expression(alloc, name(alloc)?)
 }
 
 /// `if a {} else if a {}` and so on, without a last `else`.
 pub fn else_ifs(alloc: Global, count: u32) -> Result<Stmt, AllocError> {
     let mut built = if_name(alloc, None)?;
     for _ in 0..count {
-        built = if_name(alloc, Some(Box::new(alloc, built)?))?;
+        built = if_name(alloc, Some(boxed::statement(alloc, built)?))?;
     }
     Ok(built)
+}
+
+/// The depth of an expression, which is let go.
+pub fn expression_depth(built: Expr) -> u32 {
+    let depth = built.depth();
+    release::expression(built);
+    depth
+}
+
+/// The depth of a statement, which is let go.
+pub fn statement_depth(built: Stmt) -> u32 {
+    let depth = built.depth();
+    release::statement(built);
+    depth
 }

@@ -1,0 +1,11 @@
+mod FirstLocals
+mod InnermostOf
+mod KeptLocals
+mod LocalOrder
+pub mod Adding
+pub mod FirstAnswers
+pub mod ImportNames
+pub mod LevelNames
+pub mod PackageAnswers
+pub mod SameInnermost
+pub mod SecondFunctions

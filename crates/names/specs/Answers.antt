@@ -1,0 +1,44 @@
+-- What the answers that the program keeps stand for.
+use Rattle.std.specs.Prelude.{ℕ, Option, Some, None, option_map, List, slice_get, nat_eq}
+use Rattle.std.specs.Borrow.{Bor}
+use Rattle.std.specs.Str.{bytes_eq}
+use Rattle.indexmap.specs.IndexMap.{IndexMap, get, get_by}
+use Rattle.tree.specs.declared.span.Identifier.{Identifier as KeptIdentifier}
+use Rattle.tree.specs.View.{identifier_syntax}
+use Rattle.names.specs.declared.decl.Decl.{Decl}
+use Rattle.names.specs.declared.decl.Decl.TheVariants.{Local, Import, Function, PackageLevel, Universe}
+use Rattle.names.specs.declared.package_names.PackageNames.{PackageNames as KeptNames}
+use Rattle.names.specs.declared.resolution.Names.{Names}
+use Rattle.meaning.specs.Declarations.{Meaning, local_name, import_name, function_name, package_name, universe_name}
+use Rattle.meaning.specs.OuterBlocks.{PackageNames}
+use Rattle.meaning.specs.TwoFunctions.{FunctionName}
+
+abbrev pub decl_view : Decl → Meaning
+decl_view (Local number kind) = local_name number kind
+decl_view (Import path) = import_name path.now
+decl_view Function = function_name
+decl_view PackageLevel = package_name
+decl_view Universe = universe_name
+
+-- the value of a name
+abbrev pub at_name : {V S : Type 0} → IndexMap (Bor (List ℕ)) V S → List ℕ → Option V
+at_name m name = get_by (λ k. bytes_eq name k.now) m
+
+-- the text at a name
+abbrev pub text_at : {S : Type 0} → IndexMap (Bor (List ℕ)) (Bor (List ℕ)) S → List ℕ → Option (List ℕ)
+text_at m name = option_map (λ text. text.now) (at_name m name)
+
+-- the names of packages by their paths
+abbrev pub names_by_path : KeptNames → PackageNames
+names_by_path packages = text_at packages.names
+
+-- what the use means that begins at the offset of that file
+abbrev pub answer_in : {S : Type 0} → Option (IndexMap ℕ Decl S) → ℕ → Option Meaning
+answer_in None at = None
+answer_in (Some answers) at = option_map decl_view (get nat_eq answers at)
+
+abbrev pub declared_at : Names → ℕ → ℕ → Option Meaning
+declared_at names file at = answer_in (slice_get names.files.items file) at
+
+abbrev pub function_name_view : ℕ → KeptIdentifier → FunctionName
+function_name_view file name = record { file = file; name = identifier_syntax name }

@@ -1,0 +1,8 @@
+-- what the contracts of the public calls say
+pub mod Answers
+pub mod Faults
+-- what the functions inside the crate promise one another
+pub mod Before
+pub mod Maps
+pub mod Ordered
+pub mod Uses

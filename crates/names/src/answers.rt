@@ -1,0 +1,108 @@
+//! What each use in a file means.
+
+ghost use Rattle.std.specs.Prelude.{◌≡◌, ℕ, List, IfOk, option_map, nat_eq, All};
+ghost use Rattle.indexmap.specs.IndexMap.{get};
+ghost use Rattle.names.specs.Answers.{decl_view, at_name, text_at, names_by_path};
+ghost use Rattle.names.specs.Ordered.{AreOrdered, AreLinks, FitsKey, locals_view};
+ghost use Rattle.names.specs.Uses.{from_package, meant_at, IsUseOf};
+ghost use Rattle.meaning.specs.Declarations.{local_or_around, import_or_around, innermost};
+ghost use Rattle.scopes.specs.Views.{naming_view};
+ghost use Rattle.tree.specs.View.{file_syntax};
+
+use crate::decl::Decl;
+use crate::first::keep_first;
+use crate::imports::file_imports;
+use crate::innermost::{innermost, links};
+use crate::locals::{FirstLocals, first_locals, is_assigned};
+use crate::order::ordered;
+use crate::package_names::PackageNames;
+use indexmap::IndexMap;
+use scopes::{Local, Naming, file_names};
+use std::alloc::{AllocError, Global};
+use tree::File;
+
+/// The blocks around a use, from the innermost one out.
+#[derive(Clone, Copy)]
+struct Blocks<'b, 'a> {
+    locals: &'b [Local<'a>],
+    links: &'b [usize],
+    imports: &'b IndexMap<&'a str, &'a str>,
+    block: &'b IndexMap<&'a str, bool>,
+}
+
+/// What the name means at the offset.
+fn meaning<'a>(blocks: Blocks<'_, 'a>, name: &str, at: u32) -> Decl<'a>
+    requires ordered { AreOrdered (locals_view blocks.locals.now) }
+    requires links { AreLinks (locals_view blocks.locals.now) blocks.links.now }
+    ensures { decl_view result ≡ local_or_around (innermost name.now at (locals_view blocks.entry.locals.now))
+        (import_or_around (text_at blocks.entry.imports.now name.now) (from_package
+        (at_name blocks.entry.block.now name.now))) }
+{
+    if let Some(local) = innermost(blocks.locals, blocks.links, name, at) {
+        return Decl::Local(local.number, local.kind);
+    }
+    if let Some(path) = blocks.imports.get(name) {
+        return Decl::Import(*path);
+    }
+    match blocks.block.get(name) {
+        Some(is_function) => {
+            if *is_function {
+                Decl::Function
+            } else {
+                Decl::PackageLevel
+            }
+        }
+        None => Decl::Universe,
+    }
+}
+
+/// The name and the offset of a use; of a declaration by `:=` that only assigns, too.
+fn use_of<'a>(locals: &FirstLocals<'a>, naming: &Naming<'a>) -> Option<(&'a str, u32)>
+    requires fit { All FitsKey locals.now.entries }
+    ensures { IsUseOf locals.now (naming_view naming.now) result }
+{
+    match naming {
+        Naming::Use(name, at) => Some((*name, *at)),
+        Naming::Declaration(local) => {
+            if is_assigned(locals, local) {
+                Some((local.name, local.number))
+            } else {
+                None
+            }
+        }
+    }
+}
+
+/// By its offset, what each use in the file means.
+///
+/// # Errors
+///
+/// Memory was refused.
+pub fn file_answers<'a>(
+    alloc: Global,
+    packages: &PackageNames<'a>,
+    block: &IndexMap<&'a str, bool>,
+    file: &'a File,
+) -> Result<IndexMap<u32, Decl<'a>>, AllocError>
+    ensures { IfOk result (λ answers. (at : ℕ) → option_map decl_view (get nat_eq answers at) ≡ meant_at
+        (at_name block.now) (names_by_path packages.now) (file_syntax file.now) at) }
+{
+    let namings = file_names(alloc, file)?;
+    let firsts = first_locals(alloc, &namings)?;
+    let locals = ordered(alloc, &firsts)?;
+    let links = links(alloc, &locals)?;
+    let imports = file_imports(alloc, packages, file)?;
+    let blocks = Blocks {
+        locals: &locals,
+        links: &links,
+        imports: &imports,
+        block,
+    };
+    let mut answers = IndexMap::new(alloc);
+    for naming in &namings {
+        if let Some((name, at)) = use_of(&firsts, naming) {
+            keep_first(&mut answers, at, meaning(blocks, name, at))?;
+        }
+    }
+    Ok(answers)
+}

@@ -1,0 +1,4 @@
+pub mod SimpleParts
+pub mod ClauseLists
+pub mod Communications
+pub mod TypeGuards

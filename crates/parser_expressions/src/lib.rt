@@ -1,0 +1,6 @@
+//! How the expressions of a file are read from its tokens, each from its parts.
+#![tactic(auto)]
+
+pub mod expressions;
+pub mod operands;
+pub mod primaries;

@@ -1,0 +1,327 @@
+//! Primary expressions (the Go specification, "Primary expressions").
+
+ghost use Rattle.std.specs.Prelude.{◌≡◌, false, true, Option, Some, option_and_then, if◌then◌else◌};
+ghost use Rattle.lexer.specs.declared.token.TokenKind.TheVariants.{Colon, RightBracket};
+ghost use Rattle.meaning.specs.Cursor.{Cursor};
+ghost use Rattle.tree.specs.Syntax.{Expression, missing_expression, present_expression};
+ghost use Rattle.tree.specs.View.{expression_syntax, optional_expression_syntax};
+ghost use Rattle.parser_base.specs.Gives.{Gives};
+ghost use Rattle.parser_base.specs.Parts.{ReadsExpressions, ReadsStatements, goes_on};
+ghost use Rattle.parser_base.specs.Places.{cursor, seen, parts_of};
+ghost use Rattle.tree_reader.specs.Reader.{read_any, read_expression_unless, read_index, read_slice, read_call, read_assertion, read_composite, read_suffix, read_suffixes, read_primary};
+ghost use Rattle.tree_reader.specs.Reading.{Read as read_of, stands, behind, steps};
+
+use crate::operands::operand;
+use lexer::TokenKind;
+use parser_base::cursor::{Place, Read, Source};
+use parser_base::expressions::{goes_on, selector};
+use parser_base::fault::Stop;
+use parser_base::holding;
+use parser_base::parts::{Wanted, expression, fits, type_expression};
+use parser_parts::lists::{arguments, braced_elements, expression_unless};
+use tree::{Expr, Stmt};
+use tree_hold::{boxed, release};
+use tree_make as make;
+
+/// A primary expression.
+///
+/// # Errors
+///
+/// Where another token stands, where it is too deep, and out of memory.
+#[tactic(auto, unfolding(tree_reader::specs::Reader::read_primary))]
+pub fn primary<F: Fn(Wanted, Place) -> Read<Expr>, S: Fn(Place) -> Read<Stmt>>(
+    source: Source<'_>,
+    parts: &F,
+    statements: &S,
+    header: bool,
+    place: Place,
+) -> Read<Expr>
+    requires expressions { ReadsExpressions source (F.pre parts.now) (F.post parts.now) }
+    requires statements { ReadsStatements source (S.pre statements.now) (S.post statements.now) }
+    ensures { Gives (seen source.entry expression_syntax) result (read_primary source.entry.text.now (parts_of
+        source.entry) source.entry.below header (cursor source.entry place)) }
+{
+    let (first, rest) = operand(source, parts, statements, place)?;
+    suffixes(source, parts, header, place, first, rest)
+}
+
+/// All that follows an operand that began at `from`, up to where the primary expression ends.
+///
+/// # Errors
+///
+/// Where another token stands, where it is too deep, and out of memory.
+fn suffixes<F: Fn(Wanted, Place) -> Read<Expr>>(
+    source: Source<'_>,
+    parts: &F,
+    header: bool,
+    from: Place,
+    operand: Expr,
+    place: Place,
+) -> Read<Expr>
+    requires { ReadsExpressions source (F.pre parts.now) (F.post parts.now) }
+    ensures { Gives (seen source.entry expression_syntax) result (read_suffixes source.entry.text.now (parts_of
+        source.entry) source.entry.below header (cursor source.entry from) (steps (cursor source.entry place))
+        (expression_syntax operand) (cursor source.entry place)) }
+{
+    let mut grown = operand;
+    let mut rest = place;
+    for _ in 0..source.steps(place) {
+        if !goes_on(source, header, &grown, rest) {
+            return Ok((grown, rest));
+        }
+        if !fits(source, &grown) {
+            release::expression(grown);
+            return Err(Stop::TooDeep);
+        }
+        let (longer, after) = suffix(source, parts, from, grown, rest)?;
+        grown = longer;
+        rest = after;
+    }
+    release::expression(grown);
+    Err(source.unexpected(rest))
+}
+
+/// The next part of a primary expression that began at `from`, where it goes on.
+///
+/// # Errors
+///
+/// Where another token stands, and out of memory.
+fn suffix<F: Fn(Wanted, Place) -> Read<Expr>>(
+    source: Source<'_>,
+    parts: &F,
+    from: Place,
+    operand: Expr,
+    place: Place,
+) -> Read<Expr>
+    requires parts { ReadsExpressions source (F.pre parts.now) (F.post parts.now) }
+    requires goes_on { goes_on false (expression_syntax operand) (cursor source place) ≡ true }
+    ensures { Gives (seen source.entry expression_syntax) result (option_and_then (λ (read : read_of Expression).
+        read) (read_suffix source.entry.text.now (parts_of source.entry) source.entry.below false (cursor source.entry
+        from) (expression_syntax operand) (cursor source.entry place))) }
+{
+    if source.stands(place, TokenKind::Dot) {
+        if source.stands(source.behind(place), TokenKind::LeftParenthesis) {
+            return assertion(source, parts, from, operand, place);
+        }
+        return selector(source, from, operand, place);
+    }
+    if source.stands(place, TokenKind::LeftBracket) {
+        return index(source, parts, from, operand, place);
+    }
+    if source.stands(place, TokenKind::LeftParenthesis) {
+        return call(source, parts, from, operand, place);
+    }
+    composite(source, parts, from, operand, place)
+}
+
+/// `.(Type)` after an operand that began at `from`.
+///
+/// # Errors
+///
+/// Where another token stands, and out of memory.
+#[tactic(auto, unfolding(tree_reader::specs::Reader::read_assertion))]
+fn assertion<F: Fn(Wanted, Place) -> Read<Expr>>(
+    source: Source<'_>,
+    parts: &F,
+    from: Place,
+    operand: Expr,
+    place: Place,
+) -> Read<Expr>
+    requires { ReadsExpressions source (F.pre parts.now) (F.post parts.now) }
+    ensures { Gives (seen source.entry expression_syntax) result (read_assertion source.entry.text.now (parts_of
+        source.entry) source.entry.below (cursor source.entry from) (expression_syntax operand) (cursor source.entry
+        place)) }
+{
+    let inner = source.behind(source.behind(place));
+    let (kind, rest) = holding!(expression: operand; type_expression(source, parts, inner));
+    let end =
+        holding!(expression: operand, expression: kind; source.take(rest, TokenKind::RightParenthesis));
+    let kept = holding!(expression: operand; memory boxed::expression(source.alloc, kind));
+    let asked = holding!(boxed_expression: kept; memory boxed::expression(source.alloc, operand));
+    Ok((
+        make::expression::type_assertion(asked, kept, source.span_to(from, end)),
+        end,
+    ))
+}
+
+/// `(arguments)` after an operand that began at `from`.
+///
+/// # Errors
+///
+/// Where another token stands, and out of memory.
+#[tactic(auto, unfolding(tree_reader::specs::Reader::read_call))]
+fn call<F: Fn(Wanted, Place) -> Read<Expr>>(
+    source: Source<'_>,
+    parts: &F,
+    from: Place,
+    operand: Expr,
+    place: Place,
+) -> Read<Expr>
+    requires { ReadsExpressions source (F.pre parts.now) (F.post parts.now) }
+    ensures { Gives (seen source.entry expression_syntax) result (read_call source.entry.text.now (parts_of
+        source.entry) source.entry.below (cursor source.entry from) (expression_syntax operand) (cursor source.entry
+        place)) }
+{
+    let inner = source.behind(place);
+    let ((list, has_ellipsis), rest) =
+        holding!(expression: operand; arguments(source, parts, inner));
+    let end =
+        holding!(expression: operand, expressions: list; source.take(rest, TokenKind::RightParenthesis));
+    let callee = holding!(expressions: list; memory boxed::expression(source.alloc, operand));
+    let span = source.span_to(from, end);
+    Ok((
+        make::expression::call_expression(callee, list, has_ellipsis, span),
+        end,
+    ))
+}
+
+/// `{elements}` after a type that began at `from`.
+///
+/// # Errors
+///
+/// Where another token stands, and out of memory.
+#[tactic(auto, unfolding(tree_reader::specs::Reader::read_composite))]
+fn composite<F: Fn(Wanted, Place) -> Read<Expr>>(
+    source: Source<'_>,
+    parts: &F,
+    from: Place,
+    operand: Expr,
+    place: Place,
+) -> Read<Expr>
+    requires { ReadsExpressions source (F.pre parts.now) (F.post parts.now) }
+    ensures { Gives (seen source.entry expression_syntax) result (read_composite source.entry.text.now (parts_of
+        source.entry) source.entry.below (cursor source.entry from) (expression_syntax operand) (cursor source.entry
+        place)) }
+{
+    let (elements, end) = holding!(expression: operand; braced_elements(source, parts, place));
+    let kind = holding!(expressions: elements; memory boxed::expression(source.alloc, operand));
+    Ok((
+        make::expression::composite_literal(kind, elements, source.span_to(from, end)),
+        end,
+    ))
+}
+
+/// `[index]` after an operand that began at `from`, or the bounds of a slice.
+///
+/// # Errors
+///
+/// Where another token stands, and out of memory.
+#[tactic(auto, unfolding(tree_reader::specs::Reader::read_index))]
+fn index<F: Fn(Wanted, Place) -> Read<Expr>>(
+    source: Source<'_>,
+    parts: &F,
+    from: Place,
+    operand: Expr,
+    place: Place,
+) -> Read<Expr>
+    requires { ReadsExpressions source (F.pre parts.now) (F.post parts.now) }
+    ensures { Gives (seen source.entry expression_syntax) result (read_index source.entry.text.now (parts_of
+        source.entry) source.entry.below (cursor source.entry from) (expression_syntax operand) (cursor source.entry
+        place)) }
+{
+    let inner = source.behind(place);
+    let (low, rest) =
+        holding!(expression: operand; expression_unless(source, parts, TokenKind::Colon, false, inner));
+    if source.stands(rest, TokenKind::Colon) {
+        return slice(source, parts, from, operand, low, rest);
+    }
+    match low {
+        Some(kept) => {
+            let end =
+                holding!(expression: operand, boxed_expression: kept; source.take(rest, TokenKind::RightBracket));
+            let indexed =
+                holding!(boxed_expression: kept; memory boxed::expression(source.alloc, operand));
+            Ok((
+                make::expression::index_expression(indexed, kept, source.span_to(from, end)),
+                end,
+            ))
+        }
+        None => {
+            release::expression(operand);
+            Err(source.unexpected(rest))
+        }
+    }
+}
+
+/// The other bounds of a slice, after the first.
+///
+/// # Errors
+///
+/// Where another token stands, and out of memory.
+#[tactic(auto, unfolding(tree_reader::specs::Reader::read_slice))]
+fn slice<F: Fn(Wanted, Place) -> Read<Expr>>(
+    source: Source<'_>,
+    parts: &F,
+    from: Place,
+    operand: Expr,
+    low: Option<Box<Expr>>,
+    place: Place,
+) -> Read<Expr>
+    requires { ReadsExpressions source (F.pre parts.now) (F.post parts.now) }
+    ensures { Gives (seen source.entry expression_syntax) result (read_slice source.entry.text.now (parts_of
+        source.entry) source.entry.below (cursor source.entry from) (expression_syntax operand)
+        (optional_expression_syntax low) (cursor source.entry place)) }
+{
+    let inner = source.behind(place);
+    let (high, after) =
+        holding!(expression: operand, optional_expression: low; second_bound(source, parts, inner));
+    let (most, rest) =
+        holding!(expression: operand, optional_expression: low, optional_expression: high; third_bound(source, parts,
+            after));
+    let end =
+        holding!(expression: operand, optional_expression: low, optional_expression: high, optional_expression: most;
+            source.take(rest, TokenKind::RightBracket));
+    let sliced =
+        holding!(optional_expression: low, optional_expression: high, optional_expression: most; memory
+            boxed::expression(source.alloc, operand));
+    let span = source.span_to(from, end);
+    Ok((
+        make::expression::slice_expression(sliced, low, high, most, span),
+        end,
+    ))
+}
+
+/// The second bound of a slice, where no colon stands.
+///
+/// # Errors
+///
+/// Where another token stands, and out of memory.
+fn second_bound<F: Fn(Wanted, Place) -> Read<Expr>>(
+    source: Source<'_>,
+    parts: &F,
+    place: Place,
+) -> Read<Option<Box<Expr>>>
+    requires { ReadsExpressions source (F.pre parts.now) (F.post parts.now) }
+    ensures { Gives (seen source.entry optional_expression_syntax) result (if stands Colon (cursor source.entry place)
+        then Some (missing_expression, cursor source.entry place) else read_expression_unless source.entry.text.now
+        (parts_of source.entry) RightBracket false (cursor source.entry place)) }
+{
+    if source.stands(place, TokenKind::Colon) {
+        return Ok((None, place));
+    }
+    expression_unless(source, parts, TokenKind::RightBracket, false, place)
+}
+
+/// The third bound of a slice, after a colon.
+///
+/// # Errors
+///
+/// Where another token stands, and out of memory.
+fn third_bound<F: Fn(Wanted, Place) -> Read<Expr>>(
+    source: Source<'_>,
+    parts: &F,
+    place: Place,
+) -> Read<Option<Box<Expr>>>
+    requires { ReadsExpressions source (F.pre parts.now) (F.post parts.now) }
+    ensures { Gives (seen source.entry optional_expression_syntax) result (if stands Colon (cursor source.entry place)
+        then option_and_then (λ (bound : Expression × Cursor). Some (present_expression bound.0, bound.1)) (read_any
+        source.entry.text.now (parts_of source.entry) (behind (cursor source.entry place))) else Some
+        (missing_expression, cursor source.entry place)) }
+{
+    if !source.stands(place, TokenKind::Colon) {
+        return Ok((None, place));
+    }
+    let (bound, end) = expression(source, parts, false, 1, source.behind(place))?;
+    let kept = boxed::expression(source.alloc, bound)?;
+    Ok((Some(kept), end))
+}

@@ -1,0 +1,27 @@
+-- What the names that the program keeps stand for.
+use Rattle.std.specs.Prelude.{List, map, ◌≡◌, ◌++◌}
+use Rattle.scopes.specs.declared.naming.Local.{Local as KeptLocal}
+use Rattle.scopes.specs.declared.naming.Naming.{Naming as KeptNaming}
+use Rattle.scopes.specs.declared.naming.Naming.TheVariants.{Use, Declaration}
+use Rattle.meaning.specs.Scopes.{Local, Naming, uses_name, declares_name}
+
+abbrev pub local_view : KeptLocal → Local
+local_view l = record {
+  name = l.name.now;
+  number = l.number;
+  kind = l.kind;
+  block = l.block;
+  from = l.from;
+  is_short = l.is_short;
+}
+
+abbrev pub naming_view : KeptNaming → Naming
+naming_view (Use name at) = uses_name name.now at
+naming_view (Declaration l) = declares_name (local_view l)
+
+abbrev pub namings_view : List KeptNaming → List Naming
+namings_view ns = map naming_view ns
+
+-- the names are added at the end of those that were there
+abbrev pub Adds : List KeptNaming → List KeptNaming → List Naming → Type 0
+Adds before after names = namings_view after ≡ namings_view before ++ names

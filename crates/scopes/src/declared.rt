@@ -1,0 +1,161 @@
+//! What a function declares, name by name. The blank identifier declares nothing.
+
+ghost use Rattle.std.specs.Prelude.{OnOk, map, option_map};
+ghost use Rattle.meaning.specs.Scopes.{declared, declared_names, parameters_declared, signature_declared, type_declared, guard_declared, receiver_declared};
+ghost use Rattle.scopes.specs.Views.{local_view, Adds};
+ghost use Rattle.tree.specs.View.{identifier_syntax, parameters_syntax, signature_syntax};
+
+use crate::naming::{Local, Naming};
+use std::alloc::AllocError;
+use tree::{DeclKeyword, Identifier, Param, Signature, Span};
+
+/// A name that declares nothing (the Go specification, "Blank identifier").
+const BLANK: &str = "_";
+
+/// Adds the declaration, but for one of the blank identifier.
+pub fn declare<'a>(namings: &mut Vec<Naming<'a>>, local: Local<'a>) -> Result<(), AllocError>
+    ensures { OnOk result (Adds namings.old.items namings.new.items (declared (local_view local.entry))) }
+{
+    if local.name != BLANK {
+        namings.push(Naming::Declaration(local))?;
+    }
+    Ok(())
+}
+
+/// Adds the declarations of names that are declared together, with the offset at which their scope begins.
+pub fn declare_names<'a>(
+    namings: &mut Vec<Naming<'a>>,
+    kind: DeclKeyword,
+    block: Span,
+    from: u32,
+    is_short: bool,
+    names: &'a [Identifier],
+) -> Result<(), AllocError>
+    ensures { OnOk result (Adds namings.old.items namings.new.items (declared_names kind block from is_short
+        (map identifier_syntax names.now))) }
+{
+    for name in names {
+        let local = Local {
+            name: name.text.as_str(),
+            number: name.span.start,
+            kind,
+            block,
+            from,
+            is_short,
+        };
+        declare(namings, local)?;
+    }
+    Ok(())
+}
+
+/// Adds a parameter or a result, whose scope is the whole block of its function.
+fn declare_parameter<'a>(
+    namings: &mut Vec<Naming<'a>>,
+    block: Span,
+    name: &'a Identifier,
+) -> Result<(), AllocError>
+    ensures { OnOk result (Adds namings.old.items namings.new.items (Rattle.meaning.specs.Scopes.parameter_name
+        block (identifier_syntax name.now))) }
+{
+    let local = Local {
+        name: name.text.as_str(),
+        number: name.span.start,
+        kind: DeclKeyword::Var,
+        block,
+        from: block.start,
+        is_short: false,
+    };
+    declare(namings, local)
+}
+
+/// Adds what a list of parameters or results declares in the block of its function.
+pub fn declare_parameters<'a>(
+    namings: &mut Vec<Naming<'a>>,
+    block: Span,
+    params: &'a [Param],
+) -> Result<(), AllocError>
+    ensures { OnOk result (Adds namings.old.items namings.new.items (parameters_declared block
+        (parameters_syntax params.now))) }
+{
+    for param in params {
+        match param {
+            Param::Named(name, _, _) => declare_parameter(namings, block, name)?,
+            Param::Unnamed(_, _) => (),
+            Param::NameAlone(name) => declare_parameter(namings, block, name)?,
+        }
+    }
+    Ok(())
+}
+
+/// Adds the parameters and results of a function with that block.
+pub fn declare_signature<'a>(
+    namings: &mut Vec<Naming<'a>>,
+    block: Span,
+    signature: &'a Signature,
+) -> Result<(), AllocError>
+    ensures { OnOk result (Adds namings.old.items namings.new.items (signature_declared block
+        (signature_syntax signature.now))) }
+{
+    declare_parameters(namings, block, &signature.params)?;
+    declare_parameters(namings, block, &signature.results)
+}
+
+/// Adds a receiver, if there is one.
+pub fn declare_receiver<'a>(
+    namings: &mut Vec<Naming<'a>>,
+    block: Span,
+    receiver: &'a Option<Vec<Param>>,
+) -> Result<(), AllocError>
+    ensures { OnOk result (Adds namings.old.items namings.new.items (receiver_declared block (option_map
+        (λ ps. parameters_syntax ps.items) receiver.now))) }
+{
+    match receiver {
+        Some(params) => declare_parameters(namings, block, params),
+        None => Ok(()),
+    }
+}
+
+/// Adds a local type, whose scope begins at its own name.
+pub fn declare_type<'a>(
+    namings: &mut Vec<Naming<'a>>,
+    block: Span,
+    name: &'a Identifier,
+) -> Result<(), AllocError>
+    ensures { OnOk result (Adds namings.old.items namings.new.items (type_declared block
+        (identifier_syntax name.now))) }
+{
+    let local = Local {
+        name: name.text.as_str(),
+        number: name.span.start,
+        kind: DeclKeyword::Type,
+        block,
+        from: name.span.start,
+        is_short: false,
+    };
+    declare(namings, local)
+}
+
+/// Adds the name of a type switch, if it has one, as each clause declares it anew.
+pub fn declare_guard<'a>(
+    namings: &mut Vec<Naming<'a>>,
+    guard: Option<&'a Identifier>,
+    clause: Span,
+) -> Result<(), AllocError>
+    ensures { OnOk result (Adds namings.old.items namings.new.items (guard_declared (option_map
+        (λ n. identifier_syntax n.now) guard.entry) clause)) }
+{
+    match guard {
+        Some(name) => {
+            let local = Local {
+                name: name.text.as_str(),
+                number: clause.start,
+                kind: DeclKeyword::Var,
+                block: clause,
+                from: clause.start,
+                is_short: false,
+            };
+            declare(namings, local)
+        }
+        None => Ok(()),
+    }
+}
