@@ -13,6 +13,12 @@ pub mod Scopes
 pub mod OuterBlocks
 pub mod TwoFunctions
 pub mod Declarations
+-- What each body does to its tracked variables, and which uses the rules don't allow: to be trusted.
+pub mod Mentions
+pub mod FunctionFacts
+pub mod Tracked
+pub mod Uses
+pub mod BodyEvents
 -- What is proved of them.
 pub mod Laws
 -- For a reader of the grammar: texts and trees to try it on.

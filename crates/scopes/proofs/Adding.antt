@@ -198,16 +198,21 @@ communications_more c cs =
     (statements_names (out-CommClause c).span (statements_syntax (out-CommClause c).statements.items))
     (communications_names cs)
 
-pub adds_communication : (clause : CommClause) (a b c : List KeptNaming) (ss : List Stmt)
-    → Adds a b (optional_statement_names (out-CommClause clause).span (optional_statement_syntax (out-CommClause clause).communication))
+-- a clause of a select, whose block the code asks for and whose list it reads as a slice
+pub adds_communication : (clause : CommClause) (block : Span) (a b c : List KeptNaming) (ss : List Stmt)
+    → block ≡ (out-CommClause clause).span
+    → Adds a b (optional_statement_names block (optional_statement_syntax (out-CommClause clause).communication))
     → ss ≡ (out-CommClause clause).statements.items
-    → Adds b c (statements_names (out-CommClause clause).span (statements_syntax ss))
+    → Adds b c (statements_names block (statements_syntax ss))
     → Adds a c (communication_names clause)
-adds_communication clause a b c ss first same second =
+adds_communication clause block a b c ss whole first same second =
     let o = out-CommClause clause in
+    let header = optional_statement_names o.span (optional_statement_syntax o.communication) in
     let body = statements_names o.span (statements_syntax o.statements.items) in
-    adds_then a b c (optional_statement_names o.span (optional_statement_syntax o.communication)) body first
-    (adds_same b c (statements_names o.span (statements_syntax ss)) body (ap (λ l. statements_names o.span (statements_syntax l)) same) second)
+    adds_then a b c header body
+    (adds_same a b (optional_statement_names block (optional_statement_syntax o.communication)) header
+    (ap (λ s. optional_statement_names s (optional_statement_syntax o.communication)) whole) first)
+    (adds_same b c (statements_names block (statements_syntax ss)) body (λ i. statements_names (whole i) (statements_syntax (same i))) second)
 
 -- The parts of a block and of a literal, as the code reads them.
 

@@ -1,13 +1,16 @@
 //! What a function declares, name by name. The blank identifier declares nothing.
 
-ghost use Rattle.std.specs.Prelude.{OnOk, map, option_map};
+ghost use Rattle.std.specs.Prelude.{true, OnOk, map, option_map};
 ghost use Rattle.meaning.specs.Scopes.{declared, declared_names, parameters_declared, signature_declared, type_declared, guard_declared, receiver_declared};
 ghost use Rattle.scopes.specs.Views.{local_view, Adds};
 ghost use Rattle.tree.specs.View.{identifier_syntax, parameters_syntax, signature_syntax};
+ghost use Rattle.tree.specs.declared.expression.Literal.{out-Literal};
+ghost use Rattle.tree.specs.declared.operator.DeclKeyword.TheVariants.{Var};
+ghost use Rattle.tree.specs.declared.statement.Block.{out-Block};
 
 use crate::naming::{Local, Naming};
 use std::alloc::AllocError;
-use tree::{DeclKeyword, Identifier, Param, Signature, Span};
+use tree::{DeclKeyword, Identifier, Literal, Param, Signature, Span};
 
 /// A name that declares nothing (the Go specification, "Blank identifier").
 const BLANK: &str = "_";
@@ -46,6 +49,20 @@ pub fn declare_names<'a>(
         declare(namings, local)?;
     }
     Ok(())
+}
+
+/// Adds the names that `:=` declares. Their scope begins after the bytes before it: those of the statement, or of what
+/// a `range` goes over.
+pub fn declare_short<'a>(
+    namings: &mut Vec<Naming<'a>>,
+    block: Span,
+    before: Span,
+    names: &'a [Identifier],
+) -> Result<(), AllocError>
+    ensures { OnOk result (Adds namings.old.items namings.new.items (declared_names Var block before.end true
+        (map identifier_syntax names.now))) }
+{
+    declare_names(namings, DeclKeyword::Var, block, before.end, true, names)
 }
 
 /// Adds a parameter or a result, whose scope is the whole block of its function.
@@ -98,6 +115,17 @@ pub fn declare_signature<'a>(
 {
     declare_parameters(namings, block, &signature.params)?;
     declare_parameters(namings, block, &signature.results)
+}
+
+/// Adds the parameters and results of a function literal, which stand in the block of its body.
+pub fn declare_literal<'a>(
+    namings: &mut Vec<Naming<'a>>,
+    literal: &'a Literal,
+) -> Result<(), AllocError>
+    ensures { OnOk result (Adds namings.old.items namings.new.items (signature_declared
+        (out-Block (out-Literal literal.now).body).span (signature_syntax (out-Literal literal.now).signature))) }
+{
+    declare_signature(namings, literal.body.span, &literal.signature)
 }
 
 /// Adds a receiver, if there is one.

@@ -1,12 +1,13 @@
 //! The names in expressions, types and statements, in the order in which they are declared and used.
 
-ghost use Rattle.std.specs.Prelude.{OnOk, option_map};
+ghost use Rattle.std.specs.Prelude.{◌≡◌, OnOk, option_map};
 ghost use Rattle.meaning.specs.Scopes.{expression_names, expression_form_names, expressions_names, optional_names, signature_names, parameters_names, fields_names, statement_names, statement_form_names, statements_names, optional_statement_names, cases_names, communications_names, specs_names, embedded_name};
 ghost use Rattle.scopes.specs.Views.{Adds};
 ghost use Rattle.tree.specs.Syntax.{no_parameter, no_field, no_spec};
+ghost use Rattle.tree.specs.declared.statement.CommClause.{out-CommClause};
 ghost use Rattle.tree.specs.View.{identifier_syntax, type_name_syntax, expression_form, expression_syntax, expressions_syntax, optional_expression_syntax, signature_syntax, parameters_syntax, fields_syntax, statement_form, statement_syntax, statements_syntax, optional_statement_syntax, cases_syntax, communications_syntax, specs_syntax, parameter_and, field_and, spec_and};
 
-use crate::declared::{declare_guard, declare_names, declare_signature, declare_type};
+use crate::declared::{declare_guard, declare_literal, declare_names, declare_short, declare_type};
 use crate::naming::Naming;
 use std::alloc::AllocError;
 use tree::{
@@ -40,7 +41,7 @@ fn expression_form<'a>(
         ExprKind::BasicLit(_) => Ok(()),
         ExprKind::FuncLit(literal) => {
             signature(namings, &literal.signature)?;
-            declare_signature(namings, literal.body.span, &literal.signature)?;
+            declare_literal(namings, literal)?;
             statements(namings, literal.body.span, &literal.body.statements)
         }
         ExprKind::CompositeLit(kind, elements) => {
@@ -49,7 +50,7 @@ fn expression_form<'a>(
         }
         ExprKind::LiteralValue(elements) => expressions(namings, elements),
         ExprKind::KeyValue(key, value) => {
-            expression(namings, key)?;
+            element_key(namings, key)?;
             expression(namings, value)
         }
         ExprKind::Paren(operand) => expression(namings, operand),
@@ -98,6 +99,15 @@ fn expression_form<'a>(
         ExprKind::StructType(list) => fields(namings, list),
         ExprKind::InterfaceType(list) => fields(namings, list),
     }
+}
+
+/// The names of a key. Where it is a name alone, it counts as used: only the type of the literal tells whether it is a
+/// field's.
+#[cycle(names)]
+fn element_key<'a>(namings: &mut Vec<Naming<'a>>, key: &'a Expr) -> Result<(), AllocError>
+    ensures { OnOk result (Adds namings.old.items namings.new.items (expression_names (expression_syntax key.now))) }
+{
+    expression(namings, key)
 }
 
 #[cycle(names)]
@@ -192,6 +202,13 @@ fn embedded<'a>(namings: &mut Vec<Naming<'a>>, name: &'a TypeName) -> Result<(),
     Ok(())
 }
 
+/// The block that a statement is by itself, as each `if`, `for` and `switch` is one: all its bytes.
+fn statement_block(statement: &Stmt) -> Span
+    ensures { result ≡ statement.now.span }
+{
+    statement.span
+}
+
 /// The names of a statement that stands in the block.
 #[cycle(names)]
 fn statement<'a>(
@@ -202,7 +219,7 @@ fn statement<'a>(
     ensures { OnOk result (Adds namings.old.items namings.new.items (statement_names block
         (statement_syntax statement.now))) }
 {
-    statement_form(namings, block, statement.span, &statement.kind)
+    statement_form(namings, block, statement_block(statement), &statement.kind)
 }
 
 /// The names of a statement that takes the bytes of the span.
@@ -239,7 +256,7 @@ fn statement_form<'a>(
         }
         StmtKind::Define(names, values) => {
             expressions(namings, values)?;
-            declare_names(namings, DeclKeyword::Var, block, span.end, true, names)
+            declare_short(namings, block, span, names)
         }
         StmtKind::Go(call) => expression(namings, call),
         StmtKind::Defer(call) => expression(namings, call),
@@ -278,14 +295,7 @@ fn statement_form<'a>(
         }
         StmtKind::RangeDefine(names, operand, body) => {
             expression(namings, operand)?;
-            declare_names(
-                namings,
-                DeclKeyword::Var,
-                span,
-                operand.span.end,
-                true,
-                names,
-            )?;
+            declare_short(namings, span, operand.span, names)?;
             statements(namings, body.span, &body.statements)
         }
         StmtKind::Switch {
@@ -361,6 +371,14 @@ fn cases<'a>(
     Ok(())
 }
 
+/// The block of a clause: all its bytes.
+fn clause_block(clause: &CommClause) -> Span
+    ensures { result ≡ (out-CommClause clause.now).span }
+{
+    clause.span
+}
+
+/// The names of the clauses of a `select`.
 #[cycle(names)]
 fn communications<'a>(
     namings: &mut Vec<Naming<'a>>,
@@ -370,8 +388,9 @@ fn communications<'a>(
         (communications_syntax clauses.now))) }
 {
     for clause in clauses {
-        optional_statement(namings, clause.span, &clause.communication)?;
-        statements(namings, clause.span, &clause.statements)?;
+        let block = clause_block(clause);
+        optional_statement(namings, block, &clause.communication)?;
+        statements(namings, block, &clause.statements)?;
     }
     Ok(())
 }

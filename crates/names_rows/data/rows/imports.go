@@ -2,6 +2,7 @@ package a
 
 import (
 	/*none*/context "example.org/other"
+	/*none*/errgroup "example.org/group"
 	"context"
 	y "example.org/v2"
 	"example.org/y"

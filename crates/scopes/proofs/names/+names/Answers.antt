@@ -3,8 +3,9 @@ use Rattle.tree.specs.declared.expression.Expr.{Expr}
 use Rattle.tree.specs.declared.expression.Literal.{Literal, out-Literal}
 use Rattle.tree.specs.declared.operator.DeclKeyword.TheVariants.{Var}
 use Rattle.tree.specs.declared.span.Identifier.{Identifier}
+use Rattle.tree.specs.declared.span.Span.{Span}
 use Rattle.tree.specs.declared.statement.Block.{out-Block}
-use Rattle.tree.specs.View.{identifier_syntax, expressions_syntax, parameters_syntax, signature_syntax, fields_syntax, statements_syntax, cases_syntax, communications_syntax, specs_syntax}
+use Rattle.tree.specs.View.{identifier_syntax, expressions_syntax, parameters_syntax, signature_syntax, fields_syntax, statement_form, statements_syntax, cases_syntax, communications_syntax, specs_syntax}
 use Rattle.tree.proofs.Depths.{drop_item, drop_past}
 use Rattle.tree.proofs.Views.{expression_form-Name, expression_form-BasicLit, expression_form-FuncLit, expression_form-CompositeLit, expression_form-LiteralValue, expression_form-KeyValue, expression_form-Paren, expression_form-Selector, expression_form-Index, expression_form-Slice, expression_form-TypeAssert, expression_form-Call, expression_form-Star, expression_form-Unary, expression_form-Binary, expression_form-ArrayType, expression_form-EllipsisArrayType, expression_form-SliceType, expression_form-MapType, expression_form-ChanType, expression_form-FuncType, expression_form-StructType, expression_form-InterfaceType, statement_form-Empty, statement_form-Decl, statement_form-Labeled, statement_form-Expr, statement_form-Send, statement_form-Increment, statement_form-Decrement, statement_form-Assign, statement_form-AssignOp, statement_form-Define, statement_form-Go, statement_form-Defer, statement_form-Return, statement_form-Break, statement_form-Continue, statement_form-Block, statement_form-If, statement_form-For, statement_form-RangeAssign, statement_form-RangeDefine, statement_form-Switch, statement_form-TypeSwitch, statement_form-Select, block_statements-out, parameter_and-Named, parameter_and-Unnamed, parameter_and-NameAlone, field_and-Named, field_and-Embedded, field_and-Method, spec_and-Value, spec_and-Type}
 use Rattle.meaning.specs.Scopes.{uses_name, declared_names, signature_declared, expression_names, expression_form_names, expressions_names, optional_names, signature_names, parameters_names, fields_names, statement_names, statement_form_names, statements_names, optional_statement_names, cases_names, communications_names, specs_names}
@@ -21,27 +22,27 @@ pub expression_form-returns-in-BasicLit : goal.expression_form-returns-in-BasicL
 unfolding expression_form_names
 expression_form-returns-in-BasicLit t c = rw (c.in-BasicLit.is, expression_form-BasicLit) (adds_nothing _)
 
-pub expression_form-returns-in_ok-declare_signature-in-FuncLit :
-    goal.expression_form-returns-in_ok-declare_signature-in-FuncLit
-expression_form-returns-in_ok-declare_signature-in-FuncLit t c =
+pub expression_form-returns-in_ok-declare_literal-in-FuncLit :
+    goal.expression_form-returns-in_ok-declare_literal-in-FuncLit
+expression_form-returns-in_ok-declare_literal-in-FuncLit t c =
     let l = c.in-FuncLit.literal.value in
     let s = signature_syntax (out-Literal l).signature in
     let b = out-Block (out-Literal l).body in
     rw (c.in-FuncLit.is, expression_form-FuncLit, literal_names)
-    (three_adds c.statements.result c.args.namings.now.items c.signature.new.namings.items c.declare_signature.new.namings.items
+    (three_adds c.statements.result c.args.namings.now.items c.signature.new.namings.items c.declare_literal.new.namings.items
     c.statements.new.namings.items (signature_names s) (signature_declared b.span s)
     (statements_names b.span (statements_syntax b.statements.items))
     (adds_same _ _ _ _ (ap (λ (l : Literal). signature_names (signature_syntax (out-Literal l).signature)) c.deref.ensures)
     c.in_ok-signature-in-FuncLit.ensures)
     (adds_same _ _ _ _
-    (λ i. signature_declared (out-Block (out-Literal (c.deref-in-FuncLit.ensures i)).body).span
-    (signature_syntax (out-Literal (c.deref-in-FuncLit-2.ensures i)).signature))
-    c.in_ok-declare_signature-in-FuncLit.ensures)
+    (ap (λ (l : Literal). signature_declared (out-Block (out-Literal l).body).span (signature_syntax (out-Literal l).signature))
+    c.deref-in-FuncLit.ensures)
+    c.in_ok-declare_literal-in-FuncLit.ensures)
     (same_adds _ _ _ _ _
-    (ap (λ l. statements_names (out-Block (out-Literal c.deref-in-FuncLit-3.result.now).body).span (statements_syntax l))
-    c.deref-in-FuncLit-5.ensures.value
-    ∙ (λ i. statements_names (out-Block (out-Literal (c.deref-in-FuncLit-3.ensures i)).body).span
-    (statements_syntax (out-Block (out-Literal (c.deref-in-FuncLit-4.ensures i)).body).statements.items)))
+    (ap (λ l. statements_names (out-Block (out-Literal c.deref-in-FuncLit-2.result.now).body).span (statements_syntax l))
+    c.deref-in-FuncLit-4.ensures.value
+    ∙ (λ i. statements_names (out-Block (out-Literal (c.deref-in-FuncLit-2.ensures i)).body).span
+    (statements_syntax (out-Block (out-Literal (c.deref-in-FuncLit-3.ensures i)).body).statements.items)))
     c.statements.ensures))
 
 pub expression_form-returns-in_ok-expression-in-CompositeLit : goal.expression_form-returns-in_ok-expression-in-CompositeLit
@@ -56,11 +57,11 @@ expression_form-returns-in-LiteralValue t c =
     rw (c.in-LiteralValue.is, expression_form-LiteralValue, ← c.deref-in-LiteralValue.ensures.value)
     c.expressions-in-LiteralValue.ensures
 
-pub expression_form-returns-in_ok-expression-in-KeyValue : goal.expression_form-returns-in_ok-expression-in-KeyValue
+pub expression_form-returns-in_ok-element_key-in-KeyValue : goal.expression_form-returns-in_ok-element_key-in-KeyValue
 unfolding expression_form_names
-expression_form-returns-in_ok-expression-in-KeyValue t c =
+expression_form-returns-in_ok-element_key-in-KeyValue t c =
     rw (c.in-KeyValue.is, expression_form-KeyValue, ← c.deref-in-KeyValue.ensures, ← c.deref-in-KeyValue-2.ensures)
-    (then_adds _ _ _ _ _ _ c.in_ok-expression-in-KeyValue.ensures c.expression-in-KeyValue-2.ensures)
+    (then_adds _ _ _ _ _ _ c.in_ok-element_key-in-KeyValue.ensures c.expression-in-KeyValue.ensures)
 
 pub expression_form-returns-in-Paren : goal.expression_form-returns-in-Paren
 unfolding expression_form_names
@@ -221,7 +222,7 @@ pub statement_form-returns-in_ok-expressions-in-Define : goal.statement_form-ret
 unfolding statement_form_names
 statement_form-returns-in_ok-expressions-in-Define t c =
     rw (c.in-Define.is, statement_form-Define, ← c.deref-in-Define.ensures.value, ← c.deref-in-Define-2.ensures.value)
-    (then_adds _ _ _ _ _ _ c.in_ok-expressions-in-Define.ensures c.declare_names.ensures)
+    (then_adds _ _ _ _ _ _ c.in_ok-expressions-in-Define.ensures c.declare_short.ensures)
 
 pub statement_form-returns-in-Go : goal.statement_form-returns-in-Go
 unfolding statement_form_names
@@ -283,9 +284,9 @@ statement_form-returns-in_ok-expression-in-RangeAssign t c =
     )
     (three_adds _ _ _ _ _ _ _ _ c.in_ok-expressions-in-RangeAssign.ensures c.in_ok-expression-in-RangeAssign.ensures c.statements-in-RangeAssign.ensures)
 
-pub statement_form-returns-in_ok-declare_names-in-RangeDefine : goal.statement_form-returns-in_ok-declare_names-in-RangeDefine
+pub statement_form-returns-in_ok-declare_short-in-RangeDefine : goal.statement_form-returns-in_ok-declare_short-in-RangeDefine
 unfolding statement_form_names
-statement_form-returns-in_ok-declare_names-in-RangeDefine t c =
+statement_form-returns-in_ok-declare_short-in-RangeDefine t c =
     rw (
       c.in-RangeDefine.is,
       statement_form-RangeDefine,
@@ -296,10 +297,10 @@ statement_form-returns-in_ok-declare_names-in-RangeDefine t c =
       ← c.deref-in-RangeDefine-4.ensures.value,
     )
     (three_adds _ _ _ _ _ _ _ _ c.in_ok-expression-in-RangeDefine.ensures
-    (adds_same c.expression-in-RangeDefine.new.namings.items c.declare_names-in-RangeDefine.new.namings.items _ _
+    (adds_same c.expression-in-RangeDefine.new.namings.items c.declare_short-in-RangeDefine.new.namings.items _ _
     (ap (λ (e : Expr). declared_names Var c.args.span e.span.end true (map identifier_syntax c.deref-in-RangeDefine-3.result.now))
     (c.deref-in-RangeDefine-2.ensures ∙ sym c.deref-in-RangeDefine.ensures))
-    c.in_ok-declare_names-in-RangeDefine.ensures) c.statements-in-RangeDefine.ensures)
+    c.in_ok-declare_short-in-RangeDefine.ensures) c.statements-in-RangeDefine.ensures)
 
 pub statement_form-returns-in_ok-optional-in-Switch : goal.statement_form-returns-in_ok-optional-in-Switch
 unfolding statement_form_names
@@ -331,7 +332,10 @@ expression-returns t c = c.expression_form.ensures
 
 pub statement-returns : goal.statement-returns
 unfolding statement_names
-statement-returns t c = c.statement_form.ensures
+statement-returns t c =
+    same_adds _ _ _ _ _
+    (ap (λ (s : Span). statement_form_names c.args.block s (statement_form c.args.statement.now.kind)) c.statement_block.ensures)
+    c.statement_form.ensures
 
 pub optional-returns-in-Some : goal.optional-returns-in-Some
 unfolding optional_names
@@ -479,7 +483,8 @@ pub communications-loop-clause-preserved : goal.communications-loop-clause-prese
 communications-loop-clause-preserved t c =
     let items = drop_item c.args.clauses.now c.loop-clause.clause-index c.clause-item.result c.loop-clause-test.true c.clause-item.is in
     adds_next _ _ _ _ _ _ c.loop-clause.invariant (ap (λ l. communications_names (communications_syntax l)) items ∙ communications_more c.clause-item.result _)
-    (adds_communication c.clause-item.result _ _ _ _ c.in_ok-optional_statement.ensures c.deref.ensures.value c.in_ok-statements.ensures)
+    (adds_communication c.clause-item.result c.clause_block-block.result _ _ _ _ c.clause_block-block.ensures c.in_ok-optional_statement.ensures
+    c.deref.ensures.value c.in_ok-statements.ensures)
 
 pub communications-returns : goal.communications-returns
 unfolding communications_names

@@ -1,0 +1,4 @@
+pub mod Counted
+pub mod FactMaps
+pub mod FactParts
+pub mod Gathered

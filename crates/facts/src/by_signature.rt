@@ -1,0 +1,186 @@
+//! What signatures say.
+
+ghost use Rattle.std.specs.Prelude.{◌≡◌, ℕ, List, [], ◌∷◌, ◌++◌, IfOk, OnOk, map, option_map};
+ghost use Rattle.meaning.specs.FunctionFacts.{given_at, given_positions, parameter_at, tracked_parameters, signature_facts, facts_in, package_facts};
+ghost use Rattle.meaning.specs.OuterBlocks.{can_be_meant, or_else};
+ghost use Rattle.names.specs.Answers.{declared_at};
+ghost use Rattle.facts.specs.FactViews.{kind_view, item_view, parameter_view, facts_view, facts_by_name};
+ghost use Rattle.tree.specs.Syntax.{function_declaration};
+ghost use Rattle.tree.specs.View.{signature_syntax, function_syntax, file_syntax, top_level_syntax};
+
+use crate::facts::{FunctionFacts, TrackedParameter};
+use crate::items::{Item, parameter_items};
+use crate::kinds::{VariableKind, item_kind};
+use crate::table::Table;
+use names::Names;
+use std::alloc::{AllocError, Global};
+use tree::{File, Func, Signature, TopLevelDecl};
+
+/// Adds the position of a result of that kind.
+fn add_given(
+    positions: &mut Vec<usize>,
+    position: usize,
+    kind: Option<VariableKind>,
+) -> Result<(), AllocError>
+    ensures { OnOk result (positions.new.items ≡ positions.old.items ++ given_at position
+        (option_map kind_view kind)) }
+{
+    if let Some(VariableKind::Cancel) = kind {
+        positions.push(position)?;
+    }
+    Ok(())
+}
+
+/// The positions of results of type `context.CancelFunc`.
+///
+/// # Errors
+///
+/// Memory was refused.
+pub fn given_positions(
+    alloc: Global,
+    names: &Names<'_>,
+    file: usize,
+    results: &[Item<'_>],
+) -> Result<Vec<usize>, AllocError>
+    ensures { IfOk result (λ positions. positions.items ≡ given_positions (declared_at names.now file) 0
+        (map item_view results.now)) }
+{
+    let mut positions: Vec<usize> = Vec::new(alloc);
+    for (position, item) in results.iter().enumerate() {
+        add_given(&mut positions, position, item_kind(names, file, item))?;
+    }
+    Ok(positions)
+}
+
+/// Adds a parameter at that position, if its kind is tracked.
+fn add_tracked(
+    tracked: &mut Vec<TrackedParameter>,
+    position: usize,
+    kind: Option<VariableKind>,
+) -> Result<(), AllocError>
+    ensures { OnOk result (map parameter_view tracked.new.items ≡ map parameter_view tracked.old.items ++
+        parameter_at position (option_map kind_view kind)) }
+{
+    if let Some(kind) = kind {
+        tracked.push(TrackedParameter {
+            position,
+            kind,
+            is_called: false,
+        })?;
+    }
+    Ok(())
+}
+
+fn tracked_parameters(
+    alloc: Global,
+    names: &Names<'_>,
+    file: usize,
+    params: &[Item<'_>],
+) -> Result<Vec<TrackedParameter>, AllocError>
+    ensures { IfOk result (λ tracked. map parameter_view tracked.items ≡ tracked_parameters
+        (declared_at names.now file) 0 (map item_view params.now)) }
+{
+    let mut tracked: Vec<TrackedParameter> = Vec::new(alloc);
+    for (position, item) in params.iter().enumerate() {
+        add_tracked(&mut tracked, position, item_kind(names, file, item))?;
+    }
+    Ok(tracked)
+}
+
+fn signature_facts(
+    alloc: Global,
+    names: &Names<'_>,
+    file: usize,
+    signature: &Signature,
+) -> Result<FunctionFacts, AllocError>
+    ensures { IfOk result (λ facts. facts_view facts ≡ signature_facts (declared_at names.now file)
+        (signature_syntax signature.now)) }
+{
+    let params = parameter_items(alloc, &signature.params)?;
+    let results = parameter_items(alloc, &signature.results)?;
+    Ok(FunctionFacts {
+        parameters: tracked_parameters(alloc, names, file, &params)?,
+        gives: given_positions(alloc, names, file, &results)?,
+        results: results.len(),
+    })
+}
+
+/// Whether the function can be referred to by its name alone: no method, and not called `init` or `_`.
+fn can_be_meant(function: &Func) -> bool
+    ensures { result ≡ can_be_meant (function_syntax function.now) }
+{
+    let name = function.name.text.as_str();
+    function.receiver.is_none() && name != "_" && name != "init"
+}
+
+/// Adds what the signature of a function says, if the function can be meant.
+fn add_function<'a>(
+    alloc: Global,
+    names: &Names<'a>,
+    file: usize,
+    function: &'a Func,
+    table: &mut Table<'a>,
+) -> Result<(), AllocError>
+    ensures { OnOk result ((name : List ℕ) → facts_by_name table.new name ≡ or_else (facts_by_name table.old name)
+        (facts_in (declared_at names.now file) name (function_declaration (function_syntax function.now) ∷ []))) }
+{
+    if !can_be_meant(function) {
+        return Ok(());
+    }
+    let facts = signature_facts(alloc, names, file, &function.signature)?;
+    table.insert(function.name.text.as_str(), facts)
+}
+
+/// Adds what the signature of a declaration says, if it is a function that can be meant.
+fn add_declaration<'a>(
+    alloc: Global,
+    names: &Names<'a>,
+    file: usize,
+    declaration: &'a TopLevelDecl,
+    table: &mut Table<'a>,
+) -> Result<(), AllocError>
+    ensures { OnOk result ((name : List ℕ) → facts_by_name table.new name ≡ or_else (facts_by_name table.old name)
+        (facts_in (declared_at names.now file) name (top_level_syntax declaration.now ∷ []))) }
+{
+    match declaration {
+        TopLevelDecl::Func(function) => add_function(alloc, names, file, function, table),
+        TopLevelDecl::Decl(_) => Ok(()),
+    }
+}
+
+/// Adds what the signatures of a file's functions say.
+fn file_signatures<'a>(
+    alloc: Global,
+    names: &Names<'a>,
+    file: usize,
+    declarations: &'a [TopLevelDecl],
+    table: &mut Table<'a>,
+) -> Result<(), AllocError>
+    ensures { OnOk result ((name : List ℕ) → facts_by_name table.new name ≡ or_else (facts_by_name table.old name)
+        (facts_in (declared_at names.now file) name (map top_level_syntax declarations.now))) }
+{
+    for declaration in declarations {
+        add_declaration(alloc, names, file, declaration, table)?;
+    }
+    Ok(())
+}
+
+/// What the signatures of a package's functions say.
+///
+/// # Errors
+///
+/// Memory was refused.
+pub fn signatures<'a>(
+    alloc: Global,
+    files: &'a [File],
+    names: &Names<'a>,
+) -> Result<Table<'a>, AllocError>
+    ensures { IfOk result (λ table. (name : List ℕ) → facts_by_name table name ≡ package_facts
+        (λ file. declared_at names.now file) (map file_syntax files.now) name) }
+{
+    let mut table = Table::new(alloc);
+    for (number, file) in files.iter().enumerate() {
+        file_signatures(alloc, names, number, &file.declarations, &mut table)?;
+    }
+    Ok(table)
+}

@@ -1,0 +1,263 @@
+-- What is told of a body: its use faults, its variables in their order, and the events at its sites. Its variables are
+-- the tracked ones that it declares outside its inner literals, and those declared outside it that it or a literal in
+-- it mentions. Parameters come first; then the name that occurs first comes first. Of a body with too many variables
+-- its use faults alone are told. Faults are listed as the marks come, and one may come twice: two clauses of a type
+-- switch declare the name of one guard.
+-- (This tool's rules.)
+use Rattle.std.specs.Prelude.{ℕ, zero, suc, ◌+◌, ◌==◌, Bool, true, false, not, ◌&&◌, ◌||◌, if◌then◌else◌, List, [], ◌∷◌, ◌++◌, Option, Some, None, is_some, codes, nat_lt, nat_le}
+use Rattle.std.specs.List.{list_any, filter}
+use Rattle.tree.specs.Syntax.{Expression, Expressions, no_expression, expression_and, SourceFile}
+use Rattle.meaning.specs.StatementCode.{Sites}
+use Rattle.meaning.specs.Mentions.{Named, as_bare, Role, called, Mention, BodyPlace, Mark, mentions, defers_literal, returns, opens, closes, file_marks}
+use Rattle.meaning.specs.FunctionFacts.{VariableKind, cancel, group}
+use Rattle.meaning.specs.Tracked.{Known, is_of_universe, local_meant_or, variable_of, is_in, Placed, LocalRole, parameter, receiver, variadic, result, in_block, Local, body_locals}
+use Rattle.meaning.specs.Uses.{Seen, seen_in, found, tracked_kind, is_outside, is_of_local, is_body, body_gives, is_statement_place, Handed, Event, other, defer_literal, return_event, too_many_variables, UseFault, fault_at, variable_outcome, mention_faults, result_faults, is_cancel}
+
+-- Use faults
+
+abbrev pub mark_faults : Seen → List BodyPlace → Mark → List UseFault
+mark_faults seen bodies (mentions m) = mention_faults seen bodies m
+mark_faults seen bodies (defers_literal site at) = []
+mark_faults seen bodies (returns at es) = []
+mark_faults seen bodies (opens b) = result_faults (body_locals seen.known b)
+mark_faults seen bodies closes = []
+
+-- of what stands in no body
+abbrev pub outer_faults_of : Seen → List Placed → List UseFault
+outer_faults_of seen [] = []
+outer_faults_of seen (p ∷ ps) =
+    if is_outside p.bodies then mark_faults seen p.bodies p.mark ++ outer_faults_of seen ps
+    else outer_faults_of seen ps
+
+-- of what stands in the body, and in no literal in it
+abbrev pub faults_of : Seen → ℕ → List Placed → List UseFault
+faults_of seen body [] = []
+faults_of seen body (p ∷ ps) =
+    if is_body body p.bodies then mark_faults seen p.bodies p.mark ++ faults_of seen body ps
+    else faults_of seen body ps
+
+-- Events
+
+-- the variable that an item of a return hands on
+abbrev pub handed_there : ℕ → List ℕ → Option VariableKind → Option ℕ → List Handed
+handed_there k gives None number = []
+handed_there k gives (Some group) number = []
+handed_there k gives (Some cancel) None = []
+handed_there k gives (Some cancel) (Some number) =
+    if is_in k gives then record { number = number; position = k } ∷ [] else []
+
+abbrev pub item_variable : Known → Option Named → Option ℕ
+item_variable known None = None
+item_variable known (Some n) = local_meant_or (known.means n.at) None
+
+abbrev pub handed_item : Seen → List ℕ → ℕ → Expression → List Handed
+handed_item seen gives k e =
+    let number = item_variable seen.known (as_bare e) in
+    handed_there k gives (tracked_kind seen (found seen number)) number
+
+abbrev pub handed_on : Seen → List ℕ → ℕ → Expressions → List Handed
+handed_on seen gives k no_expression = []
+handed_on seen gives k (expression_and e es) = handed_item seen gives k e ++ handed_on seen gives (k + 1) es
+
+abbrev pub mark_events : Seen → List BodyPlace → Mark → List Event
+mark_events seen bodies (mentions m) = (variable_outcome seen bodies m).events
+mark_events seen bodies (defers_literal site at) = defer_literal at ∷ []
+mark_events seen bodies (returns at es) = return_event (handed_on seen (body_gives seen.known bodies) 0 es) ∷ []
+mark_events seen bodies (opens b) = []
+mark_events seen bodies closes = []
+
+abbrev pub is_site : Mark → ℕ → Bool
+is_site (mentions m) at = m.site == at
+is_site (defers_literal site literal) at = site == at
+is_site (returns site es) at = site == at
+is_site (opens b) at = false
+is_site closes at = false
+
+-- what a site of the body gives, in the order of its marks
+abbrev pub events_at : Seen → ℕ → List Placed → ℕ → List Event
+events_at seen body [] at = []
+events_at seen body (p ∷ ps) at =
+    if is_body body p.bodies && is_site p.mark at
+    then mark_events seen p.bodies p.mark ++ events_at seen body ps at
+    else events_at seen body ps at
+
+-- a call of the universe's `panic` as a statement
+abbrev pub is_panic : Known → Mention → Role → Bool
+is_panic known m (called c) = is_of_universe known (codes "panic") m.named && is_statement_place c.place
+is_panic known m role = false
+
+abbrev pub panics_there : Known → ℕ → ℕ → List BodyPlace → Mark → Bool
+panics_there known body at bodies (mentions m) =
+    is_body body bodies && ((m.site == at) && is_panic known m m.role)
+panics_there known body at bodies mark = false
+
+-- the events of the body with that `func`
+abbrev pub sites_of : Seen → ℕ → Sites Event
+sites_of seen body = record {
+  other = other;
+  events = events_at seen body seen.marks;
+  panics = λ at. list_any (λ p. panics_there seen.known body at p.bodies p.mark) seen.marks;
+  returns = return_event [];
+}
+
+-- Variables of a body
+
+-- the body stands among these, and the one that declares the variable around it
+abbrev pub is_declared_around : ℕ → ℕ → List BodyPlace → Bool
+is_declared_around declaring body [] = false
+is_declared_around declaring body (b ∷ bs) =
+    if b.at == body then list_any (λ c. c.at == declaring) bs else is_declared_around declaring body bs
+
+abbrev pub is_around : ℕ → List BodyPlace → Bool
+is_around body = list_any (λ b. b.at == body)
+
+-- a mention of the local, in the body or a literal in it
+abbrev pub occurs_in : Known → ℕ → Local → List BodyPlace → Mark → Bool
+occurs_in known body l bodies (mentions m) = is_around body bodies && is_of_local l (variable_of known m)
+occurs_in known body l bodies mark = false
+
+abbrev pub is_captured_there : Known → ℕ → Local → List BodyPlace → Mark → Bool
+is_captured_there known body l bodies (mentions m) =
+    is_declared_around l.body body bodies && is_of_local l (variable_of known m)
+is_captured_there known body l bodies mark = false
+
+abbrev pub is_variable_of : Seen → ℕ → Local → Bool
+is_variable_of seen body l =
+    is_some (tracked_kind seen (Some l))
+    && ((l.body == body) || list_any (λ p. is_captured_there seen.known body l p.bodies p.mark) seen.marks)
+
+abbrev pub lesser : ℕ → ℕ → ℕ
+lesser m n = if nat_le m n then m else n
+
+abbrev pub occurrence : Mark → ℕ
+occurrence (mentions m) = m.named.at
+occurrence (defers_literal site at) = at
+occurrence (returns at es) = at
+occurrence (opens b) = b.at
+occurrence closes = 0
+
+abbrev pub least : ℕ → Option ℕ → ℕ
+least m None = m
+least m (Some n) = lesser m n
+
+-- the least offset of an occurrence in the body, or this one
+abbrev pub first_occurrence : Known → ℕ → Local → List Placed → Option ℕ
+first_occurrence known body l [] = None
+first_occurrence known body l (p ∷ ps) =
+    if occurs_in known body l p.bodies p.mark then Some (least (occurrence p.mark) (first_occurrence known body l ps))
+    else first_occurrence known body l ps
+
+pub data VariableRole : Type 0 where
+  -- a parameter of the body, with its position
+  own_parameter : ℕ → VariableRole
+  own_receiver : VariableRole
+  declared_in_body : VariableRole
+  captured : VariableRole
+
+pub record Variable : Type 0 where
+  pub number : ℕ
+  pub name : List ℕ
+  pub kind : VariableKind
+  pub role : VariableRole
+  -- the offset of its first occurrence in the body
+  pub first : ℕ
+
+abbrev pub role_in_own : LocalRole → VariableRole
+role_in_own (parameter k) = own_parameter k
+role_in_own receiver = own_receiver
+role_in_own variadic = declared_in_body
+role_in_own result = declared_in_body
+role_in_own in_block = declared_in_body
+
+abbrev pub role_in : ℕ → Local → VariableRole
+role_in body l = if l.body == body then role_in_own l.role else captured
+
+-- a parameter occurs first where it is declared
+abbrev pub first_in : VariableRole → Local → Option ℕ → ℕ
+first_in (own_parameter k) l first = l.at
+first_in own_receiver l first = l.at
+first_in declared_in_body l None = l.at
+first_in declared_in_body l (Some first) = first
+first_in captured l None = l.at
+first_in captured l (Some first) = first
+
+abbrev pub variable_there : Seen → ℕ → Local → Option VariableKind → List Variable
+variable_there seen body l None = []
+variable_there seen body l (Some kind) =
+    record {
+      number = l.number;
+      name = l.name;
+      kind = kind;
+      role = role_in body l;
+      first = first_in (role_in body l) l (first_occurrence seen.known body l seen.marks);
+    }
+    ∷ []
+
+abbrev pub variables_among : Seen → ℕ → List Local → List Variable
+variables_among seen body [] = []
+variables_among seen body (l ∷ ls) =
+    if is_variable_of seen body l
+    then variable_there seen body l (tracked_kind seen (Some l)) ++ variables_among seen body ls
+    else variables_among seen body ls
+
+abbrev pub is_parameter : VariableRole → Bool
+is_parameter (own_parameter k) = true
+is_parameter own_receiver = true
+is_parameter declared_in_body = false
+is_parameter captured = false
+
+-- parameters first; then by the first occurrence, and by the number where one guard declares several
+abbrev pub is_earlier : Variable → Variable → Bool
+is_earlier u v =
+    if nat_lt u.first v.first then true else (u.first == v.first) && nat_lt u.number v.number
+
+abbrev pub comes_before : Variable → Variable → Bool
+comes_before u v =
+    if is_parameter u.role then not (is_parameter v.role) || is_earlier u v
+    else not (is_parameter v.role) && is_earlier u v
+
+abbrev pub put_in : Variable → List Variable → List Variable
+put_in v [] = v ∷ []
+put_in v (u ∷ us) = if comes_before u v then u ∷ put_in v us else v ∷ u ∷ us
+
+abbrev pub in_their_order : List Variable → List Variable
+in_their_order [] = []
+in_their_order (v ∷ vs) = put_in v (in_their_order vs)
+
+-- the variables of the body, in the order of their numbers
+abbrev pub variables_of : Seen → ℕ → List Variable
+variables_of seen body = in_their_order (variables_among seen body seen.locals)
+
+-- Too many
+
+abbrev pub most_cancels : ℕ
+most_cancels = 48
+
+abbrev pub most_groups : ℕ
+most_groups = 12
+
+abbrev pub is_cancel_variable : Variable → Bool
+is_cancel_variable v = is_cancel (Some v.kind)
+
+-- the variable after so many is one too many
+abbrev pub fault_after : ℕ → List Variable → List UseFault
+fault_after n [] = []
+fault_after zero (v ∷ vs) = fault_at v.first too_many_variables v.name
+fault_after (suc n) (v ∷ vs) = fault_after n vs
+
+abbrev pub too_many_faults : List Variable → List UseFault
+too_many_faults vs =
+    fault_after most_cancels (filter is_cancel_variable vs)
+    ++ fault_after most_groups (filter (λ v. not (is_cancel_variable v)) vs)
+
+-- All of a body
+
+abbrev pub body_faults : Seen → ℕ → List UseFault
+body_faults seen body = faults_of seen body seen.marks ++ too_many_faults (variables_of seen body)
+
+abbrev pub outer_faults : Seen → List UseFault
+outer_faults seen = outer_faults_of seen seen.marks
+
+-- a file with what is known of it
+abbrev pub seen_file : Known → SourceFile → Seen
+seen_file known file = seen_in known (file_marks file)

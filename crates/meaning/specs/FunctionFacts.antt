@@ -1,0 +1,140 @@
+-- What a function's signature says of cancel functions and groups: at which positions it takes them, and at which
+-- results it gives cancel functions. Positions count single parameters and single results from 0; a receiver has none.
+-- A type is told by its name alone: `CancelFunc` of an import of `context`, and `*Group` of an import of `errgroup`.
+-- In brackets, or under another name, a type is another type. A variadic parameter is not of its element's type.
+-- (The Go specification, "Function types"; the documentation of `context` and `golang.org/x/sync/errgroup`.)
+use Rattle.std.specs.Prelude.{ℕ, ◌+◌, Bool, false, ◌&&◌, if◌then◌else◌, List, [], ◌∷◌, ◌++◌, Option, Some, None, codes, length}
+use Rattle.std.specs.Str.{bytes_eq}
+use Rattle.tree.specs.Syntax.{Identifier, Expression, OptionalExpression, missing_expression, present_expression, Signature, signature_of, Parameters, no_parameter, named_and, unnamed_and, name_alone_and, TopLevelDeclaration, function_declaration, general_declaration, SourceFile}
+use Rattle.meaning.specs.Declarations.{Meaning, local_name, import_name, function_name, package_name, universe_name}
+use Rattle.meaning.specs.OuterBlocks.{can_be_meant, or_else}
+use Rattle.meaning.specs.Mentions.{Named, as_named, as_pointer}
+
+-- what the use at an offset of a file means
+abbrev pub Meanings : Type 0
+Meanings = ℕ → Option Meaning
+
+abbrev pub context_path : List ℕ
+context_path = codes "context"
+
+abbrev pub errgroup_path : List ℕ
+errgroup_path = codes "golang.org/x/sync/errgroup"
+
+abbrev pub is_import : List ℕ → Option Meaning → Bool
+is_import path None = false
+is_import path (Some (local_name number kind)) = false
+is_import path (Some (import_name p)) = bytes_eq p path
+is_import path (Some function_name) = false
+is_import path (Some package_name) = false
+is_import path (Some universe_name) = false
+
+abbrev pub is_selected : List ℕ → Option (List ℕ) → Bool
+is_selected name None = false
+is_selected name (Some m) = bytes_eq m name
+
+-- `q.name`, where q is an import of the path
+abbrev pub is_of : Meanings → List ℕ → List ℕ → Named → Bool
+is_of means path name n = is_selected name n.selected && is_import path (means n.at)
+
+abbrev pub is_of_some : Meanings → List ℕ → List ℕ → Option Named → Bool
+is_of_some means path name None = false
+is_of_some means path name (Some n) = is_of means path name n
+
+abbrev pub is_cancel_type : Meanings → Expression → Bool
+is_cancel_type means t = is_of_some means context_path (codes "CancelFunc") (as_named t)
+
+abbrev pub is_group_pointer : Meanings → Expression → Bool
+is_group_pointer means t = is_of_some means errgroup_path (codes "Group") (as_pointer t)
+
+-- what a tracked variable holds
+pub data VariableKind : Type 0 where
+  cancel : VariableKind
+  group : VariableKind
+
+abbrev pub kind_of_type : Meanings → OptionalExpression → Option VariableKind
+kind_of_type means missing_expression = None
+kind_of_type means (present_expression t) =
+    if is_cancel_type means t then Some cancel
+    else if is_group_pointer means t then Some group
+    else None
+
+-- Items of a list of parameters or results
+
+pub record Item : Type 0 where
+  pub name : Option Identifier
+  pub is_variadic : Bool
+  pub type : OptionalExpression
+
+-- a name alone takes the type of the next item
+abbrev pub alone : Identifier → List Item → Item
+alone n [] = record { name = Some n; is_variadic = false; type = missing_expression }
+alone n (i ∷ is) = record { name = Some n; is_variadic = i.is_variadic; type = i.type }
+
+abbrev pub items_of : Parameters → List Item
+items_of no_parameter = []
+items_of (named_and n ellipsis t ps) =
+    record { name = Some n; is_variadic = ellipsis; type = present_expression t } ∷ items_of ps
+items_of (unnamed_and ellipsis t ps) =
+    record { name = None; is_variadic = ellipsis; type = present_expression t } ∷ items_of ps
+items_of (name_alone_and n ps) = alone n (items_of ps) ∷ items_of ps
+
+abbrev pub item_kind : Meanings → Item → Option VariableKind
+item_kind means i = if i.is_variadic then None else kind_of_type means i.type
+
+-- Facts
+
+-- a parameter that is tracked, and whether each return of the function is known to have called it
+pub record TrackedParameter : Type 0 where
+  pub position : ℕ
+  pub kind : VariableKind
+  pub is_called : Bool
+
+pub record FunctionFacts : Type 0 where
+  pub parameters : List TrackedParameter
+  -- the positions of results of type `context.CancelFunc`
+  pub gives : List ℕ
+  -- the number of results
+  pub results : ℕ
+
+abbrev pub parameter_at : ℕ → Option VariableKind → List TrackedParameter
+parameter_at k None = []
+parameter_at k (Some kind) = record { position = k; kind = kind; is_called = false } ∷ []
+
+abbrev pub tracked_parameters : Meanings → ℕ → List Item → List TrackedParameter
+tracked_parameters means k [] = []
+tracked_parameters means k (i ∷ is) = parameter_at k (item_kind means i) ++ tracked_parameters means (k + 1) is
+
+abbrev pub given_at : ℕ → Option VariableKind → List ℕ
+given_at k None = []
+given_at k (Some cancel) = k ∷ []
+given_at k (Some group) = []
+
+abbrev pub given_positions : Meanings → ℕ → List Item → List ℕ
+given_positions means k [] = []
+given_positions means k (i ∷ is) = given_at k (item_kind means i) ++ given_positions means (k + 1) is
+
+abbrev pub signature_facts : Meanings → Signature → FunctionFacts
+signature_facts means (signature_of ps rs brackets) = record {
+  parameters = tracked_parameters means 0 (items_of ps);
+  gives = given_positions means 0 (items_of rs);
+  results = length (items_of rs);
+}
+
+-- The facts of a package's functions, by their names: no methods, and none that is called `init` or `_`. Two functions
+-- of one name are a fault of the package; here the first counts.
+
+abbrev pub facts_in : Meanings → List ℕ → List TopLevelDeclaration → Option FunctionFacts
+facts_in means name [] = None
+facts_in means name (function_declaration f ∷ ds) =
+    if can_be_meant f && bytes_eq f.name.text name then Some (signature_facts means f.signature)
+    else facts_in means name ds
+facts_in means name (general_declaration d ∷ ds) = facts_in means name ds
+
+-- `means` has what the uses mean in the file of each number
+abbrev pub facts_from : (ℕ → Meanings) → List ℕ → ℕ → List SourceFile → Option FunctionFacts
+facts_from means name file [] = None
+facts_from means name file (f ∷ fs) =
+    or_else (facts_in (means file) name f.declarations) (facts_from means name (file + 1) fs)
+
+abbrev pub package_facts : (ℕ → Meanings) → List SourceFile → List ℕ → Option FunctionFacts
+package_facts means files name = facts_from means name 0 files

@@ -1,0 +1,530 @@
+-- Where the names of a file stand: what a place asks of a name by its form alone, before anything is known of what the
+-- name means. A name with another one after a dot, as `g.Go`, is one mention. A mention is the callee of a call, or an
+-- argument of one, an item of a return list, or a name on a left side; or it stands elsewhere. A call is looked at
+-- where it stands as a whole: as a statement, as the only value of `:=`, `=` or `var`, as an item of a return list, or
+-- behind `defer`. What stands in brackets stands elsewhere; a callee in brackets has a role of its own.
+-- The marks of a file are in the order in which its statements do what they say: values before the names that they are
+-- bound to. Between the two marks that open and close a body is all that stands in it, its signature too.
+-- (The Go specification, "Expression statements", "Assignment statements", "Short variable declarations", "Variable
+-- declarations", "Return statements", "Defer statements", "Calls", "Function literals".)
+use Rattle.std.specs.Prelude.{ℕ, ◌+◌, Bool, true, false, not, ◌&&◌, ◌||◌, if◌then◌else◌, List, [], ◌∷◌, ◌++◌, Option, Some, None, option_map, codes}
+use Rattle.std.specs.Str.{bytes_eq}
+use Rattle.tree.specs.declared.operator.DeclKeyword.{DeclKeyword}
+use Rattle.tree.specs.declared.operator.UnaryOperator.{UnaryOperator}
+use Rattle.tree.specs.declared.operator.UnaryOperator.TheVariants.{Address}
+use Rattle.tree.specs.declared.span.Span.{Span}
+use Rattle.tree.specs.Syntax.{Identifier, TypeName, Expression, expression_node, ExpressionForm, name_expression, basic_literal, function_literal, composite_literal, literal_value, key_value, parenthesized, selector_expression, index_expression, slice_expression, type_assertion, call_expression, star_expression, unary_expression, binary_expression, array_type, ellipsis_array_type, slice_type, map_type, channel_type, function_type, struct_type, interface_type, Expressions, no_expression, expression_and, OptionalExpression, missing_expression, present_expression, Signature, signature_of, Parameters, no_parameter, named_and, unnamed_and, name_alone_and, Fields, no_field, fields_and, embedded_and, method_and, Statement, statement_node, StatementForm, empty_statement, declaration_statement, labeled_statement, expression_statement, send_statement, increment_statement, decrement_statement, assignment, operator_assignment, define_statement, go_statement, defer_statement, return_statement, break_statement, continue_statement, block_statement, if_statement, for_statement, range_assignment, range_definition, switch_statement, type_switch_statement, select_statement, Statements, no_statement, statement_and, OptionalStatement, missing_statement, present_statement, CaseClauses, no_case, case_and, CommunicationClauses, no_communication, communication_and, Declaration, declaration_of, Specs, no_spec, value_and, type_and, Block, Function, TopLevelDeclaration, function_declaration, general_declaration, SourceFile}
+use Rattle.meaning.specs.Scopes.{is_blank, first_of}
+
+-- Names
+
+-- `n`, or `n.m`, with the offset of n
+pub record Named : Type 0 where
+  pub name : List ℕ
+  pub at : ℕ
+  pub selected : Option (List ℕ)
+
+abbrev pub bare : List ℕ → ℕ → Named
+bare name at = record { name = name; at = at; selected = None }
+
+abbrev pub select_from : Option Named → Identifier → Option Named
+select_from None m = None
+select_from (Some n) m = Some record { name = n.name; at = n.at; selected = Some m.text }
+
+-- `n`
+abbrev pub as_bare : Expression → Option Named
+as_bare (expression_node (name_expression text) span) = Some (bare text span.start)
+as_bare e = None
+
+-- `n`, or `n.m`
+abbrev pub as_named : Expression → Option Named
+as_named (expression_node (name_expression text) span) = Some (bare text span.start)
+as_named (expression_node (selector_expression e m) span) = select_from (as_bare e) m
+as_named e = None
+
+abbrev pub without_brackets : Expression → Expression
+without_brackets (expression_node (parenthesized e) span) = without_brackets e
+without_brackets e = e
+
+-- `(n)`, or `(n.m)`, in brackets of any number
+abbrev pub as_bracketed : Expression → Option Named
+as_bracketed (expression_node (parenthesized e) span) = as_named (without_brackets e)
+as_bracketed e = None
+
+-- `*n`, or `*n.m`
+abbrev pub as_pointer : Expression → Option Named
+as_pointer (expression_node (star_expression e) span) = as_named e
+as_pointer e = None
+
+-- `T` of `&T{}`
+abbrev pub as_new_literal : UnaryOperator → Expression → Option Named
+as_new_literal Address (expression_node (composite_literal t no_expression) span) = as_named t
+as_new_literal op e = None
+
+abbrev pub embedded : TypeName → Named
+embedded t = let n = first_of t.qualifier t.name in
+    record { name = n.text; at = n.span.start; selected = option_map (λ q. t.name.text) t.qualifier }
+
+-- Rows: left sides and values
+
+pub data RowForm : Type 0 where
+  -- names := values
+  defines : List Identifier → RowForm
+  -- left = values
+  assigns : Expressions → RowForm
+  -- keyword names type = values
+  declares : DeclKeyword → List Identifier → OptionalExpression → RowForm
+
+-- how a statement stands
+pub data Standing : Type 0 where
+  ordinary : Standing
+  -- it is the first statement of a `for`
+  first_of_for : Standing
+  -- a clause of a `select` waits for it
+  communication : Standing
+
+pub record Row : Type 0 where
+  pub form : RowForm
+  pub values : Expressions
+  -- the offset of the first token of its statement
+  pub statement : ℕ
+  pub standing : Standing
+
+-- Calls
+
+-- where an expression stands as a whole
+pub data Place : Type 0 where
+  nowhere : Place
+  as_statement : Place
+  -- it is the only value of a row
+  only_value : Row → Place
+  return_item : ℕ → Place
+  deferred : Place
+
+-- no call of a `select`'s communication stands as a whole
+abbrev pub place_in : Standing → Place → Place
+place_in ordinary place = place
+place_in first_of_for place = place
+place_in communication place = nowhere
+
+-- a call of `n` or `n.m`, and whether `...` stands after its last argument
+pub record Call : Type 0 where
+  pub callee : Named
+  pub arguments : Expressions
+  pub has_ellipsis : Bool
+  pub place : Place
+
+abbrev pub call_of : Place → Expression → Expressions → Bool → Option Call
+call_of place e es ellipsis =
+    option_map (λ n. record { callee = n; arguments = es; has_ellipsis = ellipsis; place = place }) (as_named e)
+
+abbrev pub is_one : Expressions → Bool
+is_one no_expression = false
+is_one (expression_and e no_expression) = true
+is_one (expression_and e (expression_and f es)) = false
+
+abbrev pub is_none_left : Expressions → Bool
+is_none_left no_expression = true
+is_none_left (expression_and e es) = false
+
+-- `g.Go` or `g.TryGo`, by its form
+abbrev pub starts_by : Option (List ℕ) → Bool
+starts_by None = false
+starts_by (Some m) = bytes_eq m (codes "Go") || bytes_eq m (codes "TryGo")
+
+abbrev pub is_start : Named → Bool
+is_start n = starts_by n.selected
+
+-- how a function literal is used
+pub data LiteralUse : Type 0 where
+  other_use : LiteralUse
+  -- defer func(..) { .. }(..)
+  deferred_call : LiteralUse
+  -- the argument of `g.Go` or `g.TryGo`
+  started_by : Named → LiteralUse
+
+abbrev pub argument_use : Option Call → LiteralUse
+argument_use None = other_use
+argument_use (Some c) =
+    if is_start c.callee && (is_one c.arguments && not c.has_ellipsis) then started_by c.callee else other_use
+
+abbrev pub callee_use : Place → LiteralUse
+callee_use deferred = deferred_call
+callee_use place = other_use
+
+-- Marks
+
+-- what a place asks of a name
+pub data Role : Type 0 where
+  elsewhere : Role
+  -- n in `n(..)`, n.m in `n.m(..)`
+  called : Call → Role
+  -- the same in brackets
+  called_in_brackets : Role
+  -- n or n.m as argument of that number, from 0, and whether `&` stands before it
+  argument : ℕ → Bool → Call → Role
+  -- n as item of that number of a return list
+  returned : ℕ → Role
+  -- n as left side of that number
+  left : ℕ → Row → Role
+  -- the type of a row's names
+  names_type : Row → Role
+  -- T of `&T{}`, the only value of a row
+  new_literal : Row → Role
+  -- T of a parameter's type `*T`
+  parameter_pointer : Role
+
+pub record Mention : Type 0 where
+  pub named : Named
+  pub role : Role
+  -- the offset of its statement, spec, header or clause
+  pub site : ℕ
+  -- the number of the local that the name declares there, unless it means one that is declared already
+  pub declares : Option ℕ
+
+-- a function or method with a block, or a function literal, which has no name
+pub record BodyPlace : Type 0 where
+  -- the offset of `func`
+  pub at : ℕ
+  pub name : Option Identifier
+  pub receiver : Option Parameters
+  pub signature : Signature
+  pub statements : Statements
+  pub braces : Span
+  pub literal : LiteralUse
+
+pub data Mark : Type 0 where
+  mentions : Mention → Mark
+  -- a literal is called under `defer`: the offsets of the statement and of the literal
+  defers_literal : ℕ → ℕ → Mark
+  -- a return, its offset and its items
+  returns : ℕ → Expressions → Mark
+  opens : BodyPlace → Mark
+  closes : Mark
+
+-- where an expression stands: as a whole, how it is used if it is a literal, and the offset of its site
+pub record Spot : Type 0 where
+  pub place : Place
+  pub literal : LiteralUse
+  pub site : ℕ
+
+abbrev pub part_of : ℕ → Spot
+part_of site = record { place = nowhere; literal = other_use; site = site }
+
+abbrev pub whole : Place → ℕ → Spot
+whole place site = record { place = place; literal = other_use; site = site }
+
+abbrev pub mention : ℕ → Role → Named → Mark
+mention site role n = mentions record { named = n; role = role; site = site; declares = None }
+
+-- a name that is declared, or perhaps only assigned to by `:=`
+abbrev pub declaring : ℕ → Role → Identifier → Option ℕ → Mark
+declaring site role n number =
+    mentions record { named = bare n.text n.span.start; role = role; site = site; declares = number }
+
+abbrev pub number_of : Identifier → Option ℕ
+number_of n = if is_blank n.text then None else Some n.span.start
+
+abbrev pub name_role : Place → Role
+name_role (return_item k) = returned k
+name_role place = elsewhere
+
+-- a mention of what is named, or else these marks
+abbrev pub named_or : Option Named → ℕ → Role → List Mark → List Mark
+named_or None site role marks = marks
+named_or (Some n) site role marks = mention site role n ∷ []
+
+abbrev pub callee_or : Option Call → ℕ → Expression → List Mark → List Mark
+callee_or None site e marks = named_or (as_bracketed e) site called_in_brackets marks
+callee_or (Some c) site e marks = mention site (called c) c.callee ∷ []
+
+abbrev pub addressed : UnaryOperator → Expression → Option Named
+addressed Address e = as_bare e
+addressed op e = None
+
+-- `n`, `n.m`, or `&n`, as argument k of the call
+abbrev pub argument_or : Call → ℕ → ℕ → Expression → List Mark → List Mark
+argument_or c site k (expression_node (unary_expression op e) span) marks =
+    named_or (addressed op e) site (argument k true c) marks
+argument_or c site k e marks = named_or (as_named e) site (argument k false c) marks
+
+-- the argument k, and whether it is the last one; under `...` it is at no position
+abbrev pub argument_at : Option Call → ℕ → ℕ → Bool → Expression → List Mark → List Mark
+argument_at None site k is_last e marks = marks
+argument_at (Some c) site k is_last e marks =
+    if is_last && c.has_ellipsis then marks else argument_or c site k e marks
+
+abbrev pub new_literal_or : Place → ℕ → Option Named → List Mark → List Mark
+new_literal_or (only_value row) site n marks = named_or n site (new_literal row) marks
+new_literal_or place site n marks = marks
+
+abbrev pub deferral : LiteralUse → ℕ → ℕ → List Mark
+deferral deferred_call site at = defers_literal site at ∷ []
+deferral used site at = []
+
+abbrev pub literal_body : LiteralUse → ℕ → Signature → Statements → Span → BodyPlace
+literal_body used at signature ss braces = record {
+  at = at;
+  name = None;
+  receiver = None;
+  signature = signature;
+  statements = ss;
+  braces = braces;
+  literal = used;
+}
+
+abbrev pub in_body : BodyPlace → List Mark → List Mark
+in_body b marks = opens b ∷ (marks ++ closes ∷ [])
+
+-- the type of a parameter: `*T` as a whole, unless `...` stands before it; that of a result never
+abbrev pub parameter_type_or : Bool → Expression → ℕ → List Mark → List Mark
+parameter_type_or is_plain t site marks =
+    if is_plain then named_or (as_pointer t) site parameter_pointer marks else marks
+
+abbrev pub value_spot : Row → ℕ → Spot
+value_spot row site =
+    whole (if is_one row.values then place_in row.standing (only_value row) else nowhere) site
+
+-- the names of a row's left side, from the one of that number on
+abbrev pub left_names : Row → ℕ → ℕ → List Identifier → List Mark
+left_names row site k [] = []
+left_names row site k (n ∷ ns) =
+    declaring site (left k row) n (number_of n) ∷ left_names row site (k + 1) ns
+
+-- names that are declared where no row is
+abbrev pub declared_elsewhere : ℕ → List Identifier → List Mark
+declared_elsewhere site [] = []
+declared_elsewhere site (n ∷ ns) = declaring site elsewhere n (number_of n) ∷ declared_elsewhere site ns
+
+-- the name of a type switch, which each clause declares anew, at the clause's keyword
+abbrev pub guard_in_clause : ℕ → Option Identifier → Span → List Mark
+guard_in_clause site None clause = []
+guard_in_clause site (Some n) clause =
+    if is_blank n.text then [] else declaring site elsewhere n (Some clause.start) ∷ []
+
+abbrev pub row_of : Standing → ℕ → RowForm → Expressions → Row
+row_of standing at form values = record { form = form; values = values; statement = at; standing = standing }
+
+unfoldable mutual
+  pub expression_marks : Spot → Expression → List Mark
+  expression_marks spot (expression_node form span) = form_marks spot span form
+
+  -- the marks of an expression that takes the bytes of the span
+  pub form_marks : Spot → Span → ExpressionForm → List Mark
+  form_marks spot span (name_expression text) = mention spot.site (name_role spot.place) (bare text span.start) ∷ []
+  form_marks spot span (basic_literal kind) = []
+  form_marks spot span (function_literal signature ss braces) =
+      in_body (literal_body spot.literal span.start signature ss braces)
+      (signature_marks span.start signature ++ statements_marks ss)
+      ++ deferral spot.literal spot.site span.start
+  form_marks spot span (composite_literal t es) =
+      expression_marks (part_of spot.site) t ++ expressions_marks (part_of spot.site) es
+  form_marks spot span (literal_value es) = expressions_marks (part_of spot.site) es
+  form_marks spot span (key_value k v) =
+      expression_marks (part_of spot.site) k ++ expression_marks (part_of spot.site) v
+  form_marks spot span (parenthesized e) = expression_marks (part_of spot.site) e
+  form_marks spot span (selector_expression e n) =
+      named_or (select_from (as_bare e) n) spot.site elsewhere (expression_marks (part_of spot.site) e)
+  form_marks spot span (index_expression e i) =
+      expression_marks (part_of spot.site) e ++ expression_marks (part_of spot.site) i
+  form_marks spot span (slice_expression e low high most) =
+      expression_marks (part_of spot.site) e
+      ++ (optional_marks spot.site low ++ (optional_marks spot.site high ++ optional_marks spot.site most))
+  form_marks spot span (type_assertion e t) =
+      expression_marks (part_of spot.site) e ++ expression_marks (part_of spot.site) t
+  form_marks spot span (call_expression e es ellipsis) =
+      callee_or (call_of spot.place e es ellipsis) spot.site e
+      (expression_marks record { place = nowhere; literal = callee_use spot.place; site = spot.site } e)
+      ++ arguments_marks (call_of spot.place e es ellipsis) spot.site 0 es
+  form_marks spot span (star_expression e) = expression_marks (part_of spot.site) e
+  form_marks spot span (unary_expression op e) =
+      new_literal_or spot.place spot.site (as_new_literal op e) (expression_marks (part_of spot.site) e)
+  form_marks spot span (binary_expression op l r) =
+      expression_marks (part_of spot.site) l ++ expression_marks (part_of spot.site) r
+  form_marks spot span (array_type n t) =
+      expression_marks (part_of spot.site) n ++ expression_marks (part_of spot.site) t
+  form_marks spot span (ellipsis_array_type t) = expression_marks (part_of spot.site) t
+  form_marks spot span (slice_type t) = expression_marks (part_of spot.site) t
+  form_marks spot span (map_type k t) =
+      expression_marks (part_of spot.site) k ++ expression_marks (part_of spot.site) t
+  form_marks spot span (channel_type direction t) = expression_marks (part_of spot.site) t
+  form_marks spot span (function_type signature) = signature_marks spot.site signature
+  form_marks spot span (struct_type fs) = fields_marks spot.site fs
+  form_marks spot span (interface_type fs) = fields_marks spot.site fs
+
+  -- expressions that stand alike
+  pub expressions_marks : Spot → Expressions → List Mark
+  expressions_marks spot no_expression = []
+  expressions_marks spot (expression_and e es) = expression_marks spot e ++ expressions_marks spot es
+
+  pub optional_marks : ℕ → OptionalExpression → List Mark
+  optional_marks site missing_expression = []
+  optional_marks site (present_expression e) = expression_marks (part_of site) e
+
+  -- the arguments of a call, from the one of that number on
+  pub arguments_marks : Option Call → ℕ → ℕ → Expressions → List Mark
+  arguments_marks c site k no_expression = []
+  arguments_marks c site k (expression_and e es) =
+      argument_at c site k (is_none_left es) e
+      (expression_marks record { place = nowhere; literal = argument_use c; site = site } e)
+      ++ arguments_marks c site (k + 1) es
+
+  -- the items of a return list, from the one of that number on
+  pub items_marks : ℕ → ℕ → Expressions → List Mark
+  items_marks site k no_expression = []
+  items_marks site k (expression_and e es) =
+      expression_marks (whole (return_item k) site) e ++ items_marks site (k + 1) es
+
+  -- the left sides of a row, from the one of that number on
+  pub lefts_marks : Row → ℕ → ℕ → Expressions → List Mark
+  lefts_marks row site k no_expression = []
+  lefts_marks row site k (expression_and e es) =
+      named_or (as_bare e) site (left k row) (expression_marks (part_of site) e)
+      ++ lefts_marks row site (k + 1) es
+
+  -- the type of a row's names
+  pub names_type_marks : Row → ℕ → OptionalExpression → List Mark
+  names_type_marks row site missing_expression = []
+  names_type_marks row site (present_expression t) =
+      named_or (as_named t) site (names_type row) (expression_marks (part_of site) t)
+
+  -- the types of parameters and results
+  pub signature_marks : ℕ → Signature → List Mark
+  signature_marks site (signature_of ps rs brackets) = parameters_marks true site ps ++ parameters_marks false site rs
+
+  pub parameters_marks : Bool → ℕ → Parameters → List Mark
+  parameters_marks are_parameters site no_parameter = []
+  parameters_marks are_parameters site (named_and n ellipsis t ps) =
+      parameter_type_or (are_parameters && not ellipsis) t site (expression_marks (part_of site) t)
+      ++ parameters_marks are_parameters site ps
+  parameters_marks are_parameters site (unnamed_and ellipsis t ps) =
+      parameter_type_or (are_parameters && not ellipsis) t site (expression_marks (part_of site) t)
+      ++ parameters_marks are_parameters site ps
+  parameters_marks are_parameters site (name_alone_and n ps) = parameters_marks are_parameters site ps
+
+  pub fields_marks : ℕ → Fields → List Mark
+  fields_marks site no_field = []
+  fields_marks site (fields_and ns t tag span fs) = expression_marks (part_of site) t ++ fields_marks site fs
+  fields_marks site (embedded_and star n tag span fs) = mention site elsewhere (embedded n) ∷ fields_marks site fs
+  fields_marks site (method_and n signature span fs) = signature_marks site signature ++ fields_marks site fs
+
+  pub statement_marks : Standing → Statement → List Mark
+  statement_marks standing (statement_node form span) = statement_form_marks standing span.start form
+
+  -- the marks of a statement that begins at the offset
+  pub statement_form_marks : Standing → ℕ → StatementForm → List Mark
+  statement_form_marks standing at empty_statement = []
+  statement_form_marks standing at (declaration_statement d) = declaration_marks d
+  statement_form_marks standing at (labeled_statement n s) = statement_marks standing s
+  statement_form_marks standing at (expression_statement e) =
+      expression_marks (whole (place_in standing as_statement) at) e
+  statement_form_marks standing at (send_statement c v) =
+      expression_marks (part_of at) c ++ expression_marks (part_of at) v
+  statement_form_marks standing at (increment_statement e) = expression_marks (part_of at) e
+  statement_form_marks standing at (decrement_statement e) = expression_marks (part_of at) e
+  statement_form_marks standing at (assignment ls rs) =
+      expressions_marks (value_spot (row_of standing at (assigns ls) rs) at) rs
+      ++ lefts_marks (row_of standing at (assigns ls) rs) at 0 ls
+  statement_form_marks standing at (operator_assignment op l r) =
+      expression_marks (part_of at) l ++ expression_marks (part_of at) r
+  statement_form_marks standing at (define_statement ns rs) =
+      expressions_marks (value_spot (row_of standing at (defines ns) rs) at) rs
+      ++ left_names (row_of standing at (defines ns) rs) at 0 ns
+  statement_form_marks standing at (go_statement e) = expression_marks (part_of at) e
+  statement_form_marks standing at (defer_statement e) = expression_marks (whole deferred at) e
+  statement_form_marks standing at (return_statement es) = items_marks at 0 es ++ returns at es ∷ []
+  statement_form_marks standing at (break_statement n) = []
+  statement_form_marks standing at (continue_statement n) = []
+  statement_form_marks standing at (block_statement ss braces) = statements_marks ss
+  statement_form_marks standing at (if_statement init has_semicolon c ss braces otherwise) =
+      optional_statement_marks ordinary init
+      ++ (expression_marks (part_of at) c ++ (statements_marks ss ++ optional_statement_marks ordinary otherwise))
+  statement_form_marks standing at (for_statement init c post has_semicolons ss braces) =
+      optional_statement_marks first_of_for init
+      ++ (optional_marks at c ++ (optional_statement_marks ordinary post ++ statements_marks ss))
+  statement_form_marks standing at (range_assignment ls e ss braces) =
+      expressions_marks (part_of at) ls ++ (expression_marks (part_of at) e ++ statements_marks ss)
+  statement_form_marks standing at (range_definition ns e ss braces) =
+      expression_marks (part_of at) e ++ (declared_elsewhere at ns ++ statements_marks ss)
+  statement_form_marks standing at (switch_statement init has_semicolon tag cs) =
+      optional_statement_marks ordinary init ++ (optional_marks at tag ++ cases_marks at None cs)
+  statement_form_marks standing at (type_switch_statement init has_semicolon n e cs) =
+      optional_statement_marks ordinary init ++ (expression_marks (part_of at) e ++ cases_marks at n cs)
+  statement_form_marks standing at (select_statement cs) = communications_marks cs
+
+  pub statements_marks : Statements → List Mark
+  statements_marks no_statement = []
+  statements_marks (statement_and s ss) = statement_marks ordinary s ++ statements_marks ss
+
+  pub optional_statement_marks : Standing → OptionalStatement → List Mark
+  optional_statement_marks standing missing_statement = []
+  optional_statement_marks standing (present_statement s) = statement_marks standing s
+
+  -- the clauses of a switch that begins at the offset, with the name of a type switch
+  pub cases_marks : ℕ → Option Identifier → CaseClauses → List Mark
+  cases_marks at guard no_case = []
+  cases_marks at guard (case_and es ss span cs) =
+      guard_in_clause at guard span
+      ++ (expressions_marks (part_of span.start) es ++ (statements_marks ss ++ cases_marks at guard cs))
+
+  pub communications_marks : CommunicationClauses → List Mark
+  communications_marks no_communication = []
+  communications_marks (communication_and c ss span cs) =
+      optional_statement_marks communication c ++ (statements_marks ss ++ communications_marks cs)
+
+  pub declaration_marks : Declaration → List Mark
+  declaration_marks (declaration_of keyword specs is_grouped span) = specs_marks keyword span.start specs
+
+  -- the specs of a declaration that begins at the offset
+  pub specs_marks : DeclKeyword → ℕ → Specs → List Mark
+  specs_marks keyword at no_spec = []
+  specs_marks keyword at (value_and ns t es span specs) =
+      names_type_marks (row_of ordinary at (declares keyword ns t) es) span.start t
+      ++ (expressions_marks (value_spot (row_of ordinary at (declares keyword ns t) es) span.start) es
+      ++ (left_names (row_of ordinary at (declares keyword ns t) es) span.start 0 ns
+      ++ specs_marks keyword at specs))
+  specs_marks keyword at (type_and n is_alias t span specs) =
+      declaring span.start elsewhere n (number_of n)
+      ∷ (expression_marks (part_of span.start) t ++ specs_marks keyword at specs)
+
+abbrev pub receiver_marks : ℕ → Option Parameters → List Mark
+receiver_marks site None = []
+receiver_marks site (Some ps) = parameters_marks true site ps
+
+abbrev pub function_body : Function → Block → BodyPlace
+function_body f b = record {
+  at = f.span.start;
+  name = Some f.name;
+  receiver = f.receiver;
+  signature = f.signature;
+  statements = b.statements;
+  braces = b.braces;
+  literal = other_use;
+}
+
+abbrev pub function_types_marks : Function → List Mark
+function_types_marks f = receiver_marks f.span.start f.receiver ++ signature_marks f.span.start f.signature
+
+-- the types of a function without a block stand in no body
+abbrev pub function_marks : Function → Option Block → List Mark
+function_marks f None = function_types_marks f
+function_marks f (Some b) = in_body (function_body f b) (function_types_marks f ++ statements_marks b.statements)
+
+-- a declaration outside all functions: no statement, and no local
+abbrev pub outer_specs_marks : Specs → List Mark
+outer_specs_marks no_spec = []
+outer_specs_marks (value_and ns t es span specs) =
+    optional_marks span.start t ++ (expressions_marks (part_of span.start) es ++ outer_specs_marks specs)
+outer_specs_marks (type_and n is_alias t span specs) =
+    expression_marks (part_of span.start) t ++ outer_specs_marks specs
+
+abbrev pub top_level_marks : TopLevelDeclaration → List Mark
+top_level_marks (function_declaration f) = function_marks f f.body
+top_level_marks (general_declaration (declaration_of keyword specs is_grouped span)) = outer_specs_marks specs
+
+abbrev pub top_levels_marks : List TopLevelDeclaration → List Mark
+top_levels_marks [] = []
+top_levels_marks (d ∷ ds) = top_level_marks d ++ top_levels_marks ds
+
+abbrev pub file_marks : SourceFile → List Mark
+file_marks file = top_levels_marks file.declarations

@@ -1,0 +1,415 @@
+-- Which variables are tracked, and which left sides bind them. A maker is `WithCancel`, `WithTimeout` or `WithDeadline`
+-- of an import of `context`; a giver is a function with a result of type `context.CancelFunc`. A cancel variable is a
+-- local that some row obtains from one of them, or that is declared with that type; a group variable is a local that
+-- some row makes, or a parameter of type `*errgroup.Group`. A row binds only variables of its own kind: where one of
+-- its variables is of another kind, it binds nothing. Named results and variadic parameters are never tracked.
+-- (The documentation of `context` and `golang.org/x/sync/errgroup`; this tool's rules.)
+use Rattle.std.specs.Prelude.{ℕ, zero, suc, ◌+◌, ◌==◌, Bool, true, false, ◌&&◌, ◌||◌, if◌then◌else◌, List, [], ◌∷◌, ◌++◌, Option, Some, None, is_none, is_some, map, slice_get, codes, length}
+use Rattle.std.specs.List.{list_any, list_all}
+use Rattle.std.specs.Str.{bytes_eq}
+use Rattle.tree.specs.declared.operator.DeclKeyword.TheVariants.{Const, Var, «Type» as type_keyword}
+use Rattle.tree.specs.Syntax.{Identifier, Expression, expression_node, call_expression, unary_expression, Expressions, no_expression, expression_and, OptionalExpression, present_expression, Signature, signature_of, Parameters}
+use Rattle.meaning.specs.Scopes.{is_blank}
+use Rattle.meaning.specs.OuterBlocks.{or_else}
+use Rattle.meaning.specs.Declarations.{Meaning, local_name, import_name, function_name, package_name, universe_name}
+use Rattle.meaning.specs.Mentions.{Named, bare, as_bare, as_named, as_new_literal, RowForm, defines, assigns, declares, Standing, ordinary, first_of_for, communication, Row, Call, call_of, only_value, Role, left, Mention, BodyPlace, Mark, mentions, defers_literal, returns, opens, closes, number_of}
+use Rattle.meaning.specs.FunctionFacts.{Meanings, context_path, errgroup_path, is_of, is_of_some, VariableKind, cancel, group, kind_of_type, Item, items_of, item_kind, FunctionFacts}
+
+-- What is known
+
+-- what the uses of a file mean, and the facts of functions: of this package's by name, and of the given imports' by
+-- path and name
+pub record Known : Type 0 where
+  pub means : Meanings
+  pub functions : List ℕ → Option FunctionFacts
+  pub imported : List ℕ → List ℕ → Option FunctionFacts
+
+abbrev pub facts_meant : Known → List ℕ → Option (List ℕ) → Option Meaning → Option FunctionFacts
+facts_meant known name None (Some function_name) = known.functions name
+facts_meant known name (Some m) (Some (import_name path)) = known.imported path m
+facts_meant known name selected meaning = None
+
+-- the facts of the function that is named
+abbrev pub facts_of : Known → Named → Option FunctionFacts
+facts_of known n = facts_meant known n.name n.selected (known.means n.at)
+
+-- a name of the universe
+abbrev pub is_universe : Option Meaning → Bool
+is_universe (Some universe_name) = true
+is_universe meaning = false
+
+abbrev pub is_of_universe : Known → List ℕ → Named → Bool
+is_of_universe known name n = is_none n.selected && (bytes_eq n.name name && is_universe (known.means n.at))
+
+-- Makers and givers
+
+abbrev pub is_maker : Known → Named → Bool
+is_maker known n = is_of known.means context_path (codes "WithCancel") n
+    || (is_of known.means context_path (codes "WithTimeout") n
+    || is_of known.means context_path (codes "WithDeadline") n)
+
+-- the positions of the results that are cancel functions, and the number of results
+pub record Giving : Type 0 where
+  pub positions : List ℕ
+  pub results : ℕ
+
+abbrev pub is_empty : List ℕ → Bool
+is_empty [] = true
+is_empty (n ∷ ns) = false
+
+abbrev pub facts_giving : Option FunctionFacts → Option Giving
+facts_giving None = None
+facts_giving (Some f) = if is_empty f.gives then None else Some record { positions = f.gives; results = f.results }
+
+-- what a maker or a giver gives
+abbrev pub giving_of : Known → Named → Option Giving
+giving_of known n =
+    if is_maker known n then Some record { positions = 1 ∷ []; results = 2 } else facts_giving (facts_of known n)
+
+abbrev pub call_giving : Known → Option Call → Option Giving
+call_giving known None = None
+call_giving known (Some c) = giving_of known c.callee
+
+-- Variables
+
+-- the local that a name means; one that no use means is the one that it declares
+abbrev pub local_meant_or : Option Meaning → Option ℕ → Option ℕ
+local_meant_or None declared = declared
+local_meant_or (Some (local_name number kind)) declared = Some number
+local_meant_or (Some (import_name path)) declared = None
+local_meant_or (Some function_name) declared = None
+local_meant_or (Some package_name) declared = None
+local_meant_or (Some universe_name) declared = None
+
+abbrev pub variable_of : Known → Mention → Option ℕ
+variable_of known m = local_meant_or (known.means m.named.at) m.declares
+
+-- the local that a mention declares
+abbrev pub declared_there : Option Meaning → Option ℕ → Option ℕ
+declared_there None declared = declared
+declared_there (Some meaning) declared = None
+
+abbrev pub declared_by : Known → Mention → Option ℕ
+declared_by known m = declared_there (known.means m.named.at) m.declares
+
+-- Left sides
+
+pub data Left : Type 0 where
+  blank_left : Left
+  -- a name, with the number of the local that it declares, if it declares
+  name_left : Named → Option ℕ → Left
+  other_left : Left
+
+abbrev pub left_name : Named → Option ℕ → Left
+left_name n number = if is_blank n.name then blank_left else name_left n number
+
+abbrev pub left_of_name : Identifier → Left
+left_of_name n = left_name (bare n.text n.span.start) (number_of n)
+
+abbrev pub left_of_named : Option Named → Left
+left_of_named None = other_left
+left_of_named (Some n) = left_name n None
+
+abbrev pub lefts_of_expressions : Expressions → List Left
+lefts_of_expressions no_expression = []
+lefts_of_expressions (expression_and e es) = left_of_named (as_bare e) ∷ lefts_of_expressions es
+
+abbrev pub lefts_of : RowForm → List Left
+lefts_of (defines ns) = map left_of_name ns
+lefts_of (assigns ls) = lefts_of_expressions ls
+lefts_of (declares keyword ns t) = map left_of_name ns
+
+abbrev pub left_local : Known → Option Left → Option ℕ
+left_local known None = None
+left_local known (Some blank_left) = None
+left_local known (Some (name_left n number)) = local_meant_or (known.means n.at) number
+left_local known (Some other_left) = None
+
+-- the local on the left side of that number
+abbrev pub local_at : Known → Row → ℕ → Option ℕ
+local_at known row k = left_local known (slice_get (lefts_of row.form) k)
+
+abbrev pub is_blank_left : Option Left → Bool
+is_blank_left None = false
+is_blank_left (Some blank_left) = true
+is_blank_left (Some (name_left n number)) = false
+is_blank_left (Some other_left) = false
+
+abbrev pub is_blank_at : Row → ℕ → Bool
+is_blank_at row k = is_blank_left (slice_get (lefts_of row.form) k)
+
+-- Rows that obtain
+
+-- `:=`, `=` and `var`, but for what a `select` waits for
+abbrev pub is_binding_form : RowForm → Bool
+is_binding_form (defines ns) = true
+is_binding_form (assigns ls) = true
+is_binding_form (declares Const ns t) = false
+is_binding_form (declares Var ns t) = true
+is_binding_form (declares type_keyword ns t) = false
+
+abbrev pub may_bind : Standing → RowForm → Bool
+may_bind ordinary form = is_binding_form form
+may_bind first_of_for form = is_binding_form form
+may_bind communication form = false
+
+-- the call that is the only value of a row
+abbrev pub call_in : Row → Expression → Option Call
+call_in row (expression_node (call_expression e es ellipsis) span) = call_of (only_value row) e es ellipsis
+call_in row e = None
+
+abbrev pub only_call : Row → Expressions → Option Call
+only_call row no_expression = None
+only_call row (expression_and e no_expression) = call_in row e
+only_call row (expression_and e (expression_and f es)) = None
+
+abbrev pub fits : Row → Option Giving → Option Giving
+fits row None = None
+fits row (Some g) = if length (lefts_of row.form) == g.results then Some g else None
+
+-- what the row's call of a maker or a giver gives, where there are as many left sides as results
+abbrev pub row_giving : Known → Row → Option Giving
+row_giving known row =
+    if may_bind row.standing row.form then fits row (call_giving known (only_call row row.values)) else None
+
+abbrev pub is_in : ℕ → List ℕ → Bool
+is_in k = list_any (λ n. n == k)
+
+abbrev pub are_locals : Known → Row → List ℕ → Bool
+are_locals known row = list_all (λ k. is_some (local_at known row k))
+
+abbrev pub obtains_there : Known → Row → ℕ → Option Giving → Bool
+obtains_there known row k None = false
+obtains_there known row k (Some g) = is_in k g.positions && are_locals known row g.positions
+
+-- the row obtains what stands on its left side k, by its form: a local stands at each position that is given
+abbrev pub row_obtains : Known → Row → ℕ → Bool
+row_obtains known row k = obtains_there known row k (row_giving known row)
+
+-- Rows that make
+
+pub data GroupState : Type 0 where
+  idle : GroupState
+  live : GroupState
+
+abbrev pub is_group_type : Known → Option Named → Bool
+is_group_type known n = is_of_some known.means errgroup_path (codes "Group") n
+
+-- `new(errgroup.Group)`, with the universe's `new`
+abbrev pub is_new_call : Known → Named → Expressions → Bool → Bool
+is_new_call known callee (expression_and e no_expression) false =
+    is_of_universe known (codes "new") callee && is_group_type known (as_named e)
+is_new_call known callee es ellipsis = false
+
+abbrev pub made_by_call : Known → ℕ → Option Call → Option GroupState
+made_by_call known count None = None
+made_by_call known count (Some c) =
+    if is_of known.means errgroup_path (codes "WithContext") c.callee
+    then if count == 2 then Some live else None
+    else if is_new_call known c.callee c.arguments c.has_ellipsis && (count == 1) then Some idle
+    else None
+
+-- what is made by a value that the first of so many left sides gets
+abbrev pub made_by_value : Known → Row → ℕ → Expression → Option GroupState
+made_by_value known row count (expression_node (unary_expression op e) span) =
+    if is_group_type known (as_new_literal op e) && (count == 1) then Some idle else None
+made_by_value known row count e = made_by_call known count (call_in row e)
+
+abbrev pub made_by_values : Known → Row → ℕ → Expressions → Option GroupState
+made_by_values known row count no_expression = None
+made_by_values known row count (expression_and e no_expression) = made_by_value known row count e
+made_by_values known row count (expression_and e (expression_and f es)) = None
+
+abbrev pub if_first : {A : Type 0} → ℕ → Option A → Option A
+if_first zero made = made
+if_first (suc k) made = None
+
+-- `var g errgroup.Group`
+abbrev pub made_by_type : Known → OptionalExpression → Expressions → Option GroupState
+made_by_type known (present_expression t) no_expression =
+    if is_group_type known (as_named t) then Some idle else None
+made_by_type known t es = None
+
+abbrev pub made_by_form : Known → Row → ℕ → RowForm → Option GroupState
+made_by_form known row k (defines ns) = if_first k (made_by_values known row (length ns) row.values)
+made_by_form known row k (assigns ls) =
+    if_first k (made_by_values known row (length (lefts_of_expressions ls)) row.values)
+made_by_form known row k (declares Const ns t) = None
+made_by_form known row k (declares Var ns t) = made_by_type known t row.values
+made_by_form known row k (declares type_keyword ns t) = None
+
+-- what the row makes on its left side k, by its form, where a local stands there
+abbrev pub row_makes : Known → Row → ℕ → Option GroupState
+row_makes known row k =
+    if may_bind row.standing row.form && is_some (local_at known row k) then made_by_form known row k row.form
+    else None
+
+-- Where a mark stands
+
+pub record Placed : Type 0 where
+  pub mark : Mark
+  -- the bodies around it, the innermost first
+  pub bodies : List BodyPlace
+
+abbrev pub outer : List BodyPlace → List BodyPlace
+outer [] = []
+outer (b ∷ bs) = bs
+
+-- the mark that opens a body stands in it
+unfoldable pub placed : List BodyPlace → List Mark → List Placed
+placed bodies [] = []
+placed bodies (mentions m ∷ ms) = record { mark = mentions m; bodies = bodies } ∷ placed bodies ms
+placed bodies (defers_literal site at ∷ ms) =
+    record { mark = defers_literal site at; bodies = bodies } ∷ placed bodies ms
+placed bodies (returns at es ∷ ms) = record { mark = returns at es; bodies = bodies } ∷ placed bodies ms
+placed bodies (opens b ∷ ms) = record { mark = opens b; bodies = b ∷ bodies } ∷ placed (b ∷ bodies) ms
+placed bodies (closes ∷ ms) = placed (outer bodies) ms
+
+-- Locals
+
+pub data LocalRole : Type 0 where
+  -- a parameter, with its position
+  parameter : ℕ → LocalRole
+  receiver : LocalRole
+  variadic : LocalRole
+  result : LocalRole
+  in_block : LocalRole
+
+pub record Local : Type 0 where
+  pub number : ℕ
+  pub name : List ℕ
+  -- the offset of the name that declares it
+  pub at : ℕ
+  pub role : LocalRole
+  -- its kind by the type that it is declared with
+  pub typed : Option VariableKind
+  -- the body that declares it, by the offset of its `func`
+  pub body : ℕ
+
+abbrev pub item_local : BodyPlace → LocalRole → Option VariableKind → Option Identifier → List Local
+item_local b role typed None = []
+item_local b role typed (Some n) =
+    if is_blank n.text then []
+    else
+    record {
+      number = n.span.start;
+      name = n.text;
+      at = n.span.start;
+      role = role;
+      typed = typed;
+      body = b.at;
+    }
+    ∷ []
+
+abbrev pub parameter_role : LocalRole → Item → LocalRole
+parameter_role role i = if i.is_variadic then variadic else role
+
+-- parameters from the one of that position on
+abbrev pub parameter_locals : Known → BodyPlace → ℕ → List Item → List Local
+parameter_locals known b k [] = []
+parameter_locals known b k (i ∷ is) =
+    item_local b (parameter_role (parameter k) i) (item_kind known.means i) i.name
+    ++ parameter_locals known b (k + 1) is
+
+abbrev pub receiver_locals : Known → BodyPlace → List Item → List Local
+receiver_locals known b [] = []
+receiver_locals known b (i ∷ is) =
+    item_local b (parameter_role receiver i) (item_kind known.means i) i.name ++ receiver_locals known b is
+
+-- a result is no parameter, so that a type of groups says nothing of it
+abbrev pub only_cancel : Option VariableKind → Option VariableKind
+only_cancel None = None
+only_cancel (Some cancel) = Some cancel
+only_cancel (Some group) = None
+
+abbrev pub result_locals : Known → BodyPlace → List Item → List Local
+result_locals known b [] = []
+result_locals known b (i ∷ is) =
+    item_local b result (only_cancel (item_kind known.means i)) i.name ++ result_locals known b is
+
+abbrev pub receiver_items : Option Parameters → List Item
+receiver_items None = []
+receiver_items (Some ps) = items_of ps
+
+abbrev pub signature_locals : Known → BodyPlace → Signature → List Local
+signature_locals known b (signature_of ps rs brackets) =
+    parameter_locals known b 0 (items_of ps) ++ result_locals known b (items_of rs)
+
+abbrev pub body_locals : Known → BodyPlace → List Local
+body_locals known b =
+    receiver_locals known b (receiver_items b.receiver) ++ signature_locals known b b.signature
+
+-- the kind of a variable or constant by the type of its spec
+abbrev pub row_typed : Known → RowForm → Option VariableKind
+row_typed known (defines ns) = None
+row_typed known (assigns ls) = None
+row_typed known (declares keyword ns t) = only_cancel (kind_of_type known.means t)
+
+abbrev pub role_typed : Known → Role → Option VariableKind
+role_typed known (left k row) = row_typed known row.form
+role_typed known role = None
+
+abbrev pub declared_local : Known → Mention → List BodyPlace → Option ℕ → List Local
+declared_local known m [] number = []
+declared_local known m (b ∷ bs) None = []
+declared_local known m (b ∷ bs) (Some number) =
+    record {
+      number = number;
+      name = m.named.name;
+      at = m.named.at;
+      role = in_block;
+      typed = role_typed known m.role;
+      body = b.at;
+    }
+    ∷ []
+
+abbrev pub locals_there : Known → List BodyPlace → Mark → List Local
+locals_there known bodies (mentions m) = declared_local known m bodies (declared_by known m)
+locals_there known bodies (defers_literal site at) = []
+locals_there known bodies (returns at es) = []
+locals_there known bodies (opens b) = body_locals known b
+locals_there known bodies closes = []
+
+-- the locals of a file
+unfoldable pub locals_of : Known → List Placed → List Local
+locals_of known [] = []
+locals_of known (p ∷ ps) = locals_there known p.bodies p.mark ++ locals_of known ps
+
+-- in the tree of a text no two locals have one number
+abbrev pub find_local : List Local → ℕ → Option Local
+find_local [] number = None
+find_local (l ∷ ls) number = if l.number == number then Some l else find_local ls number
+
+-- Kinds
+
+abbrev pub is_variable : Option ℕ → ℕ → Bool
+is_variable None number = false
+is_variable (Some n) number = n == number
+
+abbrev pub is_obtained_by : Known → Mention → Role → Bool
+is_obtained_by known m (left k row) = row_obtains known row k
+is_obtained_by known m role = false
+
+abbrev pub is_made_by : Known → Mention → Role → Bool
+is_made_by known m (left k row) = is_some (row_makes known row k)
+is_made_by known m role = false
+
+abbrev pub obtains_in : Known → ℕ → Mark → Bool
+obtains_in known number (mentions m) =
+    is_variable (variable_of known m) number && is_obtained_by known m m.role
+obtains_in known number mark = false
+
+abbrev pub makes_in : Known → ℕ → Mark → Bool
+makes_in known number (mentions m) =
+    is_variable (variable_of known m) number && is_made_by known m m.role
+makes_in known number mark = false
+
+-- The kind of a local: that of its type; else cancel, if some row obtains it; else group, if some row makes it.
+abbrev pub kind_by_rows : Known → List Placed → ℕ → Option VariableKind
+kind_by_rows known marks number =
+    if list_any (λ p. obtains_in known number p.mark) marks then Some cancel
+    else if list_any (λ p. makes_in known number p.mark) marks then Some group
+    else None
+
+abbrev pub kind_of_local : Known → List Placed → Local → Option VariableKind
+kind_of_local known marks l = or_else l.typed (kind_by_rows known marks l.number)

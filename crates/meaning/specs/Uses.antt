@@ -1,0 +1,660 @@
+-- What each mention of a tracked variable does, and which uses the rules don't allow. A mention is a binding, one of
+-- the allowed mentions below, or a fault. In the body that declares a variable more is allowed than in the literals in
+-- it. Besides, makers, givers, `errgroup`, the makers with a cause and the universe's `recover` may be named only as
+-- the rules say.
+-- (The documentation of `context` and `golang.org/x/sync/errgroup`; this tool's rules.)
+use Rattle.std.specs.Prelude.{ℕ, zero, suc, ◌+◌, ◌==◌, Bool, true, false, not, ◌&&◌, ◌||◌, if◌then◌else◌, List, [], ◌∷◌, ◌++◌, Option, Some, None, is_some, codes, length}
+use Rattle.std.specs.List.{list_any, list_all}
+use Rattle.std.specs.Str.{bytes_eq}
+use Rattle.tree.specs.declared.operator.DeclKeyword.TheVariants.{Const, Var, «Type» as type_keyword}
+use Rattle.tree.specs.Syntax.{Identifier, Expression, expression_node, function_literal, Expressions, no_expression, expression_and, OptionalExpression, present_expression, Signature, signature_of, Parameters}
+use Rattle.meaning.specs.Scopes.{is_blank}
+use Rattle.meaning.specs.OuterBlocks.{is_init}
+use Rattle.meaning.specs.Declarations.{Meaning, import_name}
+use Rattle.meaning.specs.Mentions.{Named, as_bare, RowForm, defines, assigns, declares, Standing, ordinary, first_of_for, communication, Row, Call, Place, nowhere, as_statement, only_value, return_item, deferred, Role, called, called_in_brackets, argument, returned, left, names_type, new_literal, parameter_pointer, Mention, LiteralUse, other_use, deferred_call, started_by, BodyPlace, Mark, mentions, defers_literal, returns, opens, closes, expression_marks, part_of}
+use Rattle.meaning.specs.FunctionFacts.{context_path, errgroup_path, is_import, is_selected, is_of, is_cancel_type, VariableKind, cancel, group, TrackedParameter, FunctionFacts, items_of, given_positions}
+use Rattle.meaning.specs.Tracked.{Known, facts_of, is_universe, is_of_universe, is_maker, Giving, giving_of, local_meant_or, variable_of, declared_by, left_local, lefts_of, local_at, is_blank_at, is_binding_form, may_bind, only_call, row_giving, is_in, are_locals, row_obtains, GroupState, row_makes, Placed, placed, LocalRole, parameter, receiver, variadic, result, in_block, Local, find_local, locals_of, kind_of_local}
+
+-- A file with what is known of it
+
+pub record Seen : Type 0 where
+  pub known : Known
+  pub marks : List Placed
+  pub locals : List Local
+
+abbrev pub seen_in : Known → List Mark → Seen
+seen_in known ms = record {
+  known = known;
+  marks = placed [] ms;
+  locals = locals_of known (placed [] ms);
+}
+
+-- The kind of a local, whatever its role is: what it would be tracked as.
+abbrev pub kind_of : Seen → Option Local → Option VariableKind
+kind_of seen None = None
+kind_of seen (Some l) = kind_of_local seen.known seen.marks l
+
+abbrev pub found : Seen → Option ℕ → Option Local
+found seen None = None
+found seen (Some number) = find_local seen.locals number
+
+abbrev pub may_be_tracked : LocalRole → Bool
+may_be_tracked (parameter k) = true
+may_be_tracked receiver = true
+may_be_tracked variadic = false
+may_be_tracked result = false
+may_be_tracked in_block = true
+
+-- what the local is tracked as
+abbrev pub tracked_kind : Seen → Option Local → Option VariableKind
+tracked_kind seen None = None
+tracked_kind seen (Some l) =
+    if may_be_tracked l.role then kind_of_local seen.known seen.marks l else None
+
+abbrev pub is_tracked : Seen → Option ℕ → Bool
+is_tracked seen number = is_some (tracked_kind seen (found seen number))
+
+-- some mark among these is of a tracked variable
+abbrev pub names_tracked : Seen → Mark → Bool
+names_tracked seen (mentions m) = is_tracked seen (variable_of seen.known m)
+names_tracked seen (defers_literal site at) = false
+names_tracked seen (returns at es) = false
+names_tracked seen (opens b) = false
+names_tracked seen closes = false
+
+abbrev pub has_tracked : Seen → Expression → Bool
+has_tracked seen e = list_any (names_tracked seen) (expression_marks (part_of 0) e)
+
+-- the same, but for what stands in literals
+abbrev pub is_outside : List BodyPlace → Bool
+is_outside [] = true
+is_outside (b ∷ bs) = false
+
+abbrev pub names_tracked_outside : Seen → Placed → Bool
+names_tracked_outside seen p = is_outside p.bodies && names_tracked seen p.mark
+
+abbrev pub has_tracked_outside : Seen → Expression → Bool
+has_tracked_outside seen e = list_any (names_tracked_outside seen) (placed [] (expression_marks (part_of 0) e))
+
+-- Bindings
+
+-- a function, of the import of that path, or of this package
+pub record Callee : Type 0 where
+  pub path : Option (List ℕ)
+  pub name : List ℕ
+
+abbrev pub path_meant : Option Meaning → Option (List ℕ)
+path_meant (Some (import_name path)) = Some path
+path_meant meaning = None
+
+abbrev pub selected_or : Option (List ℕ) → List ℕ → List ℕ
+selected_or None name = name
+selected_or (Some m) name = m
+
+abbrev pub last_name : Named → List ℕ
+last_name n = selected_or n.selected n.name
+
+abbrev pub callee_of : Known → Named → Callee
+callee_of known n = record { path = path_meant (known.means n.at); name = last_name n }
+
+pub data Binding : Type 0 where
+  -- obtained from the result of that number
+  obtained : ℕ → Binding
+  cleared : Binding
+  made : GroupState → Binding
+
+abbrev pub is_cancel : Option VariableKind → Bool
+is_cancel None = false
+is_cancel (Some cancel) = true
+is_cancel (Some group) = false
+
+abbrev pub is_group : Option VariableKind → Bool
+is_group None = false
+is_group (Some cancel) = false
+is_group (Some group) = true
+
+abbrev pub kind_at : Seen → Row → ℕ → Option VariableKind
+kind_at seen row k = kind_of seen (found seen (local_at seen.known row k))
+
+abbrev pub are_cancels : Seen → Row → Option Giving → Bool
+are_cancels seen row None = false
+are_cancels seen row (Some g) = list_all (λ k. is_cancel (kind_at seen row k)) g.positions
+
+-- the row binds all cancel variables that it obtains
+abbrev pub row_binds : Seen → Row → Bool
+row_binds seen row = are_cancels seen row (row_giving seen.known row)
+
+-- a function literal, or the universe's `nil`
+abbrev pub is_empty_value : Known → Expression → Bool
+is_empty_value known (expression_node (function_literal signature ss braces) span) = true
+is_empty_value known e = is_nil (as_bare e)
+  where
+    is_nil : Option Named → Bool
+    is_nil None = false
+    is_nil (Some n) = is_of_universe known (codes "nil") n
+
+abbrev pub clears_by_value : Known → ℕ → Expressions → Bool
+clears_by_value known count no_expression = false
+clears_by_value known count (expression_and e no_expression) = (count == 1) && is_empty_value known e
+clears_by_value known count (expression_and e (expression_and f es)) = false
+
+abbrev pub clears_by_type : Known → OptionalExpression → Expressions → Bool
+clears_by_type known (present_expression t) no_expression = is_cancel_type known.means t
+clears_by_type known t es = false
+
+abbrev pub clears_by_form : Known → Row → RowForm → Bool
+clears_by_form known row (defines ns) = clears_by_value known (length ns) row.values
+clears_by_form known row (assigns ls) = clears_by_value known (length (lefts_of (assigns ls))) row.values
+clears_by_form known row (declares Const ns t) = false
+clears_by_form known row (declares Var ns t) = clears_by_type known t row.values
+clears_by_form known row (declares type_keyword ns t) = false
+
+-- what the row may clear, if it is a cancel variable
+abbrev pub row_clears : Known → Row → Bool
+row_clears known row = may_bind row.standing row.form && clears_by_form known row row.form
+
+abbrev pub second : Expressions → Option Expression
+second no_expression = None
+second (expression_and e no_expression) = None
+second (expression_and e (expression_and f es)) = Some f
+
+abbrev pub has_tracked_in : Seen → Option Expression → Bool
+has_tracked_in seen None = false
+has_tracked_in seen (Some e) = has_tracked seen e
+
+-- x of `g, x := errgroup.WithContext(..)` has no tracked name, in literals neither
+abbrev pub is_second_free : Seen → Row → RowForm → Bool
+is_second_free seen row (defines ns) = not (is_tracked seen (local_at seen.known row 1))
+is_second_free seen row (assigns ls) = not (has_tracked_in seen (second ls))
+is_second_free seen row (declares keyword ns t) = true
+
+abbrev pub is_group_or_none : Seen → Option ℕ → Bool
+is_group_or_none seen None = true
+is_group_or_none seen (Some number) = is_group (kind_of seen (found seen (Some number)))
+
+-- all names of `var g, h errgroup.Group` are groups; of another row the first name is
+abbrev pub are_groups : Seen → Row → RowForm → Bool
+are_groups seen row (defines ns) = is_group (kind_at seen row 0)
+are_groups seen row (assigns ls) = is_group (kind_at seen row 0)
+are_groups seen row (declares keyword ns t) =
+    list_all (λ l. is_group_or_none seen (left_local seen.known (Some l))) (lefts_of row.form)
+
+abbrev pub made_binding : Seen → Row → Option GroupState → Option Binding
+made_binding seen row None = None
+made_binding seen row (Some state) =
+    if are_groups seen row row.form && is_second_free seen row row.form then Some (made state) else None
+
+-- how the row binds what stands on its left side k
+abbrev pub binding_at : Seen → Row → ℕ → Option Binding
+binding_at seen row k =
+    if row_obtains seen.known row k then if row_binds seen row then Some (obtained k) else None
+    else if row_clears seen.known row && is_cancel (kind_at seen row k) then Some cleared
+    else made_binding seen row (row_makes seen.known row k)
+
+abbrev pub is_made : Option Binding → Bool
+is_made None = false
+is_made (Some (obtained k)) = false
+is_made (Some cleared) = false
+is_made (Some (made state)) = true
+
+abbrev pub below : ℕ → List ℕ
+below zero = []
+below (suc n) = n ∷ below n
+
+-- the row makes a group
+abbrev pub makes_group : Seen → Row → Bool
+makes_group seen row = list_any (λ k. is_made (binding_at seen row k)) (below (length (lefts_of row.form)))
+
+-- Bodies around a mention
+
+-- the literals between the body that declares the variable and the mention, the innermost first
+abbrev pub literals_between : ℕ → List BodyPlace → List BodyPlace
+literals_between body [] = []
+literals_between body (b ∷ bs) = if b.at == body then [] else b ∷ literals_between body bs
+
+abbrev pub is_body : ℕ → List BodyPlace → Bool
+is_body at [] = false
+is_body at (b ∷ bs) = b.at == at
+
+-- the mention stands in the body that declares the variable, and in no literal in it
+abbrev pub is_own : Local → List BodyPlace → Bool
+is_own l bodies = is_body l.body bodies
+
+abbrev pub is_deferred_use : LiteralUse → Bool
+is_deferred_use other_use = false
+is_deferred_use deferred_call = true
+is_deferred_use (started_by n) = false
+
+abbrev pub is_deferred : BodyPlace → Bool
+is_deferred b = is_deferred_use b.literal
+
+abbrev pub is_of_local : Local → Option ℕ → Bool
+is_of_local l None = false
+is_of_local l (Some number) = number == l.number
+
+abbrev pub is_started_by_it : Known → Local → LiteralUse → Bool
+is_started_by_it known l other_use = false
+is_started_by_it known l deferred_call = false
+is_started_by_it known l (started_by n) = is_of_local l (local_meant_or (known.means n.at) None)
+
+-- the literal is the argument of Go or TryGo of that variable
+abbrev pub is_member_of : Known → Local → BodyPlace → Bool
+is_member_of known l b = is_started_by_it known l b.literal
+
+-- Gives positions: none of methods, literals, and functions that are called `_` or `init`
+abbrev pub named_gives : Known → Identifier → Signature → List ℕ
+named_gives known n (signature_of ps rs brackets) =
+    if is_blank n.text || is_init n.text then [] else given_positions known.means 0 (items_of rs)
+
+abbrev pub gives_of : Known → Option Identifier → Option Parameters → Signature → List ℕ
+gives_of known (Some n) None signature = named_gives known n signature
+gives_of known name of signature = []
+
+abbrev pub body_gives : Known → List BodyPlace → List ℕ
+body_gives known [] = []
+body_gives known (b ∷ bs) = gives_of known b.name b.receiver b.signature
+
+-- Events
+
+-- a variable that a return hands on, and the position of its item
+pub record Handed : Type 0 where
+  pub number : ℕ
+  pub position : ℕ
+
+pub data Event : Type 0 where
+  other : Event
+  -- the variable, the function whose result it obtains, the result's number, and whether the variable is declared there
+  obtain : ℕ → Callee → ℕ → Bool → Event
+  clear : ℕ → Event
+  call : ℕ → Event
+  defer_call : ℕ → Event
+  -- the variable, the function, and the position of the argument
+  pass : ℕ → Callee → ℕ → Event
+  defer_pass : ℕ → Callee → ℕ → Event
+  lend : ℕ → Callee → ℕ → Event
+  -- with the literal that is started, if it is one
+  start : ℕ → Option ℕ → Event
+  try : ℕ → Event
+  wait : ℕ → Event
+  defer_wait : ℕ → Event
+  make : ℕ → GroupState → Event
+  defer_literal : ℕ → Event
+  -- the variables that are handed on, each with its position
+  return_event : List Handed → Event
+
+-- Allowed mentions
+
+-- `:=`, `=` and `var` have a value that stands as a whole; `const` has none
+abbrev pub is_value_place : Place → Bool
+is_value_place nowhere = false
+is_value_place as_statement = false
+is_value_place (only_value row) = is_binding_form row.form
+is_value_place (return_item k) = false
+is_value_place deferred = false
+
+abbrev pub is_statement_place : Place → Bool
+is_statement_place nowhere = false
+is_statement_place as_statement = true
+is_statement_place (only_value row) = false
+is_statement_place (return_item k) = false
+is_statement_place deferred = false
+
+abbrev pub is_item_place : Place → Bool
+is_item_place nowhere = false
+is_item_place as_statement = false
+is_item_place (only_value row) = false
+is_item_place (return_item k) = true
+is_item_place deferred = false
+
+abbrev pub is_deferred_place : Place → Bool
+is_deferred_place nowhere = false
+is_deferred_place as_statement = false
+is_deferred_place (only_value row) = false
+is_deferred_place (return_item k) = false
+is_deferred_place deferred = true
+
+abbrev pub is_statement_or_value : Place → Bool
+is_statement_or_value p = is_statement_place p || is_value_place p
+
+-- a statement, an only value, or an item of a return list
+abbrev pub is_call_place : Place → Bool
+is_call_place p = is_statement_or_value p || is_item_place p
+
+abbrev pub is_same_kind : VariableKind → VariableKind → Bool
+is_same_kind cancel k = is_cancel (Some k)
+is_same_kind group k = is_group (Some k)
+
+abbrev pub has_kind_at : VariableKind → ℕ → TrackedParameter → Bool
+has_kind_at kind k p = is_same_kind kind p.kind && (p.position == k)
+
+abbrev pub facts_take : VariableKind → ℕ → Option FunctionFacts → Bool
+facts_take kind k None = false
+facts_take kind k (Some f) = list_any (has_kind_at kind k) f.parameters
+
+-- the function takes a variable of that kind at that position
+abbrev pub takes : Known → Call → VariableKind → ℕ → Bool
+takes known c kind k = facts_take kind k (facts_of known c.callee)
+
+abbrev pub is_empty : Expressions → Bool
+is_empty no_expression = true
+is_empty (expression_and e es) = false
+
+-- `()`
+abbrev pub has_no_argument : Call → Bool
+has_no_argument c = is_empty c.arguments && not c.has_ellipsis
+
+abbrev pub allowed_if : Bool → List Event → Option (List Event)
+allowed_if is_allowed events = if is_allowed then Some events else None
+
+-- or else the second
+abbrev pub either_use : Option (List Event) → Option (List Event) → Option (List Event)
+either_use None second_use = second_use
+either_use (Some events) second_use = Some events
+
+-- `c()` and `defer c()`, in literals too
+abbrev pub cancel_called : ℕ → Option (List ℕ) → Call → Option (List Event)
+cancel_called v (Some m) c = None
+cancel_called v None c = either_use
+    (allowed_if (has_no_argument c && is_statement_place c.place) (call v ∷ []))
+    (allowed_if (has_no_argument c && is_deferred_place c.place) (defer_call v ∷ []))
+
+-- argument c of a function at a position of type `context.CancelFunc`, at a call place or under `defer`
+abbrev pub cancel_passed : Known → ℕ → Option (List ℕ) → ℕ → Bool → Call → Option (List Event)
+cancel_passed known v None k false c = either_use
+    (allowed_if (takes known c cancel k && is_call_place c.place) (pass v (callee_of known c.callee) k ∷ []))
+    (allowed_if (takes known c cancel k && is_deferred_place c.place) (defer_pass v (callee_of known c.callee) k ∷ []))
+cancel_passed known v selected k has_address c = None
+
+-- What a mention of a cancel variable gives, if it is allowed. `own`: it stands in the body that declares the variable.
+abbrev pub cancel_use : Known → Local → List BodyPlace → Mention → Role → Option (List Event)
+cancel_use known l bodies m (called c) = cancel_called l.number m.named.selected c
+cancel_use known l bodies m (argument k has_address c) =
+    if is_own l bodies then cancel_passed known l.number m.named.selected k has_address c else None
+-- an item of a return list at a Gives position is handed by the return
+cancel_use known l bodies m (returned k) =
+    allowed_if (is_own l bodies && is_in k (body_gives known bodies)) []
+cancel_use known l bodies m role = None
+
+abbrev pub only_argument : Call → Option Expression
+only_argument c = only c.arguments c.has_ellipsis
+  where
+    only : Expressions → Bool → Option Expression
+    only (expression_and e no_expression) false = Some e
+    only es ellipsis = None
+
+abbrev pub literal_at : Expression → Option ℕ
+literal_at (expression_node (function_literal signature ss braces) span) = Some span.start
+literal_at e = None
+
+-- x of `g.Go(x)`: a function literal, or an expression without a tracked name outside literals
+abbrev pub is_free : Seen → Option Expression → Bool
+is_free seen None = false
+is_free seen (Some e) = is_some (literal_at e) || not (has_tracked_outside seen e)
+
+abbrev pub started_literal : Option Expression → Option ℕ
+started_literal None = None
+started_literal (Some e) = literal_at e
+
+-- `g.Go(x)` as a statement, and `g.TryGo(x)` as a statement or value; in literals where each one between is a member
+abbrev pub group_started : Seen → Local → List BodyPlace → Call → Option (List Event)
+group_started seen l bodies c = allowed_if
+    (is_statement_place c.place && (is_free seen (only_argument c)
+    && list_all (is_member_of seen.known l) (literals_between l.body bodies)))
+    (start l.number (started_literal (only_argument c)) ∷ [])
+
+abbrev pub group_tried : Seen → Local → List BodyPlace → Call → Option (List Event)
+group_tried seen l bodies c = allowed_if
+    (is_statement_or_value c.place && (is_free seen (only_argument c)
+    && list_all (is_member_of seen.known l) (literals_between l.body bodies)))
+    (try l.number ∷ [])
+
+-- `g.Wait()` at a call place, and under `defer`; in literals where each one between is deferred, and not as an item
+abbrev pub group_awaited : Local → List BodyPlace → Call → Option (List Event)
+group_awaited l bodies c = either_use
+    (allowed_if (has_no_argument c && ((is_statement_or_value c.place || (is_item_place c.place && is_own l bodies))
+    && list_all is_deferred (literals_between l.body bodies))) (wait l.number ∷ []))
+    (allowed_if (has_no_argument c && (is_deferred_place c.place
+    && list_all is_deferred (literals_between l.body bodies))) (defer_wait l.number ∷ []))
+
+-- `g.SetLimit(..)` as a statement
+abbrev pub group_limited : Local → List BodyPlace → Call → Option (List Event)
+group_limited l bodies c = allowed_if (is_statement_place c.place && is_own l bodies) []
+
+abbrev pub group_called : Seen → Local → List BodyPlace → Option (List ℕ) → Call → Option (List Event)
+group_called seen l bodies None c = None
+group_called seen l bodies (Some m) c =
+    if bytes_eq m (codes "Go") then group_started seen l bodies c
+    else if bytes_eq m (codes "TryGo") then group_tried seen l bodies c
+    else if bytes_eq m (codes "Wait") then group_awaited l bodies c
+    else if bytes_eq m (codes "SetLimit") then group_limited l bodies c
+    else None
+
+-- argument g or `&g` at a position of type `*errgroup.Group`, at a call place
+abbrev pub group_lent : Known → Local → List BodyPlace → Option (List ℕ) → ℕ → Call → Option (List Event)
+group_lent known l bodies None k c = allowed_if
+    (is_own l bodies && (takes known c group k && is_call_place c.place))
+    (lend l.number (callee_of known c.callee) k ∷ [])
+group_lent known l bodies (Some m) k c = None
+
+abbrev pub group_use : Seen → Local → List BodyPlace → Mention → Role → Option (List Event)
+group_use seen l bodies m (called c) = group_called seen l bodies m.named.selected c
+group_use seen l bodies m (argument k has_address c) = group_lent seen.known l bodies m.named.selected k c
+group_use seen l bodies m role = None
+
+-- Faults
+
+pub data UseCode : Type 0 where
+  recover_used : UseCode
+  cancel_discarded : UseCode
+  cancel_used_otherwise : UseCode
+  group_used_otherwise : UseCode
+  bound_again : UseCode
+  too_many_variables : UseCode
+
+pub record UseFault : Type 0 where
+  pub at : ℕ
+  pub code : UseCode
+  pub name : List ℕ
+
+abbrev pub fault_at : ℕ → UseCode → List ℕ → List UseFault
+fault_at at code name = record { at = at; code = code; name = name } ∷ []
+
+abbrev pub otherwise : VariableKind → UseCode
+otherwise cancel = cancel_used_otherwise
+otherwise group = group_used_otherwise
+
+-- what a mention gives: its faults and its events
+pub record Outcome : Type 0 where
+  pub faults : List UseFault
+  pub events : List Event
+
+abbrev pub nothing : Outcome
+nothing = record { faults = []; events = [] }
+
+abbrev pub only_faults : List UseFault → Outcome
+only_faults faults = record { faults = faults; events = [] }
+
+-- Bindings
+
+-- some literal in the body that declares the variable mentions it
+abbrev pub mentions_inside : Known → Local → List BodyPlace → Mark → Bool
+mentions_inside known l bodies (mentions m) = is_of_local l (variable_of known m) && not (is_own l bodies)
+mentions_inside known l bodies mark = false
+
+abbrev pub is_in_literal : Seen → Local → Bool
+is_in_literal seen l = list_any (λ p. mentions_inside seen.known l p.bodies p.mark) seen.marks
+
+abbrev pub called_in : Known → Option Call → Callee
+called_in known None = record { path = None; name = [] }
+called_in known (Some c) = callee_of known c.callee
+
+abbrev pub binding_event : Known → Local → Mention → Row → Binding → Event
+binding_event known l m row (obtained k) =
+    obtain l.number (called_in known (only_call row row.values)) k (is_some (declared_by known m))
+binding_event known l m row cleared = clear l.number
+binding_event known l m row (made state) = make l.number state
+
+abbrev pub if_not : Bool → List UseFault → List UseFault
+if_not b faults = if b then [] else faults
+
+-- bound again although a literal mentions it
+abbrev pub again_faults : Seen → Local → Mention → List UseFault
+again_faults seen l m =
+    if is_in_literal seen l && not (is_some (declared_by seen.known m))
+    then fault_at m.named.at bound_again l.name else []
+
+abbrev pub first_faults : Standing → VariableKind → Local → Mention → List UseFault
+first_faults ordinary kind l m = []
+first_faults first_of_for kind l m = fault_at m.named.at (otherwise kind) l.name
+first_faults communication kind l m = []
+
+-- in a literal a variable of an outer body is not bound
+abbrev pub event_here : Local → List BodyPlace → Event → List Event
+event_here l bodies e = if is_own l bodies then e ∷ [] else []
+
+abbrev pub binding_outcome
+    : Seen → Local → VariableKind → List BodyPlace → Mention → Row → Event → LocalRole → Outcome
+binding_outcome seen l kind bodies m row e result = only_faults (fault_at m.named.at bound_again l.name)
+binding_outcome seen l kind bodies m row e variadic = only_faults (fault_at m.named.at (otherwise kind) l.name)
+binding_outcome seen l kind bodies m row e (parameter k) =
+    only_faults (fault_at m.named.at (otherwise kind) l.name ++ again_faults seen l m)
+binding_outcome seen l kind bodies m row e receiver =
+    only_faults (fault_at m.named.at (otherwise kind) l.name ++ again_faults seen l m)
+binding_outcome seen l kind bodies m row e in_block = record {
+  faults = first_faults row.standing kind l m ++ again_faults seen l m;
+  events = event_here l bodies e;
+}
+
+-- Mentions of variables
+
+abbrev pub use_outcome : VariableKind → Local → Mention → Option (List Event) → Outcome
+use_outcome kind l m None = only_faults (fault_at m.named.at (otherwise kind) l.name)
+use_outcome kind l m (Some events) = record { faults = []; events = events }
+
+abbrev pub kind_use : Seen → Local → VariableKind → List BodyPlace → Mention → Option (List Event)
+kind_use seen l cancel bodies m = cancel_use seen.known l bodies m m.role
+kind_use seen l group bodies m = group_use seen l bodies m m.role
+
+-- a mention that binds nothing
+abbrev pub mention_outcome : Seen → Local → Option VariableKind → List BodyPlace → Mention → Outcome
+mention_outcome seen l None bodies m = nothing
+mention_outcome seen l (Some kind) bodies m = use_outcome kind l m (kind_use seen l kind bodies m)
+
+abbrev pub row_outcome
+    : Seen → Local → Option VariableKind → List BodyPlace → Mention → Row → Option Binding → Outcome
+row_outcome seen l None bodies m row binding = nothing
+row_outcome seen l (Some kind) bodies m row None = mention_outcome seen l (tracked_kind seen (Some l)) bodies m
+row_outcome seen l (Some kind) bodies m row (Some binding) =
+    binding_outcome seen l kind bodies m row (binding_event seen.known l m row binding) l.role
+
+abbrev pub role_outcome : Seen → Local → List BodyPlace → Mention → Role → Outcome
+role_outcome seen l bodies m (left k row) =
+    row_outcome seen l (kind_of seen (Some l)) bodies m row (binding_at seen row k)
+role_outcome seen l bodies m role = mention_outcome seen l (tracked_kind seen (Some l)) bodies m
+
+abbrev pub local_outcome : Seen → List BodyPlace → Mention → Option Local → Outcome
+local_outcome seen bodies m None = nothing
+local_outcome seen bodies m (Some l) = role_outcome seen l bodies m m.role
+
+abbrev pub variable_outcome : Seen → List BodyPlace → Mention → Outcome
+variable_outcome seen bodies m = local_outcome seen bodies m (found seen (variable_of seen.known m))
+
+-- Makers and givers
+
+abbrev pub last_fault : UseCode → Named → List UseFault
+last_fault code n = fault_at n.at code (last_name n)
+
+abbrev pub has_blank : Row → List ℕ → Bool
+has_blank row = list_any (is_blank_at row)
+
+abbrev pub row_call_faults : Seen → Named → Row → Option Giving → List UseFault
+row_call_faults seen n row None = last_fault cancel_used_otherwise n
+row_call_faults seen n row (Some g) =
+    if has_blank row g.positions then fault_at row.statement cancel_discarded (last_name n)
+    else if are_locals seen.known row g.positions && row_binds seen row then []
+    else last_fault cancel_used_otherwise n
+
+-- a return item that is such a call hands on all that it gives
+abbrev pub hands_on : List ℕ → ℕ → Giving → Bool
+hands_on gives k g = list_all (λ p. is_in (k + p) gives) g.positions
+
+abbrev pub call_faults : Seen → List BodyPlace → Mention → Giving → Place → List UseFault
+call_faults seen bodies m g nowhere = last_fault cancel_used_otherwise m.named
+call_faults seen bodies m g as_statement = fault_at m.site cancel_discarded (last_name m.named)
+call_faults seen bodies m g (only_value row) = row_call_faults seen m.named row (row_giving seen.known row)
+call_faults seen bodies m g (return_item k) =
+    if_not (hands_on (body_gives seen.known bodies) k g) (last_fault cancel_used_otherwise m.named)
+call_faults seen bodies m g deferred = last_fault cancel_used_otherwise m.named
+
+-- a giver may be named where it is not called, a maker not
+abbrev pub giving_role_faults : Seen → List BodyPlace → Mention → Giving → Role → List UseFault
+giving_role_faults seen bodies m g (called c) = call_faults seen bodies m g c.place
+giving_role_faults seen bodies m g called_in_brackets = last_fault cancel_used_otherwise m.named
+giving_role_faults seen bodies m g role =
+    if is_maker seen.known m.named then last_fault cancel_used_otherwise m.named else []
+
+abbrev pub giving_faults : Seen → List BodyPlace → Mention → Option Giving → List UseFault
+giving_faults seen bodies m None = []
+giving_faults seen bodies m (Some g) = giving_role_faults seen bodies m g m.role
+
+-- The package errgroup
+
+abbrev pub is_making_place : Seen → Place → Bool
+is_making_place seen nowhere = false
+is_making_place seen as_statement = false
+is_making_place seen (only_value row) = makes_group seen row
+is_making_place seen (return_item k) = false
+is_making_place seen deferred = false
+
+-- it stands in a making, or is a whole type of a parameter
+abbrev pub is_made_or_parameter : Seen → Mention → Role → Bool
+is_made_or_parameter seen m parameter_pointer = is_selected (codes "Group") m.named.selected
+is_made_or_parameter seen m (names_type row) = makes_group seen row
+is_made_or_parameter seen m (new_literal row) = makes_group seen row
+is_made_or_parameter seen m (called c) =
+    is_selected (codes "WithContext") m.named.selected && is_making_place seen c.place
+is_made_or_parameter seen m (argument k has_address c) =
+    is_of_universe seen.known (codes "new") c.callee && is_making_place seen c.place
+is_made_or_parameter seen m role = false
+
+abbrev pub errgroup_faults : Seen → Mention → List UseFault
+errgroup_faults seen m =
+    if is_import errgroup_path (seen.known.means m.named.at)
+    then if_not (is_made_or_parameter seen m m.role) (last_fault group_used_otherwise m.named)
+    else []
+
+-- Makers with a cause, and `recover`
+
+abbrev pub is_cause : Known → Named → Bool
+is_cause known n = list_any (λ name. is_of known.means context_path name n)
+    (codes "WithCancelCause" ∷ codes "WithTimeoutCause" ∷ codes "WithDeadlineCause" ∷ codes "CancelCauseFunc" ∷ [])
+
+abbrev pub cause_faults : Known → Mention → List UseFault
+cause_faults known m = if is_cause known m.named then last_fault cancel_used_otherwise m.named else []
+
+abbrev pub recover_faults : Known → Mention → List UseFault
+recover_faults known m =
+    if bytes_eq m.named.name (codes "recover") && is_universe (known.means m.named.at)
+    then fault_at m.named.at recover_used (codes "-") else []
+
+-- All of a mark
+
+abbrev pub mention_faults : Seen → List BodyPlace → Mention → List UseFault
+mention_faults seen bodies m =
+    (variable_outcome seen bodies m).faults
+    ++ (giving_faults seen bodies m (giving_of seen.known m.named)
+    ++ (errgroup_faults seen m ++ (cause_faults seen.known m ++ recover_faults seen.known m)))
+
+abbrev pub is_result : LocalRole → Bool
+is_result (parameter k) = false
+is_result receiver = false
+is_result variadic = false
+is_result result = true
+is_result in_block = false
+
+-- a named result of type `context.CancelFunc`
+abbrev pub result_faults : List Local → List UseFault
+result_faults [] = []
+result_faults (l ∷ ls) =
+    if is_result l.role && is_cancel l.typed then fault_at l.at bound_again l.name ++ result_faults ls
+    else result_faults ls

@@ -1,0 +1,55 @@
+-- What declarations outside all functions add to the marks.
+use Rattle.std.proofs.Common.{◌≡◌, ℕ, List, [], ◌∷◌, ◌++◌, Option, Some, None, option_map, refl, ap}
+use Rattle.std.specs.Borrow.{Bor}
+use Rattle.std.specs.declared.alloc.Global.{Global}
+use Rattle.std.specs.declared.vec.Vec.{Vec}
+use Rattle.tree.specs.declared.declaration.Spec.{Spec, Value', Type'}
+use Rattle.tree.specs.declared.expression.Param.{Param}
+use Rattle.tree.specs.declared.statement.Block.{Block, out-Block}
+use Rattle.tree.specs.declared.span.Span.{Span}
+use Rattle.tree.specs.Syntax.{Identifier, Signature, Parameters, expression_node, Specs, no_spec, Statements}
+use Rattle.tree.specs.View.{block_braces, expression_form, row_expressions, held_expression, parameters_syntax, spec_and}
+use Rattle.tree.proofs.Views.{block_syntax-out}
+use Rattle.mentions.specs.declared.mark.Mark.{Mark as KeptMark}
+use Rattle.mentions.specs.MarkViews.{Adds}
+use Rattle.mentions.proofs.Adding.{adds_then, one_part, two_parts}
+use Rattle.meaning.specs.Mentions.{BodyPlace, Mark, opens, closes, in_body, other_use, part_of, expression_marks, expressions_marks, optional_marks, outer_specs_marks}
+
+pub outer_specs_more : (s : Spec) (ss : Specs) → outer_specs_marks (spec_and s ss) ≡ outer_specs_marks (spec_and s no_spec) ++ outer_specs_marks ss
+unfolding spec_and
+outer_specs_more (Value' ns t shape es span) ss =
+    two_parts (optional_marks span.start (held_expression t)) (expressions_marks (part_of span.start) (row_expressions es))
+    (outer_specs_marks ss)
+outer_specs_more (Type' n alias p t t_span span) ss =
+    one_part (expression_marks (part_of span.start) (expression_node (expression_form t) t_span)) (outer_specs_marks ss)
+
+-- a function's block, from the mark that opens it to the one that closes it
+pub adds_function : (body : BodyPlace) (a b c d e : List KeptMark) (types rest : List Mark)
+    → Adds a b (opens body ∷ [])
+    → Adds b c types
+    → Adds c d rest
+    → Adds d e (closes ∷ [])
+    → Adds a e (in_body body (types ++ rest))
+adds_function body a b c d e types rest first second third last =
+    adds_then a b e (opens body ∷ []) ((types ++ rest) ++ closes ∷ []) first
+    (adds_then b d e (types ++ rest) (closes ∷ []) (adds_then b c d types rest second third) last)
+
+pub braces_out : (b : Block) → block_braces b ≡ (out-Block b).span
+braces_out b = λ i. (block_syntax-out b i).braces
+
+-- the receiver, which the code reads as a slice
+pub receiver_same : (lent : Option (Bor (List Param))) (kept : Option (Vec Param Global))
+    → option_map (λ (s : Bor (List Param)). s.now) lent ≡ option_map (λ (ps : Vec Param Global). ps.items) kept
+    → option_map (λ (s : Bor (List Param)). parameters_syntax s.now) lent
+    ≡ option_map (λ (ps : Vec Param Global). parameters_syntax ps.items) kept
+receiver_same None None same = refl
+receiver_same None (Some kept) same = ap (option_map parameters_syntax) same
+receiver_same (Some lent) None same = ap (option_map parameters_syntax) same
+receiver_same (Some lent) (Some kept) same = ap (option_map parameters_syntax) same
+
+pub opens_same : (at : ℕ) (name : Option Identifier) (lent kept : Option Parameters) (signature : Signature) (ss : Statements) (braces : Span)
+    → lent ≡ kept
+    → opens record { at = at; name = name; receiver = lent; signature = signature; statements = ss; braces = braces; literal = other_use } ∷ []
+    ≡ opens record { at = at; name = name; receiver = kept; signature = signature; statements = ss; braces = braces; literal = other_use } ∷ []
+opens_same at name lent kept signature ss braces same =
+    ap (λ ps. opens record { at = at; name = name; receiver = ps; signature = signature; statements = ss; braces = braces; literal = other_use } ∷ []) same

@@ -1,0 +1,214 @@
+-- Steps of the walk that adds marks.
+use Rattle.std.proofs.Common.{false, true, Bool, not, ◌⊎◌, inl, inr, ◌≢◌, ◌-◌, ◌&&◌, if◌then◌else◌, ◌≡◌, ℕ, ◌+◌, ◌<◌, ◌≤◌, List, [], ◌∷◌, ◌++◌, drop, length, map, Option, Some, None, option_map, Result, OnOk, refl, sym, ap, ◌∙◌, arith}
+use Rattle.std.proofs.lemmas.Bool.Decides.{eqb_tells}
+use Rattle.std.proofs.lemmas.List.{length-drop}
+use Rattle.std.proofs.Math.Dec.{eqb}
+use Rattle.std.specs.declared.alloc.Global.{Global}
+use Rattle.std.specs.declared.boxed.Box.{Box}
+use Rattle.tree.specs.declared.expression.Expr.{Expr}
+use Rattle.tree.specs.declared.expression.ExprKind.{ExprKind, Unary, Unary', FuncLit', roll-ExprKind, roll-out-ExprKind}
+use Rattle.tree.specs.declared.expression.ExprKind.TheVariants.{rolls-Unary, outs-Unary'}
+use Rattle.tree.specs.declared.expression.Literal.{Literal'}
+use Rattle.tree.specs.declared.operator.DeclKeyword.{DeclKeyword}
+use Rattle.tree.specs.declared.operator.UnaryOperator.{UnaryOperator}
+use Rattle.tree.specs.declared.span.Identifier.{Identifier as KeptIdentifier}
+use Rattle.tree.specs.declared.span.Span.{Span}
+use Rattle.tree.specs.Syntax.{Expression, expression_node, Expressions, expression_and, OptionalExpression}
+use Rattle.tree.specs.View.{identifier_syntax, expression_form, expression_syntax, expressions_syntax, optional_expression_syntax}
+use Rattle.tree.proofs.Views.{expression_form-Unary}
+use Rattle.mentions.specs.declared.mark.Mark.{Mark as KeptMark}
+use Rattle.mentions.specs.MarkViews.{Adds}
+use Rattle.mentions.proofs.Adding.{adds_same, same_adds, then_adds, adds_then, three_adds, alone_adds}
+use Rattle.meaning.specs.Mentions.{Mark, Named, Spot, Role, Call, Row, LiteralUse, Standing, ordinary, part_of, nowhere, declares, assigns, defines, returns, argument, addressed, as_bare, as_named, left, whole, return_item, row_of, value_spot, left_names, is_none_left, argument_use, argument_at, argument_or, named_or, callee_or, expression_marks, expressions_marks, arguments_marks, items_marks, lefts_marks, names_type_marks}
+
+pub at_spot : {T E : Type 0} (result : Result T E) (a b : List KeptMark) (s t : Spot) (e : Expression)
+    → s ≡ t
+    → OnOk result (Adds a b (expression_marks s e))
+    → OnOk result (Adds a b (expression_marks t e))
+at_spot result a b s t e same = same_adds result a b (expression_marks s e) (expression_marks t e) (ap (λ x. expression_marks x e) same)
+
+pub all_at_spot : {T E : Type 0} (result : Result T E) (a b : List KeptMark) (s t : Spot) (es : Expressions)
+    → s ≡ t
+    → OnOk result (Adds a b (expressions_marks s es))
+    → OnOk result (Adds a b (expressions_marks t es))
+all_at_spot result a b s t es same =
+    same_adds result a b (expressions_marks s es) (expressions_marks t es) (ap (λ x. expressions_marks x es) same)
+
+pub adds_at_spot : (a b : List KeptMark) (s t : Spot) (es : Expressions)
+    → s ≡ t
+    → Adds a b (expressions_marks s es)
+    → Adds a b (expressions_marks t es)
+adds_at_spot a b s t es same = adds_same a b (expressions_marks s es) (expressions_marks t es) (ap (λ x. expressions_marks x es) same)
+
+-- what is named, and where nothing is, other marks
+pub named_adds : {T E : Type 0} (result : Result T E) (a b : List KeptMark) (n m : Option Named) (site : ℕ) (role : Role) (xs ys : List Mark)
+    → n ≡ m
+    → xs ≡ ys
+    → OnOk result (Adds a b (named_or n site role xs))
+    → OnOk result (Adds a b (named_or m site role ys))
+named_adds result a b n m site role xs ys same equal =
+    same_adds result a b (named_or n site role xs) (named_or m site role ys) (λ i. named_or (same i) site role (equal i))
+
+abbrev pub used_at : LiteralUse → ℕ → Spot
+used_at used site = record { place = nowhere; literal = used; site = site }
+
+-- a callee and its arguments
+pub call_adds : {T E : Type 0} (result : Result T E) (a b c : List KeptMark) (site : ℕ) (call made : Option Call) (used other : LiteralUse) (e : Expression) (es : Expressions)
+    → call ≡ made
+    → used ≡ other
+    → Adds a b (callee_or call site e (expression_marks (used_at used site) e))
+    → OnOk result (Adds b c (arguments_marks call site 0 es))
+    → OnOk result (Adds a c (callee_or made site e (expression_marks (used_at other site) e) ++ arguments_marks made site 0 es))
+call_adds result a b c site call made used other e es same equal first second =
+    same_adds result a c (callee_or call site e (expression_marks (used_at used site) e) ++ arguments_marks call site 0 es)
+    (callee_or made site e (expression_marks (used_at other site) e) ++ arguments_marks made site 0 es)
+    (λ i. callee_or (same i) site e (expression_marks (used_at (equal i) site) e) ++ arguments_marks (same i) site 0 es)
+    (then_adds result a b c (callee_or call site e (expression_marks (used_at used site) e)) (arguments_marks call site 0 es) first second)
+
+-- values, and the left sides that they are assigned to
+pub assignment_adds : {T E : Type 0} (result : Result T E) (a b c : List KeptMark) (standing : Standing) (at : ℕ) (spot : Spot) (ls ms ns : List Expr) (vs ws xs : List Expr)
+    → ls ≡ ns
+    → vs ≡ xs
+    → ws ≡ xs
+    → ms ≡ ns
+    → spot ≡ value_spot (row_of standing at (assigns (expressions_syntax ls)) (expressions_syntax vs)) at
+    → Adds a b (expressions_marks spot (expressions_syntax ws))
+    → OnOk result (Adds b c (lefts_marks (row_of standing at (assigns (expressions_syntax ls)) (expressions_syntax vs)) at 0 (expressions_syntax ms)))
+    → OnOk result (Adds a c (expressions_marks (value_spot (row_of standing at (assigns (expressions_syntax ns)) (expressions_syntax xs)) at) (expressions_syntax xs)
+    ++ lefts_marks (row_of standing at (assigns (expressions_syntax ns)) (expressions_syntax xs)) at 0 (expressions_syntax ns)))
+assignment_adds result a b c standing at spot ls ms ns vs ws xs l v w m s first second =
+    same_adds result a c
+    (expressions_marks spot (expressions_syntax ws) ++ lefts_marks (row_of standing at (assigns (expressions_syntax ls)) (expressions_syntax vs)) at 0 (expressions_syntax ms))
+    (expressions_marks (value_spot (row_of standing at (assigns (expressions_syntax ns)) (expressions_syntax xs)) at) (expressions_syntax xs)
+    ++ lefts_marks (row_of standing at (assigns (expressions_syntax ns)) (expressions_syntax xs)) at 0 (expressions_syntax ns))
+    (ap (λ t. expressions_marks t (expressions_syntax ws) ++ lefts_marks (row_of standing at (assigns (expressions_syntax ls)) (expressions_syntax vs)) at 0 (expressions_syntax ms)) s
+    ∙ (λ i. expressions_marks (value_spot (row_of standing at (assigns (expressions_syntax (l i))) (expressions_syntax (v i))) at) (expressions_syntax (w i))
+    ++ lefts_marks (row_of standing at (assigns (expressions_syntax (l i))) (expressions_syntax (v i))) at 0 (expressions_syntax (m i))))
+    (then_adds result a b c (expressions_marks spot (expressions_syntax ws))
+    (lefts_marks (row_of standing at (assigns (expressions_syntax ls)) (expressions_syntax vs)) at 0 (expressions_syntax ms)) first second)
+
+-- values, and the names that are defined by them
+pub definition_adds : {T E : Type 0} (result : Result T E) (a b c : List KeptMark) (standing : Standing) (at : ℕ) (spot : Spot) (ls ms ns : List KeptIdentifier) (vs ws xs : List Expr)
+    → ls ≡ ns
+    → vs ≡ xs
+    → ws ≡ xs
+    → ms ≡ ns
+    → spot ≡ value_spot (row_of standing at (defines (map identifier_syntax ls)) (expressions_syntax vs)) at
+    → Adds a b (expressions_marks spot (expressions_syntax ws))
+    → OnOk result (Adds b c (left_names (row_of standing at (defines (map identifier_syntax ls)) (expressions_syntax vs)) at 0 (map identifier_syntax ms)))
+    → OnOk result (Adds a c (expressions_marks (value_spot (row_of standing at (defines (map identifier_syntax ns)) (expressions_syntax xs)) at) (expressions_syntax xs)
+    ++ left_names (row_of standing at (defines (map identifier_syntax ns)) (expressions_syntax xs)) at 0 (map identifier_syntax ns)))
+definition_adds result a b c standing at spot ls ms ns vs ws xs l v w m s first second =
+    same_adds result a c
+    (expressions_marks spot (expressions_syntax ws) ++ left_names (row_of standing at (defines (map identifier_syntax ls)) (expressions_syntax vs)) at 0 (map identifier_syntax ms))
+    (expressions_marks (value_spot (row_of standing at (defines (map identifier_syntax ns)) (expressions_syntax xs)) at) (expressions_syntax xs)
+    ++ left_names (row_of standing at (defines (map identifier_syntax ns)) (expressions_syntax xs)) at 0 (map identifier_syntax ns))
+    (ap (λ t. expressions_marks t (expressions_syntax ws) ++ left_names (row_of standing at (defines (map identifier_syntax ls)) (expressions_syntax vs)) at 0 (map identifier_syntax ms)) s
+    ∙ (λ i. expressions_marks (value_spot (row_of standing at (defines (map identifier_syntax (l i))) (expressions_syntax (v i))) at) (expressions_syntax (w i))
+    ++ left_names (row_of standing at (defines (map identifier_syntax (l i))) (expressions_syntax (v i))) at 0 (map identifier_syntax (m i))))
+    (then_adds result a b c (expressions_marks spot (expressions_syntax ws))
+    (left_names (row_of standing at (defines (map identifier_syntax ls)) (expressions_syntax vs)) at 0 (map identifier_syntax ms)) first second)
+
+abbrev pub declared_row : DeclKeyword → ℕ → List KeptIdentifier → OptionalExpression → List Expr → Row
+declared_row keyword at ns t vs = row_of ordinary at (declares keyword (map identifier_syntax ns) t) (expressions_syntax vs)
+
+-- the type, the values and the names of a spec
+pub spec_adds : {T E : Type 0} (result : Result T E) (a b c d : List KeptMark) (keyword : DeclKeyword) (at site : ℕ) (t : OptionalExpression) (spot : Spot) (ls ms ns : List KeptIdentifier) (vs ws xs : List Expr)
+    → ls ≡ ns
+    → vs ≡ xs
+    → ws ≡ xs
+    → ms ≡ ns
+    → spot ≡ value_spot (declared_row keyword at ls t vs) site
+    → Adds a b (names_type_marks (declared_row keyword at ls t vs) site t)
+    → Adds b c (expressions_marks spot (expressions_syntax ws))
+    → OnOk result (Adds c d (left_names (declared_row keyword at ls t vs) site 0 (map identifier_syntax ms)))
+    → OnOk result (Adds a d (names_type_marks (declared_row keyword at ns t xs) site t
+    ++ (expressions_marks (value_spot (declared_row keyword at ns t xs) site) (expressions_syntax xs)
+    ++ (left_names (declared_row keyword at ns t xs) site 0 (map identifier_syntax ns) ++ []))))
+spec_adds result a b c d keyword at site t spot ls ms ns vs ws xs l v w m s first second third =
+    three_adds result a b c d (names_type_marks (declared_row keyword at ns t xs) site t)
+    (expressions_marks (value_spot (declared_row keyword at ns t xs) site) (expressions_syntax xs))
+    (left_names (declared_row keyword at ns t xs) site 0 (map identifier_syntax ns) ++ [])
+    (adds_same a b (names_type_marks (declared_row keyword at ls t vs) site t) (names_type_marks (declared_row keyword at ns t xs) site t)
+    (λ i. names_type_marks (declared_row keyword at (l i) t (v i)) site t) first)
+    (adds_same b c (expressions_marks spot (expressions_syntax ws)) (expressions_marks (value_spot (declared_row keyword at ns t xs) site) (expressions_syntax xs))
+    (ap (λ p. expressions_marks p (expressions_syntax ws)) s ∙ (λ i. expressions_marks (value_spot (declared_row keyword at (l i) t (v i)) site) (expressions_syntax (w i)))) second)
+    (alone_adds result c d (left_names (declared_row keyword at ns t xs) site 0 (map identifier_syntax ns))
+    (same_adds result c d (left_names (declared_row keyword at ls t vs) site 0 (map identifier_syntax ms)) (left_names (declared_row keyword at ns t xs) site 0 (map identifier_syntax ns))
+    (λ i. left_names (declared_row keyword at (l i) t (v i)) site 0 (map identifier_syntax (m i))) third))
+
+-- the items of a return, and the return itself
+pub return_adds : (a b c : List KeptMark) (at : ℕ) (ds es fs : List Expr)
+    → ds ≡ fs
+    → es ≡ fs
+    → Adds a b (items_marks at 0 (expressions_syntax ds))
+    → Adds b c (returns at (expressions_syntax es) ∷ [])
+    → Adds a c (items_marks at 0 (expressions_syntax fs) ++ returns at (expressions_syntax fs) ∷ [])
+return_adds a b c at ds es fs d e first second =
+    adds_same a c (items_marks at 0 (expressions_syntax ds) ++ returns at (expressions_syntax es) ∷ [])
+    (items_marks at 0 (expressions_syntax fs) ++ returns at (expressions_syntax fs) ∷ [])
+    (λ i. items_marks at 0 (expressions_syntax (d i)) ++ returns at (expressions_syntax (e i)) ∷ [])
+    (adds_then a b c (items_marks at 0 (expressions_syntax ds)) (returns at (expressions_syntax es) ∷ []) first second)
+
+-- an argument with no operator
+pub no_operator : (k : ExprKind) (span : Span) (call : Call) (site index : ℕ) (xs : List Mark)
+    → ((op : UnaryOperator) (e : Box Expr Global) → k ≡ Unary op e → ⊥)
+    → named_or (as_named (expression_node (expression_form k) span)) site (argument index false call) xs
+    ≡ argument_or call site index (expression_node (expression_form k) span) xs
+unfolding expression_form
+no_operator (Unary' op p e e_span) span call site index xs other =
+    absurd (other _ _ (sym (roll-out-ExprKind (Unary' op p e e_span)) ∙ (ap roll-ExprKind (outs-Unary' op p e e_span) ∙ rolls-Unary op _)))
+no_operator (FuncLit' p (Literal' ps_shape ps rs_shape rs brackets body)) span call site index xs other = refl
+no_operator _ span call site index xs other = refl
+
+-- an argument of a call of another expression
+pub alone_adds_argument : {T E : Type 0} (result : Result T E) (a b : List KeptMark) (call : Option Call) (site index : ℕ) (is_last : Bool) (used : LiteralUse) (e : Expression)
+    → call ≡ None
+    → used ≡ argument_use call
+    → OnOk result (Adds a b (expression_marks (used_at used site) e))
+    → OnOk result (Adds a b (argument_at call site index is_last e (expression_marks (used_at (argument_use call) site) e)))
+alone_adds_argument result a b call site index is_last used e none same =
+    let marks = expression_marks (used_at (argument_use call) site) e in
+    same_adds result a b (expression_marks (used_at used site) e) (argument_at call site index is_last e marks)
+    (ap (λ u. expression_marks (used_at u site) e) same ∙ sym (ap (λ o. argument_at o site index is_last e marks) none))
+
+-- an argument with an operator
+pub operator_argument : (k : ExprKind) (op : UnaryOperator) (e : Box Expr Global) (span : Span) (call : Call) (site index : ℕ) (n : Option Named) (xs : List Mark)
+    → k ≡ Unary op e
+    → n ≡ addressed op (expression_syntax e.value)
+    → named_or n site (argument index true call) xs ≡ argument_or call site index (expression_node (expression_form k) span) xs
+operator_argument k op e span call site index n xs is same =
+    (λ i. named_or (same i) site (argument index true call) xs)
+    ∙ sym (ap (λ f. argument_or call site index (expression_node f span) xs) (ap expression_form is ∙ expression_form-Unary op e))
+
+-- The first of a list, and the rest.
+
+pub argument_first : (call : Option Call) (site k : ℕ) (is_last : Bool) (e : Expression) (es : Expressions)
+    → is_last ≡ is_none_left es
+    → arguments_marks call site k (expression_and e es)
+    ≡ argument_at call site k is_last e (expression_marks (used_at (argument_use call) site) e) ++ arguments_marks call site (k + 1) es
+unfolding arguments_marks
+argument_first call site k is_last e es last =
+    λ i. argument_at call site k (sym last i) e (expression_marks (used_at (argument_use call) site) e) ++ arguments_marks call site (k + 1) es
+
+pub item_first : (site k : ℕ) (e : Expression) (es : Expressions)
+    → items_marks site k (expression_and e es) ≡ expression_marks (whole (return_item k) site) e ++ items_marks site (k + 1) es
+unfolding items_marks
+item_first site k e es = refl
+
+pub left_first : (row : Row) (site k : ℕ) (e : Expression) (es : Expressions)
+    → lefts_marks row site k (expression_and e es)
+    ≡ named_or (as_bare e) site (left k row) (expression_marks (part_of site) e) ++ lefts_marks row site (k + 1) es
+unfolding lefts_marks
+left_first row site k e es = refl
+
+-- whether none is left behind an item
+left_behind : (ys : List Expr) (m n : ℕ) → length ys ≡ n - m → m ≤ n → ((eqb m n ≡ true) × (m ≡ n)) ⊎ ((eqb m n ≡ false) × (m ≢ n)) → eqb m n ≡ is_none_left (expressions_syntax ys)
+left_behind [] m n count h (inl both) = both.0
+left_behind [] m n count h (inr both) = absurd (both.1 (omega (arith, count, h)))
+left_behind (y ∷ ys) m n count h (inl both) = absurd (omega (arith, count, both.1))
+left_behind (y ∷ ys) m n count h (inr both) = both.0
+
+pub none_left : (xs : List Expr) (i : ℕ) → i < length xs → eqb (i + 1) (length xs) ≡ is_none_left (expressions_syntax (drop (i + 1) xs))
+none_left xs i h =
+    left_behind (drop (i + 1) xs) (i + 1) (length xs) (length-drop (i + 1) xs) (omega (arith, h)) (eqb_tells (i + 1) (length xs))

@@ -1,0 +1,110 @@
+-- What the marks that the program keeps stand for.
+use Rattle.std.specs.Prelude.{List, option_map, map, ◌≡◌, ◌++◌}
+use Rattle.mentions.specs.declared.mark.Named.{Named as KeptNamed}
+use Rattle.mentions.specs.declared.mark.RowForm.{RowForm as KeptForm}
+use Rattle.mentions.specs.declared.mark.RowForm.TheVariants.{Defines, Assigns, Declares}
+use Rattle.mentions.specs.declared.mark.Standing.{Standing as KeptStanding}
+use Rattle.mentions.specs.declared.mark.Standing.TheVariants.{Ordinary, FirstOfFor, Communication}
+use Rattle.mentions.specs.declared.mark.Row.{Row as KeptRow}
+use Rattle.mentions.specs.declared.mark.Place.{Place as KeptPlace}
+use Rattle.mentions.specs.declared.mark.Place.TheVariants.{Nowhere, Statement, OnlyValue, ReturnItem, Deferred}
+use Rattle.mentions.specs.declared.mark.Call.{Call as KeptCall}
+use Rattle.mentions.specs.declared.mark.LiteralUse.{LiteralUse as KeptUse}
+use Rattle.mentions.specs.declared.mark.LiteralUse.TheVariants.{Other, DeferredCall, StartedBy}
+use Rattle.mentions.specs.declared.mark.Role.{Role as KeptRole}
+use Rattle.mentions.specs.declared.mark.Role.TheVariants.{Elsewhere, Called, CalledInBrackets, Argument, Returned, Left, NamesType, NewLiteral, ParameterPointer}
+use Rattle.mentions.specs.declared.mark.Mention.{Mention as KeptMention}
+use Rattle.mentions.specs.declared.mark.BodyPlace.{BodyPlace as KeptBody}
+use Rattle.mentions.specs.declared.mark.Mark.{Mark as KeptMark}
+use Rattle.mentions.specs.declared.mark.Mark.TheVariants.{Mentions, DefersLiteral, Returns, Opens, Closes}
+use Rattle.mentions.specs.declared.mark.Spot.{Spot as KeptSpot}
+use Rattle.tree.specs.View.{identifier_syntax, parameters_syntax, signature_syntax, expressions_syntax, optional_expression_syntax, statements_syntax}
+use Rattle.meaning.specs.Mentions.{Named, RowForm, defines, assigns, declares, Standing, ordinary, first_of_for, communication, Row, Place, nowhere, as_statement, only_value, return_item, deferred, Call, LiteralUse, other_use, deferred_call, started_by, Role, elsewhere, called, called_in_brackets, argument, returned, left, names_type, new_literal, parameter_pointer, Mention, BodyPlace, Mark, mentions, defers_literal, returns, opens, closes, Spot}
+
+abbrev pub named_view : KeptNamed → Named
+named_view n = record { name = n.name.now; at = n.at; selected = option_map (λ m. m.now) n.selected }
+
+abbrev pub form_view : KeptForm → RowForm
+form_view (Defines ns) = defines (map identifier_syntax ns.now)
+form_view (Assigns ls) = assigns (expressions_syntax ls.now)
+form_view (Declares keyword ns t) = declares keyword (map identifier_syntax ns.now) (optional_expression_syntax t.now)
+
+abbrev pub standing_view : KeptStanding → Standing
+standing_view Ordinary = ordinary
+standing_view FirstOfFor = first_of_for
+standing_view Communication = communication
+
+abbrev pub row_view : KeptRow → Row
+row_view r = record {
+  form = form_view r.form;
+  values = expressions_syntax r.values.now;
+  statement = r.statement;
+  standing = standing_view r.standing;
+}
+
+abbrev pub place_view : KeptPlace → Place
+place_view Nowhere = nowhere
+place_view Statement = as_statement
+place_view (OnlyValue row) = only_value (row_view row)
+place_view (ReturnItem k) = return_item k
+place_view Deferred = deferred
+
+abbrev pub call_view : KeptCall → Call
+call_view c = record {
+  callee = named_view c.callee;
+  arguments = expressions_syntax c.arguments.now;
+  has_ellipsis = c.has_ellipsis;
+  place = place_view c.place;
+}
+
+abbrev pub use_view : KeptUse → LiteralUse
+use_view Other = other_use
+use_view DeferredCall = deferred_call
+use_view (StartedBy n) = started_by (named_view n)
+
+abbrev pub role_view : KeptRole → Role
+role_view Elsewhere = elsewhere
+role_view (Called c) = called (call_view c)
+role_view CalledInBrackets = called_in_brackets
+role_view (Argument k has_address c) = argument k has_address (call_view c)
+role_view (Returned k) = returned k
+role_view (Left k row) = left k (row_view row)
+role_view (NamesType row) = names_type (row_view row)
+role_view (NewLiteral row) = new_literal (row_view row)
+role_view ParameterPointer = parameter_pointer
+
+abbrev pub mention_view : KeptMention → Mention
+mention_view m = record {
+  named = named_view m.named;
+  role = role_view m.role;
+  site = m.site;
+  declares = m.declares;
+}
+
+abbrev pub body_view : KeptBody → BodyPlace
+body_view b = record {
+  at = b.at;
+  name = option_map (λ n. identifier_syntax n.now) b.name;
+  receiver = option_map (λ ps. parameters_syntax ps.now) b.receiver;
+  signature = signature_syntax b.signature.now;
+  statements = statements_syntax b.statements.now;
+  braces = b.braces;
+  literal = use_view b.literal;
+}
+
+abbrev pub mark_view : KeptMark → Mark
+mark_view (Mentions m) = mentions (mention_view m)
+mark_view (DefersLiteral site at) = defers_literal site at
+mark_view (Returns at es) = returns at (expressions_syntax es.now)
+mark_view (Opens b) = opens (body_view b)
+mark_view Closes = closes
+
+abbrev pub marks_view : List KeptMark → List Mark
+marks_view ms = map mark_view ms
+
+abbrev pub spot_view : KeptSpot → Spot
+spot_view s = record { place = place_view s.place; literal = use_view s.literal; site = s.site }
+
+-- the marks are added at the end of those that were there
+abbrev pub Adds : List KeptMark → List KeptMark → List Mark → Type 0
+Adds before after marks = marks_view after ≡ marks_view before ++ marks

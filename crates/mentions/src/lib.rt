@@ -1,0 +1,16 @@
+//! Where the names of a file stand: as the callee of a call, an argument, an item of a return list, on a left side, or
+//! elsewhere (the Go specification, "Calls", "Statements"). Nothing is known here of what a name means.
+#![tactic(auto)]
+
+mod file;
+pub mod mark;
+mod named;
+mod parts;
+mod walk;
+
+pub use file::{expression_marks, file_marks};
+pub use mark::{
+    BodyPlace, Call, LiteralUse, Mark, Mention, Named, Place, Role, Row, RowForm, Spot, Standing,
+};
+pub use named::{as_bare, as_bracketed, as_named, as_new_literal, as_pointer};
+pub use parts::call_of;

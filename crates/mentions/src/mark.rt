@@ -1,0 +1,142 @@
+//! The marks of a file.
+
+use tree::{DeclKeyword, Expr, Identifier, Param, Signature, Span, Stmt};
+
+/// A name, or a name with another one after a dot: `n`, `n.m`.
+#[derive(Clone, Copy)]
+pub struct Named<'a> {
+    pub name: &'a str,
+    /// The offset of n.
+    pub at: u32,
+    pub selected: Option<&'a str>,
+}
+
+/// How left sides and values are written.
+#[derive(Clone, Copy)]
+pub enum RowForm<'a> {
+    /// `names := values`.
+    Defines(&'a [Identifier]),
+    /// `left = values`.
+    Assigns(&'a [Expr]),
+    /// `keyword names Type = values`.
+    Declares(DeclKeyword, &'a [Identifier], &'a Option<Box<Expr>>),
+}
+
+/// How a statement stands.
+#[derive(Clone, Copy)]
+pub enum Standing {
+    Ordinary,
+    /// It is the first statement of a `for`.
+    FirstOfFor,
+    /// A clause of a `select` waits for it.
+    Communication,
+}
+
+/// Left sides and values of one statement or spec.
+#[derive(Clone, Copy)]
+pub struct Row<'a> {
+    pub form: RowForm<'a>,
+    pub values: &'a [Expr],
+    /// The offset of the first token of its statement.
+    pub statement: u32,
+    pub standing: Standing,
+}
+
+/// Where an expression stands as a whole.
+#[derive(Clone, Copy)]
+pub enum Place<'a> {
+    Nowhere,
+    Statement,
+    /// It is the only value of a row.
+    OnlyValue(Row<'a>),
+    /// It is the item of that number of a return list.
+    ReturnItem(usize),
+    Deferred,
+}
+
+/// A call of `n` or `n.m`.
+#[derive(Clone, Copy)]
+pub struct Call<'a> {
+    pub callee: Named<'a>,
+    pub arguments: &'a [Expr],
+    /// Whether `...` stands after the last argument.
+    pub has_ellipsis: bool,
+    pub place: Place<'a>,
+}
+
+/// How a function literal is used.
+#[derive(Clone, Copy)]
+pub enum LiteralUse<'a> {
+    Other,
+    /// `defer func(..) { .. }(..)`.
+    DeferredCall,
+    /// It is the argument of this, `g.Go` or `g.TryGo`.
+    StartedBy(Named<'a>),
+}
+
+/// What a place asks of a name.
+#[derive(Clone, Copy)]
+pub enum Role<'a> {
+    Elsewhere,
+    /// n in `n(..)`, n.m in `n.m(..)`.
+    Called(Call<'a>),
+    /// The same in brackets.
+    CalledInBrackets,
+    /// n or n.m as argument of that number; whether `&` stands before it.
+    Argument(usize, bool, Call<'a>),
+    /// n as item of that number of a return list.
+    Returned(usize),
+    /// n as left side of that number.
+    Left(usize, Row<'a>),
+    /// The type of a row's names.
+    NamesType(Row<'a>),
+    /// T of `&T{}`, the only value of a row.
+    NewLiteral(Row<'a>),
+    /// T of a parameter's type `*T`.
+    ParameterPointer,
+}
+
+/// A name at its place.
+#[derive(Clone, Copy)]
+pub struct Mention<'a> {
+    pub named: Named<'a>,
+    pub role: Role<'a>,
+    /// The offset of its statement, spec, header or clause.
+    pub site: u32,
+    /// The number of the local that the name declares there, unless it means one that is declared already.
+    pub declares: Option<u32>,
+}
+
+/// A function or method with a block, or a function literal, which has no name.
+#[derive(Clone, Copy)]
+pub struct BodyPlace<'a> {
+    /// The offset of `func`.
+    pub at: u32,
+    pub name: Option<&'a Identifier>,
+    pub receiver: Option<&'a [Param]>,
+    pub signature: &'a Signature,
+    pub statements: &'a [Stmt],
+    pub braces: Span,
+    pub literal: LiteralUse<'a>,
+}
+
+/// What stands in a file, in the order in which its statements do what they say.
+#[derive(Clone, Copy)]
+pub enum Mark<'a> {
+    Mentions(Mention<'a>),
+    /// A literal is called under `defer`: the offsets of the statement and of the literal.
+    DefersLiteral(u32, u32),
+    /// A return, its offset and its items.
+    Returns(u32, &'a [Expr]),
+    /// From here to the mark that closes it all stands in the body.
+    Opens(BodyPlace<'a>),
+    Closes,
+}
+
+/// Where an expression stands: as a whole, how it is used if it is a literal, and the offset of its site.
+#[derive(Clone, Copy)]
+pub struct Spot<'a> {
+    pub place: Place<'a>,
+    pub literal: LiteralUse<'a>,
+    pub site: u32,
+}

@@ -1,0 +1,261 @@
+//! What a mark says of a name, and the names that are declared.
+
+ghost use Rattle.std.specs.Prelude.{◌≡◌, ◌&&◌, not, [], ◌∷◌, OnOk, option_map, map};
+ghost use Rattle.meaning.specs.Mentions.{call_of, argument_use, callee_use, place_in, name_role, is_one, value_spot, mention, declaring, number_of, left_names, declared_elsewhere, guard_in_clause};
+ghost use Rattle.mentions.specs.MarkViews.{Adds, named_view, row_view, place_view, call_view, use_view, role_view, standing_view, spot_view};
+ghost use Rattle.tree.specs.View.{expression_syntax, expressions_syntax, identifier_syntax};
+
+use crate::mark::{Call, LiteralUse, Mark, Mention, Named, Place, Role, Row, Spot, Standing};
+use crate::named::as_named;
+use std::alloc::AllocError;
+use tree::{Expr, Identifier, Span};
+
+/// A name that declares nothing (the Go specification, "Blank identifier").
+const BLANK: &str = "_";
+
+/// A part of an expression: it stands nowhere as a whole.
+pub fn part_of<'a>(site: u32) -> Spot<'a>
+    ensures { spot_view result ≡ Rattle.meaning.specs.Mentions.part_of site }
+{
+    Spot {
+        place: Place::Nowhere,
+        literal: LiteralUse::Other,
+        site,
+    }
+}
+
+/// An expression at a place.
+pub fn whole(place: Place<'_>, site: u32) -> Spot<'_>
+    ensures { spot_view result ≡ Rattle.meaning.specs.Mentions.whole (place_view place.entry) site }
+{
+    Spot {
+        place,
+        literal: LiteralUse::Other,
+        site,
+    }
+}
+
+/// No call of what a `select` waits for stands as a whole.
+pub fn place_in<'a>(standing: Standing, place: Place<'a>) -> Place<'a>
+    ensures { place_view result ≡ place_in (standing_view standing) (place_view place.entry) }
+{
+    match standing {
+        Standing::Ordinary => place,
+        Standing::FirstOfFor => place,
+        Standing::Communication => Place::Nowhere,
+    }
+}
+
+/// Whether it is one expression.
+fn is_one(list: &[Expr]) -> bool
+    ensures { result ≡ is_one (expressions_syntax list.now) }
+{
+    list.len() == 1
+}
+
+/// Where the values of a row stand: one alone as a whole.
+pub fn value_spot(row: Row<'_>, site: u32) -> Spot<'_>
+    ensures { spot_view result ≡ value_spot (row_view row.entry) site }
+{
+    if is_one(row.values) {
+        whole(place_in(row.standing, Place::OnlyValue(row)), site)
+    } else {
+        part_of(site)
+    }
+}
+
+/// A call of `n` or `n.m`.
+pub fn call_of<'a>(
+    place: Place<'a>,
+    callee: &'a Expr,
+    arguments: &'a [Expr],
+    has_ellipsis: bool,
+) -> Option<Call<'a>>
+    ensures { option_map call_view result ≡ call_of (place_view place.entry) (expression_syntax callee.now)
+        (expressions_syntax arguments.now) has_ellipsis }
+{
+    match as_named(callee) {
+        Some(callee) => Some(Call {
+            callee,
+            arguments,
+            has_ellipsis,
+            place,
+        }),
+        None => None,
+    }
+}
+
+/// `g.Go` or `g.TryGo`, by its form.
+fn is_start(named: Named<'_>) -> bool
+    ensures { result ≡ Rattle.meaning.specs.Mentions.is_start (named_view named.entry) }
+{
+    match named.selected {
+        Some(member) => member == "Go" || member == "TryGo",
+        None => false,
+    }
+}
+
+/// Whether the call may start its argument: it has one, without `...`.
+fn starts_argument(call: Call<'_>) -> bool
+    ensures { result ≡ (Rattle.meaning.specs.Mentions.is_start (named_view call.entry.callee)
+        && (is_one (expressions_syntax call.entry.arguments.now) && not call.entry.has_ellipsis)) }
+{
+    is_start(call.callee) && is_one(call.arguments) && !call.has_ellipsis
+}
+
+/// How a literal is used that is an argument of the call.
+pub fn argument_use(call: Option<Call<'_>>) -> LiteralUse<'_>
+    ensures { use_view result ≡ argument_use (option_map call_view call.entry) }
+{
+    match call {
+        Some(call) => {
+            if starts_argument(call) {
+                LiteralUse::StartedBy(call.callee)
+            } else {
+                LiteralUse::Other
+            }
+        }
+        None => LiteralUse::Other,
+    }
+}
+
+/// How a literal is used that is called at the place.
+pub fn callee_use<'a>(place: Place<'_>) -> LiteralUse<'a>
+    ensures { use_view result ≡ callee_use (place_view place.entry) }
+{
+    match place {
+        Place::Deferred => LiteralUse::DeferredCall,
+        _ => LiteralUse::Other,
+    }
+}
+
+/// What the place asks of a name that stands there as a whole.
+pub fn name_role<'a>(place: Place<'_>) -> Role<'a>
+    ensures { role_view result ≡ name_role (place_view place.entry) }
+{
+    match place {
+        Place::ReturnItem(index) => Role::Returned(index),
+        _ => Role::Elsewhere,
+    }
+}
+
+/// Adds a mention that declares nothing.
+pub fn mention<'a>(
+    marks: &mut Vec<Mark<'a>>,
+    site: u32,
+    role: Role<'a>,
+    named: Named<'a>,
+) -> Result<(), AllocError>
+    ensures { OnOk result (Adds marks.old.items marks.new.items (mention site (role_view role.entry)
+        (named_view named.entry) ∷ [])) }
+{
+    marks.push(Mark::Mentions(Mention {
+        named,
+        role,
+        site,
+        declares: None,
+    }))?;
+    Ok(())
+}
+
+/// Adds a name that is declared, or perhaps only assigned to by `:=`.
+fn declare<'a>(
+    marks: &mut Vec<Mark<'a>>,
+    site: u32,
+    role: Role<'a>,
+    name: &'a Identifier,
+    declares: Option<u32>,
+) -> Result<(), AllocError>
+    ensures { OnOk result (Adds marks.old.items marks.new.items (declaring site (role_view role.entry)
+        (identifier_syntax name.now) declares ∷ [])) }
+{
+    let named = Named {
+        name: name.text.as_str(),
+        at: name.span.start,
+        selected: None,
+    };
+    marks.push(Mark::Mentions(Mention {
+        named,
+        role,
+        site,
+        declares,
+    }))?;
+    Ok(())
+}
+
+/// The number of the local that a name declares.
+fn number_of(name: &Identifier) -> Option<u32>
+    ensures { result ≡ number_of (identifier_syntax name.now) }
+{
+    if name.text.as_str() == BLANK {
+        None
+    } else {
+        Some(name.span.start)
+    }
+}
+
+/// Adds the names of a row's left side.
+pub fn left_names<'a>(
+    marks: &mut Vec<Mark<'a>>,
+    row: Row<'a>,
+    site: u32,
+    names: &'a [Identifier],
+) -> Result<(), AllocError>
+    ensures { OnOk result (Adds marks.old.items marks.new.items (left_names (row_view row.entry) site 0
+        (map identifier_syntax names.now))) }
+{
+    for (index, name) in names.iter().enumerate() {
+        declare(marks, site, Role::Left(index, row), name, number_of(name))?;
+    }
+    Ok(())
+}
+
+/// Adds a name that is declared where no row is.
+pub fn declare_elsewhere<'a>(
+    marks: &mut Vec<Mark<'a>>,
+    site: u32,
+    name: &'a Identifier,
+) -> Result<(), AllocError>
+    ensures { OnOk result (Adds marks.old.items marks.new.items (declaring site
+        Rattle.meaning.specs.Mentions.elsewhere (identifier_syntax name.now)
+        (number_of (identifier_syntax name.now)) ∷ [])) }
+{
+    declare(marks, site, Role::Elsewhere, name, number_of(name))
+}
+
+/// Adds names that are declared where no row is.
+pub fn declared_elsewhere<'a>(
+    marks: &mut Vec<Mark<'a>>,
+    site: u32,
+    names: &'a [Identifier],
+) -> Result<(), AllocError>
+    ensures { OnOk result (Adds marks.old.items marks.new.items (declared_elsewhere site
+        (map identifier_syntax names.now))) }
+{
+    for name in names {
+        declare_elsewhere(marks, site, name)?;
+    }
+    Ok(())
+}
+
+/// Adds the name of a type switch, if it has one, as each clause declares it anew.
+pub fn guard_in_clause<'a>(
+    marks: &mut Vec<Mark<'a>>,
+    site: u32,
+    guard: Option<&'a Identifier>,
+    clause: Span,
+) -> Result<(), AllocError>
+    ensures { OnOk result (Adds marks.old.items marks.new.items (guard_in_clause site (option_map
+        (λ n. identifier_syntax n.now) guard.entry) clause)) }
+{
+    match guard {
+        Some(name) => {
+            if name.text.as_str() == BLANK {
+                Ok(())
+            } else {
+                declare(marks, site, Role::Elsewhere, name, Some(clause.start))
+            }
+        }
+        None => Ok(()),
+    }
+}
