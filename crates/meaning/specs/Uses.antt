@@ -241,7 +241,8 @@ is_started_by_it known l (started_by n) = is_of_local l (local_meant_or (known.m
 abbrev pub is_member_of : Known → Local → BodyPlace → Bool
 is_member_of known l b = is_started_by_it known l b.literal
 
--- Gives positions: none of methods, literals, and functions that are called `_` or `init`
+-- The positions of a body's results that are cancel functions: what its returns may hand on. Methods, literals, and
+-- functions that are called `_` or `init` have none.
 abbrev pub named_gives : Known → Identifier → Signature → List ℕ
 named_gives known n (signature_of ps rs brackets) =
     if is_blank n.text || is_init n.text then [] else given_positions known.means 0 (items_of rs)
@@ -370,7 +371,7 @@ abbrev pub cancel_use : Known → Local → List BodyPlace → Mention → Role 
 cancel_use known l bodies m (called c) = cancel_called l.number m.named.selected c
 cancel_use known l bodies m (argument k has_address c) =
     if is_own l bodies then cancel_passed known l.number m.named.selected k has_address c else None
--- an item of a return list at a Gives position is handed by the return
+-- an item of a return list at the position of such a result is handed on by the return
 cancel_use known l bodies m (returned k) =
     allowed_if (is_own l bodies && is_in k (body_gives known bodies)) []
 cancel_use known l bodies m role = None
