@@ -1,8 +1,9 @@
-pub mod Membership
+pub mod DelicateTrees
+pub mod FirstTokens
 pub mod Fronts
+pub mod GuardOperand
+pub mod Membership
+pub mod RefusedTrees
 pub mod Returns
 pub mod Spelled
-pub mod FirstTokens
-pub mod GuardOperand
-pub mod DelicateTrees
-pub mod RefusedTrees
+pub mod UsesJudged

@@ -4,7 +4,7 @@
 -- its use faults alone are told. Faults are listed as the marks come, and one may come twice: two clauses of a type
 -- switch declare the name of one guard.
 -- (This tool's rules.)
-use Rattle.std.specs.Prelude.{ℕ, zero, suc, ◌+◌, ◌==◌, Bool, true, false, not, ◌&&◌, ◌||◌, if◌then◌else◌, List, [], ◌∷◌, ◌++◌, Option, Some, None, is_some, codes, nat_lt, nat_le}
+use Rattle.std.specs.Prelude.{ℕ, zero, suc, ◌+◌, ◌==◌, Bool, true, false, not, ◌&&◌, ◌||◌, if◌then◌else◌, List, [], ◌∷◌, ◌++◌, Option, Some, None, is_some, map, codes, nat_lt, nat_le}
 use Rattle.std.specs.List.{list_any, filter}
 use Rattle.tree.specs.Syntax.{Expression, Expressions, no_expression, expression_and, SourceFile}
 use Rattle.meaning.specs.StatementCode.{Sites}
@@ -193,12 +193,20 @@ variable_there seen body l (Some kind) =
     }
     ∷ []
 
-abbrev pub variables_among : Seen → ℕ → List Local → List Variable
+abbrev pub variable_found : Seen → ℕ → Option Local → List Variable
+variable_found seen body None = []
+variable_found seen body (Some l) =
+    if is_variable_of seen body l then variable_there seen body l (tracked_kind seen (Some l)) else []
+
+-- those of the locals of these numbers
+abbrev pub variables_among : Seen → ℕ → List ℕ → List Variable
 variables_among seen body [] = []
-variables_among seen body (l ∷ ls) =
-    if is_variable_of seen body l
-    then variable_there seen body l (tracked_kind seen (Some l)) ++ variables_among seen body ls
-    else variables_among seen body ls
+variables_among seen body (n ∷ ns) = variable_found seen body (found seen (Some n)) ++ variables_among seen body ns
+
+-- each number once, where it comes first
+abbrev pub distinct : List ℕ → List ℕ
+distinct [] = []
+distinct (n ∷ ns) = n ∷ filter (λ m. not (m == n)) (distinct ns)
 
 abbrev pub is_parameter : VariableRole → Bool
 is_parameter (own_parameter k) = true
@@ -226,7 +234,7 @@ in_their_order (v ∷ vs) = put_in v (in_their_order vs)
 
 -- the variables of the body, in the order of their numbers
 abbrev pub variables_of : Seen → ℕ → List Variable
-variables_of seen body = in_their_order (variables_among seen body seen.locals)
+variables_of seen body = in_their_order (variables_among seen body (distinct (map (λ l. l.number) seen.locals)))
 
 -- Too many
 

@@ -19,7 +19,11 @@ pub mod FunctionFacts
 pub mod Tracked
 pub mod Uses
 pub mod BodyEvents
+-- What is known of the variables after a list of events, and the faults of paths: to be trusted.
+pub mod Classes
+pub mod PathFaults
 -- What is proved of them.
 pub mod Laws
+pub mod UseLaws
 -- For a reader of the grammar: texts and trees to try it on.
 pub mod TreeExamples

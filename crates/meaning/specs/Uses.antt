@@ -262,23 +262,28 @@ pub record Handed : Type 0 where
   pub number : ℕ
   pub position : ℕ
 
+-- a variable, with the offset of its name where it is bound or passed: there a fault of a path stands
+pub record VariableAt : Type 0 where
+  pub number : ℕ
+  pub at : ℕ
+
 pub data Event : Type 0 where
   other : Event
   -- the variable, the function whose result it obtains, the result's number, and whether the variable is declared there
-  obtain : ℕ → Callee → ℕ → Bool → Event
-  clear : ℕ → Event
+  obtain : VariableAt → Callee → ℕ → Bool → Event
+  clear : VariableAt → Event
   call : ℕ → Event
   defer_call : ℕ → Event
   -- the variable, the function, and the position of the argument
-  pass : ℕ → Callee → ℕ → Event
-  defer_pass : ℕ → Callee → ℕ → Event
+  pass : VariableAt → Callee → ℕ → Event
+  defer_pass : VariableAt → Callee → ℕ → Event
   lend : ℕ → Callee → ℕ → Event
   -- with the literal that is started, if it is one
   start : ℕ → Option ℕ → Event
   try : ℕ → Event
   wait : ℕ → Event
   defer_wait : ℕ → Event
-  make : ℕ → GroupState → Event
+  make : VariableAt → GroupState → Event
   defer_literal : ℕ → Event
   -- the variables that are handed on, each with its position
   return_event : List Handed → Event
@@ -359,8 +364,11 @@ cancel_called v None c = either_use
     (allowed_if (has_no_argument c && is_statement_place c.place) (call v ∷ []))
     (allowed_if (has_no_argument c && is_deferred_place c.place) (defer_call v ∷ []))
 
+abbrev pub variable_at : Local → Mention → VariableAt
+variable_at l m = record { number = l.number; at = m.named.at }
+
 -- argument c of a function at a position of type `context.CancelFunc`, at a call place or under `defer`
-abbrev pub cancel_passed : Known → ℕ → Option (List ℕ) → ℕ → Bool → Call → Option (List Event)
+abbrev pub cancel_passed : Known → VariableAt → Option (List ℕ) → ℕ → Bool → Call → Option (List Event)
 cancel_passed known v None k false c = either_use
     (allowed_if (takes known c cancel k && is_call_place c.place) (pass v (callee_of known c.callee) k ∷ []))
     (allowed_if (takes known c cancel k && is_deferred_place c.place) (defer_pass v (callee_of known c.callee) k ∷ []))
@@ -370,7 +378,7 @@ cancel_passed known v selected k has_address c = None
 abbrev pub cancel_use : Known → Local → List BodyPlace → Mention → Role → Option (List Event)
 cancel_use known l bodies m (called c) = cancel_called l.number m.named.selected c
 cancel_use known l bodies m (argument k has_address c) =
-    if is_own l bodies then cancel_passed known l.number m.named.selected k has_address c else None
+    if is_own l bodies then cancel_passed known (variable_at l m) m.named.selected k has_address c else None
 -- an item of a return list at the position of such a result is handed on by the return
 cancel_use known l bodies m (returned k) =
     allowed_if (is_own l bodies && is_in k (body_gives known bodies)) []
@@ -491,9 +499,9 @@ called_in known (Some c) = callee_of known c.callee
 
 abbrev pub binding_event : Known → Local → Mention → Row → Binding → Event
 binding_event known l m row (obtained k) =
-    obtain l.number (called_in known (only_call row row.values)) k (is_some (declared_by known m))
-binding_event known l m row cleared = clear l.number
-binding_event known l m row (made state) = make l.number state
+    obtain (variable_at l m) (called_in known (only_call row row.values)) k (is_some (declared_by known m))
+binding_event known l m row cleared = clear (variable_at l m)
+binding_event known l m row (made state) = make (variable_at l m) state
 
 abbrev pub if_not : Bool → List UseFault → List UseFault
 if_not b faults = if b then [] else faults

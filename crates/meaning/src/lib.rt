@@ -4,6 +4,7 @@
 
 ghost use Rattle.meaning.specs.Laws.{EachFrontStops, FallingOffReturns};
 ghost use Rattle.meaning.specs.TreeExamples.{DelicateTrees, RefusedTrees};
+ghost use Rattle.meaning.specs.UseLaws.{EachMentionIsOneOfThree, EventsStandAtOneSite};
 
 /// The most that a tree may be deep, counted in statements and expressions. A text whose tree is deeper is
 /// not judged.
@@ -34,4 +35,15 @@ pub fn delicate_trees_are_spelled()
 /// The grammar refuses what a wrong one would accept: trees that look like those of a text and are none.
 pub fn other_trees_are_not()
     ensures { RefusedTrees }
+{}
+
+/// A mention of a tracked variable is a binding, an allowed mention or neither, and just one of these; an allowed one
+/// gives no fault, and one that is neither gives one. What a binding gives is not said: an event, a fault, or both.
+pub fn each_mention_is_one_of_three()
+    ensures { EachMentionIsOneOfThree }
+{}
+
+/// What a mention, a return or a deferred literal does stands at one site.
+pub fn events_stand_at_one_site()
+    ensures { EventsStandAtOneSite }
 {}

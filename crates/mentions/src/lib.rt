@@ -2,12 +2,14 @@
 //! elsewhere (the Go specification, "Calls", "Statements"). Nothing is known here of what a name means.
 #![tactic(auto)]
 
+mod around;
 mod file;
 pub mod mark;
 mod named;
 mod parts;
 mod walk;
 
+pub use around::is_body;
 pub use file::{expression_marks, file_marks};
 pub use mark::{
     BodyPlace, Call, LiteralUse, Mark, Mention, Named, Place, Role, Row, RowForm, Spot, Standing,

@@ -1,0 +1,2 @@
+pub mod MarksTold
+pub mod Grown

@@ -1,0 +1,9 @@
+use Rattle.std.proofs.Common.{◌≡◌, ◌++◌, drop, map}
+use Rattle.uses.specs.OutcomeViews.{fault_view}
+use Rattle.events.proofs.told.add_outer_faults.Given as goal
+
+-- what was added, with what is left, is the whole
+abbrev pub invariant-loop-fault : goal.invariant-loop-fault
+invariant-loop-fault l =
+    map fault_view l.outer.items ++ map fault_view (drop l.fault-index l.fresh)
+    ≡ map fault_view l.initial.outer.items ++ map fault_view l.fresh

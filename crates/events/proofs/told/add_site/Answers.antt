@@ -1,0 +1,10 @@
+use Rattle.std.proofs.Common.{nat_eq}
+use Rattle.std.specs.Prelude.{◌==◌}
+use Rattle.events.specs.EventViews.{items_at, has_panic}
+use Rattle.events.proofs.Grown.{site_there, site_missing}
+use Rattle.events.proofs.told.add_site.Goals as goal
+
+pub returns-in_ok-add : goal.returns-in_ok-add
+returns-in_ok-add c = λ body at.
+    site_there (nat_eq c.args.body body) (items_at c.args.panics.now body) _ c.args.site at c.args.panics_there
+    c.if-panics_there.true (c.in_ok-add.ensures body)

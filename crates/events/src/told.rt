@@ -1,0 +1,233 @@
+//! What a mark adds to what is told of the bodies of its file.
+
+ghost use Rattle.std.specs.Prelude.{◌≡◌, ◌++◌, ℕ, OnOk, map};
+ghost use Rattle.allowed.specs.UseViews.{event_view};
+ghost use Rattle.events.specs.EventViews.{AddsMark, AddsFaultsOf, AddsInner, AddsSiteEvent, AddsEvent, AddsSite, AddsPanic, TellsNothing, opened_by, is_at};
+ghost use Rattle.locals.specs.LocalViews.{seen_view, Sees};
+ghost use Rattle.meaning.specs.BodyEvents.{is_panic, is_site};
+ghost use Rattle.meaning.specs.Uses.{is_body};
+ghost use Rattle.mentions.specs.MarkViews.{body_view, mark_view, mention_view, role_view};
+ghost use Rattle.rows.specs.RowViews.{known_view};
+ghost use Rattle.uses.specs.OutcomeViews.{fault_view, AddsFaults, events_view};
+
+use crate::lists::Lists;
+use allowed::{Event, is_statement_place};
+use locals::Seen;
+use mentions::{BodyPlace, Mark, Mention, Role};
+use rows::{Known, is_of_universe};
+use std::alloc::{AllocError, Global};
+use uses::{UseFault, mark_outcome};
+
+/// An event, and the offset of its statement, spec, header or clause.
+#[derive(Drop)]
+pub struct SiteEvent<'a> {
+    pub site: u32,
+    pub event: Event<'a>,
+}
+
+/// What is told of the bodies of a file.
+#[derive(Drop)]
+pub struct Told<'a> {
+    /// The use faults of what stands in no body.
+    pub outer: Vec<UseFault<'a>>,
+    /// Those of what stands in the body at an offset, and in no literal in it.
+    pub faults: Lists<UseFault<'a>>,
+    pub events: Lists<SiteEvent<'a>>,
+    /// The sites of calls of the universe's `panic` as statements.
+    pub panics: Lists<u32>,
+    pub opened: Vec<BodyPlace<'a>>,
+}
+
+impl<'a> Told<'a> {
+    /// Nothing yet.
+    pub fn new(alloc: Global) -> Self
+        ensures { TellsNothing result }
+    {
+        Told {
+            outer: Vec::new(alloc),
+            faults: Lists::new(alloc),
+            events: Lists::new(alloc),
+            panics: Lists::new(alloc),
+            opened: Vec::new(alloc),
+        }
+    }
+}
+
+/// Adds faults to those of the innermost body, or to those of what stands in none.
+fn add_faults<'a>(
+    alloc: Global,
+    bodies: &[BodyPlace<'a>],
+    fresh: &[UseFault<'a>],
+    outer: &mut Vec<UseFault<'a>>,
+    faults: &mut Lists<UseFault<'a>>,
+) -> Result<(), AllocError>
+    ensures { OnOk result (AddsFaultsOf (map body_view bodies.now) (map fault_view fresh.now) outer.old.items
+        outer.new.items faults.old faults.new) }
+{
+    match bodies.first() {
+        Some(body) => add_inner_faults(alloc, body.at, fresh, faults),
+        None => add_outer_faults(fresh, outer),
+    }
+}
+
+fn add_inner_faults<'a>(
+    alloc: Global,
+    body: u32,
+    fresh: &[UseFault<'a>],
+    faults: &mut Lists<UseFault<'a>>,
+) -> Result<(), AllocError>
+    ensures { OnOk result (AddsInner body (map fault_view fresh.now) faults.old faults.new) }
+{
+    for fault in fresh {
+        faults.add(alloc, body, *fault)?;
+    }
+    Ok(())
+}
+
+fn add_outer_faults<'a>(
+    fresh: &[UseFault<'a>],
+    outer: &mut Vec<UseFault<'a>>,
+) -> Result<(), AllocError>
+    ensures { OnOk result (AddsFaults outer.old.items outer.new.items (map fault_view fresh.now)) }
+{
+    for fault in fresh {
+        outer.push(*fault)?;
+    }
+    Ok(())
+}
+
+/// The site of a mark.
+fn site_of(mark: Mark<'_>) -> Option<u32>
+    ensures { (at : ℕ) → is_at result at ≡ is_site (mark_view mark.entry) at }
+{
+    match mark {
+        Mark::Mentions(mention) => Some(mention.site),
+        Mark::DefersLiteral(site, _) => Some(site),
+        Mark::Returns(site, _) => Some(site),
+        _ => None,
+    }
+}
+
+/// The innermost body, by its offset.
+fn innermost(bodies: &[BodyPlace<'_>]) -> Option<u32>
+    ensures { (body : ℕ) → is_at result body ≡ is_body body (map body_view bodies.now) }
+{
+    let innermost = bodies.first();
+    match innermost {
+        Some(body) => Some(body.at),
+        None => None,
+    }
+}
+
+/// Adds an event at a site to those of the body.
+fn add_site_event<'a>(
+    alloc: Global,
+    body: u32,
+    site: u32,
+    event: Event<'a>,
+    events: &mut Lists<SiteEvent<'a>>,
+) -> Result<(), AllocError>
+    ensures { OnOk result (AddsSiteEvent body site (event_view event.entry) events.old events.new) }
+{
+    events.add(alloc, body, SiteEvent { site, event })
+}
+
+/// Adds the event of a mark to those of the innermost body.
+fn add_event<'a>(
+    alloc: Global,
+    bodies: &[BodyPlace<'a>],
+    mark: Mark<'a>,
+    event: Option<Event<'a>>,
+    events: &mut Lists<SiteEvent<'a>>,
+) -> Result<(), AllocError>
+    ensures { OnOk result (AddsEvent (map body_view bodies.now) (mark_view mark.entry) (events_view event.entry)
+        events.old events.new) }
+{
+    match (innermost(bodies), site_of(mark), event) {
+        (Some(body), Some(site), Some(event)) => add_site_event(alloc, body, site, event, events),
+        _ => Ok(()),
+    }
+}
+
+/// Whether it is a call of the universe's `panic` as a statement.
+fn is_panic(known: Known<'_, '_>, mention: Mention<'_>) -> bool
+    ensures { result ≡ is_panic (known_view known.entry) (mention_view mention.entry)
+        (role_view mention.entry.role) }
+{
+    match mention.role {
+        Role::Called(call) => {
+            is_of_universe(known, "panic", mention.named) && is_statement_place(call.place)
+        }
+        _ => false,
+    }
+}
+
+/// Adds a site to those of the body, if it panics.
+fn add_site(
+    alloc: Global,
+    body: u32,
+    site: u32,
+    panics_there: bool,
+    panics: &mut Lists<u32>,
+) -> Result<(), AllocError>
+    ensures { OnOk result (AddsSite body site panics_there panics.old panics.new) }
+{
+    if panics_there {
+        panics.add(alloc, body, site)?;
+    }
+    Ok(())
+}
+
+/// Adds the site of a mark, if it panics.
+fn add_panic<'a>(
+    alloc: Global,
+    known: Known<'_, 'a>,
+    bodies: &[BodyPlace<'a>],
+    mark: Mark<'a>,
+    panics: &mut Lists<u32>,
+) -> Result<(), AllocError>
+    ensures { OnOk result (AddsPanic (known_view known.entry) (map body_view bodies.now) (mark_view mark.entry)
+        panics.old panics.new) }
+{
+    match (innermost(bodies), mark) {
+        (Some(body), Mark::Mentions(mention)) => {
+            add_site(alloc, body, mention.site, is_panic(known, mention), panics)
+        }
+        _ => Ok(()),
+    }
+}
+
+/// Adds the body that a mark opens.
+fn add_opened<'a>(mark: Mark<'a>, opened: &mut Vec<BodyPlace<'a>>) -> Result<(), AllocError>
+    ensures { OnOk result (map body_view opened.new.items ≡ map body_view opened.old.items
+        ++ opened_by (mark_view mark.entry)) }
+{
+    if let Mark::Opens(body) = mark {
+        opened.push(body)?;
+    }
+    Ok(())
+}
+
+/// Adds what a mark in these bodies gives.
+///
+/// # Errors
+///
+/// Memory was refused.
+pub fn add_mark<'a>(
+    alloc: Global,
+    seen: &Seen<'_, 'a>,
+    bodies: &[BodyPlace<'a>],
+    mark: Mark<'a>,
+    told: &mut Told<'a>,
+) -> Result<(), AllocError>
+    requires { Sees seen.now }
+    ensures { OnOk result (AddsMark (seen_view seen.now) (map body_view bodies.now) (mark_view mark.entry)
+        told.old told.new) }
+{
+    let mut fresh: Vec<UseFault<'a>> = Vec::new(alloc);
+    let event = mark_outcome(alloc, seen, bodies, mark, &mut fresh)?;
+    add_faults(alloc, bodies, &fresh, &mut told.outer, &mut told.faults)?;
+    add_event(alloc, bodies, mark, event, &mut told.events)?;
+    add_panic(alloc, seen.known, bodies, mark, &mut told.panics)?;
+    add_opened(mark, &mut told.opened)
+}

@@ -1,0 +1,17 @@
+use Rattle.std.proofs.Common.{map}
+use Rattle.mentions.specs.MarkViews.{body_view}
+use Rattle.rows.specs.RowViews.{known_view}
+use Rattle.locals.proofs.MarksInOrder.{more_locals, all_locals}
+use Rattle.locals.proofs.seen.all_locals.Goals as goal
+
+pub loop-mark-preserved : goal.loop-mark-preserved
+loop-mark-preserved c = λ n.
+    more_locals (known_view c.args.known) n c.args.marks.now c.loop-mark.mark-index c.mark-item.result
+    c.loop-mark-test.true c.mark-item.is c.loop-mark.bodies.items c.enter.new.bodies.items c.deref.result.now
+    c.in_ok-enter.ensures c.deref.ensures.value c.loop-mark.locals c.add_locals.new.locals _
+    c.in_ok-add_locals.ensures (c.loop-mark.invariant n)
+
+pub returns : goal.returns
+returns c = λ n.
+    all_locals (known_view c.args.known) n c.args.marks.now c.loop-mark.mark-index c.loop-mark-test.false
+    (map body_view c.loop-mark.bodies.items) c.loop-mark.locals _ (c.loop-mark.invariant n)

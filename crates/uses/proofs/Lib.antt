@@ -1,0 +1,4 @@
+pub mod LeftSides
+pub mod NamedResults
+pub mod OutcomesOfEntries
+pub mod TrackedOutside

@@ -1,0 +1,92 @@
+//! Mentions of the package `errgroup`.
+
+ghost use Rattle.std.specs.Prelude.{◌≡◌, IfOk, OnOk, codes};
+ghost use Rattle.locals.specs.LocalViews.{seen_view, Sees};
+ghost use Rattle.meaning.specs.Uses.{is_making_place, is_made_or_parameter, errgroup_faults};
+ghost use Rattle.mentions.specs.MarkViews.{named_view, place_view, role_view, mention_view};
+ghost use Rattle.uses.specs.OutcomeViews.{AddsFaults};
+ghost use Rattle.meaning.specs.FunctionFacts.{is_selected};
+
+use crate::bindings::makes_group;
+use crate::faults::{UseCode, UseFault, add_last};
+use facts::{ERRGROUP, is_import};
+use locals::Seen;
+use mentions::{Mention, Named, Place, Role};
+use rows::{is_of_universe, meaning};
+use std::alloc::{AllocError, Global};
+
+fn is_selected(name: &str, named: Named<'_>) -> bool
+    ensures { result ≡ is_selected name.now (named_view named.entry).selected }
+{
+    match named.selected {
+        Some(member) => member == name,
+        None => false,
+    }
+}
+
+fn is_making_place(alloc: Global, seen: &Seen<'_, '_>, place: Place<'_>) -> Result<bool, AllocError>
+    requires { Sees seen.now }
+    ensures { IfOk result (λ makes. makes ≡ is_making_place (seen_view seen.now) (place_view place.entry)) }
+{
+    match place {
+        Place::OnlyValue(row) => makes_group(alloc, seen, row),
+        _ => Ok(false),
+    }
+}
+
+/// Whether it stands in a making, or is a whole type of a parameter.
+fn is_made_or_parameter(
+    alloc: Global,
+    seen: &Seen<'_, '_>,
+    mention: Mention<'_>,
+) -> Result<bool, AllocError>
+    requires { Sees seen.now }
+    ensures { IfOk result (λ is. is ≡ is_made_or_parameter (seen_view seen.now) (mention_view mention.entry)
+        (role_view mention.entry.role)) }
+{
+    match mention.role {
+        Role::ParameterPointer => Ok(is_selected("Group", mention.named)),
+        Role::NamesType(row) => makes_group(alloc, seen, row),
+        Role::NewLiteral(row) => makes_group(alloc, seen, row),
+        Role::Called(call) => {
+            if is_selected("WithContext", mention.named) {
+                is_making_place(alloc, seen, call.place)
+            } else {
+                Ok(false)
+            }
+        }
+        Role::Argument(_, _, call) => {
+            if is_of_universe(seen.known, "new", call.callee) {
+                is_making_place(alloc, seen, call.place)
+            } else {
+                Ok(false)
+            }
+        }
+        _ => Ok(false),
+    }
+}
+
+/// Adds the faults of a mention as one of the package `errgroup`.
+///
+/// # Errors
+///
+/// Memory was refused.
+pub fn add_errgroup<'a>(
+    alloc: Global,
+    seen: &Seen<'_, 'a>,
+    mention: Mention<'a>,
+    faults: &mut Vec<UseFault<'a>>,
+) -> Result<(), AllocError>
+    requires { Sees seen.now }
+    ensures { OnOk result (AddsFaults faults.old.items faults.new.items (errgroup_faults (seen_view seen.now)
+        (mention_view mention.entry))) }
+{
+    if !is_import(ERRGROUP, meaning(seen.known, mention.named.at)) {
+        return Ok(());
+    }
+    let is_allowed = is_made_or_parameter(alloc, seen, mention)?;
+    if is_allowed {
+        return Ok(());
+    }
+    add_last(faults, UseCode::GroupUsedOtherwise, mention.named)
+}

@@ -1,0 +1,18 @@
+//! What each mark of a file does to its tracked variables, and which uses are faults. The definitions are those of
+//! `meaning/specs/Uses.antt`.
+#![tactic(auto)]
+
+mod bindings;
+mod blanks;
+mod faults;
+mod givings;
+mod group_names;
+mod mark;
+mod outcomes;
+mod special;
+mod tracked_names;
+mod variables;
+
+pub use bindings::Binding;
+pub use faults::{UseCode, UseFault};
+pub use mark::mark_outcome;

@@ -1,0 +1,205 @@
+//! What a mark gives.
+
+ghost use Rattle.std.specs.Prelude.{◌≡◌, option_map, OnOk, IfOk, map, ◌∷◌, [], ◌++◌};
+ghost use Rattle.allowed.specs.UseViews.{handed_view};
+ghost use Rattle.facts.specs.FactViews.{kind_view, item_view};
+ghost use Rattle.locals.specs.LocalViews.{seen_view, Sees};
+ghost use Rattle.meaning.specs.BodyEvents.{mark_faults, mark_events, item_variable, handed_there, handed_item, handed_on};
+ghost use Rattle.meaning.specs.Tracked.{result_locals, body_locals};
+ghost use Rattle.meaning.specs.Uses.{mention_faults, variable_outcome, result_faults};
+ghost use Rattle.meaning.specs.Mentions.{as_bare};
+ghost use Rattle.mentions.specs.MarkViews.{body_view, mention_view, mark_view};
+ghost use Rattle.rows.specs.RowViews.{known_view};
+ghost use Rattle.tree.specs.View.{expression_syntax, expressions_syntax};
+ghost use Rattle.uses.specs.OutcomeViews.{AddsFaults, Gives};
+
+use crate::faults::{UseCode, UseFault, add_fault};
+use crate::givings::add_giving;
+use crate::group_names::add_errgroup;
+use crate::outcomes::variable_outcome;
+use crate::special::{add_cause, add_recover};
+use crate::tracked_names::tracked_as;
+use allowed::{Event, Handed, body_gives};
+use facts::{Item, VariableKind, item_kind, parameter_items};
+use locals::Seen;
+use mentions::{BodyPlace, Mark, Mention, as_bare};
+use rows::{Known, is_in, local_meant};
+use std::alloc::{AllocError, Global};
+use tree::Expr;
+
+/// What a mention gives: faults, and at most one event.
+fn mention_outcome<'a>(
+    alloc: Global,
+    seen: &Seen<'_, 'a>,
+    bodies: &[BodyPlace<'a>],
+    mention: Mention<'a>,
+    faults: &mut Vec<UseFault<'a>>,
+) -> Result<Option<Event<'a>>, AllocError>
+    requires { Sees seen.now }
+    ensures { IfOk result (λ event. Gives faults.old.items faults.new.items event record {
+      faults = mention_faults (seen_view seen.now) (map body_view bodies.now) (mention_view mention.entry);
+      events = (variable_outcome (seen_view seen.now) (map body_view bodies.now)
+          (mention_view mention.entry)).events;
+    }) }
+{
+    let event = variable_outcome(alloc, seen, bodies, mention, faults)?;
+    add_giving(alloc, seen, bodies, mention, faults)?;
+    add_errgroup(alloc, seen, mention, faults)?;
+    add_cause(seen.known, mention, faults)?;
+    add_recover(seen.known, mention, faults)?;
+    Ok(event)
+}
+
+/// A named result of type `context.CancelFunc`.
+fn add_result<'a>(
+    known: Known<'_, 'a>,
+    body: BodyPlace<'a>,
+    item: &Item<'a>,
+    faults: &mut Vec<UseFault<'a>>,
+) -> Result<(), AllocError>
+    ensures { OnOk result (AddsFaults faults.old.items faults.new.items (result_faults (result_locals
+        (known_view known.entry) (body_view body.entry) (item_view item.now ∷ [])))) }
+{
+    match (item.name, item_kind(known.names, known.file, item)) {
+        (Some(name), Some(VariableKind::Cancel)) => {
+            if name.text.as_str() == "_" {
+                return Ok(());
+            }
+            add_fault(
+                faults,
+                name.span.start,
+                UseCode::BoundAgain,
+                name.text.as_str(),
+            )
+        }
+        _ => Ok(()),
+    }
+}
+
+fn add_results<'a>(
+    known: Known<'_, 'a>,
+    body: BodyPlace<'a>,
+    items: &[Item<'a>],
+    faults: &mut Vec<UseFault<'a>>,
+) -> Result<(), AllocError>
+    ensures { OnOk result (AddsFaults faults.old.items faults.new.items (result_faults (result_locals
+        (known_view known.entry) (body_view body.entry) (map item_view items.now)))) }
+{
+    for item in items {
+        add_result(known, body, item, faults)?;
+    }
+    Ok(())
+}
+
+fn add_body<'a>(
+    alloc: Global,
+    known: Known<'_, 'a>,
+    body: BodyPlace<'a>,
+    faults: &mut Vec<UseFault<'a>>,
+) -> Result<(), AllocError>
+    ensures { OnOk result (AddsFaults faults.old.items faults.new.items (result_faults (body_locals
+        (known_view known.entry) (body_view body.entry)))) }
+{
+    let items = parameter_items(alloc, &body.signature.results)?;
+    add_results(known, body, &items, faults)
+}
+
+/// The variable that an item of a return names.
+fn item_variable(known: Known<'_, '_>, value: &Expr) -> Option<u32>
+    ensures { result ≡ item_variable (known_view known.entry) (as_bare (expression_syntax value.now)) }
+{
+    match as_bare(value) {
+        Some(named) => local_meant(known, named.at, None),
+        None => None,
+    }
+}
+
+/// Adds the variable of an item, if a return hands it on.
+fn add_there(
+    position: usize,
+    gives: &[usize],
+    kind: Option<VariableKind>,
+    number: Option<u32>,
+    handed: &mut Vec<Handed>,
+) -> Result<(), AllocError>
+    ensures { OnOk result (map handed_view handed.new.items ≡ map handed_view handed.old.items
+        ++ handed_there position gives.now (option_map kind_view kind) number) }
+{
+    match (kind, number) {
+        (Some(VariableKind::Cancel), Some(number)) => {
+            if is_in(position, gives) {
+                handed.push(Handed { number, position })?;
+            }
+            Ok(())
+        }
+        _ => Ok(()),
+    }
+}
+
+/// Adds what an item of a return hands on.
+fn add_handed(
+    seen: &Seen<'_, '_>,
+    gives: &[usize],
+    position: usize,
+    value: &Expr,
+    handed: &mut Vec<Handed>,
+) -> Result<(), AllocError>
+    requires { Sees seen.now }
+    ensures { OnOk result (map handed_view handed.new.items ≡ map handed_view handed.old.items
+        ++ handed_item (seen_view seen.now) gives.now position (expression_syntax value.now)) }
+{
+    let number = item_variable(seen.known, value);
+    add_there(position, gives, tracked_as(seen, number), number, handed)
+}
+
+/// What a return hands on.
+fn handed_on(
+    alloc: Global,
+    seen: &Seen<'_, '_>,
+    gives: &[usize],
+    values: &[Expr],
+) -> Result<Vec<Handed>, AllocError>
+    requires { Sees seen.now }
+    ensures { IfOk result (λ handed. map handed_view handed.items ≡ handed_on (seen_view seen.now) gives.now 0
+        (expressions_syntax values.now)) }
+{
+    let mut handed: Vec<Handed> = Vec::new(alloc);
+    for (position, value) in values.iter().enumerate() {
+        add_handed(seen, gives, position, value, &mut handed)?;
+    }
+    Ok(handed)
+}
+
+/// What a mark in these bodies gives: faults, which are added, and at most one event.
+///
+/// # Errors
+///
+/// Memory was refused.
+pub fn mark_outcome<'a>(
+    alloc: Global,
+    seen: &Seen<'_, 'a>,
+    bodies: &[BodyPlace<'a>],
+    mark: Mark<'a>,
+    faults: &mut Vec<UseFault<'a>>,
+) -> Result<Option<Event<'a>>, AllocError>
+    requires { Sees seen.now }
+    ensures { IfOk result (λ event. Gives faults.old.items faults.new.items event record {
+      faults = mark_faults (seen_view seen.now) (map body_view bodies.now) (mark_view mark.entry);
+      events = mark_events (seen_view seen.now) (map body_view bodies.now) (mark_view mark.entry);
+    }) }
+{
+    match mark {
+        Mark::Mentions(mention) => mention_outcome(alloc, seen, bodies, mention, faults),
+        Mark::DefersLiteral(_, at) => Ok(Some(Event::DeferLiteral(at))),
+        Mark::Returns(_, values) => {
+            let gives = body_gives(alloc, seen.known, bodies)?;
+            let handed = handed_on(alloc, seen, &gives, values)?;
+            Ok(Some(Event::Return(handed)))
+        }
+        Mark::Opens(body) => {
+            add_body(alloc, seen.known, body, faults)?;
+            Ok(None)
+        }
+        Mark::Closes => Ok(None),
+    }
+}
