@@ -11,6 +11,9 @@ mod report;
 mod status;
 
 pub use fault::{Fault, fail, words_fault};
+pub use files::read_folder;
 pub use judge::check_first;
+pub use names::escaped;
+pub use package::split_word;
 pub use program::run;
 pub use report::text_of_report;

@@ -11,7 +11,7 @@ use Rattle.meaning.specs.Tracked.{Known}
 use Rattle.meaning.specs.BodyEvents.{is_site, is_panic, panics_there}
 use Rattle.allowed.specs.declared.event.Event.{Event as KeptEvent}
 use Rattle.allowed.specs.UseViews.{event_view}
-use Rattle.events.specs.declared.lists.Lists.{Lists}
+use Rattle.lists.specs.declared.Lists.{Lists}
 use Rattle.events.specs.declared.told.SiteEvent.{SiteEvent}
 use Rattle.events.specs.EventViews.{if_there, events_of_site, events_in, has_panic, is_at, AddsSiteEvent, AddsEvent, AddsSite, AddsPanic}
 

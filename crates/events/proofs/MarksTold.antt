@@ -12,7 +12,8 @@ use Rattle.meaning.specs.BodyEvents.{mark_faults, outer_faults_of, faults_of, ma
 use Rattle.locals.specs.LocalViews.{bodies_at}
 use Rattle.uses.specs.OutcomeViews.{fault_view}
 use Rattle.events.specs.declared.told.Told.{Told}
-use Rattle.events.specs.EventViews.{items_at, faults_at, events_in, has_panic, if_there, opened_by, opened_in, panics_in, TellsNothing, AddsMark, TellsFile}
+use Rattle.events.specs.EventViews.{faults_at, events_in, has_panic, if_there, opened_by, opened_in, panics_in, TellsNothing, AddsMark, TellsFile}
+use Rattle.lists.specs.ListViews.{items_at}
 use Rattle.events.proofs.Grown.{then_or_none, nothing_there, grows, grown, holds_on, holds_at_end}
 
 -- what was told so far, with what the marks that are left give, is what is told of all

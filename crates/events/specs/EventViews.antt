@@ -1,8 +1,8 @@
 -- What the program keeps of the events of a file, and what it stands for.
 use Rattle.std.specs.Prelude.{ℕ, ◌≡◌, ◌==◌, ◌&&◌, ◌||◌, Bool, false, if◌then◌else◌, List, [], ◌∷◌, ◌++◌, Option, Some, None, map, nat_eq}
 use Rattle.std.specs.List.{list_any}
-use Rattle.indexmap.specs.IndexMap.{get}
-use Rattle.events.specs.declared.lists.Lists.{Lists}
+use Rattle.lists.specs.declared.Lists.{Lists}
+use Rattle.lists.specs.ListViews.{items_at}
 use Rattle.events.specs.declared.told.SiteEvent.{SiteEvent}
 use Rattle.events.specs.declared.told.Told.{Told}
 use Rattle.allowed.specs.UseViews.{event_view}
@@ -13,17 +13,6 @@ use Rattle.meaning.specs.Mentions.{BodyPlace, Mark, mentions, defers_literal, re
 use Rattle.meaning.specs.Tracked.{Known, Placed}
 use Rattle.meaning.specs.Uses.{Seen, Event, UseFault, is_body, is_outside}
 use Rattle.meaning.specs.BodyEvents.{mark_faults, outer_faults_of, faults_of, mark_events, events_at, is_site, panics_there}
-
-module _ {T : Type 0} where
-  abbrev pub items_or_none : {A : Type 0} → Option A → (A → List T) → List T
-  items_or_none None items = []
-  items_or_none (Some v) items = items v
-
-  abbrev pub items_at : Lists T → ℕ → List T
-  items_at lists n = items_or_none (get nat_eq lists.entries n) (λ v. v.items)
-
-  abbrev pub added : ℕ → T → List T → ℕ → List T
-  added number item items n = if nat_eq number n then items ++ item ∷ [] else items
 
 abbrev pub faults_at : Lists KeptFault → ℕ → List UseFault
 faults_at lists body = map fault_view (items_at lists body)

@@ -3,9 +3,7 @@
 #![tactic(auto)]
 
 mod file;
-mod lists;
 mod told;
 
 pub use file::tell;
-pub use lists::Lists;
 pub use told::{SiteEvent, Told};

@@ -10,8 +10,8 @@ ghost use Rattle.mentions.specs.MarkViews.{body_view, mark_view, mention_view, r
 ghost use Rattle.rows.specs.RowViews.{known_view};
 ghost use Rattle.uses.specs.OutcomeViews.{fault_view, AddsFaults, events_view};
 
-use crate::lists::Lists;
 use allowed::{Event, is_statement_place};
+use lists::Lists;
 use locals::Seen;
 use mentions::{BodyPlace, Mark, Mention, Role};
 use rows::{Known, is_of_universe};

@@ -14,7 +14,13 @@ pub enum Fault {
     /// The words are none that the program understands.
     #[error("wrong words: inspect --help says which there are")]
     WrongWords,
-    /// The file can't be read or is no file. Escaped.
+    /// The word is no `PATH=DIR`. Escaped.
+    #[error("bad package: {0}")]
+    BadPackage(String),
+    /// Two packages have this path.
+    #[error("two packages of one path: {0}")]
+    TwoPackages(String),
+    /// The file can't be read or is no file, or the folder can't be listed. Escaped.
     #[error("cannot read: {0}")]
     CannotRead(String),
     /// The lines could not be written.
@@ -34,6 +40,18 @@ impl From<AllocError> for Fault {
 impl<T: Drop> From<AllocFailed<T>> for Fault {
     fn from(_error: AllocFailed<T>) -> Fault {
         Fault::OutOfMemory
+    }
+}
+
+impl From<driver::Fault> for Fault {
+    fn from(fault: driver::Fault) -> Fault {
+        match fault {
+            driver::Fault::WordNotText => Fault::WordNotText,
+            driver::Fault::BadPackage(word) => Fault::BadPackage(word),
+            driver::Fault::CannotRead(name) => Fault::CannotRead(name),
+            driver::Fault::CannotWrite => Fault::CannotWrite,
+            driver::Fault::OutOfMemory => Fault::OutOfMemory,
+        }
     }
 }
 

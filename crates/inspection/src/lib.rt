@@ -1,16 +1,24 @@
-//! The program `inspect` as a library: what ctxvet's lexer and its parser make of a file, as lines for people.
+//! The program `inspect` as a library: what ctxvet's lexer and its parser make of a file, and what it makes of the
+//! bodies of packages, as lines for people.
 #![tactic(auto)]
 
+mod body_lines;
+mod event_lines;
 mod fault;
 mod files;
 mod lines;
 mod nodes;
+mod packages;
+mod parsed;
 mod program;
 mod text_fault;
 mod token_lines;
 mod tree_lines;
+mod use_fault_lines;
 
+pub use event_lines::text_of_events;
 pub use fault::{Fault, fail, words_fault};
+pub use packages::Package;
 pub use program::run;
 pub use token_lines::text_of_tokens;
 pub use tree_lines::text_of_tree;

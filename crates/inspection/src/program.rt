@@ -1,7 +1,9 @@
 //! The whole program, over two writers.
 
+use crate::event_lines::text_of_events;
 use crate::fault::{Fault, fail};
 use crate::files::read_source;
+use crate::packages::read_packages;
 use crate::text_fault::{TextFault, lexical_fault, tree_fault};
 use crate::token_lines::text_of_tokens;
 use crate::tree_lines::text_of_tree;
@@ -12,18 +14,23 @@ use std::io::Write;
 use std::rt::Files;
 use tree_hold::release;
 
-const HELP: &str = "Shows what ctxvet's lexer and its parser make of a Go file
+const HELP: &str = "Shows what ctxvet makes of Go files, step by step
 
   inspect tokens FILE    its tokens, a line each:
                          START END KIND TEXT, in bytes; an inserted semicolon has no text
   inspect tree FILE      its syntax tree, a line for each node, two spaces a level:
                          ROLE: START-END FORM WORDS
+  inspect events PATH=DIR..
+                         for each function, method and literal of the Go files in DIR, which are the package with the
+                         import path PATH: uses that the rules do not allow, the cancel functions and groups that are
+                         tracked, and what each statement does to them, in the order of the body's text
   inspect --help
 
 Exit status:
   0  the lines were printed
-  1  the file has no tokens, or no tree: inspect: FILE:LINE:COLUMN: TEXT on standard error
-  2  wrong words, or the file could not be read or the lines not written
+  1  the file has no tokens, or no tree: inspect: FILE:LINE:COLUMN: TEXT on standard error; of packages this is
+     among the lines, and no fault
+  2  wrong words, or the files could not be read or the lines not written
 ";
 
 /// What the words ask for.
@@ -31,6 +38,7 @@ enum Asked<'a> {
     Help,
     Tokens(&'a str),
     Tree(&'a str),
+    Events(&'a [String]),
 }
 
 /// What a run that meets no fault of its own prints.
@@ -69,6 +77,10 @@ fn answered<R: Files + AllocGlobal>(rt: &R, words: &[String]) -> Result<Answer, 
         Some(Asked::Help) => Ok(Answer::Lines(String::from_str(rt.alloc(), HELP)?)),
         Some(Asked::Tokens(path)) => tokens_answer(rt.alloc(), &read_source(rt, path)?),
         Some(Asked::Tree(path)) => tree_answer(rt.alloc(), &read_source(rt, path)?),
+        Some(Asked::Events(packages)) => {
+            let packages = read_packages(rt, packages)?;
+            Ok(Answer::Lines(text_of_events(rt.alloc(), &packages)?))
+        }
         None => Err(Fault::WrongWords),
     }
 }
@@ -78,6 +90,7 @@ fn read_words(words: &[String]) -> Option<Asked<'_>> {
         [word] if word.as_str() == "--help" => Some(Asked::Help),
         [word, path] if word.as_str() == "tokens" => Some(Asked::Tokens(path.as_str())),
         [word, path] if word.as_str() == "tree" => Some(Asked::Tree(path.as_str())),
+        [word, package, ..] if word.as_str() == "events" => Some(Asked::Events(&words[1..])),
         _ => None,
     }
 }

@@ -8,7 +8,7 @@ use Rattle.meaning.specs.Tracked.{Known, Placed, placed, Local, locals_of, find_
 use Rattle.meaning.specs.Uses.{Seen, seen_in, is_own, is_of_local, mentions_inside}
 use Rattle.mentions.specs.declared.mark.Mark.{Mark as KeptMark}
 use Rattle.mentions.specs.MarkViews.{marks_view}
-use Rattle.locals.specs.declared.table.Locals.{Locals}
+use Rattle.locals.specs.declared.table.Entries.{Entries}
 use Rattle.locals.specs.LocalViews.{Entry, entry_in, fresh, noted, noted_all, entry_of}
 use Rattle.locals.proofs.Added.{fresh_in}
 
@@ -98,7 +98,7 @@ all_noted seen (l ∷ ls) n =
     first_noted seen n l (find_local ls n) (all_noted seen ls n) (l.number == n) (Decides-eqb l.number n).0
 
 -- a table with the locals of a file, after all marks were noted
-pub seen_entries : (known : Known) (ms ns os : List KeptMark) → ns ≡ ms → os ≡ ms → (a b : Locals)
+pub seen_entries : (known : Known) (ms ns os : List KeptMark) → ns ≡ ms → os ≡ ms → (a b : Entries)
     → ((n : ℕ) → entry_in a n ≡ fresh_in (locals_of known (placed [] (marks_view ns))) n)
     → ((n : ℕ) → entry_in b n ≡ option_map (noted_all known n (placed [] (marks_view os))) (entry_in a n))
     → (n : ℕ) → entry_in b n

@@ -1,3 +1,4 @@
 pub mod Added
 pub mod AllNoted
 pub mod MarksInOrder
+pub mod Numbers

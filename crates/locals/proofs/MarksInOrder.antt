@@ -1,17 +1,16 @@
 -- Marks in their order, each with the bodies around it: what a loop over them adds to locals, and does to them.
-use Rattle.std.proofs.Common.{◌≡◌, ℕ, ◌+◌, ◌<◌, ◌≤◌, List, ◌∷◌, ◌++◌, length, get_or, drop, map, Option, Some, None, option_map, refl, sym, ap, ◌∙◌}
+use Rattle.std.proofs.Common.{◌≡◌, ℕ, ◌+◌, ◌<◌, ◌≤◌, List, [], ◌∷◌, ◌++◌, length, get_or, drop, map, Option, Some, None, option_map, refl, sym, ap, ◌∙◌}
 use Rattle.std.proofs.lemmas.List.{at_drop_all}
 use Rattle.tree.proofs.Depths.{drop_item}
 use Rattle.mentions.specs.declared.mark.BodyPlace.{BodyPlace as KeptBody}
 use Rattle.mentions.specs.declared.mark.Mark.{Mark as KeptMark}
 use Rattle.mentions.specs.MarkViews.{body_view, mark_view, marks_view}
-use Rattle.meaning.specs.OuterBlocks.{or_else}
 use Rattle.meaning.specs.Mentions.{BodyPlace, Mark, mentions, defers_literal, returns, opens, closes}
 use Rattle.meaning.specs.Tracked.{Known, Local, placed, locals_of, locals_there}
-use Rattle.names.proofs.Adding.{or_else-none, or_else-assoc}
+use Rattle.locals.specs.declared.table.Entries.{Entries}
 use Rattle.locals.specs.declared.table.Locals.{Locals}
-use Rattle.locals.specs.LocalViews.{Entry, bodies_at, entry_in, noted, noted_all, AddsLocals, NotesMark}
-use Rattle.locals.proofs.Added.{fresh_in, fresh_in-append}
+use Rattle.locals.specs.LocalViews.{Entry, bodies_at, entry_in, noted, noted_all, HasNoLocals, AddsLocals, HasLocals, NotesMark}
+use Rattle.locals.proofs.Added.{adds_then, adds_nothing, adds_same, has_added}
 
 module _ (known : Known) (bs : List BodyPlace) where
   -- what a mark gives, and then those after it
@@ -43,16 +42,16 @@ twice f g h same None = refl
 twice f g h same (Some e) = ap Some (sym (same e))
 
 -- a loop over the marks: what was done so far, and then what the rest does, is the whole
-module _ (known : Known) (n : ℕ) (marks : List KeptMark) (i : ℕ) (m : KeptMark)
+module _ (known : Known) (marks : List KeptMark) (i : ℕ) (m : KeptMark)
     (within : i < length marks) (is : m ≡ get_or marks i m) (before after slice : List KeptBody)
-    (around : map body_view after ≡ bodies_at (map body_view before) (mark_view m)) (seen : slice ≡ after)
-    (a b : Locals) (whole : Option Entry) where
-  pub more_locals : AddsLocals a b (locals_there known (map body_view slice) (mark_view m))
-      → or_else (entry_in a n)
-      (fresh_in (locals_of known (placed (map body_view before) (marks_view (drop i marks)))) n) ≡ whole
-      → or_else (entry_in b n)
-      (fresh_in (locals_of known (placed (map body_view after) (marks_view (drop (i + 1) marks)))) n) ≡ whole
-  more_locals adds so_far =
+    (around : map body_view after ≡ bodies_at (map body_view before) (mark_view m)) (seen : slice ≡ after) where
+  pub more_locals : (a b : Locals) (Whole : Locals → Type 0)
+      → AddsLocals a b (locals_there known (map body_view slice) (mark_view m))
+      → ((end : Locals)
+      → AddsLocals a end (locals_of known (placed (map body_view before) (marks_view (drop i marks)))) → Whole end)
+      → (end : Locals)
+      → AddsLocals b end (locals_of known (placed (map body_view after) (marks_view (drop (i + 1) marks)))) → Whole end
+  more_locals a b Whole adds so_far end others_added =
       let rest : List Mark = marks_view (drop (i + 1) marks) in
       let there : List BodyPlace → List Local = λ bs. locals_there known bs (mark_view m) in
       let others : List BodyPlace → List Local = λ bs. locals_of known (placed bs rest) in
@@ -63,22 +62,19 @@ module _ (known : Known) (n : ℕ) (marks : List KeptMark) (i : ℕ) (m : KeptMa
       (drop_item marks i m within is)
       ∙ locals_of-mark known (map body_view before) (mark_view m) rest
       ∙ sym (ap (λ (bs : List BodyPlace). there bs ++ others bs) around) in
-      let added
-      : entry_in b n ≡ or_else (entry_in a n) (fresh_in (there (map body_view after)) n) =
-      adds n ∙ ap (λ (bs : List KeptBody). or_else (entry_in a n) (fresh_in (there (map body_view bs)) n)) seen in
-      ap (λ (o : Option Entry). or_else o (fresh_in (others (map body_view after)) n)) added
-      ∙ or_else-assoc (entry_in a n) (fresh_in (there (map body_view after)) n)
-      (fresh_in (others (map body_view after)) n)
-      ∙ sym
-      (ap (λ (ls : List Local). or_else (entry_in a n) (fresh_in ls n)) split
-      ∙ ap (or_else (entry_in a n)) (fresh_in-append (there (map body_view after)) (others (map body_view after)) n))
-      ∙ so_far
+      so_far end
+      (adds_same a end (there (map body_view after) ++ others (map body_view after))
+      (locals_of known (placed (map body_view before) (marks_view (drop i marks)))) (sym split)
+      (adds_then a b end (there (map body_view after)) (others (map body_view after))
+      (adds_same a b (there (map body_view slice)) (there (map body_view after))
+      (ap (λ (bs : List KeptBody). there (map body_view bs)) seen) adds) others_added))
 
-  pub more_noted : NotesMark known (map body_view slice) (mark_view m) a b
+  pub more_noted : (n : ℕ) (a b : Entries) (whole : Option Entry)
+      → NotesMark known (map body_view slice) (mark_view m) a b
       → option_map (noted_all known n (placed (map body_view before) (marks_view (drop i marks)))) (entry_in a n) ≡ whole
       → option_map (noted_all known n (placed (map body_view after) (marks_view (drop (i + 1) marks)))) (entry_in b n)
       ≡ whole
-  more_noted notes so_far =
+  more_noted n a b whole notes so_far =
       let rest : List Mark = marks_view (drop (i + 1) marks) in
       let one : List BodyPlace → Entry → Entry = λ bs. noted known n bs (mark_view m) in
       let others : List BodyPlace → Entry → Entry = λ bs. noted_all known n (placed bs rest) in
@@ -97,27 +93,35 @@ module _ (known : Known) (n : ℕ) (marks : List KeptMark) (i : ℕ) (m : KeptMa
       (noted_all known n (placed (map body_view before) (marks_view (drop i marks)))) split (entry_in a n)
       ∙ so_far
 
+-- before the first mark there is no local
+pub adds_from_none : (none : Locals) (known : Known) (marks : List KeptMark) (bs : List BodyPlace) → bs ≡ [] → HasNoLocals none
+    → (end : Locals) → AddsLocals none end (locals_of known (placed bs (marks_view marks)))
+    → HasLocals end (locals_of known (placed [] (marks_view marks)))
+adds_from_none none known marks bs outside is_none end adds =
+    has_added none end (locals_of known (placed [] (marks_view marks))) is_none
+    (adds_same none end (locals_of known (placed bs (marks_view marks))) (locals_of known (placed [] (marks_view marks)))
+    (ap (λ os. locals_of known (placed os (marks_view marks))) outside) adds)
+
 mapped : (o : Option Entry) → option_map (λ e. e) o ≡ o
 mapped None = refl
 mapped (Some e) = refl
 
 -- after the last mark
-module _ (known : Known) (n : ℕ) (marks : List KeptMark) (i : ℕ) (past : length marks ≤ i) (bs : List BodyPlace)
-    (a : Locals) (whole : Option Entry) where
-  pub all_locals : or_else (entry_in a n) (fresh_in (locals_of known (placed bs (marks_view (drop i marks)))) n) ≡ whole
-      → entry_in a n ≡ whole
+module _ (known : Known) (marks : List KeptMark) (i : ℕ) (past : length marks ≤ i) (bs : List BodyPlace) where
+  pub all_locals : (a : Locals) (Whole : Locals → Type 0)
+      → ((end : Locals) → AddsLocals a end (locals_of known (placed bs (marks_view (drop i marks)))) → Whole end)
+      → Whole a
   unfolding placed locals_of
-  all_locals so_far =
-      sym
-      (at_drop_all (λ (ms : List KeptMark). or_else (entry_in a n) (fresh_in (locals_of known (placed bs (marks_view ms))) n))
-      marks i past
-      ∙ or_else-none (entry_in a n))
-      ∙ so_far
+  all_locals a Whole so_far =
+      so_far a
+      (adds_same a a [] (locals_of known (placed bs (marks_view (drop i marks))))
+      (sym (at_drop_all (λ (ms : List KeptMark). locals_of known (placed bs (marks_view ms))) marks i past)) (adds_nothing a))
 
-  pub all_noted_there : option_map (noted_all known n (placed bs (marks_view (drop i marks)))) (entry_in a n) ≡ whole
+  pub all_noted_there : (n : ℕ) (a : Entries) (whole : Option Entry)
+      → option_map (noted_all known n (placed bs (marks_view (drop i marks)))) (entry_in a n) ≡ whole
       → entry_in a n ≡ whole
   unfolding placed
-  all_noted_there so_far =
+  all_noted_there n a whole so_far =
       sym
       (at_drop_all (λ (ms : List KeptMark). option_map (noted_all known n (placed bs (marks_view ms))) (entry_in a n))
       marks i past

@@ -1,11 +1,12 @@
 -- What the program keeps of locals, and what it stands for.
-use Rattle.std.specs.Prelude.{ℕ, ◌≡◌, not, ◌&&◌, ◌||◌, Bool, false, if◌then◌else◌, List, [], ◌∷◌, Option, Some, None, option_map, nat_eq}
-use Rattle.std.specs.List.{list_any}
+use Rattle.std.specs.Prelude.{ℕ, ◌≡◌, not, ◌&&◌, ◌||◌, Bool, false, if◌then◌else◌, List, [], ◌∷◌, ◌++◌, Option, Some, None, is_some, option_map, map, nat_eq}
+use Rattle.std.specs.List.{list_any, filter}
 use Rattle.indexmap.specs.IndexMap.{get}
 use Rattle.locals.specs.declared.local.LocalRole.{LocalRole as KeptRole}
 use Rattle.locals.specs.declared.local.LocalRole.TheVariants.{Parameter, Receiver, Variadic, Result, InBlock}
 use Rattle.locals.specs.declared.local.Local.{Local as KeptLocal}
 use Rattle.locals.specs.declared.local.Entry.{Entry as KeptEntry}
+use Rattle.locals.specs.declared.table.Entries.{Entries}
 use Rattle.locals.specs.declared.table.Locals.{Locals}
 use Rattle.locals.specs.declared.seen.Seen.{Seen as KeptSeen}
 use Rattle.facts.specs.FactViews.{kind_view}
@@ -16,6 +17,7 @@ use Rattle.meaning.specs.Mentions.{BodyPlace, Mention, Mark, mentions, defers_li
 use Rattle.meaning.specs.FunctionFacts.{VariableKind, cancel, group}
 use Rattle.meaning.specs.Tracked.{Known, variable_of, outer, Placed, LocalRole, parameter, receiver, variadic, result, in_block, Local, find_local, is_variable, obtains_in, makes_in}
 use Rattle.meaning.specs.Uses.{Seen, seen_in, may_be_tracked, is_own, is_in_literal}
+use Rattle.meaning.specs.BodyEvents.{distinct}
 
 -- Bodies
 
@@ -67,13 +69,30 @@ fresh l = record { local = l; is_obtained = false; is_made = false; is_in_litera
 
 -- Tables of locals
 
-abbrev pub entry_in : Locals → ℕ → Option Entry
-entry_in locals n = option_map entry_view (get nat_eq locals.entries n)
+abbrev pub entry_in : Entries → ℕ → Option Entry
+entry_in entries n = option_map entry_view (get nat_eq entries.by_number n)
+
+abbrev pub numbers_of : List Local → List ℕ
+numbers_of = map (λ l. l.number)
+
+-- the numbers that have no entry, each once
+abbrev pub new_numbers : Entries → List ℕ → List ℕ
+new_numbers entries ns = filter (λ n. not (is_some (entry_in entries n))) (distinct ns)
+
+pub record HasNoLocals (locals : Locals) : Type 0 where
+  pub entries : (n : ℕ) → entry_in locals.entries n ≡ None
+  pub numbers : locals.numbers.items ≡ []
 
 -- of those with one number the first counts
-abbrev pub AddsLocals : Locals → Locals → List Local → Type 0
-AddsLocals before after ls =
-    (n : ℕ) → entry_in after n ≡ or_else (entry_in before n) (option_map fresh (find_local ls n))
+pub record AddsLocals (before after : Locals) (ls : List Local) : Type 0 where
+  pub entries : (n : ℕ)
+      → entry_in after.entries n ≡ or_else (entry_in before.entries n) (option_map fresh (find_local ls n))
+  pub numbers : after.numbers.items ≡ before.numbers.items ++ new_numbers before.entries (numbers_of ls)
+
+-- the locals are these, and no mark has been seen of them
+pub record HasLocals (locals : Locals) (ls : List Local) : Type 0 where
+  pub entries : (n : ℕ) → entry_in locals.entries n ≡ option_map fresh (find_local ls n)
+  pub numbers : locals.numbers.items ≡ distinct (numbers_of ls)
 
 abbrev pub update_entry : ℕ → Entry → Option Entry → ℕ → Option Entry
 update_entry number e known n = if nat_eq number n then Some e else known
@@ -103,7 +122,7 @@ abbrev pub noted_all : Known → ℕ → List Placed → Entry → Entry
 noted_all known n [] e = e
 noted_all known n (p ∷ ps) e = noted_all known n ps (noted known n p.bodies p.mark e)
 
-abbrev pub NotesMark : Known → List BodyPlace → Mark → Locals → Locals → Type 0
+abbrev pub NotesMark : Known → List BodyPlace → Mark → Entries → Entries → Type 0
 NotesMark known bodies mark before after =
     (n : ℕ) → entry_in after n ≡ option_map (noted known n bodies mark) (entry_in before n)
 
@@ -121,10 +140,11 @@ entry_of seen l = record {
   is_in_literal = is_in_literal seen l;
 }
 
--- the table has the locals of the file, each with what its marks do to it
-abbrev pub Sees : KeptSeen → Type 0
-Sees seen = (n : ℕ)
-    → entry_in seen.locals n ≡ option_map (entry_of (seen_view seen)) (find_local (seen_view seen).locals n)
+-- the table has the locals of the file, each with what its marks do to it, and the number of each once
+pub record Sees (seen : KeptSeen) : Type 0 where
+  pub entries : (n : ℕ)
+      → entry_in seen.locals.entries n ≡ option_map (entry_of (seen_view seen)) (find_local (seen_view seen).locals n)
+  pub numbers : seen.locals.numbers.items ≡ distinct (numbers_of (seen_view seen).locals)
 
 -- Kinds
 

@@ -16,4 +16,4 @@ pub use kinds::{kind, may_be_tracked, tracked_kind};
 pub use local::{Entry, Local, LocalRole};
 pub use noted::variable_of;
 pub use seen::{Seen, see};
-pub use table::Locals;
+pub use table::{Entries, Locals};

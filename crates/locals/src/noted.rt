@@ -8,7 +8,7 @@ ghost use Rattle.meaning.specs.Tracked.{variable_of, is_obtained_by, is_made_by}
 ghost use Rattle.rows.specs.RowViews.{known_view};
 
 use crate::local::Entry;
-use crate::table::Locals;
+use crate::table::Entries;
 use mentions::{BodyPlace, Mark, Mention, Role, is_body};
 use rows::{Known, local_meant, row_makes, row_obtains};
 use std::alloc::AllocError;
@@ -70,13 +70,13 @@ pub fn note<'a>(
     known: Known<'_, 'a>,
     bodies: &[BodyPlace<'a>],
     mark: Mark<'a>,
-    locals: &mut Locals<'a>,
+    entries: &mut Entries<'a>,
 ) -> Result<(), AllocError>
     ensures { OnOk result (NotesMark (known_view known.entry) (map body_view bodies.now) (mark_view mark.entry)
-        locals.old locals.new) }
+        entries.old entries.new) }
 {
     match mark {
-        Mark::Mentions(mention) => note_mention(known, bodies, mention, locals),
+        Mark::Mentions(mention) => note_mention(known, bodies, mention, entries),
         _ => Ok(()),
     }
 }
@@ -85,17 +85,17 @@ fn note_mention<'a>(
     known: Known<'_, 'a>,
     bodies: &[BodyPlace<'a>],
     mention: Mention<'a>,
-    locals: &mut Locals<'a>,
+    entries: &mut Entries<'a>,
 ) -> Result<(), AllocError>
     ensures { OnOk result (NotesMark (known_view known.entry) (map body_view bodies.now)
-        (mentions (mention_view mention.entry)) locals.old locals.new) }
+        (mentions (mention_view mention.entry)) entries.old entries.new) }
 {
     let number = match variable_of(known, mention) {
         Some(number) => number,
         None => return Ok(()),
     };
-    match locals.entry(number) {
-        Some(entry) => locals.put(number, noted(known, bodies, mention, entry)),
+    match entries.entry(number) {
+        Some(entry) => entries.put(number, noted(known, bodies, mention, entry)),
         None => Ok(()),
     }
 }

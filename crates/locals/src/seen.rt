@@ -2,9 +2,9 @@
 
 ghost use Rattle.std.specs.Prelude.{◌≡◌, ℕ, [], IfOk, OnOk, map, option_map};
 ghost use Rattle.facts.specs.FactViews.{kind_view};
-ghost use Rattle.locals.specs.LocalViews.{entry_view, entry_in, fresh, noted_all, seen_view, entry_of, Sees};
-ghost use Rattle.meaning.specs.BodyEvents.{seen_file};
-ghost use Rattle.meaning.specs.Tracked.{placed, locals_of, find_local};
+ghost use Rattle.locals.specs.LocalViews.{entry_view, entry_in, noted_all, seen_view, entry_of, HasLocals, Sees};
+ghost use Rattle.meaning.specs.BodyEvents.{distinct, seen_file};
+ghost use Rattle.meaning.specs.Tracked.{placed, locals_of};
 ghost use Rattle.meaning.specs.Uses.{found, kind_of, is_tracked};
 ghost use Rattle.mentions.specs.MarkViews.{mark_view, marks_view};
 ghost use Rattle.rows.specs.RowViews.{known_view};
@@ -15,7 +15,7 @@ use crate::declared::add_locals;
 use crate::kinds::{kind, tracked_kind};
 use crate::local::Entry;
 use crate::noted::note;
-use crate::table::Locals;
+use crate::table::{Entries, Locals};
 use facts::VariableKind;
 use mentions::{BodyPlace, Mark, file_marks};
 use rows::Known;
@@ -36,8 +36,8 @@ fn all_locals<'a>(
     known: Known<'_, 'a>,
     marks: &[Mark<'a>],
 ) -> Result<Locals<'a>, AllocError>
-    ensures { IfOk result (λ locals. (n : ℕ) → entry_in locals n ≡ option_map fresh (find_local (locals_of
-        (known_view known.entry) (placed [] (marks_view marks.now))) n)) }
+    ensures { IfOk result (λ locals. HasLocals locals (locals_of (known_view known.entry)
+        (placed [] (marks_view marks.now)))) }
 {
     let mut locals = Locals::new(alloc);
     let mut bodies: Vec<BodyPlace<'a>> = Vec::new(alloc);
@@ -53,15 +53,15 @@ fn note_all<'a>(
     alloc: Global,
     known: Known<'_, 'a>,
     marks: &[Mark<'a>],
-    locals: &mut Locals<'a>,
+    entries: &mut Entries<'a>,
 ) -> Result<(), AllocError>
-    ensures { OnOk result ((n : ℕ) → entry_in locals.new n ≡ option_map (noted_all (known_view known.entry) n
-        (placed [] (marks_view marks.now))) (entry_in locals.old n)) }
+    ensures { OnOk result ((n : ℕ) → entry_in entries.new n ≡ option_map (noted_all (known_view known.entry) n
+        (placed [] (marks_view marks.now))) (entry_in entries.old n)) }
 {
     let mut bodies: Vec<BodyPlace<'a>> = Vec::new(alloc);
     for mark in marks {
         enter(&mut bodies, *mark)?;
-        note(known, &bodies, *mark, locals)?;
+        note(known, &bodies, *mark, entries)?;
     }
     Ok(())
 }
@@ -81,7 +81,7 @@ pub fn see<'k, 'a>(
 {
     let marks = file_marks(alloc, file)?;
     let mut locals = all_locals(alloc, known, &marks)?;
-    note_all(alloc, known, &marks, &mut locals)?;
+    note_all(alloc, known, &marks, &mut locals.entries)?;
     Ok(Seen {
         known,
         marks,
@@ -97,9 +97,17 @@ impl<'k, 'a> Seen<'k, 'a> {
             (found (seen_view self.now) number) }
     {
         match number {
-            Some(number) => self.locals.entry(number),
+            Some(number) => self.locals.entries.entry(number),
             None => None,
         }
+    }
+
+    /// The numbers of the locals, each once, in the order in which the marks declare them.
+    pub fn numbers(&self) -> &[u32]
+        requires { Sees self.now }
+        ensures { result.now ≡ distinct (map (λ l. l.number) (seen_view self.now).locals) }
+    {
+        &self.locals.numbers
     }
 
     /// The kind of the local of that number, whatever its role is.

@@ -1,6 +1,7 @@
 use Rattle.std.proofs.Common.{nat_eq}
 use Rattle.std.specs.Prelude.{◌==◌}
-use Rattle.events.specs.EventViews.{items_at, has_panic}
+use Rattle.events.specs.EventViews.{has_panic}
+use Rattle.lists.specs.ListViews.{items_at}
 use Rattle.events.proofs.Grown.{site_there, site_missing}
 use Rattle.events.proofs.told.add_site.Goals as goal
 

@@ -1,6 +1,6 @@
 use Rattle.std.proofs.Common.{nat_eq}
 use Rattle.facts.proofs.FactParts.{on_ok}
-use Rattle.events.specs.EventViews.{items_at}
+use Rattle.lists.specs.ListViews.{items_at}
 use Rattle.events.proofs.Grown.{event_there}
 use Rattle.events.proofs.told.add_site_event.Goals as goal
 

@@ -10,5 +10,5 @@ invariant-loop-mark l =
     (n : ℕ)
     → option_map
     (noted_all (known_view l.known) n (placed (map body_view l.bodies.items) (marks_view (drop l.mark-index l.marks))))
-    (entry_in l.locals n)
-    ≡ option_map (noted_all (known_view l.known) n (placed [] (marks_view l.marks))) (entry_in l.initial.locals n)
+    (entry_in l.entries n)
+    ≡ option_map (noted_all (known_view l.known) n (placed [] (marks_view l.marks))) (entry_in l.initial.entries n)

@@ -1,0 +1,6 @@
+use Rattle.code.proofs.Codes.{made_repeats}
+use Rattle.code.proofs.parts.repeats.Goals as goal
+
+pub returns : goal.returns
+returns g c = λ a made.
+    made_repeats c.args.code c.in_ok-code.field-0 c.in_ok-code-2.code a c.in_ok-code.was c.in_ok-code-2.ensures.ok made

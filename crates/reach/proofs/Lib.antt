@@ -1,0 +1,5 @@
+pub mod CarriedFlags
+pub mod MarkedRows
+pub mod Memory
+pub mod Searches
+pub mod Visits

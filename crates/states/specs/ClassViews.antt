@@ -1,0 +1,18 @@
+-- What the program keeps of classes, and what it stands for.
+use Rattle.states.specs.declared.cancels.CancelClass.{CancelClass as KeptCancel}
+use Rattle.states.specs.declared.cancels.CancelClass.TheVariants.{Unset, Opened, Safe, Pending}
+use Rattle.states.specs.declared.groups.GroupClass.{GroupClass as KeptGroup}
+use Rattle.states.specs.declared.groups.GroupClass.TheVariants.{Unmade, InState, Awaited}
+use Rattle.rows.specs.RowViews.{state_view}
+use Rattle.meaning.specs.Classes.{CancelClass, unset, opened, safe, pending, GroupClass, unmade, in_state, awaited}
+
+abbrev pub cancel_class_view : KeptCancel → CancelClass
+cancel_class_view Unset = unset
+cancel_class_view Opened = opened
+cancel_class_view Safe = safe
+cancel_class_view (Pending g) = pending g
+
+abbrev pub group_class_view : KeptGroup → GroupClass
+group_class_view Unmade = unmade
+group_class_view (InState s) = in_state (state_view s)
+group_class_view Awaited = awaited

@@ -1,0 +1,90 @@
+//! Numbers for what is known of a variable.
+
+ghost use Rattle.std.specs.Prelude.{◌≡◌, ℕ, List, option_map};
+ghost use Rattle.states.specs.Bits.{cancel_bit, cancel_class, group_bit, group_class, bit_from, AreInverseBits, AreInverseGroupBits};
+ghost use Rattle.states.specs.ClassViews.{cancel_class_view, group_class_view};
+
+use crate::cancels::CancelClass;
+use crate::groups::GroupClass;
+use rows::GroupState;
+
+/// The number of the first of these groups that is that one, where the first of all has the number 3.
+fn pending_bit(group: u32, groups: &[u32]) -> Option<u32>
+    ensures { result ≡ bit_from 3 group groups.now }
+{
+    let mut bit: u32 = 3;
+    for other in groups {
+        if group == *other {
+            return Some(bit);
+        }
+        if bit == u32::MAX {
+            return None;
+        }
+        bit += 1;
+    }
+    None
+}
+
+/// The number of what is known of a cancel variable: 0 unset, 1 open, 2 safe, and 3 + k pending in the k-th of these
+/// groups, counted from 0. There is none where the group is not among these, or where 3 + k is no `u32`.
+pub fn cancel_bit(class: CancelClass, groups: &[u32]) -> Option<u32>
+    ensures { result ≡ cancel_bit groups.now (cancel_class_view class) }
+{
+    match class {
+        CancelClass::Unset => Some(0),
+        CancelClass::Opened => Some(1),
+        CancelClass::Safe => Some(2),
+        CancelClass::Pending(group) => pending_bit(group, groups),
+    }
+}
+
+/// What is known of a cancel variable, by its number, if there is such a number for these groups.
+pub fn cancel_class(bit: u32, groups: &[u32]) -> Option<CancelClass>
+    ensures { option_map cancel_class_view result ≡ cancel_class groups.now bit }
+{
+    match bit {
+        0 => Some(CancelClass::Unset),
+        1 => Some(CancelClass::Opened),
+        2 => Some(CancelClass::Safe),
+        _ => match groups.get((bit - 3) as usize) {
+            Some(group) => Some(CancelClass::Pending(*group)),
+            None => None,
+        },
+    }
+}
+
+/// The numbers of cancel variables are one for one: what has a number is told by it; and where no group stands twice
+/// among these, each number that tells something is the number of that.
+pub fn cancel_bits_are_inverse()
+    ensures { (groups : List ℕ) → AreInverseBits groups }
+{}
+
+/// The number of what is known of a group: 0 unmade, 1 idle, 2 live, and 3 awaited.
+pub fn group_bit(class: GroupClass) -> u32
+    ensures { result ≡ group_bit (group_class_view class) }
+{
+    match class {
+        GroupClass::Unmade => 0,
+        GroupClass::InState(GroupState::Idle) => 1,
+        GroupClass::InState(GroupState::Live) => 2,
+        GroupClass::Awaited => 3,
+    }
+}
+
+/// What is known of a group, by its number, if there is such a number.
+pub fn group_class(bit: u32) -> Option<GroupClass>
+    ensures { option_map group_class_view result ≡ group_class bit }
+{
+    match bit {
+        0 => Some(GroupClass::Unmade),
+        1 => Some(GroupClass::InState(GroupState::Idle)),
+        2 => Some(GroupClass::InState(GroupState::Live)),
+        3 => Some(GroupClass::Awaited),
+        _ => None,
+    }
+}
+
+/// The numbers of groups are one for one.
+pub fn group_bits_are_inverse()
+    ensures { AreInverseGroupBits }
+{}

@@ -1,0 +1,125 @@
+//! What is known of a cancel variable.
+
+ghost use Rattle.std.specs.Prelude.{◌≡◌};
+ghost use Rattle.allowed.specs.UseViews.{event_view};
+ghost use Rattle.meaning.specs.Classes.{change_cancel, entry_cancel, left_to, ended, started};
+ghost use Rattle.states.specs.ClassViews.{cancel_class_view};
+ghost use Rattle.variables.specs.VariableViews.{variable_role_view};
+
+use crate::changed::changed_if;
+use crate::promises::Promises;
+use allowed::Event;
+use variables::VariableRole;
+
+/// What is known of a cancel variable.
+#[derive(Clone, Copy)]
+pub enum CancelClass {
+    Unset,
+    /// It holds a cancel function that was not called.
+    Opened,
+    /// Its function was called, or its call is saved for the return.
+    Safe,
+    /// A literal that calls it was started in the group of that number.
+    Pending(u32),
+}
+
+/// What is known at the body's entry.
+pub fn entry_cancel(role: VariableRole) -> CancelClass
+    ensures { cancel_class_view result ≡ entry_cancel (variable_role_view role) }
+{
+    match role {
+        VariableRole::DeclaredInBody => CancelClass::Unset,
+        VariableRole::OwnParameter(_) | VariableRole::OwnReceiver | VariableRole::Captured => {
+            CancelClass::Opened
+        }
+    }
+}
+
+/// A literal that calls the variable is started in the group.
+fn left_to(group: u32, class: CancelClass) -> CancelClass
+    ensures { cancel_class_view result ≡ left_to group (cancel_class_view class) }
+{
+    match class {
+        CancelClass::Opened => CancelClass::Pending(group),
+        other => other,
+    }
+}
+
+/// The work of the group has ended.
+fn ended(group: u32, class: CancelClass) -> CancelClass
+    ensures { cancel_class_view result ≡ ended group (cancel_class_view class) }
+{
+    match class {
+        CancelClass::Pending(pending) => {
+            if group == pending {
+                CancelClass::Safe
+            } else {
+                class
+            }
+        }
+        other => other,
+    }
+}
+
+/// Something is started in the group: the literal at the offset, if it is one.
+fn started<P: Promises>(
+    promises: &P,
+    variable: u32,
+    group: u32,
+    literal: Option<u32>,
+    class: CancelClass,
+) -> CancelClass
+    ensures { cancel_class_view result ≡ started (P.promises promises.now) variable group literal
+        (cancel_class_view class) }
+{
+    match literal {
+        Some(literal) => {
+            if promises.credits(literal, variable) {
+                left_to(group, class)
+            } else {
+                class
+            }
+        }
+        None => class,
+    }
+}
+
+/// What is known of the cancel variable of that number after an event.
+pub fn change_cancel<P: Promises>(
+    promises: &P,
+    variable: u32,
+    event: &Event<'_>,
+    class: CancelClass,
+) -> CancelClass
+    ensures { cancel_class_view result ≡ change_cancel (P.promises promises.now) variable (event_view event.now)
+        (cancel_class_view class) }
+{
+    match event {
+        Event::Obtain(obtained, _, _, _) => {
+            changed_if(obtained.number == variable, CancelClass::Opened, class)
+        }
+        Event::Clear(cleared) => {
+            changed_if(cleared.number == variable, CancelClass::Unset, class)
+        }
+        Event::Call(called) | Event::DeferCall(called) => {
+            changed_if(*called == variable, CancelClass::Safe, class)
+        }
+        Event::Pass(passed, callee, position) | Event::DeferPass(passed, callee, position) =>
+            changed_if(
+                passed.number == variable && promises.calls(*callee, *position),
+                CancelClass::Safe,
+                class,
+            ),
+        Event::Start(group, literal) => started(promises, variable, *group, *literal, class),
+        Event::Wait(group) => ended(*group, class),
+        Event::Make(made, _) => ended(made.number, class),
+        Event::DeferLiteral(literal) => {
+            changed_if(
+                promises.credits(*literal, variable),
+                CancelClass::Safe,
+                class,
+            )
+        }
+        Event::Lend(_, _, _) | Event::Try(_) | Event::DeferWait(_) | Event::Return(_) => class,
+    }
+}

@@ -1,0 +1,17 @@
+//! What is known of each tracked variable after each event of a body, and numbers for what may be known of one. The
+//! definitions are those of `meaning/specs/Classes.antt`.
+#![tactic(auto)]
+
+mod bits;
+mod cancels;
+mod changed;
+mod groups;
+mod promises;
+
+pub use bits::{
+    cancel_bit, cancel_bits_are_inverse, cancel_class, group_bit, group_bits_are_inverse,
+    group_class,
+};
+pub use cancels::{CancelClass, change_cancel, entry_cancel};
+pub use groups::{GroupClass, change_group, entry_group};
+pub use promises::Promises;

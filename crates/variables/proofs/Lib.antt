@@ -1,0 +1,4 @@
+pub mod Joined
+pub mod Ordered
+pub mod Sighted
+pub mod VariablesFound
