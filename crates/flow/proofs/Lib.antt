@@ -3,6 +3,7 @@ pub mod FirstOnes
 pub mod LinkedNodes
 pub mod Numbered
 pub mod Sizes
+pub mod TurnCounts
 pub mod WalksOfLists
 pub mod Ways
 pub mod NodesInOrder

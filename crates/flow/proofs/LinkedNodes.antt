@@ -9,14 +9,43 @@ use Rattle.code.specs.CodeViews.{occurrence_view, code_view, backward, or_anothe
 use Rattle.flow.specs.declared.exits.Exits.{Exits}
 use Rattle.flow.specs.declared.graph.Node.{Node}
 use Rattle.flow.specs.GraphOfCode.{no_exit, size, nodes, firsts, links}
-use Rattle.flow.specs.Walks.{WalksAreLists}
-use Rattle.flow.specs.GraphViews.{most, exits_view, rest_of, Enters, occurrences_of, links_of, graph_view, AddsNode, Links, Firsts, Adds}
+use Rattle.flow.specs.Walks.{Graph, graph_of, WalksAreLists}
+use Rattle.flow.specs.GraphViews.{most, exits_view, rest_of, Enters, occurrences_of, links_of, graph_view, AddsNode, Links, Adds}
+use Rattle.flow.specs.TurnSizes.{begins, told_size, turn_sizes, all_turn_sizes, FirstsOfTurn, Takes}
 use Rattle.flow.proofs.WalksOfLists.{nodes_size, graphs_walk}
 use Rattle.flow.proofs.FirstNodes.{Vec, leading, stays_there}
+use Rattle.flow.proofs.TurnCounts.{size_there, left_there}
 
 count_map : {A B : Type 0} (f : A → B) (xs : List A) → length (map f xs) ≡ length xs
 count_map f [] = refl
 count_map f (x ∷ xs) = omega (arith, count_map f xs)
+
+-- the sizes of what is added are taken
+
+pub takes_none : {P : Type 0} (sizes : List ℕ) → P → Takes [] sizes sizes P
+takes_none sizes p = record { takes = λ others e. (p, e) }
+
+pub takes_on : {P Q : Type 0} (taken s0 s1 : List ℕ) → (P → Q) → Takes taken s0 s1 P → Takes taken s0 s1 Q
+takes_on taken s0 s1 f h =
+    record {
+      takes = λ others e.
+          let done = h.takes others e in
+          (f done.0, done.1);
+    }
+
+pub takes_both : {P Q R : Type 0} (u v s0 s1 s2 : List ℕ) → (P → Q → R) → Takes u s0 s1 P → Takes v s1 s2 Q → Takes (u ++ v) s0 s2 R
+takes_both u v s0 s1 s2 f h k =
+    record {
+      takes = λ others e.
+          let done = h.takes (v ++ others) (e ∙ append_assoc u v others) in
+          let then_done = k.takes others done.1 in
+          (f done.0 then_done.0, then_done.1);
+    }
+
+-- all sizes are taken
+pub all_taken : {P : Type 0} (sizes s0 s1 s2 s3 : List ℕ) → s0 ≡ [] → s1 ≡ s0 ++ sizes → s2 ≡ s1 → Takes sizes s2 s3 P → P
+all_taken sizes s0 s1 s2 s3 nothing added same h =
+    (h.takes [] (same ∙ added ∙ ap (λ z. z ++ sizes) nothing ∙ sym (append-nil sizes))).0
 
 module _ {E : Type 0} where
   -- nothing is added
@@ -83,20 +112,32 @@ module _ {E : Type 0} where
   fits_there : (n : Vec (Node E)) → length n.items ≤ most
   fits_there n = omega (arith, n.ok.0, n.ok.1, n.small)
 
-  pub adds_turn : (a : Code E) (next : List ℕ) (e0 e1 e2 : Exits) (n0 n1 : Vec (Node E)) (first same : Vec ℕ)
-      → Firsts (length n0.items) a [] e0 e1 first
+  adds_turn : (a : Code E) (next : List ℕ) (e0 e1 e2 : Exits) (n0 n1 : Vec (Node E)) (first same : Vec ℕ)
+      → (length n0.items + size a ≤ most → first.items ≡ firsts (length n0.items) a [] (leading e0))
+      → e1.entries.items ≡ e0.entries.items
       → Adds a first.items e1 e2 n0 n1 same
       → Adds (repeats a) next e0 e2 n0 n1 first
-  adds_turn a next e0 e1 e2 n0 n1 first same leads of_a =
+  adds_turn a next e0 e1 e2 n0 n1 first same leads stay of_a =
       let count = counted a first.items (leading e1) n0.items n1.items same.items of_a.adds in
-      let is_first = leads.are_first (omega (arith, count, fits_there n1)) in
+      let is_first = leads (omega (arith, count, fits_there n1)) in
       record {
         adds = record {
           are_nodes = of_a.adds.are_nodes;
-          are_linked = of_a.adds.are_linked ∙ ap (λ z. links_of n0.items ++ z) (linked_on (length n0.items) (length n0.items) a first.items (leading e1) (leading e0) _ refl is_first (stays_there e0 e1 leads.stay));
+          are_linked = of_a.adds.are_linked ∙ ap (λ z. links_of n0.items ++ z) (linked_on (length n0.items) (length n0.items) a first.items (leading e1) (leading e0) _ refl is_first (stays_there e0 e1 stay));
           are_first = is_first;
         };
-        stay = of_a.stay ∙ leads.stay;
+        stay = of_a.stay ∙ stay;
+      }
+
+  pub takes_turn : (a : Code E) (next : List ℕ) (e0 e1 e2 : Exits) (n0 n1 : Vec (Node E)) (first same : Vec ℕ) (s0 s1 s2 : List ℕ)
+      → FirstsOfTurn (length n0.items) a e0 e1 s0 s1 first
+      → Takes (turn_sizes a) s1 s2 (Adds a first.items e1 e2 n0 n1 same)
+      → Takes (turn_sizes (repeats a)) s0 s2 (Adds (repeats a) next e0 e2 n0 n1 first)
+  takes_turn a next e0 e1 e2 n0 n1 first same s0 s1 s2 leads of_a =
+      record {
+        takes = λ others e.
+            let done = of_a.takes others (left_there (begins a) (told_size a) (turn_sizes a) s0 others s1 e leads.are_left) in
+            (adds_turn a next e0 e1 e2 n0 n1 first same (leads.are_first (size_there a s0 others e)) leads.stay done.0, done.1);
       }
 
   pub adds_inside : (w : Way) (a : Code E) (next : List ℕ) (e0 e1 e2 e3 : Exits) (n0 n1 : Vec (Node E)) (first : Vec ℕ)
@@ -119,6 +160,41 @@ module _ {E : Type 0} where
     pub rest : Code E
     pub is_whole : backward cs rest ≡ whole
     pub added : Adds rest next before after n m first
+
+  -- the sizes of their turns, and those that are left
+  pub record TakenSoFar (all cs : List (Code E)) (before after : List ℕ) (Done : Type 0) : Type 0 where
+    pub taken : (others : List ℕ) → before ≡ all_turn_sizes all ++ others → Done × (after ≡ all_turn_sizes cs ++ others)
+
+  pub taken_so_far-none : {P : Type 0} (cs : List (Code E)) (sizes : List ℕ) → P → TakenSoFar cs cs sizes sizes P
+  taken_so_far-none cs sizes p = record { taken = λ others e. (p, e) }
+
+  pub taken_so_far-next : {P Q R : Type 0} (all : List (Code E)) (codes : List (KeptCode E)) (i : ℕ) (c : KeptCode E) (s0 s1 s2 : List ℕ)
+      → i < length codes
+      → c ≡ get_or codes i c
+      → (P → Q → R)
+      → TakenSoFar all (map code_view (drop i codes)) s0 s1 P
+      → Takes (turn_sizes (code_view c)) s1 s2 Q
+      → TakenSoFar all (map code_view (drop (i + 1) codes)) s0 s2 R
+  taken_so_far-next all codes i c s0 s1 s2 within is f so_far of_c =
+      record {
+        taken = λ others e.
+            let done = so_far.taken others e in
+            let left = all_turn_sizes (map code_view (drop (i + 1) codes)) in
+            let then_done = of_c.takes (left ++ others) (done.1 ∙ ap (λ l. all_turn_sizes (map code_view l) ++ others) (drop_item codes i c within is) ∙ append_assoc (turn_sizes (code_view c)) left others) in
+            (f done.0 then_done.0, then_done.1);
+      }
+
+  pub taken_so_far-all : {P Q : Type 0} (all : List (Code E)) (codes : List (KeptCode E)) (i : ℕ) (s0 s1 : List ℕ)
+      → length codes ≤ i
+      → (P → Q)
+      → TakenSoFar all (map code_view (drop i codes)) s0 s1 P
+      → Takes (all_turn_sizes all) s0 s1 Q
+  taken_so_far-all all codes i s0 s1 past f so_far =
+      record {
+        takes = λ others e.
+            let done = so_far.taken others e in
+            (f done.0, done.1 ∙ at_drop_all (λ l. all_turn_sizes (map code_view l) ++ others) codes i past);
+      }
 
   pub added_so_far-none : (cs : List (Code E)) (next : List ℕ) (e : Exits) (n : Vec (Node E)) (first : Vec ℕ) → first.items ≡ next → AddedSoFar cs (backward cs skip) next e e n n first
   added_so_far-none cs next e n first is = record { rest = skip; is_whole = refl; added = adds_none skip next e n first refl refl is }
@@ -228,7 +304,7 @@ module _ {E : Type 0} where
       → e0.entries.items ≡ []
       → n0.items ≡ []
       → Adds c [] e0 e1 n0 n1 starts
-      → WalksAreLists c (graph_view record { nodes = n1; starts = starts })
+      → graph_view record { nodes = n1; starts = starts } ≡ graph_of c
   whole_graph c e0 e1 n0 n1 starts no_exits no_nodes added =
       let empty : length n0.items ≡ 0 = ap length no_nodes in
       let leads : leading e0 ≡ no_exit = ap exits_view no_exits in
@@ -239,6 +315,7 @@ module _ {E : Type 0} where
       ∙ linked_on (length n0.items) 0 c [] (leading e0) no_exit [] empty refl leads in
       let are_first : starts.items ≡ firsts 0 c [] no_exit =
       added.adds.are_first ∙ first_on (length n0.items) 0 c [] (leading e0) no_exit [] empty refl leads in
-      subst (λ g. WalksAreLists c g)
-      (λ i. record { nodes = sym are_nodes i; next = sym are_linked i; starts = sym are_first i })
-      (graphs_walk E c)
+      λ i. record { nodes = are_nodes i; next = are_linked i; starts = are_first i }
+
+  pub graph_walks : (c : Code E) (g : Graph E) → g ≡ graph_of c → WalksAreLists c g
+  graph_walks c g is = subst (λ z. WalksAreLists c z) (sym is) (graphs_walk E c)

@@ -11,7 +11,7 @@ use Rattle.meaning.specs.Code.{Occurrence, Way, Code}
 use Rattle.flow.specs.GraphOfCode.{arriving, no_exit, size, nodes, firsts, links}
 use Rattle.flow.specs.Walks.{Graph}
 
-abbrev Vec : Type 0 → Type 0
+abbrev pub Vec : Type 0 → Type 0
 Vec T = VecIn T Global
 
 abbrev pub most : ℕ
@@ -62,12 +62,13 @@ module _ {E : Type 0} where
     pub are_linked : links_of after ≡ links_of before ++ links (length before) c next exits
     pub are_first : first ≡ firsts (length before) c next exits
 
--- these can come first in the code, where `from` occurrences stand behind it, as far as numbers can tell; the ways out
--- stay
+-- these can come first in the code, where `from` occurrences stand behind it, and `past` with its own, as far as
+-- numbers can tell; the ways out stay
 pub record Firsts {E : Type 0}
-    (from : ℕ) (c : Code E) (next : List ℕ) (before after : Exits) (first : Vec ℕ)
+    (from past : ℕ) (c : Code E) (next : List ℕ) (before after : Exits) (first : Vec ℕ)
     : Type 0 where
   pub are_first : from + size c ≤ most → first.items ≡ firsts from c next (exits_view before.entries.items)
+  pub is_past : from + size c ≤ most → past ≡ from + size c
   pub stay : after.entries.items ≡ before.entries.items
 
 pub record Adds {E : Type 0}

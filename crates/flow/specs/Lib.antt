@@ -3,3 +3,4 @@ pub mod GraphOfCode
 pub mod Walks
 pub mod GraphViews
 pub mod NodeOrder
+pub mod TurnSizes

@@ -3,49 +3,70 @@
 ghost use Rattle.std.specs.Prelude.{None, IfOk, map};
 ghost use Rattle.code.specs.CodeViews.{code_view, backward, one_of};
 ghost use Rattle.flow.specs.GraphViews.{Firsts};
+ghost use Rattle.flow.specs.TurnSizes.{FirstsOfTurn};
 ghost use Rattle.meaning.specs.Code.{skip};
 
 use crate::exits::Exits;
 use crate::node_lists::{copied, joined, only};
-use crate::size::size;
+use crate::turns::{TurnSizes, begins_with_event};
 use code::Code;
 use std::alloc::{AllocError, Global};
 
-/// The nodes that can come first in the code, where `from` occurrences stand behind it.
+/// The nodes that can come first in the turn of a loop, where `from` occurrences stand behind it. If it begins with an
+/// event, that is the one, and the size of the turn is taken from `sizes`; else the turn is gone over.
 ///
 /// # Errors
 ///
 /// Memory was refused.
-#[cycle(firsts)]
-pub fn firsts<'a, E: Copy>(
+pub fn firsts_of_turn<'a, E: Copy>(
     alloc: Global,
     from: usize,
+    turn: &Code<'a, E>,
+    exits: &mut Exits<'a>,
+    sizes: &mut TurnSizes<'_>,
+) -> Result<Vec<usize>, AllocError>
+    ensures { IfOk result (λ nodes. FirstsOfTurn from (code_view turn.now) exits.old exits.new sizes.old.left.now
+        sizes.new.left.now nodes) }
+{
+    if begins_with_event(turn) {
+        let past = from.saturating_add(sizes.take());
+        return only(alloc, past.saturating_sub(1));
+    }
+    let mut behind = from;
+    firsts(alloc, &mut behind, turn, &[], exits)
+}
+
+/// The nodes that can come first in the code, where `behind` occurrences stand behind it; its own are added to that
+/// number, as far as it can tell.
+#[cycle(firsts)]
+fn firsts<'a, E: Copy>(
+    alloc: Global,
+    behind: &mut usize,
     code: &Code<'a, E>,
     next: &[usize],
     exits: &mut Exits<'a>,
 ) -> Result<Vec<usize>, AllocError>
-    ensures { IfOk result (λ nodes. Firsts from (code_view code.now) next.now exits.old exits.new nodes) }
+    ensures { IfOk result (λ nodes. Firsts behind.old behind.new (code_view code.now) next.now exits.old exits.new
+        nodes) }
 {
     match code {
         Code::Skip => copied(alloc, next),
-        Code::Does(_) => only(alloc, from),
+        Code::Does(_) => {
+            let node = *behind;
+            *behind = node.saturating_add(1);
+            only(alloc, node)
+        }
         Code::Leave(way) => copied(alloc, exits.at(*way)),
         Code::Then(first, second) => {
-            let later = firsts(alloc, from, second, next, exits)?;
-            firsts(
-                alloc,
-                from.saturating_add(size(second)),
-                first,
-                &later,
-                exits,
-            )
+            let later = firsts(alloc, behind, second, next, exits)?;
+            firsts(alloc, behind, first, &later, exits)
         }
-        Code::Sequence(codes) => firsts_of_sequence(alloc, from, codes, next, exits),
-        Code::Choice(codes) => firsts_of_choice(alloc, from, codes, next, exits),
-        Code::Repeats(turn) => firsts(alloc, from, turn, &[], exits),
+        Code::Sequence(codes) => firsts_of_sequence(alloc, behind, codes, next, exits),
+        Code::Choice(codes) => firsts_of_choice(alloc, behind, codes, next, exits),
+        Code::Repeats(turn) => firsts(alloc, behind, turn, &[], exits),
         Code::UpTo(way, inner) => {
             exits.enter(alloc, *way, next)?;
-            let nodes = firsts(alloc, from, inner, next, exits)?;
+            let nodes = firsts(alloc, behind, inner, next, exits)?;
             exits.leave();
             Ok(nodes)
         }
@@ -55,19 +76,17 @@ pub fn firsts<'a, E: Copy>(
 #[cycle(firsts)]
 fn firsts_of_sequence<'a, E: Copy>(
     alloc: Global,
-    from: usize,
+    behind: &mut usize,
     codes: &[Code<'a, E>],
     next: &[usize],
     exits: &mut Exits<'a>,
 ) -> Result<Vec<usize>, AllocError>
-    ensures { IfOk result (λ nodes. Firsts from (backward (map code_view codes.now) skip) next.now exits.old
-        exits.new nodes) }
+    ensures { IfOk result (λ nodes. Firsts behind.old behind.new (backward (map code_view codes.now) skip) next.now
+        exits.old exits.new nodes) }
 {
     let mut nodes = copied(alloc, next)?;
-    let mut behind = from;
     for code in codes {
         nodes = firsts(alloc, behind, code, &nodes, exits)?;
-        behind = behind.saturating_add(size(code));
     }
     Ok(nodes)
 }
@@ -75,20 +94,18 @@ fn firsts_of_sequence<'a, E: Copy>(
 #[cycle(firsts)]
 fn firsts_of_choice<'a, E: Copy>(
     alloc: Global,
-    from: usize,
+    behind: &mut usize,
     codes: &[Code<'a, E>],
     next: &[usize],
     exits: &mut Exits<'a>,
 ) -> Result<Vec<usize>, AllocError>
-    ensures { IfOk result (λ nodes. Firsts from (one_of (map code_view codes.now) None) next.now exits.old
-        exits.new nodes) }
+    ensures { IfOk result (λ nodes. Firsts behind.old behind.new (one_of (map code_view codes.now) None) next.now
+        exits.old exits.new nodes) }
 {
     let mut nodes = Vec::new(alloc);
-    let mut behind = from;
     for code in codes {
         let own = firsts(alloc, behind, code, next, exits)?;
         nodes = joined(own, &nodes)?;
-        behind = behind.saturating_add(size(code));
     }
     Ok(nodes)
 }

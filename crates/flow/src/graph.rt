@@ -7,6 +7,7 @@ ghost use Rattle.flow.specs.Walks.{graph_of, WalksAreLists};
 
 use crate::exits::Exits;
 use crate::link::link;
+use crate::turns::{TurnSizes, count};
 use code::{Code, Occurrence};
 use std::alloc::{AllocError, Global};
 
@@ -39,6 +40,9 @@ pub fn build<E: Copy>(alloc: Global, code: &Code<'_, E>) -> Result<Graph<E>, All
         entries: Vec::new(alloc),
     };
     let mut nodes = Vec::new(alloc);
-    let starts = link(alloc, code, &[], &mut exits, &mut nodes)?;
+    let mut counted = Vec::new(alloc);
+    count(code, &mut counted)?;
+    let mut sizes = TurnSizes { left: &counted };
+    let starts = link(alloc, code, &[], &mut exits, &mut nodes, &mut sizes)?;
     Ok(Graph { nodes, starts })
 }

@@ -10,7 +10,7 @@ pub mod graph;
 mod link;
 mod node_lists;
 pub mod order;
-mod size;
+mod turns;
 
 pub use graph::{Graph, Node, build};
 pub use order::{NodePlace, in_order};

@@ -3,12 +3,14 @@
 ghost use Rattle.std.specs.Prelude.{None, IfOk, map};
 ghost use Rattle.code.specs.CodeViews.{code_view, occurrence_view, backward, one_of};
 ghost use Rattle.flow.specs.GraphViews.{AddsNode, Adds};
+ghost use Rattle.flow.specs.TurnSizes.{turn_sizes, all_turn_sizes, Takes};
 ghost use Rattle.meaning.specs.Code.{skip};
 
 use crate::exits::Exits;
-use crate::firsts::firsts;
+use crate::firsts::firsts_of_turn;
 use crate::graph::Node;
 use crate::node_lists::{copied, joined, only};
+use crate::turns::TurnSizes;
 use code::{Code, Occurrence};
 use std::alloc::{AllocError, Global};
 
@@ -28,7 +30,8 @@ fn add<E: Copy>(
     only(alloc, node)
 }
 
-/// Adds the nodes of a code, the last one first, and gives those that can come first.
+/// Adds the nodes of a code, the last one first, and gives those that can come first. The sizes of its turns come first
+/// in `sizes`, and are taken.
 ///
 /// # Errors
 ///
@@ -40,28 +43,29 @@ pub fn link<'a, E: Copy>(
     next: &[usize],
     exits: &mut Exits<'a>,
     nodes: &mut Vec<Node<E>>,
+    sizes: &mut TurnSizes<'_>,
 ) -> Result<Vec<usize>, AllocError>
-    ensures { IfOk result (λ first. Adds (code_view code.now) next.now exits.old exits.new nodes.old nodes.new
-        first) }
+    ensures { IfOk result (λ first. Takes (turn_sizes (code_view code.now)) sizes.old.left.now sizes.new.left.now
+        (Adds (code_view code.now) next.now exits.old exits.new nodes.old nodes.new first)) }
 {
     match code {
         Code::Skip => copied(alloc, next),
         Code::Does(occurrence) => add(alloc, *occurrence, next, nodes),
         Code::Leave(way) => copied(alloc, exits.at(*way)),
         Code::Then(first, second) => {
-            let later = link(alloc, second, next, exits, nodes)?;
-            link(alloc, first, &later, exits, nodes)
+            let later = link(alloc, second, next, exits, nodes, sizes)?;
+            link(alloc, first, &later, exits, nodes, sizes)
         }
-        Code::Sequence(codes) => link_sequence(alloc, codes, next, exits, nodes),
-        Code::Choice(codes) => link_choice(alloc, codes, next, exits, nodes),
+        Code::Sequence(codes) => link_sequence(alloc, codes, next, exits, nodes, sizes),
+        Code::Choice(codes) => link_choice(alloc, codes, next, exits, nodes, sizes),
         Code::Repeats(turn) => {
-            let first = firsts(alloc, nodes.len(), turn, &[], exits)?;
-            link(alloc, turn, &first, exits, nodes)?;
+            let first = firsts_of_turn(alloc, nodes.len(), turn, exits, sizes)?;
+            link(alloc, turn, &first, exits, nodes, sizes)?;
             Ok(first)
         }
         Code::UpTo(way, inner) => {
             exits.enter(alloc, *way, next)?;
-            let first = link(alloc, inner, next, exits, nodes)?;
+            let first = link(alloc, inner, next, exits, nodes, sizes)?;
             exits.leave();
             Ok(first)
         }
@@ -75,13 +79,15 @@ fn link_sequence<'a, E: Copy>(
     next: &[usize],
     exits: &mut Exits<'a>,
     nodes: &mut Vec<Node<E>>,
+    sizes: &mut TurnSizes<'_>,
 ) -> Result<Vec<usize>, AllocError>
-    ensures { IfOk result (λ first. Adds (backward (map code_view codes.now) skip) next.now exits.old exits.new
-        nodes.old nodes.new first) }
+    ensures { IfOk result (λ first. Takes (all_turn_sizes (map code_view codes.now)) sizes.old.left.now
+        sizes.new.left.now (Adds (backward (map code_view codes.now) skip) next.now exits.old exits.new nodes.old
+        nodes.new first)) }
 {
     let mut first = copied(alloc, next)?;
     for code in codes {
-        first = link(alloc, code, &first, exits, nodes)?;
+        first = link(alloc, code, &first, exits, nodes, sizes)?;
     }
     Ok(first)
 }
@@ -93,13 +99,15 @@ fn link_choice<'a, E: Copy>(
     next: &[usize],
     exits: &mut Exits<'a>,
     nodes: &mut Vec<Node<E>>,
+    sizes: &mut TurnSizes<'_>,
 ) -> Result<Vec<usize>, AllocError>
-    ensures { IfOk result (λ first. Adds (one_of (map code_view codes.now) None) next.now exits.old exits.new
-        nodes.old nodes.new first) }
+    ensures { IfOk result (λ first. Takes (all_turn_sizes (map code_view codes.now)) sizes.old.left.now
+        sizes.new.left.now (Adds (one_of (map code_view codes.now) None) next.now exits.old exits.new nodes.old
+        nodes.new first)) }
 {
     let mut first = Vec::new(alloc);
     for code in codes {
-        let own = link(alloc, code, next, exits, nodes)?;
+        let own = link(alloc, code, next, exits, nodes, sizes)?;
         first = joined(own, &first)?;
     }
     Ok(first)

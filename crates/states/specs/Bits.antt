@@ -1,14 +1,14 @@
 -- Numbers for what is known of a variable. Of a cancel variable 0 is unset, 1 open, 2 safe, and 3 + k pending in the
--- k-th of some groups, counted from 0. Of a group 0 is unmade, 1 idle, 2 live, and 3 awaited. Numbers have 32 bits:
+-- k-th of some groups, counted from 0. Of a group 0 is unmade, 1 idle, 2 live, and 3 awaited. Numbers have 64 bits:
 -- where 3 + k has more, what is pending in the k-th group has no number.
 use Rattle.std.specs.Prelude.{ℕ, zero, suc, ◌≡◌, ◌≤◌, ◌==◌, if◌then◌else◌, List, [], ◌∷◌, Option, Some, None, option_map, nat_eq, slice_get}
 use Rattle.std.specs.List.{IsDistinct}
 use Rattle.meaning.specs.Tracked.{idle, live}
 use Rattle.meaning.specs.Classes.{CancelClass, unset, opened, safe, pending, GroupClass, unmade, in_state, awaited}
 
--- the greatest number of 32 bits
+-- the greatest number of 64 bits
 abbrev pub most : ℕ
-most = 4294967295
+most = 18446744073709551615
 
 -- the number of the first of these groups that is g, where the first of all has the number n
 abbrev pub bit_from : ℕ → ℕ → List ℕ → Option ℕ

@@ -9,15 +9,15 @@ use crate::groups::GroupClass;
 use rows::GroupState;
 
 /// The number of the first of these groups that is that one, where the first of all has the number 3.
-fn pending_bit(group: u32, groups: &[u32]) -> Option<u32>
+fn pending_bit(group: u32, groups: &[u32]) -> Option<usize>
     ensures { result ≡ bit_from 3 group groups.now }
 {
-    let mut bit: u32 = 3;
+    let mut bit: usize = 3;
     for other in groups {
         if group == *other {
             return Some(bit);
         }
-        if bit == u32::MAX {
+        if bit == usize::MAX {
             return None;
         }
         bit += 1;
@@ -26,8 +26,8 @@ fn pending_bit(group: u32, groups: &[u32]) -> Option<u32>
 }
 
 /// The number of what is known of a cancel variable: 0 unset, 1 open, 2 safe, and 3 + k pending in the k-th of these
-/// groups, counted from 0. There is none where the group is not among these, or where 3 + k is no `u32`.
-pub fn cancel_bit(class: CancelClass, groups: &[u32]) -> Option<u32>
+/// groups, counted from 0. There is none where the group is not among these, or where 3 + k is no `usize`.
+pub fn cancel_bit(class: CancelClass, groups: &[u32]) -> Option<usize>
     ensures { result ≡ cancel_bit groups.now (cancel_class_view class) }
 {
     match class {
@@ -39,14 +39,14 @@ pub fn cancel_bit(class: CancelClass, groups: &[u32]) -> Option<u32>
 }
 
 /// What is known of a cancel variable, by its number, if there is such a number for these groups.
-pub fn cancel_class(bit: u32, groups: &[u32]) -> Option<CancelClass>
+pub fn cancel_class(bit: usize, groups: &[u32]) -> Option<CancelClass>
     ensures { option_map cancel_class_view result ≡ cancel_class groups.now bit }
 {
     match bit {
         0 => Some(CancelClass::Unset),
         1 => Some(CancelClass::Opened),
         2 => Some(CancelClass::Safe),
-        _ => match groups.get((bit - 3) as usize) {
+        _ => match groups.get(bit - 3) {
             Some(group) => Some(CancelClass::Pending(*group)),
             None => None,
         },
@@ -60,7 +60,7 @@ pub fn cancel_bits_are_inverse()
 {}
 
 /// The number of what is known of a group: 0 unmade, 1 idle, 2 live, and 3 awaited.
-pub fn group_bit(class: GroupClass) -> u32
+pub fn group_bit(class: GroupClass) -> usize
     ensures { result ≡ group_bit (group_class_view class) }
 {
     match class {
@@ -72,7 +72,7 @@ pub fn group_bit(class: GroupClass) -> u32
 }
 
 /// What is known of a group, by its number, if there is such a number.
-pub fn group_class(bit: u32) -> Option<GroupClass>
+pub fn group_class(bit: usize) -> Option<GroupClass>
     ensures { option_map group_class_view result ≡ group_class bit }
 {
     match bit {

@@ -2,12 +2,14 @@
 //! definitions are those of `meaning/specs/Classes.antt`.
 #![tactic(auto)]
 
+mod arrivals;
 mod bits;
 mod cancels;
 mod changed;
 mod groups;
 mod promises;
 
+pub use arrivals::Arrivals;
 pub use bits::{
     cancel_bit, cancel_bits_are_inverse, cancel_class, group_bit, group_bits_are_inverse,
     group_class,

@@ -1,35 +1,32 @@
-use Rattle.std.proofs.Common.{◌≡◌, ◌≤◌, ◌++◌, refl, sym, ap, ◌∙◌, subst}
+use Rattle.std.proofs.Common.{◌++◌, refl, ap, ◌∙◌, subst, arith}
 use Rattle.code.specs.CodeViews.{code_view}
 use Rattle.code.proofs.Codes.{code_view-Skip, code_view-Does, code_view-Leave, code_view-Then, code_view-Sequence, code_view-Choice, code_view-Repeats, code_view-UpTo}
-use Rattle.flow.specs.GraphOfCode.{size}
-use Rattle.flow.specs.GraphViews.{most, Firsts}
+use Rattle.flow.specs.GraphViews.{Firsts}
 use Rattle.flow.proofs.FirstNodes.{if_ok, first_then, first_inside, first_so_far-none, first_so_far-next, first_so_far-all, ways_so_far-none, ways_so_far-next, ways_so_far-all}
 use Rattle.flow.proofs.firsts.+firsts.Goals as goal
 
 pub firsts-returns-in-Skip : goal.firsts-returns-in-Skip
 firsts-returns-in-Skip g t c =
     rw (c.in-Skip.is, code_view-Skip)
-    (if_ok c.copied.result (λ v h. record { are_first = λ fits. h; stay = refl }) c.copied.ensures)
+    (if_ok c.copied.result (λ v h. record { are_first = λ fits. h; is_past = λ fits. omega arith; stay = refl }) c.copied.ensures)
 
 pub firsts-returns-in-Does : goal.firsts-returns-in-Does
 firsts-returns-in-Does g t c =
     rw (c.in-Does.is, code_view-Does)
-    (if_ok c.only.result (λ v h. record { are_first = λ fits. h; stay = refl }) c.only.ensures)
+    (if_ok c.only.result (λ v h. record { are_first = λ fits. h; is_past = λ fits. omega (arith, fits, c.saturating_add.ensures); stay = refl }) c.only.ensures)
 
 pub firsts-returns-in-Leave : goal.firsts-returns-in-Leave
 firsts-returns-in-Leave g t c =
     rw (c.in-Leave.is, code_view-Leave)
-    (if_ok c.copied-in-Leave.result (λ v h. record { are_first = λ fits. h ∙ c.at.ensures; stay = refl }) c.copied-in-Leave.ensures)
+    (if_ok c.copied-in-Leave.result (λ v h. record { are_first = λ fits. h ∙ c.at.ensures; is_past = λ fits. omega arith; stay = refl }) c.copied-in-Leave.ensures)
 
 pub firsts-returns-in_ok-later-in-Then : goal.firsts-returns-in_ok-later-in-Then
 firsts-returns-in_ok-later-in-Then g t c =
-    rw (c.in-Then.is, code_view-Then, ← c.deref.ensures, ← c.deref-in-Then-2.ensures)
+    rw (c.in-Then.is, code_view-Then, ← c.deref.ensures, ← c.deref-in-Then.ensures)
     (if_ok c.firsts-in-Then.result
-    (λ v h. first_then _ _ c.size.result _ _ _ c.args.exits.now c.firsts.new.exits c.firsts-in-Then.new.exits
+    (λ v h. first_then _ _ _ _ _ _ c.args.exits.now c.firsts.new.exits c.firsts-in-Then.new.exits
     c.in_ok-later-in-Then.later v c.in_ok-later-in-Then.ensures
-    (subst (λ z. size (code_view z) ≤ most → c.size.result ≡ size (code_view z)) (c.deref-in-Then.ensures ∙ sym c.deref.ensures) c.size.ensures)
-    c.saturating_add.ensures
-    (subst (λ z. Firsts c.saturating_add.result (code_view c.deref-in-Then-2.result.now) z c.firsts.new.exits c.firsts-in-Then.new.exits v) c.deref-in-Then-3.ensures.value h))
+    (subst (λ z. Firsts c.firsts.new.behind c.firsts-in-Then.new.behind (code_view c.deref-in-Then.result.now) z c.firsts.new.exits c.firsts-in-Then.new.exits v) c.deref-in-Then-2.ensures.value h))
     c.firsts-in-Then.ensures)
 
 pub firsts-returns-in-Sequence : goal.firsts-returns-in-Sequence
@@ -43,12 +40,12 @@ firsts-returns-in-Choice g t c =
 pub firsts-returns-in-Repeats : goal.firsts-returns-in-Repeats
 firsts-returns-in-Repeats g t c =
     rw (c.in-Repeats.is, code_view-Repeats, ← c.deref-in-Repeats.ensures)
-    (if_ok c.firsts-in-Repeats.result (λ v h. record { are_first = h.are_first; stay = h.stay }) c.firsts-in-Repeats.ensures)
+    (if_ok c.firsts-in-Repeats.result (λ v h. record { are_first = h.are_first; is_past = h.is_past; stay = h.stay }) c.firsts-in-Repeats.ensures)
 
 pub firsts-returns-in_ok-nodes-in-UpTo : goal.firsts-returns-in_ok-nodes-in-UpTo
 firsts-returns-in_ok-nodes-in-UpTo g t c =
     rw (c.in-UpTo.is, code_view-UpTo, ← c.deref-in-UpTo.ensures)
-    (first_inside _ _ _ _ c.args.exits.now c.enter.new.self c.firsts-in-UpTo.new.exits c.leave.new.self _
+    (first_inside _ _ _ _ _ c.args.exits.now c.enter.new.self c.firsts-in-UpTo.new.exits c.leave.new.self _
     c.in_ok-enter-in-UpTo.ensures c.in_ok-nodes-in-UpTo.ensures c.leave.ensures)
 
 pub firsts_of_choice-loop-code-init : goal.firsts_of_choice-loop-code-init
@@ -56,11 +53,10 @@ firsts_of_choice-loop-code-init g t c = ways_so_far-none _ _ _ _ _ c.new-nodes.e
 
 pub firsts_of_choice-loop-code-preserved : goal.firsts_of_choice-loop-code-preserved
 firsts_of_choice-loop-code-preserved g t c =
-    ways_so_far-next c.args.codes.now c.loop-code.code-index c.code-item.result _ c.loop-code.behind _ c.size.result _ _
-    c.args.exits.now c.loop-code.exits c.firsts.new.exits c.loop-code.nodes c.in_ok-own.own c.in_ok-nodes.nodes
+    ways_so_far-next c.args.codes.now c.loop-code.code-index c.code-item.result _ c.loop-code.behind c.firsts.new.behind
+    _ _ c.args.exits.now c.loop-code.exits c.firsts.new.exits c.loop-code.nodes c.in_ok-own.own c.in_ok-nodes.nodes
     c.loop-code-test.true c.code-item.is c.loop-code.invariant c.in_ok-own.ensures
     (c.in_ok-nodes.ensures ∙ ap (λ z. c.in_ok-own.own.items ++ z) c.deref.ensures.value)
-    c.size.ensures c.saturating_add-behind.ensures
 
 pub firsts_of_choice-returns : goal.firsts_of_choice-returns
 firsts_of_choice-returns g t c =
@@ -71,11 +67,11 @@ firsts_of_sequence-loop-code-init g t c = first_so_far-none _ _ _ _ _ c.in_ok-no
 
 pub firsts_of_sequence-loop-code-preserved : goal.firsts_of_sequence-loop-code-preserved
 firsts_of_sequence-loop-code-preserved g t c =
-    first_so_far-next c.args.codes.now c.loop-code.code-index c.code-item.result _ c.loop-code.behind _ c.size.result _ _
-    c.args.exits.now c.loop-code.exits c.firsts.new.exits c.loop-code.nodes c.in_ok-nodes-2.nodes
-    c.loop-code-test.true c.code-item.is c.loop-code.invariant
-    (subst (λ z. Firsts c.loop-code.behind (code_view c.code-item.result) z c.loop-code.exits c.firsts.new.exits c.in_ok-nodes-2.nodes) c.deref.ensures.value c.in_ok-nodes-2.ensures)
-    c.size.ensures c.saturating_add-behind.ensures
+    first_so_far-next c.args.codes.now c.loop-code.code-index c.code-item.result _ c.loop-code.behind
+    c.firsts.new.behind _ _ c.args.exits.now c.loop-code.exits c.firsts.new.exits c.loop-code.nodes
+    c.in_ok-nodes-2.nodes c.loop-code-test.true c.code-item.is c.loop-code.invariant
+    (subst (λ z. Firsts c.loop-code.behind c.firsts.new.behind (code_view c.code-item.result) z c.loop-code.exits
+    c.firsts.new.exits c.in_ok-nodes-2.nodes) c.deref.ensures.value c.in_ok-nodes-2.ensures)
 
 pub firsts_of_sequence-returns : goal.firsts_of_sequence-returns
 firsts_of_sequence-returns g t c =

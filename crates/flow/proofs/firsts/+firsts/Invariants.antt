@@ -6,10 +6,10 @@ use Rattle.flow.proofs.firsts.+firsts.Given as goal
 
 abbrev pub invariant-firsts_of_choice-loop-code : goal.invariant-firsts_of_choice-loop-code
 invariant-firsts_of_choice-loop-code g l =
-    WaysSoFar l.from (map code_view (drop l.code-index l.codes)) (one_of (map code_view l.codes) None) l.next
-    l.initial.exits l.exits l.nodes l.behind
+    WaysSoFar l.initial.behind l.behind (map code_view (drop l.code-index l.codes)) (one_of (map code_view l.codes) None)
+    l.next l.initial.exits l.exits l.nodes
 
 abbrev pub invariant-firsts_of_sequence-loop-code : goal.invariant-firsts_of_sequence-loop-code
 invariant-firsts_of_sequence-loop-code g l =
-    FirstSoFar l.from (map code_view (drop l.code-index l.codes)) (backward (map code_view l.codes) skip) l.next
-    l.initial.exits l.exits l.nodes l.behind
+    FirstSoFar l.initial.behind l.behind (map code_view (drop l.code-index l.codes)) (backward (map code_view l.codes) skip)
+    l.next l.initial.exits l.exits l.nodes

@@ -1,89 +1,111 @@
-use Rattle.std.proofs.Common.{[], ◌++◌, refl, sym, ap, ◌∙◌, subst}
+use Rattle.std.proofs.Common.{◌++◌, refl, sym, ap, ◌∙◌, subst}
 use Rattle.code.specs.CodeViews.{code_view}
 use Rattle.code.proofs.Codes.{code_view-Skip, code_view-Does, code_view-Leave, code_view-Then, code_view-Sequence, code_view-Choice, code_view-Repeats, code_view-UpTo}
-use Rattle.flow.specs.GraphViews.{Adds, Firsts}
+use Rattle.flow.specs.GraphViews.{Adds}
+use Rattle.flow.specs.TurnSizes.{turn_sizes, FirstsOfTurn, Takes}
 use Rattle.flow.proofs.FirstNodes.{if_ok}
-use Rattle.flow.proofs.LinkedNodes.{adds_none, adds_one, adds_then, adds_turn, adds_inside, added_so_far-none, added_so_far-next, added_so_far-all, ways_added-none, ways_added-next, ways_added-all}
+use Rattle.flow.proofs.TurnCounts.{sizes_backward, sizes_one_of}
+use Rattle.flow.proofs.LinkedNodes.{adds_none, adds_one, adds_then, adds_inside, takes_none, takes_on, takes_both, takes_turn, taken_so_far-none, taken_so_far-next, taken_so_far-all, added_so_far-none, added_so_far-next, added_so_far-all, ways_added-none, ways_added-next, ways_added-all}
 use Rattle.flow.proofs.link.+link.Goals as goal
 
 pub link-returns-in-Skip : goal.link-returns-in-Skip
 link-returns-in-Skip g t c =
     rw (c.in-Skip.is, code_view-Skip)
-    (if_ok c.copied.result (λ v h. adds_none _ _ c.args.exits.now c.args.nodes.now v refl refl h) c.copied.ensures)
+    (if_ok c.copied.result (λ v h. takes_none _ (adds_none _ _ c.args.exits.now c.args.nodes.now v refl refl h)) c.copied.ensures)
 
 pub link-returns-in-Does : goal.link-returns-in-Does
 link-returns-in-Does g t c =
     rw (c.in-Does.is, code_view-Does)
-    (if_ok c.add.result (λ v h. adds_one _ _ c.args.exits.now c.args.nodes.now c.add.new.nodes v h) c.add.ensures)
+    (if_ok c.add.result (λ v h. takes_none _ (adds_one _ _ c.args.exits.now c.args.nodes.now c.add.new.nodes v h)) c.add.ensures)
 
 pub link-returns-in-Leave : goal.link-returns-in-Leave
 link-returns-in-Leave g t c =
     rw (c.in-Leave.is, code_view-Leave)
     (if_ok c.copied-in-Leave.result
-    (λ v h. adds_none _ _ c.args.exits.now c.args.nodes.now v refl refl (h ∙ c.at.ensures)) c.copied-in-Leave.ensures)
+    (λ v h. takes_none _ (adds_none _ _ c.args.exits.now c.args.nodes.now v refl refl (h ∙ c.at.ensures))) c.copied-in-Leave.ensures)
 
 pub link-returns-in_ok-later-in-Then : goal.link-returns-in_ok-later-in-Then
 link-returns-in_ok-later-in-Then g t c =
     rw (c.in-Then.is, code_view-Then, ← c.deref.ensures, ← c.deref-in-Then.ensures)
     (if_ok c.link-in-Then.result
-    (λ v h. adds_then _ _ _ c.args.exits.now c.link.new.exits c.link-in-Then.new.exits c.args.nodes.now
-    c.link.new.nodes c.link-in-Then.new.nodes c.in_ok-later-in-Then.later v c.in_ok-later-in-Then.ensures
+    (λ v h. takes_both _ _ _ c.link.new.sizes.left.now c.link-in-Then.new.sizes.left.now
+    (λ of_b of_a. adds_then _ _ _ c.args.exits.now c.link.new.exits c.link-in-Then.new.exits c.args.nodes.now
+    c.link.new.nodes c.link-in-Then.new.nodes c.in_ok-later-in-Then.later v of_b
     (subst (λ z. Adds (code_view c.deref-in-Then.result.now) z c.link.new.exits c.link-in-Then.new.exits
-    c.link.new.nodes c.link-in-Then.new.nodes v) c.deref-in-Then-2.ensures.value h))
+    c.link.new.nodes c.link-in-Then.new.nodes v) c.deref-in-Then-2.ensures.value of_a))
+    c.in_ok-later-in-Then.ensures h)
     c.link-in-Then.ensures)
 
 pub link-returns-in-Sequence : goal.link-returns-in-Sequence
 link-returns-in-Sequence g t c =
-    rw (c.in-Sequence.is, code_view-Sequence, ← c.deref-in-Sequence.ensures.value) c.link_sequence.ensures
+    rw (c.in-Sequence.is, code_view-Sequence, sizes_backward, ← c.deref-in-Sequence.ensures.value) c.link_sequence.ensures
 
 pub link-returns-in-Choice : goal.link-returns-in-Choice
 link-returns-in-Choice g t c =
-    rw (c.in-Choice.is, code_view-Choice, ← c.deref-in-Choice.ensures.value) c.link_choice.ensures
+    rw (c.in-Choice.is, code_view-Choice, sizes_one_of, ← c.deref-in-Choice.ensures.value) c.link_choice.ensures
 
 pub link-returns-in_ok-link-in-Repeats : goal.link-returns-in_ok-link-in-Repeats
 link-returns-in_ok-link-in-Repeats g t c =
     rw (c.in-Repeats.is, code_view-Repeats, ← c.deref-in-Repeats.ensures)
-    (adds_turn _ _ c.args.exits.now c.firsts.new.exits c.link-in-Repeats.new.exits c.args.nodes.now
+    (takes_turn _ _ c.args.exits.now c.firsts_of_turn.new.exits c.link-in-Repeats.new.exits c.args.nodes.now
     c.link-in-Repeats.new.nodes c.in_ok-first-in-Repeats.first c.in_ok-link-in-Repeats.field-0
-    (subst (λ z. Firsts z (code_view c.deref-in-Repeats.result.now) [] c.args.exits.now c.firsts.new.exits
+    c.args.sizes.now.left.now c.firsts_of_turn.new.sizes.left.now c.link-in-Repeats.new.sizes.left.now
+    (subst (λ z. FirstsOfTurn z (code_view c.deref-in-Repeats.result.now) c.args.exits.now
+    c.firsts_of_turn.new.exits c.args.sizes.now.left.now c.firsts_of_turn.new.sizes.left.now
     c.in_ok-first-in-Repeats.first) (c.len.ensures ∙ c.args.nodes.now.ok.0) c.in_ok-first-in-Repeats.ensures)
-    (subst (λ z. Adds (code_view c.deref-in-Repeats.result.now) z c.firsts.new.exits c.link-in-Repeats.new.exits
-    c.args.nodes.now c.link-in-Repeats.new.nodes c.in_ok-link-in-Repeats.field-0) c.deref-in-Repeats-3.ensures.value
-    (subst (λ z. Adds (code_view z) c.deref-in-Repeats-3.result.now c.firsts.new.exits c.link-in-Repeats.new.exits
-    c.args.nodes.now c.link-in-Repeats.new.nodes c.in_ok-link-in-Repeats.field-0)
+    (subst (λ z. Takes (turn_sizes (code_view c.deref-in-Repeats.result.now)) c.firsts_of_turn.new.sizes.left.now
+    c.link-in-Repeats.new.sizes.left.now (Adds (code_view c.deref-in-Repeats.result.now) z
+    c.firsts_of_turn.new.exits c.link-in-Repeats.new.exits c.args.nodes.now c.link-in-Repeats.new.nodes
+    c.in_ok-link-in-Repeats.field-0)) c.deref-in-Repeats-3.ensures.value
+    (subst (λ z. Takes (turn_sizes (code_view z)) c.firsts_of_turn.new.sizes.left.now
+    c.link-in-Repeats.new.sizes.left.now (Adds (code_view z) c.deref-in-Repeats-3.result.now
+    c.firsts_of_turn.new.exits c.link-in-Repeats.new.exits c.args.nodes.now c.link-in-Repeats.new.nodes
+    c.in_ok-link-in-Repeats.field-0))
     (c.deref-in-Repeats-2.ensures ∙ sym c.deref-in-Repeats.ensures) c.in_ok-link-in-Repeats.ensures)))
 
 pub link-returns-in_ok-first-in-UpTo : goal.link-returns-in_ok-first-in-UpTo
 link-returns-in_ok-first-in-UpTo g t c =
     rw (c.in-UpTo.is, code_view-UpTo, ← c.deref-in-UpTo.ensures)
-    (adds_inside _ _ _ c.args.exits.now c.enter.new.self c.link-in-UpTo.new.exits c.leave.new.self c.args.nodes.now
-    c.link-in-UpTo.new.nodes _ c.in_ok-enter-in-UpTo.ensures c.in_ok-first-in-UpTo.ensures c.leave.ensures)
+    (takes_on _ _ _
+    (λ of_a. adds_inside _ _ _ c.args.exits.now c.enter.new.self c.link-in-UpTo.new.exits c.leave.new.self
+    c.args.nodes.now c.link-in-UpTo.new.nodes _ c.in_ok-enter-in-UpTo.ensures of_a c.leave.ensures)
+    c.in_ok-first-in-UpTo.ensures)
 
 pub link_choice-loop-code-init : goal.link_choice-loop-code-init
-link_choice-loop-code-init g t c = ways_added-none _ _ _ _ _ c.new-first.ensures.items
+link_choice-loop-code-init g t c = taken_so_far-none _ _ (ways_added-none _ _ _ _ _ c.new-first.ensures.items)
 
 pub link_choice-loop-code-preserved : goal.link_choice-loop-code-preserved
 link_choice-loop-code-preserved g t c =
-    ways_added-next c.args.codes.now c.loop-code.code-index c.code-item.result _ _ c.args.exits.now c.loop-code.exits
-    c.link.new.exits c.args.nodes.now c.loop-code.nodes c.link.new.nodes c.loop-code.first c.in_ok-own.own
-    c.in_ok-first.first c.loop-code-test.true c.code-item.is c.loop-code.invariant c.in_ok-own.ensures
-    (c.in_ok-first.ensures ∙ ap (λ z. c.in_ok-own.own.items ++ z) c.deref.ensures.value)
+    taken_so_far-next _ c.args.codes.now c.loop-code.code-index c.code-item.result _ c.loop-code.sizes.left.now
+    c.link.new.sizes.left.now c.loop-code-test.true c.code-item.is
+    (λ so_far of_c. ways_added-next c.args.codes.now c.loop-code.code-index c.code-item.result _ _ c.args.exits.now
+    c.loop-code.exits c.link.new.exits c.args.nodes.now c.loop-code.nodes c.link.new.nodes c.loop-code.first
+    c.in_ok-own.own c.in_ok-first.first c.loop-code-test.true c.code-item.is so_far of_c
+    (c.in_ok-first.ensures ∙ ap (λ z. c.in_ok-own.own.items ++ z) c.deref.ensures.value))
+    c.loop-code.invariant c.in_ok-own.ensures
 
 pub link_choice-returns : goal.link_choice-returns
 link_choice-returns g t c =
-    ways_added-all c.args.codes.now c.loop-code.code-index _ _ _ _ _ _ _ c.loop-code-test.false c.loop-code.invariant
+    taken_so_far-all _ c.args.codes.now c.loop-code.code-index _ _ c.loop-code-test.false
+    (ways_added-all c.args.codes.now c.loop-code.code-index _ _ _ _ _ _ _ c.loop-code-test.false)
+    c.loop-code.invariant
 
 pub link_sequence-loop-code-init : goal.link_sequence-loop-code-init
-link_sequence-loop-code-init g t c = added_so_far-none _ _ _ _ _ c.in_ok-first.ensures
+link_sequence-loop-code-init g t c = taken_so_far-none _ _ (added_so_far-none _ _ _ _ _ c.in_ok-first.ensures)
 
 pub link_sequence-loop-code-preserved : goal.link_sequence-loop-code-preserved
 link_sequence-loop-code-preserved g t c =
-    added_so_far-next c.args.codes.now c.loop-code.code-index c.code-item.result _ _ c.args.exits.now c.loop-code.exits
-    c.link.new.exits c.args.nodes.now c.loop-code.nodes c.link.new.nodes c.loop-code.first c.in_ok-first-2.first
-    c.loop-code-test.true c.code-item.is c.loop-code.invariant
+    taken_so_far-next _ c.args.codes.now c.loop-code.code-index c.code-item.result _ c.loop-code.sizes.left.now
+    c.link.new.sizes.left.now c.loop-code-test.true c.code-item.is
+    (λ so_far of_c. added_so_far-next c.args.codes.now c.loop-code.code-index c.code-item.result _ _ c.args.exits.now
+    c.loop-code.exits c.link.new.exits c.args.nodes.now c.loop-code.nodes c.link.new.nodes c.loop-code.first
+    c.in_ok-first-2.first c.loop-code-test.true c.code-item.is so_far
     (subst (λ z. Adds (code_view c.code-item.result) z c.loop-code.exits c.link.new.exits c.loop-code.nodes
-    c.link.new.nodes c.in_ok-first-2.first) c.deref.ensures.value c.in_ok-first-2.ensures)
+    c.link.new.nodes c.in_ok-first-2.first) c.deref.ensures.value of_c))
+    c.loop-code.invariant c.in_ok-first-2.ensures
 
 pub link_sequence-returns : goal.link_sequence-returns
 link_sequence-returns g t c =
-    added_so_far-all c.args.codes.now c.loop-code.code-index _ _ _ _ _ _ _ c.loop-code-test.false c.loop-code.invariant
+    taken_so_far-all _ c.args.codes.now c.loop-code.code-index _ _ c.loop-code-test.false
+    (added_so_far-all c.args.codes.now c.loop-code.code-index _ _ _ _ _ _ _ c.loop-code-test.false)
+    c.loop-code.invariant

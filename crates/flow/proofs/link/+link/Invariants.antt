@@ -1,15 +1,19 @@
 use Rattle.std.proofs.Common.{None, drop, map}
 use Rattle.code.specs.CodeViews.{code_view, backward, one_of}
 use Rattle.meaning.specs.Code.{skip}
-use Rattle.flow.proofs.LinkedNodes.{AddedSoFar, WaysAdded}
+use Rattle.flow.proofs.LinkedNodes.{AddedSoFar, TakenSoFar, WaysAdded}
 use Rattle.flow.proofs.link.+link.Given as goal
 
 abbrev pub invariant-link_choice-loop-code : goal.invariant-link_choice-loop-code
 invariant-link_choice-loop-code g l =
-    WaysAdded (map code_view (drop l.code-index l.codes)) (one_of (map code_view l.codes) None) l.next l.initial.exits
-    l.exits l.initial.nodes l.nodes l.first
+    TakenSoFar (map code_view l.codes) (map code_view (drop l.code-index l.codes)) l.initial.sizes.left.now
+    l.sizes.left.now
+    (WaysAdded (map code_view (drop l.code-index l.codes)) (one_of (map code_view l.codes) None) l.next l.initial.exits
+    l.exits l.initial.nodes l.nodes l.first)
 
 abbrev pub invariant-link_sequence-loop-code : goal.invariant-link_sequence-loop-code
 invariant-link_sequence-loop-code g l =
-    AddedSoFar (map code_view (drop l.code-index l.codes)) (backward (map code_view l.codes) skip) l.next
-    l.initial.exits l.exits l.initial.nodes l.nodes l.first
+    TakenSoFar (map code_view l.codes) (map code_view (drop l.code-index l.codes)) l.initial.sizes.left.now
+    l.sizes.left.now
+    (AddedSoFar (map code_view (drop l.code-index l.codes)) (backward (map code_view l.codes) skip) l.next
+    l.initial.exits l.exits l.initial.nodes l.nodes l.first)

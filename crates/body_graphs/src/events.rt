@@ -1,0 +1,13 @@
+//! What nodes do.
+
+use allowed::Event;
+
+/// What a node of a body's graph does.
+#[derive(Clone, Copy)]
+pub enum NodeEvent<'e, 'a> {
+    /// Nothing that concerns a variable.
+    Other,
+    /// The body's end is reached, and nothing is handed on.
+    FallsOff,
+    Does(&'e Event<'a>),
+}

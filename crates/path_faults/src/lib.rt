@@ -1,0 +1,2 @@
+//! What the paths and the passes of a body come to.
+#![tactic(auto)]
