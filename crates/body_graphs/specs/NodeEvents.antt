@@ -1,8 +1,8 @@
 -- The graph of a body of a file that was told of. What its nodes do stands for events of the definitions.
-use Rattle.std.specs.Prelude.{ℕ, List, [], ◌≡◌, map}
+use Rattle.std.specs.Prelude.{[], ◌≡◌, map}
 use Rattle.allowed.specs.UseViews.{event_view}
-use Rattle.body_graphs.specs.declared.events.NodeEvent.{NodeEvent}
-use Rattle.body_graphs.specs.declared.events.NodeEvent.TheVariants.{Other, FallsOff, Does}
+use Rattle.body_graphs.specs.declared.node.NodeEvent.{NodeEvent}
+use Rattle.body_graphs.specs.declared.node.NodeEvent.TheVariants.{Other, FallsOff, Does}
 use Rattle.meaning.specs.Code.{Occurrence, Code}
 use Rattle.meaning.specs.Uses.{Event, other, return_event}
 use Rattle.flow.specs.declared.graph.Graph.{Graph as KeptGraph}

@@ -8,32 +8,17 @@ ghost use Rattle.meaning.specs.BodyEvents.{sites_of};
 ghost use Rattle.meaning.specs.StatementCode.{body_code};
 ghost use Rattle.meaning.specs.Uses.{Seen};
 ghost use Rattle.mentions.specs.MarkViews.{body_view};
-ghost use Rattle.tree.specs.Syntax.{Statements};
 
-use crate::events::NodeEvent;
-use code::{Sites, body_code};
+use crate::body_sites::sites_of;
+use crate::node::NodeEvent;
+use code::body_code;
 use events::Told;
 use flow::{Graph, build};
 use mentions::BodyPlace;
 use std::alloc::{AllocError, Global};
 
-/// What the sites of the body at that offset give.
-fn sites_of<'e, 'a>(
-    alloc: Global,
-    told: &'e Told<'a>,
-    body: u32,
-) -> Result<Sites<NodeEvent<'e, 'a>>, AllocError> {
-    let mut sites = Sites::new(alloc, NodeEvent::Other, NodeEvent::FallsOff);
-    for event in told.events.at(body) {
-        sites.add_event(alloc, event.site, NodeEvent::Does(&event.event))?;
-    }
-    for site in told.panics.at(body) {
-        sites.add_panic(*site)?;
-    }
-    Ok(sites)
-}
-
-/// The graph of a body of a file that was told of.
+/// The graph of a body of a file that was told of: that of the body's code, whose sites give the events that were told
+/// of the body at the byte offset of its `func`.
 ///
 /// # Errors
 ///

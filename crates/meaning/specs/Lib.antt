@@ -19,9 +19,8 @@ pub mod FunctionFacts
 pub mod Tracked
 pub mod Uses
 pub mod BodyEvents
--- What is known of the variables after a list of events, and the faults of paths: to be trusted.
+-- What is known of the variables after a list of events: to be trusted.
 pub mod Classes
-pub mod PathFaults
 -- What is proved of them.
 pub mod Laws
 pub mod UseLaws

@@ -1,9 +1,10 @@
 -- Classes and their numbers, there and back.
-use Rattle.std.proofs.Common.{◌≡◌, ℕ, zero, suc, ◌+◌, ◌≤◌, Bool, true, false, if◌then◌else◌, List, [], ◌∷◌, Option, Some, None, option_map, nat_eq, refl, sym, ap, ◌∙◌, subst, true≢false, arith, inl, inr}
+use Rattle.std.proofs.Common.{◌≡◌, ℕ, zero, suc, ◌+◌, ◌<◌, ◌≤◌, Bool, true, false, if◌then◌else◌, List, [], ◌∷◌, length, Option, Some, None, option_map, nat_eq, Contains, refl, sym, ap, ◌∙◌, subst, true≢false, arith, inl, inr}
 use Rattle.std.specs.Prelude.{◌==◌, slice_get}
 use Rattle.std.specs.List.{IsDistinct, AllByRecursion}
 use Rattle.std.proofs.lemmas.Bool.Decides.{eqb_tells}
-use Rattle.std.proofs.lemmas.Option.{none-some, same_Some}
+use Rattle.std.proofs.lemmas.Option.{none-some, same_Some, slice_get_within, get_or_from_slice_get}
+use Rattle.meaning.proofs.Membership.{contains_nil, contains_cases}
 use Rattle.meaning.specs.Tracked.{idle, live}
 use Rattle.meaning.specs.Classes.{CancelClass, unset, opened, safe, pending, GroupClass, unmade, in_state, awaited}
 use Rattle.states.specs.Bits.{most, bit_from, cancel_bit, cancel_class, AreInverseBits, group_bit, group_class, AreInverseGroupBits}
@@ -109,7 +110,58 @@ numbered groups d (suc (suc (suc k))) c fits e = found_pending groups k c (slice
 pub cancel_inverse : (groups : List ℕ) → AreInverseBits groups
 cancel_inverse groups = record { there = told groups; back = numbered groups }
 
+-- Which classes have numbers, and how great these are
+
+pub cancel_within : (groups : List ℕ) (c : CancelClass) (n : ℕ) → cancel_bit groups c ≡ Some n → n < length groups + 3
+cancel_within groups unset n e = let is = same_Some 0 n e in omega (arith, is)
+cancel_within groups opened n e = let is = same_Some 1 n e in omega (arith, is)
+cancel_within groups safe n e = let is = same_Some 2 n e in omega (arith, is)
+cancel_within groups (pending g) n e =
+    let it = stands 3 g groups n e in
+    let is = it.counted in
+    let within = slice_get_within groups it.k g it.at in
+    omega (arith, is, within)
+
+-- what is pending in a group has a number only where the group is among these
+pub pending_among : (groups : List ℕ) (g n : ℕ) → cancel_bit groups (pending g) ≡ Some n → Contains groups g
+pending_among groups g n e =
+    let it = stands 3 g groups n e in
+    (it.k, slice_get_within groups it.k g it.at, get_or_from_slice_get groups it.k g g it.at)
+
+first_or_another : (n g : ℕ) (hs : List ℕ) (a b : Bool)
+    → b ≡ false
+    → (a ≡ false → (m : ℕ) × (bit_from (suc n) g hs ≡ Some m))
+    → (m : ℕ) × ((if a then Some n else if b then None else bit_from (suc n) g hs) ≡ Some m)
+first_or_another n g hs true b e rest = (n, refl)
+first_or_another n g hs false true e rest = absurd (true≢false e)
+first_or_another n g hs false false e rest = rest refl
+
+differ : (a b : ℕ) → (a == b) ≡ false → b ≡ a → ⊥
+differ a b e is = true≢false (sym (subst (λ x. (a == x) ≡ true) (sym is) (number_itself a)) ∙ e)
+
+among_found : (n g : ℕ) (hs : List ℕ) → Contains hs g → n + length hs ≤ most → (m : ℕ) × (bit_from n g hs ≡ Some m)
+among_found n g [] h fits = absurd (contains_nil g h)
+among_found n g (x ∷ hs) h fits =
+    first_or_another n g hs (g == x) (n == most) (not_most n (omega (arith, fits)))
+    (λ e. elim (contains_cases x g hs h) [
+      | inl is ↦ absurd (differ g x e is)
+      | inr later ↦ among_found (suc n) g hs later (omega (arith, fits))
+    ])
+
+-- where there are few enough groups, what is pending in one of them has a number
+pub pending_found : (groups : List ℕ) (g : ℕ)
+    → Contains groups g
+    → length groups + 3 ≤ most
+    → (n : ℕ) × (cancel_bit groups (pending g) ≡ Some n)
+pending_found groups g h fits = among_found 3 g groups h (omega (arith, fits))
+
 -- Groups
+
+pub group_within : (c : GroupClass) → group_bit c < 4
+group_within unmade = omega arith
+group_within (in_state idle) = omega arith
+group_within (in_state live) = omega arith
+group_within awaited = omega arith
 
 group_told : (c : GroupClass) → group_class (group_bit c) ≡ Some c
 group_told unmade = refl

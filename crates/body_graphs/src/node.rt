@@ -9,5 +9,6 @@ pub enum NodeEvent<'e, 'a> {
     Other,
     /// The body's end is reached, and nothing is handed on.
     FallsOff,
+    /// What a mark of the body tells.
     Does(&'e Event<'a>),
 }

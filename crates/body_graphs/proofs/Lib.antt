@@ -1,0 +1,5 @@
+pub mod ChangedCode
+pub mod ChangedGraph
+pub mod ListsOfGraphs
+pub mod SitesAdded
+pub mod WholeGraph

@@ -1,0 +1,87 @@
+-- A search for each variable answers which of its classes arrive where.
+use Rattle.std.proofs.Common.{◌≡◌, ℕ, ◌+◌, ◌<◌, ◌≤◌, Bool, List, [], ◌∷◌, length, Option, Some, None, refl, ap, ◌∙◌, subst}
+use Rattle.std.proofs.lemmas.Option.{slice_get_within}
+use Rattle.std.specs.Prelude.{slice_get}
+use Rattle.body_graphs.specs.Classified.{TellsClasses, Classifies, cancel_class_after, group_class_after}
+use Rattle.body_graphs.specs.NodeEvents.{events_graph, IsGraphOf}
+use Rattle.body_graphs.specs.declared.node.NodeEvent.{NodeEvent}
+use Rattle.flow.specs.declared.graph.Graph.{Graph as KeptGraph}
+use Rattle.flow.specs.GraphOfCode.{nodes}
+use Rattle.flow.specs.Walks.{Graph}
+use Rattle.maker.proofs.ClassesTold.{tells_classes}
+use Rattle.maker.proofs.Numbers.{entry_has, cancels_numbered, groups_numbered}
+use Rattle.maker.specs.Flags.{with_groups, is_marked_flag, cancel_step, cancel_width, cancel_entry, group_flag, group_step, group_width, group_entry}
+use Rattle.maker.specs.Solutions.{found_for, FindsCancel, FindsGroup, FindsKind, Finds}
+use Rattle.meaning.specs.BodyEvents.{Variable}
+use Rattle.meaning.specs.Classes.{Promises, entry_cancel, change_cancel, cancel_after, entry_group, change_group, group_after}
+use Rattle.meaning.specs.Code.{Code}
+use Rattle.meaning.specs.FunctionFacts.{cancel, group}
+use Rattle.meaning.specs.Uses.{Event}
+use Rattle.reach.specs.Carried.{TellsReached}
+use Rattle.reach.specs.MarkViews.{has}
+use Rattle.reach.specs.declared.reached.Reached.{Reached}
+use Rattle.states.specs.Bits.{most, cancel_bit, cancel_class, group_bit, group_class, AreInverseBits, AreInverseGroupBits}
+
+-- What was found for the variable of a place, if there is one
+
+abbrev pub FindsAt : Promises → List ℕ → KeptGraph NodeEvent → Variable → Option Reached → Type 0
+FindsAt p groups g v None = ⊥
+FindsAt p groups g v (Some r) = Finds p groups g v r
+
+-- something was found for each of the first variables
+pub record FindsFirst
+    (p : Promises) (groups : List ℕ) (g : KeptGraph NodeEvent) (vs : List Variable) (rs : List Reached) (count : ℕ)
+    : Type 0 where
+  pub counted : length rs ≡ count
+  pub each : (i : ℕ) (v : Variable) → i < count → slice_get vs i ≡ Some v → FindsAt p groups g v (slice_get rs i)
+
+-- What it says of classes
+
+module _ (p : Promises) (groups : List ℕ) (g : KeptGraph NodeEvent) (c : Code Event)
+    (is_graph : IsGraphOf c g) (are_groups : groups ≡ with_groups [] (events_graph g).nodes)
+    (fits : length groups + 3 ≤ most) (inverse : AreInverseBits groups) (group_inverse : AreInverseGroupBits) where
+  of_code : groups ≡ with_groups [] (nodes c)
+  of_code = are_groups ∙ ap (λ (h : Graph Event). with_groups [] h.nodes) is_graph
+
+  cancel_told : (v : Variable) (found : ℕ → ℕ → Bool)
+      → FindsCancel p groups g v found
+      → TellsClasses c (cancel_class_after p v) (λ n k. is_marked_flag (found n) (cancel_bit groups k))
+  cancel_told v found told =
+      tells_classes c (cancel_class groups) (cancel_bit groups) (change_cancel p v.number) (cancel_after p v.number)
+      (cancel_width groups) (cancels_numbered c p v.number groups inverse of_code fits)
+      (entry_cancel v.role) (cancel_entry groups v.role) (entry_has groups v.role) found
+      (subst (λ h. TellsReached h (cancel_step p v.number groups) (cancel_width groups)
+      (cancel_entry groups v.role ∷ []) found) is_graph told)
+
+  group_told : (v : Variable) (found : ℕ → ℕ → Bool)
+      → FindsGroup p g v found
+      → TellsClasses c (group_class_after p v) (λ n k. found n (group_bit k))
+  group_told v found told =
+      tells_classes c group_class group_flag (change_group p v.number) (group_after p v.number)
+      group_width (groups_numbered c p v.number group_inverse)
+      (entry_group v.role) (group_entry v.role) refl found
+      (subst (λ h. TellsReached h (group_step p v.number) group_width (group_entry v.role ∷ []) found) is_graph told)
+
+  cancel_at : (v : Variable) (o : Option Reached)
+      → v.kind ≡ cancel
+      → FindsAt p groups g v o
+      → TellsClasses c (cancel_class_after p v) (λ n k. is_marked_flag (found_for o n) (cancel_bit groups k))
+  cancel_at v None is h = absurd h
+  cancel_at v (Some r) is h = cancel_told v (has r) (subst (λ k. FindsKind k p groups g v (has r)) is h)
+
+  group_at : (v : Variable) (o : Option Reached)
+      → v.kind ≡ group
+      → FindsAt p groups g v o
+      → TellsClasses c (group_class_after p v) (λ n k. found_for o n (group_bit k))
+  group_at v None is h = absurd h
+  group_at v (Some r) is h = group_told v (has r) (subst (λ k. FindsKind k p groups g v (has r)) is h)
+
+  pub classified : (vs : List Variable) (rs : List Reached)
+      → FindsFirst p groups g vs rs (length vs)
+      → Classifies c p vs
+      (λ i n k. is_marked_flag (found_for (slice_get rs i) n) (cancel_bit groups k))
+      (λ i n k. found_for (slice_get rs i) n (group_bit k))
+  classified vs rs all = record {
+    of_cancel = λ i v e is. cancel_at v (slice_get rs i) is (all.each i v (slice_get_within vs i v e) e);
+    of_group = λ i v e is. group_at v (slice_get rs i) is (all.each i v (slice_get_within vs i v e) e);
+  }

@@ -1,0 +1,4 @@
+pub mod Answered
+pub mod ChangedGraphs
+pub mod ClassesTold
+pub mod Numbers

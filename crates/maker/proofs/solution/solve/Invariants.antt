@@ -1,0 +1,10 @@
+use Rattle.std.proofs.Common.{map}
+use Rattle.variables.specs.VariableViews.{variable_view}
+use Rattle.maker.proofs.Answered.{FindsFirst}
+use Rattle.maker.proofs.solution.solve.Given as goal
+
+-- the variables so far were searched for
+abbrev pub invariant-loop-variable : goal.invariant-loop-variable
+invariant-loop-variable g l =
+    FindsFirst (g.P.Promises.promises l.promises) l.groups.items l.graph (map variable_view l.variables)
+    l.reached.items l.variable-index

@@ -1,0 +1,14 @@
+//! What is said of packages: diagnostics, their order, and the text of a report, written into whatever takes bytes.
+#![tactic(auto)]
+
+mod codes;
+mod cursors;
+mod diagnostics;
+mod pieces;
+mod sinks;
+mod written;
+
+pub use codes::{Code, TextFault, TreeFault};
+pub use diagnostics::{Diagnostic, PackageReport, in_order};
+pub use sinks::{PutFault, Sink, WriteFault};
+pub use written::write_text;
