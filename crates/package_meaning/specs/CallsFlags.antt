@@ -10,7 +10,7 @@ use Rattle.std.specs.Str.{bytes_eq}
 use Rattle.tree.specs.Syntax.{Identifier}
 use Rattle.meaning.specs.Scopes.{is_blank}
 use Rattle.meaning.specs.OuterBlocks.{is_init}
-use Rattle.meaning.specs.FunctionFacts.{cancel, TrackedParameter, FunctionFacts}
+use Rattle.meaning.specs.FunctionFacts.{cancel, FunctionFacts}
 use Rattle.meaning.specs.Mentions.{BodyPlace}
 use Rattle.meaning.specs.Uses.{Callee, Seen, is_cancel}
 use Rattle.meaning.specs.BodyEvents.{Variable, own_parameter, variables_of, too_many_faults}

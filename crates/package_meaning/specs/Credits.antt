@@ -1,8 +1,9 @@
--- Which literals may be relied on for the variables that they capture. A literal that a group starts, or that is called
--- under `defer`, is relied on for a cancel variable if each list that comes to one of its returns leaves the variable
--- safe, and for a group if none leaves the group live. So a literal of which no return is reached is relied on for all
--- that it captures, and one with too many variables for nothing. A literal relies on the literals in it, which begin
--- behind its `func`. Of functions nothing is asked: no literal passes a variable that it captures.
+-- Which literals may be relied on for the variables that they capture. A literal that a group starts, or that is
+-- called under `defer`, is relied on for a cancel variable if each list that comes to one of its returns leaves the
+-- variable safe, and one under `defer` for a group if none leaves the group live. So a literal of which no return is
+-- reached is relied on for all that it captures, and one with too many variables for nothing. A literal relies on
+-- the literals in it, which begin behind its `func`. Of functions nothing is asked: no literal passes a variable
+-- that it captures.
 -- (The Go specification, "Defer statements"; the documentation of `golang.org/x/sync/errgroup`.)
 use Rattle.std.specs.Prelude.{ℕ, ◌≡◌, ◌↔◌, ◌==◌, Bool, true, false, not, ◌&&◌, if◌then◌else◌, List, [], ◌∷◌, ◌++◌, Option, Some, None, Contains, nat_lt}
 use Rattle.meaning.specs.Code.{Occurrence}
@@ -91,6 +92,7 @@ pub record IsCredited (seen : Seen) (credits : Credits) (literal number : ℕ) :
 pub record AreFullCredits (seen : Seen) (credits : Credits) : Type 0 where
   pub each : (literal number : ℕ) → (credits literal number ≡ true) ↔ IsCredited seen credits literal number
 
--- credits of a file that hold, all of them or some
+-- Credits that hold under themselves. They may leave out some of an inner literal's, and so have some of an outer one's
+-- that the full credits have not.
 pub record AreFairCredits (seen : Seen) (credits : Credits) : Type 0 where
   pub each : (literal number : ℕ) → credits literal number ≡ true → IsCredited seen credits literal number

@@ -1,14 +1,15 @@
--- The faults of a body's paths: what some list of its events comes to. Each is a combination of a code, a place and the
--- name of a variable. What a list comes to says `Reaches` of `meaning/specs/Lists.antt`, so statements that no list
--- reaches have none.
--- Of the paths of a body with too many variables nothing is said.
+-- The faults of a body's paths, and of its passes. Each is a combination of a code, a place and the name of a
+-- variable. A path's fault is what some list of the body's events comes to, as `Reaches` of
+-- `meaning/specs/Lists.antt` says it; so statements that no list reaches have none, and of the paths of a body with
+-- too many variables nothing is said.
 --  - A cancel variable is overwritten where a list comes to a binding of it with the variable open, or pending in a
---    group that the body did not make.
+--    group that is not the body's own (one that it declares, and that is no parameter).
 --  - A group is overwritten where a list comes to a making of it with the group live.
---  - At a return that a list comes to: a group that the body declares may be live; a cancel variable that the body
---    declares, and does not hand on there, may not have been called; it may be pending in a group that some list, the
+--  - At a return that a list comes to: an own group may be live; a cancel variable that the body declares, no
+--    parameter, and does not hand on there, may not have been called; it may be pending in a group that some list, the
 --    same or another one, leaves live at that place.
---  - A cancel variable is passed, on a path or not, to a function of which nobody knows that it calls it.
+-- A pass of a cancel variable to a function of which nobody knows that it calls it is a fault wherever it stands, on a
+-- path or not.
 -- (The documentation of `context` and `golang.org/x/sync/errgroup`.)
 use Rattle.std.specs.Prelude.{ℕ, ◌≡◌, ◌≢◌, ◌==◌, not, ◌&&◌, Bool, true, false, List, [], Contains, Some}
 use Rattle.std.specs.List.{list_any}
@@ -16,7 +17,7 @@ use Rattle.tree.specs.Syntax.{Block}
 use Rattle.meaning.specs.Code.{Occurrence, Code}
 use Rattle.meaning.specs.Lists.{Reaches}
 use Rattle.meaning.specs.StatementCode.{body_code}
-use Rattle.meaning.specs.FunctionFacts.{VariableKind, cancel, group}
+use Rattle.meaning.specs.FunctionFacts.{cancel, group}
 use Rattle.meaning.specs.Mentions.{BodyPlace}
 use Rattle.meaning.specs.Tracked.{GroupState, live}
 use Rattle.meaning.specs.Uses.{Callee, VariableAt, Handed, Event, obtain, clear, pass, defer_pass, make, return_event, Seen, is_group}
@@ -100,8 +101,8 @@ pub record LeavesLive (b : Paths) (g : Variable) (t : List (Occurrence Event)) :
   pub is_group_variable : g.kind ≡ group
   pub is_live : group_class b g t ≡ in_state live
 
--- one list, which comes to `o`, leaves the variable pending in a group, and another one, or the same, leaves the group
--- live at that place
+-- the list `t` leaves the variable pending in a group, and some list that comes to the place of `o`, this one or
+-- another, leaves the group live there
 pub record IsLeft (b : Paths) (v : Variable) (t : List (Occurrence Event)) (o : Occurrence Event) : Type 0 where
   pub left_to : Variable
   pub other_list : List (Occurrence Event)
@@ -144,8 +145,8 @@ pub data IsPathFault (b : Paths) : PathFault → Type 0 where
       → IsLeft b v t o
       → IsPathFault b record { at = o.at; code = left_to_live_group; name = v.name }
 
--- The variable has been called at each return that a list comes to, whether it is handed on there or not: it is neither
--- open there, nor pending in a group that some list leaves live there.
+-- At each return that a list comes to, the variable has been called, or its call is saved, whether it is handed on
+-- there or not: it is neither open there, nor pending in a group that some list leaves live there.
 pub record KeepsCall (b : Paths) (v : Variable) : Type 0 where
   pub never_open : (handed : List Handed) (t : List (Occurrence Event)) (o : Occurrence Event)
       → ComesToReturn b t o handed

@@ -1,2 +1,18 @@
-//! What the paths and the passes of a body come to.
+//! What the paths and the passes of a body come to: its faults, and whether a variable is called or settled at each
+//! return. The rules are those of `package_meaning/specs/PathFaults.antt`.
 #![tactic(auto)]
+
+mod answers;
+mod bindings;
+mod fault;
+mod kinds;
+mod live;
+mod losses;
+mod passes;
+mod paths;
+mod returns;
+
+pub use answers::{keeps_call, settles};
+pub use fault::{PathCode, PathFault};
+pub use passes::pass_faults;
+pub use paths::path_faults;

@@ -1,0 +1,4 @@
+pub mod Kept
+pub mod Passed
+pub mod Places
+pub mod VariableAtPlace

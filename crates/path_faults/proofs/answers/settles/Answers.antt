@@ -1,0 +1,21 @@
+use Rattle.std.proofs.Common.{map, ap}
+use Rattle.body_graphs.specs.NodeEvents.{events_graph}
+use Rattle.facts.specs.FactViews.{kind_view}
+use Rattle.variables.specs.VariableViews.{variable_view}
+use Rattle.path_faults.proofs.Kept.{settles_are}
+use Rattle.path_faults.proofs.VariableAtPlace.{kind_there, none_there}
+use Rattle.path_faults.proofs.answers.settles.Goals as goal
+
+pub returns-in-Some-clause-settled : goal.returns-in-Some-clause-settled
+returns-in-Some-clause-settled g c = λ b is_graph same_variables tells v there.
+    settles_are (map variable_view c.args.variables.now) (g.A.Arrivals.cancels c.args.arrivals.now)
+    (g.A.Arrivals.groups c.args.arrivals.now) (g.A.Arrivals.pending_groups c.args.arrivals.now)
+    (g.met.A.Arrivals.no_others c.args.arrivals.now) (events_graph c.args.graph.now).nodes c.args.variable
+    c.breaks_settling.result (kind_view c.in-Some.found.now.kind) c.breaks_settling.ensures b (ap (λ x. x.nodes) is_graph)
+    tells v there
+    (kind_there c.args.variables.now c.args.variable c.in-Some.found.now c.in-Some.ensures.lookup.3.0
+    c.in-Some.ensures.lookup.1 b.variables same_variables v there)
+
+pub returns-in-None-clause-settled : goal.returns-in-None-clause-settled
+returns-in-None-clause-settled g c = λ b is_graph same_variables tells v there.
+    absurd (none_there c.args.variables.now c.args.variable c.in-None.ensures.lookup.3 b.variables same_variables v there)

@@ -1,0 +1,10 @@
+use Rattle.std.proofs.Common.{◌≡◌, drop, map}
+use Rattle.allowed.specs.UseViews.{handed_view}
+use Rattle.package_meaning.specs.PathFaults.{is_handed}
+use Rattle.path_faults.proofs.kinds.is_handed.Given as goal
+
+-- the test of those that are left is that of all
+abbrev pub invariant-loop-item : goal.invariant-loop-item
+invariant-loop-item l =
+    is_handed l.number (map handed_view (drop l.item-index l.handed))
+    ≡ is_handed l.number (map handed_view l.handed)

@@ -1,0 +1,71 @@
+//! Tests of variables.
+
+ghost use Rattle.std.specs.Prelude.{◌≡◌, Some, map};
+ghost use Rattle.allowed.specs.UseViews.{handed_view};
+ghost use Rattle.meaning.specs.Uses.{is_cancel, is_group};
+ghost use Rattle.package_meaning.specs.PathFaults.{is_declared, is_handed, makes_it};
+ghost use Rattle.path_faults.specs.FoundFaults.{owes_call};
+ghost use Rattle.variables.specs.VariableViews.{variable_role_view, variable_view};
+
+use allowed::Handed;
+use facts::VariableKind;
+use variables::{Variable, VariableRole};
+
+pub fn is_cancel(variable: Variable<'_>) -> bool
+    ensures { result ≡ is_cancel (Some (variable_view variable.entry).kind) }
+{
+    match variable.kind {
+        VariableKind::Cancel => true,
+        VariableKind::Group => false,
+    }
+}
+
+pub fn is_group(variable: Variable<'_>) -> bool
+    ensures { result ≡ is_group (Some (variable_view variable.entry).kind) }
+{
+    match variable.kind {
+        VariableKind::Cancel => false,
+        VariableKind::Group => true,
+    }
+}
+
+/// Whether the body itself declares it, and not as a parameter.
+pub fn is_declared(role: VariableRole) -> bool
+    ensures { result ≡ is_declared (variable_role_view role) }
+{
+    match role {
+        VariableRole::DeclaredInBody => true,
+        VariableRole::OwnParameter(_) | VariableRole::OwnReceiver | VariableRole::Captured => false,
+    }
+}
+
+/// Whether the body makes the group of that number.
+pub fn makes_it(variables: &[Variable<'_>], group: u32) -> bool
+    ensures { result ≡ makes_it (map variable_view variables.now) group }
+{
+    for variable in variables {
+        if variable.number == group && is_group(*variable) && is_declared(variable.role) {
+            return true;
+        }
+    }
+    false
+}
+
+/// Whether a return hands on the variable of that number.
+fn is_handed(number: u32, handed: &[Handed]) -> bool
+    ensures { result ≡ is_handed number (map handed_view handed.now) }
+{
+    for item in handed {
+        if item.number == number {
+            return true;
+        }
+    }
+    false
+}
+
+/// Whether it is a cancel variable that the body declares, and a return does not hand it on.
+pub fn owes_call(variable: Variable<'_>, handed: &[Handed]) -> bool
+    ensures { result ≡ owes_call (variable_view variable.entry) (map handed_view handed.now) }
+{
+    is_cancel(variable) && is_declared(variable.role) && !is_handed(variable.number, handed)
+}

@@ -1,0 +1,101 @@
+//! Groups that may be live at nodes.
+
+ghost use Rattle.std.specs.Prelude.{◌≡◌, ◌&&◌, ℕ, IfOk, OnOk, map};
+ghost use Rattle.body_graphs.specs.NodeEvents.{events_graph};
+ghost use Rattle.path_faults.specs.FoundFaults.{is_same_place, is_live_at, is_live_there};
+ghost use Rattle.path_faults.specs.LiveViews.{has_live, AddsLive};
+ghost use Rattle.variables.specs.VariableViews.{variable_view};
+
+use crate::losses::is_live_group;
+use body_graphs::NodeEvent;
+use flow::Graph;
+use indexmap::IndexSet;
+use states::Arrivals;
+use std::alloc::{AllocError, Global};
+use variables::Variable;
+
+/// A group by its place in the list of variables, with the byte offset of a node and its order there.
+#[derive(Clone, Copy, PartialEq, Eq, Hash)]
+struct LivePlace {
+    at: u32,
+    order: usize,
+    group: usize,
+}
+
+/// The groups that may be live where the nodes at an offset and of an order there come next.
+#[derive(Drop)]
+pub struct LiveGroups {
+    places: IndexSet<LivePlace>,
+}
+
+impl LiveGroups {
+    /// Whether the group of that place in the list of variables may be live at a node at that byte offset and of that
+    /// order there.
+    pub fn has(&self, at: u32, order: usize, group: usize) -> bool
+        ensures { result ≡ has_live self.now at order group }
+    {
+        self.places.contains(&LivePlace { at, order, group })
+    }
+
+    /// Adds a group at a place, if it may be live there.
+    fn add_if(
+        &mut self,
+        is_live: bool,
+        at: u32,
+        order: usize,
+        group: usize,
+    ) -> Result<(), AllocError>
+        ensures { OnOk result (AddsLive self.old self.new (λ other_at other_order other. is_live
+            && is_same_place at order group other_at other_order other)) }
+    {
+        if is_live {
+            self.places.insert(LivePlace { at, order, group })?;
+        }
+        Ok(())
+    }
+
+    /// Adds the groups that may be live where the node comes next, which stands at that byte offset and has that order
+    /// there.
+    fn add_node<A: Arrivals>(
+        &mut self,
+        variables: &[Variable<'_>],
+        arrivals: &A,
+        node: usize,
+        at: u32,
+        order: usize,
+    ) -> Result<(), AllocError>
+        ensures { OnOk result (AddsLive self.old self.new (is_live_at (map variable_view variables.now)
+            (A.groups arrivals.now) node at order)) }
+    {
+        for (place, variable) in variables.iter().enumerate() {
+            let is_live = is_live_group(arrivals, node, place, *variable);
+            self.add_if(is_live, at, order, place)?;
+        }
+        Ok(())
+    }
+}
+
+/// The groups that may be live, for all nodes of a graph.
+///
+/// # Errors
+///
+/// Memory was refused.
+pub fn live_groups<A: Arrivals>(
+    alloc: Global,
+    graph: &Graph<NodeEvent<'_, '_>>,
+    variables: &[Variable<'_>],
+    arrivals: &A,
+) -> Result<LiveGroups, AllocError>
+    ensures { IfOk result (λ live. (at order group : ℕ) → has_live live at order group
+        ≡ is_live_there (map variable_view variables.now) (A.groups arrivals.now) (events_graph graph.now).nodes at
+        order group) }
+{
+    let mut live = LiveGroups {
+        places: IndexSet::new(alloc),
+    };
+    for (number, node) in graph.nodes.iter().enumerate() {
+        let place = node.occurrence;
+        live.add_node(variables, arrivals, number, place.at, place.order)?;
+    }
+    Ok(live)
+}

@@ -1,0 +1,111 @@
+//! The faults of a body's passes.
+
+ghost use Rattle.std.specs.Prelude.{◌≡◌, ◌↔◌, Contains, IfOk, OnOk, map};
+ghost use Rattle.allowed.specs.UseViews.{event_view, variable_view as variable_at_view};
+ghost use Rattle.events.specs.EventViews.{TellsFile};
+ghost use Rattle.meaning.specs.BodyEvents.{events_at};
+ghost use Rattle.meaning.specs.Uses.{Seen};
+ghost use Rattle.package_meaning.specs.PathFaults.{Paths, PathFault as MeantFault, IsPassFault};
+ghost use Rattle.path_faults.specs.FaultViews.{fault_view, AddsFaults};
+ghost use Rattle.path_faults.specs.FoundFaults.{passed_faults, passed_unless, passing_faults};
+ghost use Rattle.variables.specs.VariableViews.{variable_view};
+
+use crate::fault::{PathCode, PathFault, add_if};
+use crate::kinds::is_cancel;
+use allowed::{Event, VariableAt};
+use events::Told;
+use states::Promises;
+use std::alloc::{AllocError, Global};
+use variables::Variable;
+
+/// Adds the faults of a variable that is passed.
+fn add_passed<'a>(
+    variables: &[Variable<'a>],
+    passed: VariableAt,
+    faults: &mut Vec<PathFault<'a>>,
+) -> Result<(), AllocError>
+    ensures { OnOk result (AddsFaults faults.old.items faults.new.items (passed_faults
+        (map variable_view variables.now) (variable_at_view passed))) }
+{
+    for variable in variables {
+        let is_it = is_cancel(*variable) && variable.number == passed.number;
+        add_if(is_it, passed.at, PathCode::PassedOn, variable.name, faults)?;
+    }
+    Ok(())
+}
+
+/// Adds the faults of a variable that is passed, unless it is known to be called.
+fn add_unless<'a>(
+    is_called: bool,
+    variables: &[Variable<'a>],
+    passed: VariableAt,
+    faults: &mut Vec<PathFault<'a>>,
+) -> Result<(), AllocError>
+    ensures { OnOk result (AddsFaults faults.old.items faults.new.items (passed_unless is_called
+        (map variable_view variables.now) (variable_at_view passed))) }
+{
+    if is_called {
+        return Ok(());
+    }
+    add_passed(variables, passed, faults)
+}
+
+/// Adds the faults of an event.
+fn add_passing<'a, P: Promises>(
+    variables: &[Variable<'a>],
+    promises: &P,
+    event: &Event<'_>,
+    faults: &mut Vec<PathFault<'a>>,
+) -> Result<(), AllocError>
+    ensures { OnOk result (AddsFaults faults.old.items faults.new.items (passing_faults
+        (map variable_view variables.now) (P.promises promises.now) (event_view event.now))) }
+{
+    match event {
+        Event::Pass(passed, callee, position) | Event::DeferPass(passed, callee, position) => {
+            add_unless(
+                promises.calls(*callee, *position),
+                variables,
+                *passed,
+                faults,
+            )
+        }
+        Event::Obtain(_, _, _, _)
+        | Event::Clear(_)
+        | Event::Call(_)
+        | Event::DeferCall(_)
+        | Event::Lend(_, _, _)
+        | Event::Start(_, _)
+        | Event::Try(_)
+        | Event::Wait(_)
+        | Event::DeferWait(_)
+        | Event::Make(_, _)
+        | Event::DeferLiteral(_)
+        | Event::Return(_) => Ok(()),
+    }
+}
+
+/// The faults of passes of the body at that byte offset, on a path or not; one may come twice.
+///
+/// # Errors
+///
+/// Memory was refused.
+pub fn pass_faults<'a, P: Promises>(
+    alloc: Global,
+    told: &Told<'a>,
+    body: u32,
+    variables: &[Variable<'a>],
+    promises: &P,
+) -> Result<Vec<PathFault<'a>>, AllocError>
+    ensures { IfOk result (λ faults. (seen : Seen) → TellsFile seen told.now
+        → (b : Paths) → b.events ≡ events_at seen body seen.marks
+        → b.variables ≡ map variable_view variables.now
+        → b.promises ≡ P.promises promises.now
+        → (f : MeantFault)
+        → Contains (map fault_view faults.items) f ↔ IsPassFault b f) }
+{
+    let mut faults: Vec<PathFault<'a>> = Vec::new(alloc);
+    for event in told.events.at(body) {
+        add_passing(variables, promises, &event.event, &mut faults)?;
+    }
+    Ok(faults)
+}

@@ -1,0 +1,98 @@
+-- What the report says of a package: the faults of the whole package, or else each import of a given package that isn't
+-- yes, the use faults of what stands in no body, and the faults of each body: its use faults, those of its passes and
+-- those of its paths. A package is yes if there is nothing to say of it.
+use Rattle.std.specs.Prelude.{ℕ, ◌≡◌, ◌↔◌, List, length, Option, Some, slice_get, Contains}
+use Rattle.std.specs.List.{AllPairs}
+use Rattle.tree.specs.Syntax.{ImportSpec}
+use Rattle.meaning.specs.FunctionFacts.{FunctionFacts}
+use Rattle.meaning.specs.Mentions.{BodyPlace}
+use Rattle.meaning.specs.Uses.{UseFault, UseCode, recover_used, cancel_discarded, cancel_used_otherwise, group_used_otherwise, bound_again, too_many_variables}
+use Rattle.meaning.specs.BodyEvents.{outer_faults, body_faults}
+use Rattle.package_meaning.specs.PathFaults.{PathFault, PathCode, overwritten, not_called, group_is_live, group_overwritten, left_to_live_group, passed_on, IsFaultOf}
+use Rattle.package_meaning.specs.Credits.{bodies_of, promises_in}
+use Rattle.package_meaning.specs.CallsFlags.{Flags, calls_by, FileWithCredits}
+use Rattle.report.specs.declared.codes.Code.{Code}
+use Rattle.report.specs.declared.codes.Code.TheVariants.{LeftOut, Discarded, Overwritten, NotCalled, CancelMisused, GroupIsLive, GroupOverwritten, GroupMisused, LeftToLiveGroup, BoundAgain, TooMany, ImportIsNotYes}
+use Rattle.report.specs.declared.codes.TreeFault.TheVariants.{Recover}
+use Rattle.report.specs.Entries.{Entry, Precedes}
+use Rattle.verdicts.specs.Loaded.{LoadedPackage, Tables}
+use Rattle.verdicts.specs.WholeFaults.{ImportsAt, import_entry, IsWholeFault, HasNoWholeFault}
+use Rattle.verdicts.specs.PackageTables.{flags_in, IsJudged, AreTables}
+
+abbrev pub use_code : UseCode → Code
+use_code recover_used = LeftOut Recover
+use_code cancel_discarded = Discarded
+use_code cancel_used_otherwise = CancelMisused
+use_code group_used_otherwise = GroupMisused
+use_code bound_again = BoundAgain
+use_code too_many_variables = TooMany
+
+abbrev pub path_code : PathCode → Code
+path_code overwritten = Overwritten
+path_code not_called = NotCalled
+path_code group_is_live = GroupIsLive
+path_code group_overwritten = GroupOverwritten
+path_code left_to_live_group = LeftToLiveGroup
+path_code passed_on = CancelMisused
+
+abbrev pub use_entry : ℕ → UseFault → Entry
+use_entry file f = record { file = file; offset = f.at; code = use_code f.code; name = f.name }
+
+abbrev pub path_entry : ℕ → PathFault → Entry
+path_entry file f = record { file = file; offset = f.at; code = path_code f.code; name = f.name }
+
+-- the file of that number of a package that is judged, in which each file has a tree
+pub record IsFileOf
+    (ps : List LoadedPackage) (tables : Tables) (i : ℕ) (flags : Flags) (number : ℕ) (file : FileWithCredits)
+    : Type 0 where
+  pub loaded : LoadedPackage
+  pub files : List FileWithCredits
+  pub is_judged : IsJudged ps tables i loaded files flags
+  pub is_file : slice_get files number ≡ Some file
+
+pub data IsFinding (ps : List LoadedPackage) (tables : Tables) : ℕ → Entry → Type 0 where
+  of_whole : {i : ℕ} {x : Entry} → IsWholeFault ps i x → IsFinding ps tables i x
+  of_import : {i : ℕ} (j number : ℕ) (spec : ImportSpec) (x : Entry)
+      → HasNoWholeFault ps i
+      → ImportsAt ps i j number spec
+      → IsFinding ps tables j x
+      → IsFinding ps tables i (import_entry number spec ImportIsNotYes)
+  outside_bodies : {i : ℕ} (flags : Flags) (number : ℕ) (file : FileWithCredits) (f : UseFault)
+      → IsFileOf ps tables i flags number file
+      → Contains (outer_faults file.seen) f
+      → IsFinding ps tables i (use_entry number f)
+  of_use : {i : ℕ} (flags : Flags) (number : ℕ) (file : FileWithCredits) (b : BodyPlace) (f : UseFault)
+      → IsFileOf ps tables i flags number file
+      → Contains (bodies_of file.seen) b
+      → Contains (body_faults file.seen b.at) f
+      → IsFinding ps tables i (use_entry number f)
+  of_path : {i : ℕ} (flags : Flags) (number : ℕ) (file : FileWithCredits) (b : BodyPlace) (f : PathFault)
+      → IsFileOf ps tables i flags number file
+      → Contains (bodies_of file.seen) b
+      → IsFaultOf file.seen (promises_in (calls_by flags (flags_in tables)) file.credits b.at) b f
+      → IsFinding ps tables i (path_entry number f)
+
+-- nothing is to be said of the package
+abbrev pub IsYes : List LoadedPackage → Tables → ℕ → Type 0
+IsYes ps tables i = (x : Entry) → IsFinding ps tables i x → ⊥
+
+-- the entries are what is to be said of the package, each once, in their order
+pub record AreFindings (ps : List LoadedPackage) (tables : Tables) (i : ℕ) (entries : List Entry) : Type 0 where
+  pub in_order : AllPairs Precedes entries
+  pub each : (x : Entry) → Contains entries x ↔ IsFinding ps tables i x
+
+-- what is said of a package: its path, the findings, and its table
+pub record Said : Type 0 where
+  pub path : List ℕ
+  pub entries : List Entry
+  pub table : List ℕ → Option FunctionFacts
+
+-- the report has for each package, in their order, what is to be said of it
+pub record IsReportOf (ps : List LoadedPackage) (report : List Said) : Type 0 where
+  pub tables : Tables
+  pub are_tables : AreTables ps tables
+  pub is_as_long : length report ≡ length ps
+  pub of_package : (i : ℕ) (p : LoadedPackage) (said : Said)
+      → slice_get ps i ≡ Some p
+      → slice_get report i ≡ Some said
+      → (said.path ≡ p.path) × AreFindings ps tables i said.entries × (said.table ≡ tables p.path)
