@@ -1,0 +1,5 @@
+mod CreditedBodies
+mod FirstBodies
+mod Growing
+mod OffsetsOf
+mod SettledPlaces

@@ -1,0 +1,34 @@
+use Rattle.std.proofs.Common.{sym, ◌∙◌}
+use Rattle.std.proofs.lemmas.Bool.{false≢true}
+use Rattle.variables.specs.VariableViews.{variable_view}
+use Rattle.credits.proofs.SettledPlaces.{view_there, view_past, nothing_there, not_captured, not_settled, is_settled}
+use Rattle.credits.proofs.settled.settled_number.Goals as goal
+use Rattle.credits.proofs.settled.settled_number.Goals.{else-is_captured-via-then-is_captured+else-settles, else-is_captured-via-else-is_captured}
+
+pub returns-then-settles : goal.returns-then-settles
+returns-then-settles g c = λ b tells number.
+    let view = variable_view c.in-Some.variable.now in
+    let there = view_there c.args.variables.now b.variables tells.are_variables c.args.place c.in-Some.variable.now
+    c.in-Some.ensures.lookup.3.0 c.in-Some.ensures.lookup.1 in
+    is_settled b c.args.place number view there (sym c.is_captured.ensures ∙ c.if-is_captured.true)
+    ((c.settles.ensures.settled b tells.is_graph tells.are_variables tells.classifies view there).0 c.if-settles.true)
+
+pub returns-else-is_captured : goal.returns-else-is_captured
+returns-else-is_captured g c = λ b tells number.
+    let view = variable_view c.in-Some.variable.now in
+    let there = view_there c.args.variables.now b.variables tells.are_variables c.args.place c.in-Some.variable.now
+    c.in-Some.ensures.lookup.3.0 c.in-Some.ensures.lookup.1 in
+    elim c.else-is_captured.branch [
+      | else-is_captured-via-then-is_captured+else-settles w ↦
+          not_settled b c.args.place number view there
+          λ settled. false≢true
+          (sym w.if-settles.false
+          ∙ (w.settles.ensures.settled b tells.is_graph tells.are_variables tells.classifies view there).1 settled)
+      | else-is_captured-via-else-is_captured w ↦
+          not_captured b c.args.place number view there (sym c.is_captured.ensures ∙ w.if-is_captured.false)
+    ]
+
+pub returns-in-None : goal.returns-in-None
+returns-in-None g c = λ b tells number.
+    nothing_there b c.args.place number
+    (view_past c.args.variables.now b.variables tells.are_variables c.args.place c.in-None.ensures.lookup.3)
