@@ -42,7 +42,7 @@ pub data IsWholeFault (ps : List LoadedPackage) (i : ℕ) : Entry → Type 0 whe
       → second_function (trees_of p) ≡ Some f
       → slice_get (numbered_trees p) f.file ≡ Some tree
       → IsWholeFault ps i
-          record { file = tree.file; offset = f.name.span.start; code = TwoFunctions; name = f.name.text }
+      record { file = tree.file; offset = f.name.span.start; code = TwoFunctions; name = f.name.text }
   has_no_rank : (j file : ℕ) (spec : ImportSpec)
       → (HasRank (import_list ps) i → ⊥)
       → (HasRank (import_list ps) j → ⊥)
