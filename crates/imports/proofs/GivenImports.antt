@@ -8,11 +8,11 @@ use Rattle.imports.specs.Settling.{place_from, places_of, given_imports}
 use Rattle.imports.proofs.Membership.{row_at, row_has, made_of, makes}
 
 -- the first of the packages that has the path
-record FirstAt (path : List ℕ) (ps : List Package) (k : ℕ) : Type 0 where
-  found : Package
-  is_found : slice_get ps k ≡ Some found
-  same : found.path ≡ path
-  first : (m : ℕ) (q : Package) → slice_get ps m ≡ Some q → q.path ≡ path → k ≤ m
+pub record FirstAt (path : List ℕ) (ps : List Package) (k : ℕ) : Type 0 where
+  pub found : Package
+  pub is_found : slice_get ps k ≡ Some found
+  pub same : found.path ≡ path
+  pub first : (m : ℕ) (q : Package) → slice_get ps m ≡ Some q → q.path ≡ path → k ≤ m
 
 module _ (path : List ℕ) where
   other_path : (p : Package) → bytes_eq p.path path ≡ false → p.path ≡ path → ⊥
@@ -89,16 +89,16 @@ module _ (path : List ℕ) where
   place_is (p ∷ ps) n k f = is_by p ps n (bytes_eq p.path path) refl (place_is ps (n + 1)) k f
 
 module _ (packages : List Package) where
-  abbrev place : List ℕ → Option ℕ
+  abbrev pub place : List ℕ → Option ℕ
   place path = place_from path packages 0
 
-  first_there : (path : List ℕ) (j : ℕ) → place path ≡ Some j → FirstAt path packages j
+  pub first_there : (path : List ℕ) (j : ℕ) → place path ≡ Some j → FirstAt path packages j
   first_there path j e = at (place_tells path packages 0 j e)
     where
       at : Tells path packages 0 j → FirstAt path packages j
       at w = let same : w.0 ≡ j = omega (arith, w.1) in subst (FirstAt path packages) same w.2
 
-  imports_from : (i j : ℕ) (importer : Package) (path : List ℕ)
+  pub imports_from : (i j : ℕ) (importer : Package) (path : List ℕ)
       → slice_get packages i ≡ Some importer
       → Contains importer.imports path
       → FirstAt path packages j
@@ -119,6 +119,9 @@ module _ (packages : List Package) where
   named_by i j importer is h =
       let named = made_of place importer.imports j h in
       imports_from i j importer named.0 is named.1 (first_there named.0 j named.2)
+
+  pub there_first : (path : List ℕ) (j : ℕ) → FirstAt path packages j → place path ≡ Some j
+  there_first path j f = let same : 0 + j ≡ j = omega arith in place_is path packages 0 j f ∙ ap Some same
 
   pub table_imports : (i j : ℕ) → Contains (get_or (given_imports packages) i []) j → Imports packages i j
   table_imports i j h =

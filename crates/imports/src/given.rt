@@ -24,7 +24,11 @@ fn keep_first<'a>(
 }
 
 /// The place of the first package of each path.
-fn first_places<'a>(
+///
+/// # Errors
+///
+/// Memory was refused.
+pub fn first_places<'a>(
     alloc: Global,
     packages: &[ImportList<'a>],
 ) -> Result<IndexMap<&'a str, usize>, AllocError>

@@ -4,15 +4,14 @@
 -- where its own calls rely on flags in turn. Flags are consistent if each of them is kept under all of them; recursion
 -- is trusted so, until a path breaks it. A package's flags are the most that are consistent.
 -- (This tool's rules; the documentation of `context`.)
-use Rattle.std.specs.Prelude.{ℕ, ◌≡◌, ◌==◌, Bool, true, false, not, ◌&&◌, List, [], Option, Some, None, is_none, Contains}
-use Rattle.std.specs.List.{list_any}
+use Rattle.std.specs.Prelude.{ℕ, ◌≡◌, Bool, true, false, not, ◌&&◌, List, [], Option, Some, None, is_none, Contains}
 use Rattle.std.specs.Str.{bytes_eq}
 use Rattle.tree.specs.Syntax.{Identifier}
 use Rattle.meaning.specs.Scopes.{is_blank}
 use Rattle.meaning.specs.OuterBlocks.{is_init}
-use Rattle.meaning.specs.FunctionFacts.{cancel, FunctionFacts}
+use Rattle.meaning.specs.FunctionFacts.{cancel}
 use Rattle.meaning.specs.Mentions.{BodyPlace}
-use Rattle.meaning.specs.Uses.{Callee, Seen, is_cancel}
+use Rattle.meaning.specs.Uses.{Callee, Seen, facts_take}
 use Rattle.meaning.specs.BodyEvents.{Variable, own_parameter, variables_of, too_many_faults}
 use Rattle.package_meaning.specs.PathFaults.{paths_of, KeepsCall}
 use Rattle.package_meaning.specs.Credits.{bodies_of, Credits, promises_in}
@@ -20,11 +19,6 @@ use Rattle.package_meaning.specs.Credits.{bodies_of, Credits, promises_in}
 -- for each function, by its name, and each position
 abbrev pub Flags : Type 0
 Flags = List ℕ → ℕ → Bool
-
--- those of a function, as its facts have them
-abbrev pub is_flagged : Option FunctionFacts → ℕ → Bool
-is_flagged None k = false
-is_flagged (Some facts) k = list_any (λ p. (p.position == k) && p.is_called) facts.parameters
 
 -- of the package's own functions by these flags, of those of an import by its own
 abbrev pub flag_of : Flags → (List ℕ → Flags) → Option (List ℕ) → List ℕ → ℕ → Bool
@@ -47,16 +41,11 @@ has_name name (Some n) = bytes_eq n.text name && (not (is_blank n.text) && not (
 abbrev pub is_function : List ℕ → BodyPlace → Bool
 is_function name b = is_none b.receiver && has_name name b.name
 
--- the function of these facts has a parameter of type `context.CancelFunc` at that position
-abbrev pub takes_cancel : Option FunctionFacts → ℕ → Bool
-takes_cancel None k = false
-takes_cancel (Some facts) k = list_any (λ p. (p.position == k) && is_cancel (Some p.kind)) facts.parameters
-
 -- a parameter of which it may be known
 pub record IsClaim (seen : Seen) (b : BodyPlace) (v : Variable) (name : List ℕ) (k : ℕ) : Type 0 where
   pub is_body : Contains (bodies_of seen) b
   pub is_of_function : is_function name b ≡ true
-  pub is_cancel_parameter : takes_cancel (seen.known.functions name) k ≡ true
+  pub is_cancel_parameter : facts_take cancel k (seen.known.functions name) ≡ true
   pub are_few : too_many_faults (variables_of seen b.at) ≡ []
   pub is_of_body : Contains (variables_of seen b.at) v
   pub is_parameter : v.role ≡ own_parameter k

@@ -1,7 +1,8 @@
 -- Packages as they were read: each has a path and files, and of each file there is a tree, or else why there is none
 -- and where. What is known in a tree comes from all trees of its package, the names of all packages that were given,
--- and the tables of those.
-use Rattle.std.specs.Prelude.{ℕ, suc, ◌+◌, if◌then◌else◌, List, [], ◌∷◌, map, flat_map, Option, Some, None}
+-- and the tables of those that the package imports.
+use Rattle.std.specs.Prelude.{ℕ, ◌+◌, Bool, false, if◌then◌else◌, List, [], ◌∷◌, map, flat_map, Option, Some, None}
+use Rattle.std.specs.List.{list_any}
 use Rattle.std.specs.Str.{bytes_eq}
 use Rattle.tree.specs.Syntax.{ImportSpec, SourceFile}
 use Rattle.meaning.specs.OuterBlocks.{PackageNames, specs_of}
@@ -10,6 +11,7 @@ use Rattle.meaning.specs.FunctionFacts.{Meanings, FunctionFacts, package_facts}
 use Rattle.meaning.specs.Tracked.{Known}
 use Rattle.meaning.specs.Uses.{Seen}
 use Rattle.meaning.specs.BodyEvents.{seen_file}
+use Rattle.package_meaning.specs.CallsFlags.{Flags}
 use Rattle.report.specs.declared.codes.TextFault.{TextFault}
 use Rattle.report.specs.declared.codes.TreeFault.{TreeFault}
 use Rattle.imports.specs.Ranks.{Package}
@@ -32,9 +34,9 @@ pub record NumberedTree : Type 0 where
 
 abbrev pub trees_from : ℕ → List Reading → List NumberedTree
 trees_from n [] = []
-trees_from n (has_tree tree ∷ rs) = record { file = n; tree = tree } ∷ trees_from (suc n) rs
-trees_from n (has_text_fault at why ∷ rs) = trees_from (suc n) rs
-trees_from n (has_tree_fault at why ∷ rs) = trees_from (suc n) rs
+trees_from n (has_tree tree ∷ rs) = record { file = n; tree = tree } ∷ trees_from (n + 1) rs
+trees_from n (has_text_fault at why ∷ rs) = trees_from (n + 1) rs
+trees_from n (has_tree_fault at why ∷ rs) = trees_from (n + 1) rs
 
 -- the trees of a package, with the numbers of their files
 abbrev pub numbered_trees : LoadedPackage → List NumberedTree
@@ -82,22 +84,43 @@ means_in ps p number = declaration_of_use (trees_of p) (package_names ps) number
 abbrev pub signatures_of : List LoadedPackage → LoadedPackage → List ℕ → Option FunctionFacts
 signatures_of ps p = package_facts (means_in ps p) (trees_of p)
 
--- for each path the facts of the functions of that package, by their names
+-- what is known of the functions of a package: what their signatures say, and which parameters they are known to call
+pub record PackageTable : Type 0 where
+  pub signatures : List ℕ → Option FunctionFacts
+  pub calls : Flags
+
+-- nothing is known of any function
+abbrev pub no_table : PackageTable
+no_table = record { signatures = λ name. None; calls = λ name k. false }
+
+-- for each path the table of that package
 abbrev pub Tables : Type 0
-Tables = List ℕ → List ℕ → Option FunctionFacts
+Tables = List ℕ → PackageTable
+
+abbrev pub is_imported : LoadedPackage → List ℕ → Bool
+is_imported p path = list_any (λ q. bytes_eq q path) (imported_paths p)
+
+-- those of the packages that the package imports
+abbrev pub imported_tables : LoadedPackage → Tables → Tables
+imported_tables p tables path = if is_imported p path then tables path else no_table
+
+abbrev pub imported_signatures : LoadedPackage → Tables → List ℕ → List ℕ → Option FunctionFacts
+imported_signatures p tables path = (imported_tables p tables path).signatures
+
+abbrev pub imported_flags : LoadedPackage → Tables → List ℕ → Flags
+imported_flags p tables path = (imported_tables p tables path).calls
 
 abbrev pub known_in : List LoadedPackage → Tables → LoadedPackage → ℕ → Known
 known_in ps tables p number = record {
   means = means_in ps p number;
   functions = signatures_of ps p;
-  imported = tables;
+  imported = imported_signatures p tables;
 }
 
--- the trees of a package, from the one of that number on, each looked at
-abbrev pub seen_from : List LoadedPackage → Tables → LoadedPackage → ℕ → List SourceFile → List Seen
-seen_from ps tables p n [] = []
-seen_from ps tables p n (tree ∷ trees) =
-    seen_file (known_in ps tables p n) tree ∷ seen_from ps tables p (n + 1) trees
+-- these trees, each looked at with what is known in the tree of its number, where the first has the number n
+abbrev pub seen_from : (ℕ → Known) → ℕ → List SourceFile → List Seen
+seen_from known n [] = []
+seen_from known n (tree ∷ trees) = seen_file (known n) tree ∷ seen_from known (n + 1) trees
 
 abbrev pub seen_files : List LoadedPackage → Tables → LoadedPackage → List Seen
-seen_files ps tables p = seen_from ps tables p 0 (trees_of p)
+seen_files ps tables p = seen_from (known_in ps tables p) 0 (trees_of p)

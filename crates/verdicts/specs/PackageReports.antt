@@ -1,12 +1,11 @@
 -- What the report says of a package: the faults of the whole package, or else each import of a given package that isn't
 -- yes, the use faults of what stands in no body, and the faults of each body: its use faults, those of its passes and
 -- those of its paths. A package is yes if there is nothing to say of it.
-use Rattle.std.specs.Prelude.{ℕ, ◌≡◌, ◌↔◌, List, length, Option, Some, slice_get, Contains}
+use Rattle.std.specs.Prelude.{ℕ, ◌≡◌, ◌↔◌, Bool, List, length, Some, slice_get, Contains}
 use Rattle.std.specs.List.{AllPairs}
 use Rattle.tree.specs.Syntax.{ImportSpec}
-use Rattle.meaning.specs.FunctionFacts.{FunctionFacts}
 use Rattle.meaning.specs.Mentions.{BodyPlace}
-use Rattle.meaning.specs.Uses.{UseFault, UseCode, recover_used, cancel_discarded, cancel_used_otherwise, group_used_otherwise, bound_again, too_many_variables}
+use Rattle.meaning.specs.Uses.{Callee, UseFault, UseCode, recover_used, cancel_discarded, cancel_used_otherwise, group_used_otherwise, bound_again, too_many_variables}
 use Rattle.meaning.specs.BodyEvents.{outer_faults, body_faults}
 use Rattle.package_meaning.specs.PathFaults.{PathFault, PathCode, overwritten, not_called, group_is_live, group_overwritten, left_to_live_group, passed_on, IsFaultOf}
 use Rattle.package_meaning.specs.Credits.{bodies_of, promises_in}
@@ -15,9 +14,9 @@ use Rattle.report.specs.declared.codes.Code.{Code}
 use Rattle.report.specs.declared.codes.Code.TheVariants.{LeftOut, Discarded, Overwritten, NotCalled, CancelMisused, GroupIsLive, GroupOverwritten, GroupMisused, LeftToLiveGroup, BoundAgain, TooMany, ImportIsNotYes}
 use Rattle.report.specs.declared.codes.TreeFault.TheVariants.{Recover}
 use Rattle.report.specs.Entries.{Entry, Precedes}
-use Rattle.verdicts.specs.Loaded.{LoadedPackage, Tables}
+use Rattle.verdicts.specs.Loaded.{LoadedPackage, PackageTable, Tables, imported_flags}
 use Rattle.verdicts.specs.WholeFaults.{ImportsAt, import_entry, IsWholeFault, HasNoWholeFault}
-use Rattle.verdicts.specs.PackageTables.{flags_in, IsJudged, AreTables}
+use Rattle.verdicts.specs.PackageTables.{IsJudged, AreTables}
 
 abbrev pub use_code : UseCode → Code
 use_code recover_used = LeftOut Recover
@@ -41,6 +40,20 @@ use_entry file f = record { file = file; offset = f.at; code = use_code f.code; 
 abbrev pub path_entry : ℕ → PathFault → Entry
 path_entry file f = record { file = file; offset = f.at; code = path_code f.code; name = f.name }
 
+-- what is to be said of a file of that number, by what is known of functions
+pub data IsFileFinding (calls : Callee → ℕ → Bool) (number : ℕ) (file : FileWithCredits) : Entry → Type 0 where
+  outside_bodies : (f : UseFault)
+      → Contains (outer_faults file.seen) f
+      → IsFileFinding calls number file (use_entry number f)
+  of_use : (b : BodyPlace) (f : UseFault)
+      → Contains (bodies_of file.seen) b
+      → Contains (body_faults file.seen b.at) f
+      → IsFileFinding calls number file (use_entry number f)
+  of_path : (b : BodyPlace) (f : PathFault)
+      → Contains (bodies_of file.seen) b
+      → IsFaultOf file.seen (promises_in calls file.credits b.at) b f
+      → IsFileFinding calls number file (path_entry number f)
+
 -- the file of that number of a package that is judged, in which each file has a tree
 pub record IsFileOf
     (ps : List LoadedPackage) (tables : Tables) (i : ℕ) (flags : Flags) (number : ℕ) (file : FileWithCredits)
@@ -57,20 +70,10 @@ pub data IsFinding (ps : List LoadedPackage) (tables : Tables) : ℕ → Entry �
       → ImportsAt ps i j number spec
       → IsFinding ps tables j x
       → IsFinding ps tables i (import_entry number spec ImportIsNotYes)
-  outside_bodies : {i : ℕ} (flags : Flags) (number : ℕ) (file : FileWithCredits) (f : UseFault)
-      → IsFileOf ps tables i flags number file
-      → Contains (outer_faults file.seen) f
-      → IsFinding ps tables i (use_entry number f)
-  of_use : {i : ℕ} (flags : Flags) (number : ℕ) (file : FileWithCredits) (b : BodyPlace) (f : UseFault)
-      → IsFileOf ps tables i flags number file
-      → Contains (bodies_of file.seen) b
-      → Contains (body_faults file.seen b.at) f
-      → IsFinding ps tables i (use_entry number f)
-  of_path : {i : ℕ} (flags : Flags) (number : ℕ) (file : FileWithCredits) (b : BodyPlace) (f : PathFault)
-      → IsFileOf ps tables i flags number file
-      → Contains (bodies_of file.seen) b
-      → IsFaultOf file.seen (promises_in (calls_by flags (flags_in tables)) file.credits b.at) b f
-      → IsFinding ps tables i (path_entry number f)
+  of_file : {i : ℕ} {x : Entry} (flags : Flags) (number : ℕ) (file : FileWithCredits)
+      → (h : IsFileOf ps tables i flags number file)
+      → IsFileFinding (calls_by flags (imported_flags h.loaded tables)) number file x
+      → IsFinding ps tables i x
 
 -- nothing is to be said of the package
 abbrev pub IsYes : List LoadedPackage → Tables → ℕ → Type 0
@@ -85,7 +88,7 @@ pub record AreFindings (ps : List LoadedPackage) (tables : Tables) (i : ℕ) (en
 pub record Said : Type 0 where
   pub path : List ℕ
   pub entries : List Entry
-  pub table : List ℕ → Option FunctionFacts
+  pub table : PackageTable
 
 -- the report has for each package, in their order, what is to be said of it
 pub record IsReportOf (ps : List LoadedPackage) (report : List Said) : Type 0 where

@@ -1,0 +1,4 @@
+mod KeptPackages
+mod NumberedTrees
+mod SecondPlaces
+mod WholeOf

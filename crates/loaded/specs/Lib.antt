@@ -1,0 +1,4 @@
+-- For a reader of the contracts: what the program keeps of packages, and what it stands for.
+pub mod LoadedViews
+-- What serves the proofs: the entries of a package as a whole, part by part.
+pub mod WholeEntries
