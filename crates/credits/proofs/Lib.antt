@@ -1,5 +1,5 @@
 mod CreditedBodies
-mod FirstBodies
+pub mod FirstBodies
 mod Growing
 mod OffsetsOf
 mod SettledPlaces

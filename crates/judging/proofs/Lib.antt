@@ -1,0 +1,8 @@
+mod AddedParameters
+mod ClaimsAdded
+mod ClaimsOf
+pub mod CreditedFiles
+mod FoundParts
+mod GreatestFlags
+mod KeptClaims
+mod MoreCalls
