@@ -6,3 +6,4 @@ mod FoundParts
 mod GreatestFlags
 mod KeptClaims
 mod MoreCalls
+pub mod OneAnswer
