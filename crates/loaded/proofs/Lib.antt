@@ -1,4 +1,6 @@
+pub mod ImportsOf
 mod KeptPackages
 mod NumberedTrees
 mod SecondPlaces
+pub mod UnrankedFaults
 mod WholeOf

@@ -21,35 +21,11 @@ use Rattle.verdicts.specs.WholeFaults.{ImportsAt, import_entry, IsWholeFault, ha
 use Rattle.loaded.specs.declared.loaded_package.Reading.{Reading as KeptReading}
 use Rattle.loaded.specs.declared.loaded_package.Reading.TheVariants.{Tree, NoTokens, NoTree}
 use Rattle.loaded.specs.LoadedViews.{readings_of}
+use Rattle.loaded.proofs.ImportsOf.{gives, given_by, only_one, import_there, first_import, no_rank_above}
 use Rattle.loaded.specs.WholeEntries.{failure, failure_entries, failures_from, second_at, second_entries, is_set, is_set_at, is_marked, spec_entries, tree_entries, TellsOrder}
-
--- Members of a list that parts give
-
-module _ {A B : Type 0} (f : A → List B) where
-  pub gives : (xs : List A) (x : A) (y : B) → Contains xs x → Contains (f x) y → Contains (flat_map f xs) y
-  gives [] x y h g = absurd (contains_nil x h)
-  gives (z ∷ xs) x y h g =
-      elim (contains_cases z x xs h) [
-        | inl same ↦ Contains-append_left (f z) (flat_map f xs) y (subst (λ w. Contains (f w) y) (sym same) g)
-        | inr later ↦ Contains-append_right (f z) (flat_map f xs) y (gives xs x y later g)
-      ]
-
-  pub given_by : (xs : List A) (y : B) → Contains (flat_map f xs) y → (x : A) × Contains xs x × Contains (f x) y
-  given_by [] y h = absurd (contains_nil y h)
-  given_by (z ∷ xs) y h =
-      elim (Contains-append_cases (f z) (flat_map f xs) y h) [
-        | inl here ↦ (z, contains_here z xs, here)
-        | inr later ↦ let w = given_by xs y later in (w.0, contains_there z w.0 xs w.1, w.2)
-      ]
 
 from_start : (k : ℕ) → 0 + k ≡ k
 from_start k = omega arith
-
-only_one : {A : Type 0} (x y : A) → Contains (x ∷ []) y → x ≡ y
-only_one x y h = elim (contains_cases x y [] h) [
-  | inl same ↦ same
-  | inr bad ↦ absurd (contains_nil y bad)
-]
 
 -- Files without a tree
 
@@ -185,25 +161,6 @@ module _ (ps : List LoadedPackage) (i : ℕ) (p : LoadedPackage) (is_p : slice_g
   abbrev lists : List Package
   lists = import_list ps
 
-  abbrev list_item : LoadedPackage → Package
-  list_item q = record { path = q.path; imports = imported_paths q }
-
-  in_lists : (j : ℕ) (q : LoadedPackage) → slice_get ps j ≡ Some q → slice_get lists j ≡ Some (list_item q)
-  in_lists j q is = slice_get-map list_item ps j ∙ ap (option_map list_item) is
-
-  given_in_lists : (j : ℕ) (found : Package) → slice_get lists j ≡ Some found
-      → (q : LoadedPackage) × (slice_get ps j ≡ Some q) × (list_item q ≡ found)
-  given_in_lists j found is = by (slice_get ps j) refl
-    where
-      by : (o : Option LoadedPackage) → slice_get ps j ≡ o
-          → (q : LoadedPackage) × (slice_get ps j ≡ Some q) × (list_item q ≡ found)
-      by None e = absurd (none-some found (sym (slice_get-map list_item ps j ∙ ap (option_map list_item) e) ∙ is))
-      by (Some q) e = (q, e, same_Some (list_item q) found (sym (in_lists j q e) ∙ is))
-
-  -- where an import has no rank, its importer has none
-  no_rank_above : (j : ℕ) → Imports lists i j → (HasRank lists j → ⊥) → HasRank lists i → ⊥
-  no_rank_above j im none rank = none λ k l chain back again. rank k l (goes_on im chain) back again
-
   -- the path is that of a given package without a rank
   pub marked_is : (path : List ℕ) → is_marked places marks path ≡ true
       → (j : ℕ) × FirstAt path lists j × (HasRank lists j → ⊥)
@@ -223,42 +180,6 @@ module _ (ps : List LoadedPackage) (i : ℕ) (p : LoadedPackage) (is_p : slice_g
   is_marked_there path j first none q is =
       ap (λ o. is_set_at o marks) (told.are_places path ∙ there_first lists path j first)
       ∙ (told.are_unranked j).1 (slice_get_within ps j q is, none)
-
-  -- the import of that spec
-  import_there : (t : NumberedTree) (s : ImportSpec) (j : ℕ) → Contains (numbered_trees p) t
-      → Contains (imports_of t.tree) s
-      → FirstAt s.path lists j
-      → ImportsAt ps i j t.file s
-  import_there t s j is_tree is_spec first =
-      let q = given_in_lists j first.found first.is_found in
-      let path : s.path ≡ q.0.path = sym first.same ∙ ap (λ (l : Package). l.path) (sym q.2) in
-      record {
-        importer = p;
-        imported = q.0;
-        tree = t;
-        is_importer = is_p;
-        is_imported = q.1;
-        imports = imports_from lists i j (list_item p) s.path (in_lists i p is_p)
-            (gives (λ tree. map (λ (r : ImportSpec). r.path) (imports_of tree)) (trees_of p) t.tree s.path
-            (contains_map (λ (n : NumberedTree). n.tree) (numbered_trees p) t is_tree)
-            (contains_map (λ (r : ImportSpec). r.path) (imports_of t.tree) s is_spec))
-            first;
-        is_tree = is_tree;
-        is_file = refl;
-        is_spec = is_spec;
-        is_path = path;
-      }
-
-  first_import : (j file : ℕ) (s : ImportSpec) → (h : ImportsAt ps i j file s) → FirstAt s.path lists j
-  first_import j file s h =
-      let same = same_Some (list_item h.imported) h.imports.imported (sym (in_lists j h.imported h.is_imported) ∙ h.imports.is_imported) in
-      let path : h.imports.imported.path ≡ s.path = ap (λ (l : Package). l.path) (sym same) ∙ sym h.is_path in
-      record {
-        found = h.imports.imported;
-        is_found = h.imports.is_imported;
-        same = path;
-        first = λ k q is e. h.imports.is_first k q is (e ∙ sym path);
-      }
 
   module _ (rs : List KeptReading) (ts : List SourceFile) (are_files : p.files ≡ readings_of rs ts)
       (are_as_many : length p.files ≡ length rs) where
@@ -315,8 +236,8 @@ module _ (ps : List LoadedPackage) (i : ℕ) (p : LoadedPackage) (is_p : slice_g
             → IsWholeFault ps i x
         by true e g =
             let j = marked_is s.path e in
-            let im = import_there t s j.0 is_tree is_spec j.1 in
-            subst (IsWholeFault ps i) (only_one _ x g) (has_no_rank j.0 t.file s (no_rank_above j.0 im.imports j.2) j.2 im)
+            let im = import_there ps i p is_p t s j.0 is_tree is_spec j.1 in
+            subst (IsWholeFault ps i) (only_one _ x g) (has_no_rank j.0 t.file s (no_rank_above ps i p is_p j.0 im.imports j.2) j.2 im)
         by false e g = absurd (contains_nil x g)
 
     unranked : (x : Entry)
@@ -368,7 +289,7 @@ module _ (ps : List LoadedPackage) (i : ℕ) (p : LoadedPackage) (is_p : slice_g
         (subst (λ o. Contains (second_at o f) x) (sym there_here) (contains_here x [])))
     is_found x (has_no_rank j file s none_above none im) =
         let same = same_Some im.importer p (sym im.is_importer ∙ is_p) in
-        let marked = is_marked_there s.path j (first_import j file s im) none im.imported im.is_imported in
+        let marked = is_marked_there s.path j (first_import ps i p is_p j file s im) none im.imported im.is_imported in
         let is_tree : Contains (numbered_trees p) im.tree = subst (λ (r : LoadedPackage). Contains (numbered_trees r) im.tree) same im.is_tree in
         last_part x (gives (tree_entries (is_marked places marks) ImportHasNoRank) (numbered_trees p) im.tree x is_tree
         (gives (spec_entries (is_marked places marks) ImportHasNoRank im.tree.file) (imports_of im.tree.tree) s x im.is_spec

@@ -33,6 +33,14 @@ pub record TellPackages (ps : List LoadedPackage) (kept : List KeptPackage) : Ty
       → slice_get kept i ≡ Some k
       → TellsPackage p k
 
+-- no two packages have one path
+pub record HaveDistinctPaths (ps : List LoadedPackage) : Type 0 where
+  pub same : (i j : ℕ) (p q : LoadedPackage)
+      → slice_get ps i ≡ Some p
+      → slice_get ps j ≡ Some q
+      → p.path ≡ q.path
+      → i ≡ j
+
 -- what it imports
 abbrev pub kept_list : KeptPackage → Package
 kept_list k = record {

@@ -1,6 +1,6 @@
 //! The faults of a package as a whole.
 
-ghost use Rattle.std.specs.Prelude.{◌≡◌, ◌↔◌, ◌++◌, ◌<◌, ℕ, List, IfOk, OnOk, Contains, None, Some, true, map, option_map, slice_get};
+ghost use Rattle.std.specs.Prelude.{◌≡◌, ◌↔◌, ◌++◌, ◌<◌, ℕ, List, IfOk, OnOk, Contains, None, Some, true, length, map, option_map, slice_get};
 ghost use Rattle.imports.specs.Views.{at_path, rank_of};
 ghost use Rattle.loaded.specs.LoadedViews.{numbered_view, TellsPackage};
 ghost use Rattle.loaded.specs.WholeEntries.{is_set, second_at, second_entries, second_view, TellsOrder};
@@ -68,7 +68,8 @@ fn add_second<'a>(
 ///
 /// Memory was refused.
 pub fn unranked(alloc: Global, order: &Order, count: usize) -> Result<Vec<bool>, AllocError>
-    ensures { IfOk result (λ marks. (j : ℕ) → (is_set (slice_get marks.items j) ≡ true)
+    ensures count { IfOk result (λ marks. length marks.items ≡ count) }
+    ensures marks { IfOk result (λ marks. (j : ℕ) → (is_set (slice_get marks.items j) ≡ true)
         ↔ ((j < count) × (rank_of order.now j ≡ None))) }
 {
     let mut marks = Vec::new(alloc);

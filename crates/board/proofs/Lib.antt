@@ -1,0 +1,10 @@
+mod AllPackages
+mod AllReports
+mod ImportedTables
+mod JudgedFiles
+mod KeptNext
+mod KnownImports
+mod NextPackage
+mod PackageNames
+mod PathsInOrder
+mod WholeOnly

@@ -1,0 +1,68 @@
+//! What is known of the functions of a package's imports.
+
+ghost use Rattle.std.specs.Prelude.{◌≡◌, ℕ, List, IfOk, OnOk};
+ghost use Rattle.board.specs.Progress.{given_at, given_by_paths};
+ghost use Rattle.facts.specs.FactViews.{table_by_path};
+ghost use Rattle.imports.specs.Views.{at_path, text_views};
+ghost use Rattle.meaning.specs.OuterBlocks.{or_else};
+ghost use Rattle.judging.specs.KnownCalls.{called_by_path};
+
+use crate::judged::Judged;
+use facts::Imported;
+use indexmap::IndexMap;
+use judging::ImportedCalls;
+use std::alloc::{AllocError, Global};
+
+/// What is known of the functions of a package's imports.
+#[derive(Drop)]
+pub struct KnownImports<'a, 'k> {
+    /// What their signatures say.
+    pub signatures: Imported<'a, 'k>,
+    /// Which of their parameters they are known to call.
+    pub calls: ImportedCalls<'a, 'k>,
+}
+
+/// Adds what is known of the functions of the package of that path, if it was judged.
+fn add_import<'a, 'k>(
+    path: &'a str,
+    judged: &'k IndexMap<&'a str, Judged<'a>>,
+    signatures: &mut Imported<'a, 'k>,
+    calls: &mut ImportedCalls<'a, 'k>,
+) -> Result<(), AllocError>
+    ensures signatures { OnOk result ((other : List ℕ) → table_by_path signatures.new other
+        ≡ or_else (table_by_path signatures.old other)
+        (given_at (λ j. j.signatures) (at_path judged.now) path.now other)) }
+    ensures calls { OnOk result ((other : List ℕ) → called_by_path calls.new other
+        ≡ or_else (called_by_path calls.old other) (given_at (λ j. j.called) (at_path judged.now) path.now other)) }
+{
+    match judged.get(path) {
+        Some(found) => {
+            signatures.insert(path, &found.signatures)?;
+            calls.insert(path, &found.called)
+        }
+        None => Ok(()),
+    }
+}
+
+/// What is known of the functions of the packages of these paths, by what was judged.
+///
+/// # Errors
+///
+/// Memory was refused.
+pub fn known_imports<'a, 'k>(
+    alloc: Global,
+    paths: &[&'a str],
+    judged: &'k IndexMap<&'a str, Judged<'a>>,
+) -> Result<KnownImports<'a, 'k>, AllocError>
+    ensures signatures { IfOk result (λ known. (path : List ℕ) → table_by_path known.signatures path
+        ≡ given_by_paths (λ j. j.signatures) (at_path judged.now) (text_views paths.now) path) }
+    ensures calls { IfOk result (λ known. (path : List ℕ) → called_by_path known.calls path
+        ≡ given_by_paths (λ j. j.called) (at_path judged.now) (text_views paths.now) path) }
+{
+    let mut signatures = Imported::new(alloc);
+    let mut calls = ImportedCalls::new(alloc);
+    for path in paths {
+        add_import(path, judged, &mut signatures, &mut calls)?;
+    }
+    Ok(KnownImports { signatures, calls })
+}
