@@ -7,4 +7,5 @@ mod KnownImports
 mod NextPackage
 mod PackageNames
 mod PathsInOrder
+mod Verdicts
 mod WholeOnly

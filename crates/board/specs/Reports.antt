@@ -1,10 +1,19 @@
 -- What the program says of packages, and what it stands for.
-use Rattle.std.specs.Prelude.{ℕ, ◌≡◌, List, map, Some, slice_get}
+use Rattle.std.specs.Prelude.{ℕ, ◌≡◌, Bool, true, false, List, [], ◌∷◌, map, Some, slice_get}
+use Rattle.std.specs.List.{list_all}
 use Rattle.loaded.specs.declared.loaded_package.LoadedPackage.{LoadedPackage as KeptPackage}
 use Rattle.verdicts.specs.Loaded.{LoadedPackage}
 use Rattle.verdicts.specs.PackageReports.{Said, IsReportOf}
+use Rattle.loaded.specs.LoadedViews.{TellPackages, HaveDistinctPaths}
+use Rattle.report.specs.declared.diagnostics.Diagnostic.{Diagnostic}
+use Rattle.report.specs.declared.diagnostics.PackageReport.{PackageReport}
+use Rattle.report.specs.ReportText.{report_text}
 use Rattle.board.specs.declared.judged.Judged.{Judged}
+use Rattle.board.specs.declared.reports.Report.{Report}
 use Rattle.board.specs.Judgments.{table_view, entries_of, TellsSources}
+
+abbrev pub report_in : Judged → PackageReport
+report_in judged = judged.report
 
 abbrev pub said_view : Judged → Said
 said_view judged = record {
@@ -18,3 +27,22 @@ pub record AreReports (ps : List LoadedPackage) (kept : List KeptPackage) (said 
   pub is_report : IsReportOf ps (map said_view said)
   pub are_told : (i : ℕ) (k : KeptPackage) (j : Judged) → slice_get kept i ≡ Some k → slice_get said i ≡ Some j
       → TellsSources k j
+
+-- there is nothing to say of the package
+abbrev pub says_nothing : List Diagnostic → Bool
+says_nothing [] = true
+says_nothing (d ∷ ds) = false
+
+abbrev pub is_yes : PackageReport → Bool
+is_yes report = says_nothing report.diagnostics.items
+
+-- the text is that of what is said, and `yes` tells whether nothing is to be said of any package
+pub record IsTold (said : List Judged) (report : Report) : Type 0 where
+  pub is_text : report.text.items ≡ report_text (map report_in said)
+  pub verdict : report.yes ≡ list_all is_yes (map report_in said)
+
+-- it is the report of the packages that are kept so, whichever these are
+pub record TellsReport (kept : List KeptPackage) (report : Report) : Type 0 where
+  pub said : List Judged
+  pub are_reports : (ps : List LoadedPackage) → TellPackages ps kept → HaveDistinctPaths ps → AreReports ps kept said
+  pub told : IsTold said report

@@ -7,6 +7,8 @@ mod known_imports;
 mod package_names;
 mod packages;
 mod progress;
+mod reports;
 
 pub use judged::{Around, Judged, judge};
 pub use packages::check;
+pub use reports::{Report, whole_report};

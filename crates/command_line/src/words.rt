@@ -1,39 +1,49 @@
 //! What the words of the command line ask for.
 
-ghost use Rattle.std.specs.Prelude.{◌↔◌, Contains, IfOk, IfSome, IsTrue, map};
-ghost use Rattle.command_line.specs.Words.{AsksForHelp, IsAsked};
+ghost use Rattle.std.specs.Prelude.{◌≡◌, ◌↔◌, ◌++◌, Bool, ℕ, List, Contains, IfOk, OnOk, IfSome, IsTrue, map};
+ghost use Rattle.command_line.specs.Words.{texts_of, without_escape, AsksForHelp, IsAsked, IsCheck};
 
 use clap::error::ErrorKind;
 use clap::{Arg, ArgAction, Command, Error};
 use std::alloc::{AllocError, Global};
 use std::convert::AsStr;
 
+/// The command of the program.
+const CHECK_WORD: &str = "check";
+
 const ABOUT: &str = "Finds cancel functions of contexts that may not be called in Go packages";
 
 const AFTER: &str = "Exit status:
-  0  yes: nothing was found
+  0  yes: nothing was found in any package
   1  no: something was found
   2  wrong arguments, or a file could not be read or the report not written
 
-Example:
-  ctxvet check example.org/pool=./pool";
+Examples:
+  ctxvet check example.org/pool=./pool
+  ctxvet check $(go list -f '{{.ImportPath}}={{.Dir}}' ./...)";
 
-const CHECK: &str = "Checks a package and prints its report";
+const CHECK: &str = "Checks packages and prints their report";
 
-const AFTER_CHECK: &str = "The report goes to standard output: a line for each finding,
+const AFTER_CHECK: &str =
+    "The report goes to standard output, the packages in the order of their paths: a line for each
+finding,
   FILE:LINE:COLUMN: CODE NAME TEXT
-and then `yes PATH` where nothing was found, else `no PATH`.";
+and then `yes PATH` where nothing was found, else `no PATH`.
+What a package imports is known where it is given too; other packages are taken as unknown.";
 
-const PACKAGE: &str = "The package's import path, `=`, and the folder of its files: \
+const PACKAGE: &str = "A package's import path, `=`, and the folder of its files: \
 each file there is read that ends in .go and not in _test.go";
+
+/// Behind this word no word is an option.
+const ESCAPE: &str = "--";
 
 const VERSION: &str = "0.1.0";
 
 /// What the words ask for.
 #[derive(Debug, Drop)]
 pub enum Asked<'a> {
-    /// To check the package of this word, `PATH=DIR`.
-    Package(&'a str),
+    /// To check the packages of these words, `PATH=DIR` each.
+    Packages(Vec<&'a str>),
     /// Help or the version: this text, for standard output.
     Help(String),
     /// Nothing that the program understands: this text says why, for standard error.
@@ -48,11 +58,48 @@ pub enum Asked<'a> {
 pub fn read_words<'a, S: AsStr>(alloc: Global, words: &'a [S]) -> Result<Asked<'a>, AllocError>
     ensures { IfOk result (λ asked. IsAsked (map S.text words.now) asked) }
 {
-    match package_word(alloc, words) {
-        Ok(Some(word)) => Ok(Asked::Package(word)),
-        Ok(None) => Ok(Asked::Wrong(String::new(alloc))),
+    match understood(alloc, words) {
+        Ok(()) => asked_packages(alloc, words),
         Err(error) => explained(alloc, &error, words),
     }
+}
+
+/// The packages that the words, which the library understands, ask for.
+fn asked_packages<'a, S: AsStr>(alloc: Global, words: &'a [S]) -> Result<Asked<'a>, AllocError>
+    ensures { IfOk result (λ asked. IsAsked (map S.text words.now) asked) }
+{
+    match words.split_first() {
+        Some((command, rest)) if command.as_str() == CHECK_WORD => {
+            Ok(Asked::Packages(without_escape(alloc, rest)?))
+        }
+        _ => Ok(Asked::Wrong(String::new(alloc))),
+    }
+}
+
+/// Adds all of these words.
+fn add_all<'a, S: AsStr>(words: &'a [S], kept: &mut Vec<&'a str>) -> Result<(), AllocError>
+    ensures { OnOk result (texts_of kept.new.items ≡ texts_of kept.old.items ++ map S.text words.now) }
+{
+    for word in words {
+        kept.push(word.as_str())?;
+    }
+    Ok(())
+}
+
+/// The words but for the first `--`.
+fn without_escape<'a, S: AsStr>(alloc: Global, words: &'a [S]) -> Result<Vec<&'a str>, AllocError>
+    ensures { IfOk result (λ kept. texts_of kept.items ≡ without_escape (map S.text words.now)) }
+{
+    let mut kept = Vec::new(alloc);
+    for (place, word) in words.iter().enumerate() {
+        if word.as_str() == ESCAPE {
+            let (_, rest) = words.split_at(place + 1);
+            add_all(rest, &mut kept)?;
+            return Ok(kept);
+        }
+        kept.push(word.as_str())?;
+    }
+    Ok(kept)
 }
 
 /// What the library answers in place of a package. Its help goes to standard output only where one of the
@@ -81,8 +128,9 @@ fn command<'a>(alloc: Global) -> Result<Command<'a>, AllocError> {
         .value_name("PATH=DIR")
         .help(PACKAGE)
         .required(true)
-        .action(ArgAction::Set);
-    let check = Command::new(alloc, "check")
+        .num_args(1..)
+        .action(ArgAction::Append);
+    let check = Command::new(alloc, CHECK_WORD)
         .about(CHECK)
         .after_help(AFTER_CHECK)
         .arg(package)?;
@@ -97,22 +145,14 @@ fn command<'a>(alloc: Global) -> Result<Command<'a>, AllocError> {
         .subcommand(check)
 }
 
-/// The word `PATH=DIR` of `check`, which is one of the words. The words are those after the program's name.
+/// That the library understands the words, those after the program's name, and they ask for no help.
 ///
 /// # Errors
 ///
 /// The words are no command, they ask for help or the version, or memory was refused.
-fn package_word<'a, S: AsStr>(alloc: Global, words: &'a [S]) -> Result<Option<&'a str>, Error>
-    ensures { IfOk result (λ o. IfSome o (λ word. Contains (map S.text words.now) word.now)) }
-{
-    let matches = command(alloc)?.try_get_matches_from(words)?;
-    let Some((_, check)) = matches.subcommand() else {
-        return Ok(None);
-    };
-    match check.get_str("package") {
-        Some(word) if is_given(words, word) => Ok(Some(word)),
-        _ => Ok(None),
-    }
+fn understood<S: AsStr>(alloc: Global, words: &[S]) -> Result<(), Error> {
+    command(alloc)?.try_get_matches_from(words)?;
+    Ok(())
 }
 
 /// Whether one of the words asks for help or the version.

@@ -1,7 +1,7 @@
 //! The program `ctxvet`: hands the words of its command line and its streams to the library `driver`.
 #![tactic(auto)]
 
-use driver::{Fault, fail, run, words_fault};
+use driver::{Fault, refuse, run, words_fault};
 use std::env;
 use std::process::ExitCode;
 
@@ -10,7 +10,7 @@ fn main(rt: HostRuntime) -> ExitCode {
     let mut err = rt.stderr();
     let status = match words(&rt) {
         Ok(words) => run(&rt, words.as_slice(), &mut rt.stdout(), &mut err),
-        Err(fault) => fail(&mut err, &fault),
+        Err(fault) => refuse(&mut err, &fault),
     };
     ExitCode::from(status)
 }

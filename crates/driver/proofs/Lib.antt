@@ -1,2 +1,1 @@
-mod GoFiles
-mod Words
+mod Loads

@@ -1,10 +1,4 @@
--- What is to be trusted: which words name a package, which files are its sources, the report's text, and what is
--- written where the program ends.
-pub mod Names
-pub mod Packages
-pub mod GoFiles
-pub mod ReportText
+-- What is to be trusted: the report of packages, what is written where the program ends, and its statuses.
+pub mod Reports
 pub mod Statuses
 pub mod WrittenReport
--- What serves the proofs.
-pub mod Cursors

@@ -1,58 +1,50 @@
--- What a run of the program has written when it ends, by its status: the whole text of the report on a package that
--- one of its words names, and nothing besides; or, where a word asks for help, what the library of the command line
--- writes. Which files a folder has, and their bytes, no contract can say: the sources are any with such names, and the
--- function that judges and prints is held to those that it is given (`WritesReportOn`).
-use Rattle.std.specs.Prelude.{◌≡◌, ◌↔◌, ◌⊎◌, ⊤, ℕ, Bool, true, false, IsTrue, List, [], Option, Contains, map, codes, string_bytes}
+-- What a run of the program has written when it ends, by its status: the whole text of the report on the packages that
+-- its words name, and nothing besides; or, where a word asks for help, what the library of the command line writes.
+-- Which files a folder has, and their bytes, no contract can say: the sources are any with such names, and the function
+-- that judges and prints is held to those that it is given (`WritesReportOf`).
+use Rattle.std.specs.Prelude.{◌≡◌, ◌⊎◌, ⊤, ℕ, Bool, true, false, List, Option, string_bytes}
+use Rattle.std.specs.List.{AllZip}
 use Rattle.std.specs.Io.KnownBytes.{Appends}
-use Rattle.lexer.specs.declared.source.Source.{Source}
-use Rattle.path_tree.specs.Syntax.{SourceFile}
-use Rattle.judge.specs.Report.{Entry, entry_of, IsReportOf, IsPathCode, IsJudged, AreUnjudgedEntries, HasQuietFunctions, IsQuietPackage}
-use Rattle.judge.specs.declared.report.PackageReport.{PackageReport}
-use Rattle.command_line.specs.Words.{AsksForHelp}
-use Rattle.driver.specs.GoFiles.{AreSourcesOf}
-use Rattle.driver.specs.Packages.{IsPackageWord}
-use Rattle.driver.specs.ReportText.{report_text}
+use Rattle.load.specs.declared.packages.GivenPackage.{GivenPackage}
+use Rattle.command_line.specs.Words.{AsksForHelp, IsCheck}
+use Rattle.folders.specs.GoFiles.{AreSourcesOf}
+use Rattle.folders.specs.Packages.{IsPackageWord}
+use Rattle.board.specs.declared.reports.Report.{Report}
+use Rattle.driver.specs.Reports.{IsReport}
 use Rattle.driver.specs.declared.status.Status.{Status}
 use Rattle.driver.specs.declared.status.Status.TheVariants.{Fine, Found, Faulty}
 
--- The report is the one that the judgement of these sources gives, in the words of the contract of `check_first`.
-pub record IsJudgement (path : List ℕ) (sources : List Source) (report : PackageReport) : Type 0 where
-  pub named : string_bytes report.path ≡ path
-  pub verdict : IsTrue report.yes ↔ (report.diagnostics.items ≡ [])
-  pub yes : IsTrue report.yes → IsQuietPackage path sources
-  pub judged : (file : SourceFile) → IsJudged path sources file
-      → IsReportOf file (map entry_of report.diagnostics.items)
-  pub quiet : (file : SourceFile) → IsJudged path sources file → IsTrue report.yes
-      → HasQuietFunctions file
-  pub codes_there : (file : SourceFile) → IsJudged path sources file → (x : Entry)
-      → Contains (map entry_of report.diagnostics.items) x → IsPathCode x.code
-  pub unjudged : ((file : SourceFile) → IsJudged path sources file → ⊥)
-      → AreUnjudgedEntries 0 sources (map entry_of report.diagnostics.items)
-
--- Of the package of this path with these sources the report was written, with this verdict, to a writer that held old
--- and holds new.
-pub record WritesReportOn (path : List ℕ) (sources : List Source) (yes : Bool)
-    (old new : Option (List ℕ)) : Type 0 where
-  pub report : PackageReport
-  pub judgement : IsJudgement path sources report
-  pub verdict : report.yes ≡ yes
-  pub written : Appends old new (report_text sources report)
-
--- That was the package that this word names.
-pub record WritesReport (word : List ℕ) (yes : Bool) (old new : Option (List ℕ)) : Type 0 where
-  pub path : List ℕ
+-- the word names the package: its path and a folder, whose Go files are the sources
+pub record IsGiven (word : List ℕ) (given : GivenPackage) : Type 0 where
   pub folder : List ℕ
-  pub is_package : IsPackageWord word path folder
-  pub sources : List Source
-  pub files : AreSourcesOf folder sources
-  pub told : WritesReportOn path sources yes old new
+  pub is_package : IsPackageWord word (string_bytes given.path) folder
+  pub are_sources : AreSourcesOf folder given.sources.items
 
--- it was the package of one of these words
-abbrev pub WritesReportOf : List (List ℕ) → Bool → Option (List ℕ) → Option (List ℕ) → Type 0
-WritesReportOf words verdict old new = (word : List ℕ) × Contains words word × WritesReport word verdict old new
+-- each word names the package in its place
+abbrev pub AreGiven : List (List ℕ) → List GivenPackage → Type 0
+AreGiven = AllZip IsGiven
+
+-- The report on the given packages was written to a writer that held `old` and holds `new`.
+pub record WritesReportOf (given : List GivenPackage) (yes : Bool) (old new : Option (List ℕ)) : Type 0 where
+  pub report : Report
+  pub is_report : IsReport given report
+  pub verdict : report.yes ≡ yes
+  pub written : Appends old new report.text.items
+
+-- Those were the packages that these words name.
+pub record WritesReport (words : List (List ℕ)) (yes : Bool) (old new : Option (List ℕ)) : Type 0 where
+  pub given : List GivenPackage
+  pub are_given : AreGiven words given
+  pub told : WritesReportOf given yes old new
+
+-- the words ask to check packages, whose report it was
+pub record ChecksPackages (words : List (List ℕ)) (yes : Bool) (old new : Option (List ℕ)) : Type 0 where
+  pub packages : List (List ℕ)
+  pub is_check : IsCheck words packages
+  pub report : WritesReport packages yes old new
 
 -- what a run with these words has written where it ends with this status
 abbrev pub EndsWith : List (List ℕ) → Status → Option (List ℕ) → Option (List ℕ) → Type 0
-EndsWith words Fine old new = AsksForHelp words ⊎ WritesReportOf words true old new
-EndsWith words Found old new = WritesReportOf words false old new
+EndsWith words Fine old new = AsksForHelp words ⊎ ChecksPackages words true old new
+EndsWith words Found old new = ChecksPackages words false old new
 EndsWith words Faulty old new = ⊤

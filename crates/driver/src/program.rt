@@ -2,26 +2,27 @@
 
 ghost use Rattle.std.specs.Prelude.{◌≡◌, Bool, IfOk, OnOk, map};
 ghost use Rattle.std.specs.Io.KnownBytes.{Appends};
+ghost use Rattle.command_line.specs.Words.{texts_of};
 ghost use Rattle.driver.specs.Statuses.{status_code, status_of};
-ghost use Rattle.driver.specs.WrittenReport.{EndsWith, WritesReport, WritesReportOn};
+ghost use Rattle.driver.specs.WrittenReport.{EndsWith, WritesReport, WritesReportOf};
 
-use crate::fault::{Fault, fail};
-use crate::files::read_folder;
-use crate::names::escaped;
-use crate::package::split_word;
-use crate::report::text_of_report;
+use crate::packages::{check_words, read_packages};
+use crate::reports::report_of;
 use crate::status::Status;
 use command_line::{Asked, read_words};
-use judge::check_first;
-use lexer::Source;
+use folders::{Fault, fail};
+use load::GivenPackage;
 use std::alloc::Global;
 use std::convert::AsStr;
 use std::io::Write;
 use std::rt::Files;
 
-/// Runs the program with the words after its name: prints its report or help on `out` and its fault
-/// on `err`, and returns its status. 0: yes, or help or the version. 1: no. 2: a fault, which is the
-/// first one.
+/// The program's name, with which the lines of its faults begin.
+const PROGRAM: &str = "ctxvet";
+
+/// Runs the program with the words after its name: prints its report or help on `out` and its fault on `err`, and
+/// returns its status. 0: each package is yes, or help or the version was asked for. 1: some package is no. 2: a fault,
+/// which is the first one.
 pub fn run<R: Files + AllocGlobal, S: AsStr, W: Write, E: Write>(
     rt: &R,
     words: &[S],
@@ -33,8 +34,15 @@ pub fn run<R: Files + AllocGlobal, S: AsStr, W: Write, E: Write>(
 {
     match answer(rt, words, out, err) {
         Ok(status) => status.code(),
-        Err(fault) => fail(err, &fault),
+        Err(fault) => fail(err, PROGRAM, &fault),
     }
+}
+
+/// The status that the name of the program's faults has, for those that its `main` meets.
+pub fn refuse<E: Write>(err: &mut E, fault: &Fault) -> u8
+    ensures { result ≡ 2 }
+{
+    fail(err, PROGRAM, fault)
 }
 
 /// Does what the words ask for.
@@ -48,9 +56,9 @@ fn answer<R: Files + AllocGlobal, S: AsStr, W: Write, E: Write>(
         EndsWith (map S.text words.now) status (W.contents out.old) (W.contents out.new)) }
 {
     match read_words(rt.alloc(), words)? {
-        Asked::Package(word) => check(rt, word, out),
+        Asked::Packages(packages) => check(rt, &packages, out, err),
         Asked::Help(text) => {
-            print(out, text.as_str())?;
+            print(out, text.as_bytes())?;
             Ok(Status::Fine)
         }
         Asked::Wrong(text) => {
@@ -62,39 +70,48 @@ fn answer<R: Files + AllocGlobal, S: AsStr, W: Write, E: Write>(
     }
 }
 
-/// Checks the package of a word `PATH=DIR` and prints its report.
-fn check<R: Files + AllocGlobal, W: Write>(rt: &R, word: &str, out: &mut W) -> Result<Status, Fault>
-    ensures { IfOk result (λ status. (yes : Bool) × (status ≡ status_of yes)
-        × WritesReport word.now yes (W.contents out.old) (W.contents out.new)) }
-{
-    let Some((path, folder)) = split_word(word) else {
-        return Err(Fault::BadPackage(escaped(rt.alloc(), word)?));
-    };
-    let sources = read_folder(rt, folder)?;
-    report(rt.alloc(), path, &sources, out)
-}
-
-/// Judges the package of this path with these sources, and prints its report.
-fn report<W: Write>(
-    alloc: Global,
-    path: &str,
-    sources: &[Source],
+/// Checks the packages of these words, `PATH=DIR` each, and prints their report. Folders without a Go file are noted
+/// behind it.
+fn check<R: Files + AllocGlobal, W: Write, E: Write>(
+    rt: &R,
+    words: &[&str],
     out: &mut W,
+    err: &mut E,
 ) -> Result<Status, Fault>
     ensures { IfOk result (λ status. (yes : Bool) × (status ≡ status_of yes)
-        × WritesReportOn path.now sources.now yes (W.contents out.old) (W.contents out.new)) }
+        × WritesReport (texts_of words.now) yes (W.contents out.old) (W.contents out.new)) }
 {
-    let report = check_first(alloc, path, sources)?;
-    let text = text_of_report(alloc, sources, &report)?;
-    print(out, text.as_str())?;
+    check_words(rt.alloc(), words)?;
+    let mut empty = Vec::new(rt.alloc());
+    let given = read_packages(rt, words, &mut empty)?;
+    let status = report(rt.alloc(), given, out)?;
+    note_empty(&empty, err);
+    Ok(status)
+}
+
+/// Says of each of these folders that it has no Go file. Where standard error fails, nobody is left to be told.
+fn note_empty<E: Write>(folders: &[&str], err: &mut E) {
+    for folder in folders {
+        let _ = writeln!(err, "{PROGRAM}: note: no Go files in {folder}");
+    }
+    let _ = err.flush();
+}
+
+/// Judges these packages, and prints their report.
+fn report<W: Write>(alloc: Global, given: Vec<GivenPackage>, out: &mut W) -> Result<Status, Fault>
+    ensures { IfOk result (λ status. (yes : Bool) × (status ≡ status_of yes)
+        × WritesReportOf given.items yes (W.contents out.old) (W.contents out.new)) }
+{
+    let report = report_of(alloc, given)?;
+    print(out, &report.text)?;
     Ok(Status::of_verdict(report.yes))
 }
 
 /// Writes the text to its end. After a fault a beginning of it may have been written.
-fn print<W: Write>(out: &mut W, text: &str) -> Result<(), Fault>
+fn print<W: Write>(out: &mut W, text: &[u8]) -> Result<(), Fault>
     ensures { OnOk result (Appends (W.contents out.old) (W.contents out.new) text.now) }
 {
-    if out.write_all(text.as_bytes()).is_err() || out.flush().is_err() {
+    if out.write_all(text).is_err() || out.flush().is_err() {
         return Err(Fault::CannotWrite);
     }
     Ok(())

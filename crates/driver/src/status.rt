@@ -5,9 +5,9 @@ ghost use Rattle.std.specs.Prelude.{◌≡◌};
 /// How a run ended.
 #[derive(Clone, Copy, Debug, PartialEq, Eq)]
 pub enum Status {
-    /// The package is yes, or help was asked for.
+    /// Each package is yes, or help was asked for.
     Fine,
-    /// The package is no.
+    /// Some package is no.
     Found,
     /// The words were wrong, or something outside the program failed.
     Faulty,

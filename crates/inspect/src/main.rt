@@ -2,7 +2,7 @@
 //! library `inspection`.
 #![tactic(auto)]
 
-use inspection::{Fault, fail, run, words_fault};
+use inspection::{Fault, refuse, run, words_fault};
 use std::env;
 use std::process::ExitCode;
 
@@ -11,7 +11,7 @@ fn main(rt: HostRuntime) -> ExitCode {
     let mut err = rt.stderr();
     let status = match words(&rt) {
         Ok(words) => run(&rt, &words, &mut rt.stdout(), &mut err),
-        Err(fault) => fail(&mut err, &fault),
+        Err(fault) => refuse(&mut err, &fault),
     };
     ExitCode::from(status)
 }

@@ -1,9 +1,7 @@
 //! The file that is looked into.
 
-use crate::fault::Fault;
-use crate::lines::push_escaped;
+use folders::{Fault, escaped};
 use lexer::{MOST_BYTES, Source};
-use std::alloc::{AllocError, Global};
 use std::fs;
 use std::io::{self, ErrorKind, Read};
 use std::rt::Files;
@@ -24,12 +22,6 @@ pub fn read_source<R: Files + AllocGlobal>(rt: &R, path: &str) -> Result<Source,
         Err(error) if error.kind() == ErrorKind::OutOfMemory => Err(Fault::OutOfMemory),
         Err(_) => Err(Fault::CannotRead(name)),
     }
-}
-
-fn escaped(alloc: Global, text: &str) -> Result<String, AllocError> {
-    let mut line = String::new(alloc);
-    push_escaped(&mut line, text)?;
-    Ok(line)
 }
 
 /// The bytes of a regular file. Other kinds are an error, and are not opened: to open a pipe would wait for its writer.

@@ -4,7 +4,6 @@
 
 mod body_lines;
 mod event_lines;
-mod fault;
 mod files;
 mod lines;
 mod nodes;
@@ -17,8 +16,8 @@ mod tree_lines;
 mod use_fault_lines;
 
 pub use event_lines::text_of_events;
-pub use fault::{Fault, fail, words_fault};
+pub use folders::{Fault, words_fault};
 pub use packages::Package;
-pub use program::run;
+pub use program::{refuse, run};
 pub use token_lines::text_of_tokens;
 pub use tree_lines::text_of_tree;

@@ -1,7 +1,6 @@
 //! The packages that are looked into.
 
-use crate::fault::Fault;
-use driver::{escaped, read_folder, split_word};
+use folders::{Fault, escaped, read_folder, split_word};
 use lexer::Source;
 use std::rt::Files;
 

@@ -1,18 +1,21 @@
 //! The whole program, over two writers.
 
 use crate::event_lines::text_of_events;
-use crate::fault::{Fault, fail};
 use crate::files::read_source;
 use crate::packages::read_packages;
 use crate::text_fault::{TextFault, lexical_fault, tree_fault};
 use crate::token_lines::text_of_tokens;
 use crate::tree_lines::text_of_tree;
+use folders::{Fault, fail};
 use lexer::{Source, lex, place};
 use parser::parse;
 use std::alloc::Global;
 use std::io::Write;
 use std::rt::Files;
 use tree_hold::release;
+
+/// The program's name, with which the lines of its faults begin.
+const PROGRAM: &str = "inspect";
 
 const HELP: &str = "Shows what ctxvet makes of Go files, step by step
 
@@ -60,7 +63,7 @@ pub fn run<R: Files + AllocGlobal, W: Write, E: Write>(
     match answered(rt, words) {
         Ok(Answer::Lines(text)) => match print(out, &text) {
             Ok(()) => 0,
-            Err(fault) => fail(err, &fault),
+            Err(fault) => fail(err, PROGRAM, &fault),
         },
         Ok(Answer::Refused(line)) => {
             // Where standard error fails too, the status is all that is left to say it.
@@ -68,8 +71,13 @@ pub fn run<R: Files + AllocGlobal, W: Write, E: Write>(
             let _ = err.flush();
             1
         }
-        Err(fault) => fail(err, &fault),
+        Err(fault) => fail(err, PROGRAM, &fault),
     }
+}
+
+/// Prints the fault's line, and gives the status of the process.
+pub fn refuse<E: Write>(err: &mut E, fault: &Fault) -> u8 {
+    fail(err, PROGRAM, fault)
 }
 
 fn answered<R: Files + AllocGlobal>(rt: &R, words: &[String]) -> Result<Answer, Fault> {
@@ -81,7 +89,7 @@ fn answered<R: Files + AllocGlobal>(rt: &R, words: &[String]) -> Result<Answer, 
             let packages = read_packages(rt, packages)?;
             Ok(Answer::Lines(text_of_events(rt.alloc(), &packages)?))
         }
-        None => Err(Fault::WrongWords),
+        None => Err(Fault::WrongWords(PROGRAM)),
     }
 }
 

@@ -17,6 +17,7 @@ pub enum Reading {
 
 /// A package: its import path, its files, what became of each, and the trees of those that have one, in the order of
 /// the files.
+#[derive(Drop)]
 pub struct LoadedPackage {
     pub path: String,
     pub sources: Vec<Source>,

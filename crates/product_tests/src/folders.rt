@@ -8,7 +8,7 @@ use std::{env, fs, process};
 
 /// What stands in a folder under a name.
 #[derive(Clone, Copy)]
-enum Entry {
+pub enum Entry {
     Text(&'static str),
     /// So many NUL bytes, which take no room on the disk.
     Sparse(u64),
@@ -30,7 +30,7 @@ pub fn new_folder(rt: &HostRuntime, name: &str) -> Result<String, Fail> {
 }
 
 /// Puts an entry of this name into the folder.
-fn make(rt: &HostRuntime, folder: &str, name: &str, entry: Entry) -> Result<(), Fail> {
+pub fn make(rt: &HostRuntime, folder: &str, name: &str, entry: Entry) -> Result<(), Fail> {
     let path = format!(in rt.alloc(); "{folder}/{name}")?;
     match entry {
         Entry::Text(text) => fs::write(rt, path, text)?,
@@ -53,7 +53,7 @@ type Row = (
 );
 
 const ROWS: &[Row] = &[
-    (&[], 0, "yes a\n", ""),
+    (&[], 0, "yes a\n", "ctxvet: note: no Go files in DIR\n"),
     // No Go file of the package: a test, other names, and a folder.
     (
         &[
@@ -65,7 +65,7 @@ const ROWS: &[Row] = &[
         ],
         0,
         "yes a\n",
-        "",
+        "ctxvet: note: no Go files in DIR\n",
     ),
     // In the order of the bytes of their names.
     (

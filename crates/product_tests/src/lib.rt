@@ -1,8 +1,11 @@
-//! Tests of the program's outside: its words, folders of real files, what the system refuses, and its writers.
+//! Tests of the program's outside: its words, folders of real files, several packages, what the system refuses, and its
+//! writers.
 #![tactic(auto)]
 
 #[cfg(test)]
 mod folders;
+#[cfg(test)]
+mod packages;
 #[cfg(test)]
 mod refusals;
 #[cfg(test)]

@@ -1,7 +1,7 @@
 //! What the system refuses.
 
 use crate::runs::expect_check;
-use driver::{fail, words_fault};
+use driver::{refuse, words_fault};
 use std::alloc::{Allocator, Global};
 use std::fmt::Display;
 use std::fs::{File, Metadata, OpenOptions};
@@ -148,7 +148,7 @@ const ROWS: &[Row] = &[
         ErrorKind::PermissionDenied,
         0,
         "yes a\n",
-        "",
+        "ctxvet: note: no Go files in DIR\n",
     ),
 ];
 
@@ -167,7 +167,7 @@ fn refusals_are_told(rt: HostRuntime) -> Result<(), Fail> {
         (ErrorKind::InvalidData, "ctxvet: word is not UTF-8\n"),
     ] {
         let mut err = Vec::new(rt.alloc());
-        let status = fail(&mut err, &words_fault(&io::Error::from(kind)));
+        let status = refuse(&mut err, &words_fault(&io::Error::from(kind)));
         assert_eq!(rt; err.as_slice(), line.as_bytes());
         assert_eq!(rt; status, 2);
     }

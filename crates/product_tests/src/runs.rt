@@ -1,6 +1,7 @@
 //! Runs of the program over writers that take everything.
 
 use driver::run;
+use std::convert::AsStr;
 use std::process::Abort;
 use std::rt::Files;
 use std::test::Fail;
@@ -14,7 +15,7 @@ pub struct Ended {
 }
 
 /// Runs the program with these words.
-pub fn run_words<R: Files + AllocGlobal>(rt: &R, words: &[&str]) -> Result<Ended, Fail> {
+pub fn run_words<R: Files + AllocGlobal, S: AsStr>(rt: &R, words: &[S]) -> Result<Ended, Fail> {
     let mut out = Vec::new(rt.alloc());
     let mut err = Vec::new(rt.alloc());
     let status = run(rt, words, &mut out, &mut err);
@@ -23,8 +24,30 @@ pub fn run_words<R: Files + AllocGlobal>(rt: &R, words: &[&str]) -> Result<Ended
     Ok(Ended { status, out, err })
 }
 
-/// Runs `check` on the package `a` in the folder, and compares what it left. In `out` and `err` a `DIR`
-/// stands for the folder.
+/// Runs the program with these words, and compares what it left. In the words, `out` and `err` a `DIR` stands for the
+/// folder.
+pub fn expect_run<R: Files + AllocGlobal + Abort>(
+    rt: &R,
+    folder: &str,
+    words: &[&str],
+    status: u8,
+    out: &str,
+    err: &str,
+) -> Result<(), Fail> {
+    let mut given = Vec::new(rt.alloc());
+    for word in words {
+        given.push(word.replace(rt.alloc(), "DIR", folder)?)?;
+    }
+    let ended = run_words(rt, given.as_slice())?;
+    let out = out.replace(rt.alloc(), "DIR", folder)?;
+    let err = err.replace(rt.alloc(), "DIR", folder)?;
+    assert_eq!(rt; ended.out.as_str(), out.as_str());
+    assert_eq!(rt; ended.err.as_str(), err.as_str());
+    assert_eq!(rt; ended.status, status);
+    Ok(())
+}
+
+/// Runs `check` on the package `a` in the folder, and compares what it left, as `expect_run`.
 pub fn expect_check<R: Files + AllocGlobal + Abort>(
     rt: &R,
     folder: &str,
@@ -32,12 +55,5 @@ pub fn expect_check<R: Files + AllocGlobal + Abort>(
     out: &str,
     err: &str,
 ) -> Result<(), Fail> {
-    let word = format!(in rt.alloc(); "a={folder}")?;
-    let ended = run_words(rt, ["check", word.as_str()].as_slice())?;
-    let out = out.replace(rt.alloc(), "DIR", folder)?;
-    let err = err.replace(rt.alloc(), "DIR", folder)?;
-    assert_eq!(rt; ended.out.as_str(), out.as_str());
-    assert_eq!(rt; ended.err.as_str(), err.as_str());
-    assert_eq!(rt; ended.status, status);
-    Ok(())
+    expect_run(rt, folder, ["check", "a=DIR"].as_slice(), status, out, err)
 }

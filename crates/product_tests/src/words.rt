@@ -10,7 +10,7 @@ const ROWS: &[Row] = &[
     (&["--help"], 0, "Usage: ctxvet ", ""),
     (&["-h"], 0, "Exit status:", ""),
     (&["help"], 0, "ctxvet check example.org/pool=./pool", ""),
-    (&["check", "--help"], 0, "PATH=DIR", ""),
+    (&["check", "--help"], 0, "<PATH=DIR>...", ""),
     (
         &["help", "check"],
         0,
@@ -20,8 +20,7 @@ const ROWS: &[Row] = &[
     (&["--version"], 0, "ctxvet 0.1.0\n", ""),
     (&["-V"], 0, "ctxvet 0.1.0\n", ""),
     (&[], 2, "", "Usage: ctxvet "),
-    (&["check"], 2, "", "Usage: ctxvet "),
-    (&["check", "a=.", "b=."], 2, "", "Usage: ctxvet "),
+    (&["check"], 2, "", "<PATH=DIR>..."),
     (&["check", "-j", "2", "a=."], 2, "", "Usage: ctxvet "),
     (&["check", "--cert", "c", "a=."], 2, "", "Usage: ctxvet "),
     (&["verify", "--cert", "c", "a=."], 2, "", "Usage: ctxvet "),

@@ -51,8 +51,8 @@ impl Write for Narrow {
 const UNWRITABLE: &[u8] = b"ctxvet: cannot write: standard output\n";
 
 #[test]
-fn writers_fail_and_are_slow(rt: HostRuntime) -> Result<(), Fail> {
-    let folder = new_folder(&rt, "writers")?;
+fn slow_and_short_writers(rt: HostRuntime) -> Result<(), Fail> {
+    let folder = new_folder(&rt, "slow")?;
     let package = format!(in rt.alloc(); "a={folder}")?;
     let check = ["check", package.as_str()];
 
@@ -61,7 +61,23 @@ fn writers_fail_and_are_slow(rt: HostRuntime) -> Result<(), Fail> {
     let mut err = Vec::new(rt.alloc());
     assert_eq!(rt; run(&rt, check.as_slice(), &mut out, &mut err), 0);
     assert_eq!(rt; out.taken.as_slice(), b"yes a\n".as_slice());
-    assert_eq!(rt; err.as_slice(), b"".as_slice());
+    let note = format!(in rt.alloc(); "ctxvet: note: no Go files in {folder}\n")?;
+    assert_eq!(rt; err.as_slice(), note.as_bytes());
+
+    // One that fails after some bytes has these, and is told as a fault.
+    let mut out = Narrow::new(rt.alloc(), 9, 3, true);
+    let mut err = Vec::new(rt.alloc());
+    assert_eq!(rt; run(&rt, check.as_slice(), &mut out, &mut err), 2);
+    assert_eq!(rt; out.taken.as_slice(), b"yes".as_slice());
+    assert_eq!(rt; err.as_slice(), UNWRITABLE);
+    Ok(fs::remove_dir_all(&rt, folder.as_str())?)
+}
+
+#[test]
+fn writers_fail(rt: HostRuntime) -> Result<(), Fail> {
+    let folder = new_folder(&rt, "writers")?;
+    let package = format!(in rt.alloc(); "a={folder}")?;
+    let check = ["check", package.as_str()];
 
     // Standard output fails at once, after some bytes, or where it passes them on.
     for words in [check.as_slice(), ["--help"].as_slice()] {
@@ -73,12 +89,16 @@ fn writers_fail_and_are_slow(rt: HostRuntime) -> Result<(), Fail> {
         }
     }
 
-    // Standard error may fail too.
-    for words in [["check", "a"].as_slice(), ["check"].as_slice()] {
+    // Standard error may fail too. A note that can't be written changes no answer.
+    for (words, status, text) in [
+        (["check", "a"].as_slice(), 2, ""),
+        (["check"].as_slice(), 2, ""),
+        (check.as_slice(), 0, "yes a\n"),
+    ] {
         let mut out = Vec::new(rt.alloc());
         let mut err = Narrow::new(rt.alloc(), 1, 0, false);
-        assert_eq!(rt; run(&rt, words, &mut out, &mut err), 2);
-        assert_eq!(rt; out.as_slice(), b"".as_slice());
+        assert_eq!(rt; run(&rt, words, &mut out, &mut err), status);
+        assert_eq!(rt; out.as_slice(), text.as_bytes());
     }
     Ok(fs::remove_dir_all(&rt, folder.as_str())?)
 }

@@ -1,9 +1,6 @@
 package a
 
-import "context"
-
-func f(p context.Context, jobs int) {
-	ctx, cancel := context.WithCancel(p)
-	defer cancel()
-	use(ctx, jobs)
+func f() {
+	for more() {
+	}
 }

@@ -1,11 +1,8 @@
-/* want LC02 - left out: first path */package a
+package a
 
-import "context"
-
-func f(p context.Context, jobs int) {
-	ctx, cancel := context.WithCancel(p)
-	defer cancel()
-	for jobs {
-		use(ctx)
+func f() {
+again:
+	if more() {
+		/* want LC02 - left out: goto */goto again
 	}
 }

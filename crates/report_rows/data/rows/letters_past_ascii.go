@@ -1,1 +1,1 @@
-/* want LC02 - left out: first path */package é
+package é

@@ -1,4 +1,4 @@
-/* want LC02 - left out: first path */package a
+package a
 
 func f(x T) {
 	if x == (T{}) {

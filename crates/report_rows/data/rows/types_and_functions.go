@@ -1,4 +1,4 @@
-/* want LC02 - left out: first path */package a
+package a
 
 import "context"
 

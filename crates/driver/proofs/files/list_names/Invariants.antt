@@ -1,5 +1,0 @@
-use Rattle.driver.specs.GoFiles.{AreGoNames}
-use Rattle.driver.proofs.files.list_names.Given as goal
-
-abbrev pub invariant-loop-entry : goal.invariant-loop-entry
-invariant-loop-entry g l = AreGoNames l.names.items

@@ -1,0 +1,16 @@
+-- The report of given packages, which are loaded in the order of their paths: its text, and whether each is yes.
+use Rattle.std.specs.Prelude.{List}
+use Rattle.loaded.specs.declared.loaded_package.LoadedPackage.{LoadedPackage as KeptPackage}
+use Rattle.load.specs.declared.packages.GivenPackage.{GivenPackage}
+use Rattle.load.specs.GivenPackages.{IsLoad}
+use Rattle.board.specs.declared.judged.Judged.{Judged}
+use Rattle.board.specs.Reports.{AreReports, IsTold}
+use Rattle.board.specs.declared.reports.Report.{Report}
+
+-- The given packages are loaded in the order of their paths, as their files are read, and it is their report.
+pub record IsReport (given : List GivenPackage) (report : Report) : Type 0 where
+  pub packages : List KeptPackage
+  pub load : IsLoad given packages
+  pub said : List Judged
+  pub are_reports : AreReports load.meant packages said
+  pub told : IsTold said report

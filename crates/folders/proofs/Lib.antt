@@ -1,0 +1,2 @@
+mod GoFiles
+mod Words

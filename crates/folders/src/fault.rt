@@ -1,0 +1,82 @@
+//! What can go wrong outside the judgement.
+
+ghost use Rattle.std.specs.Prelude.{◌≡◌};
+ghost use Rattle.std.specs.IoError.{error_kind};
+
+use std::alloc::{AllocError, AllocFailed};
+use std::io::{self, ErrorKind, Write};
+use thiserror::Error;
+
+/// Why a run of a program ends without what was asked for. Each is told in one line.
+#[derive(Debug, PartialEq, Eq, Drop, Error)]
+pub enum Fault {
+    /// A word of the command line is not UTF-8.
+    #[error("word is not UTF-8")]
+    WordNotText,
+    /// The words are none that the program of this name understands.
+    #[error("wrong words: {0} --help says which there are")]
+    WrongWords(&'static str),
+    /// The word has no `=`, nothing before or after its first one, or a control code before it. Escaped.
+    #[error("bad package: {0}")]
+    BadPackage(String),
+    /// The folder can't be listed, or the file can't be read or is no file. Escaped.
+    #[error("cannot read: {0}")]
+    CannotRead(String),
+    /// The report, or the lines, could not be written.
+    #[error("cannot write: standard output")]
+    CannotWrite,
+    /// Two packages have this path.
+    #[error("two packages of one path: {0}")]
+    TwoPackages(String),
+    /// There are more packages than are read in one run, or a package has too many files.
+    #[error("too many packages")]
+    TooManyPackages,
+    /// Memory was refused.
+    #[error("out of memory")]
+    OutOfMemory,
+}
+
+impl From<AllocError> for Fault {
+    fn from(_error: AllocError) -> Fault {
+        Fault::OutOfMemory
+    }
+}
+
+impl<T: Drop> From<AllocFailed<T>> for Fault {
+    fn from(_error: AllocFailed<T>) -> Fault {
+        Fault::OutOfMemory
+    }
+}
+
+/// The fault of a call to the system on the folder or file of this name.
+pub fn reading(error: &io::Error, name: String) -> Fault {
+    if error.kind() == ErrorKind::OutOfMemory {
+        Fault::OutOfMemory
+    } else {
+        Fault::CannotRead(name)
+    }
+}
+
+/// Why the words of the command line can't be had.
+pub fn words_fault(error: &io::Error) -> Fault
+    ensures { error_kind error.now ≡ ErrorKind.OutOfMemory → result ≡ Fault.OutOfMemory }
+{
+    if error.kind() == ErrorKind::OutOfMemory {
+        Fault::OutOfMemory
+    } else {
+        Fault::WordNotText
+    }
+}
+
+/// The status that a process ends with after a fault.
+pub const FAULTY: u8 = 2;
+
+/// Prints the fault's line, which begins with the program's name, on standard error, and gives the status that the
+/// process ends with. Where that can't be written either, the status is all that is left to say it.
+pub fn fail<E: Write>(err: &mut E, program: &str, fault: &Fault) -> u8
+    ensures { result ≡ FAULTY }
+{
+    let _ = writeln!(err, "{program}: {fault}");
+    let _ = err.flush();
+    FAULTY
+}

@@ -1,0 +1,12 @@
+//! The words `PATH=DIR` of a command line, the Go files of a folder, and what can go wrong outside the judgement.
+#![tactic(auto)]
+
+mod fault;
+mod files;
+mod names;
+mod package;
+
+pub use fault::{Fault, fail, words_fault};
+pub use files::read_folder;
+pub use names::escaped;
+pub use package::split_word;

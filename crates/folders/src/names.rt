@@ -1,0 +1,36 @@
+//! Names that a line can hold.
+
+ghost use Rattle.std.specs.Prelude.{◌↔◌, IsTrue};
+ghost use Rattle.folders.specs.Names.{IsPrintable};
+
+use std::alloc::{AllocError, Global};
+
+/// The first byte that is no control code.
+pub const SPACE: u8 = 0x20;
+
+/// The one control code above the printable bytes of ASCII.
+pub const DELETE: u8 = 0x7f;
+
+/// Whether no byte of the name is a control code, as a newline, which could forge a line of a report.
+pub fn is_printable(name: &[u8]) -> bool
+    ensures { IsTrue result ↔ IsPrintable name.now }
+{
+    name.iter().all(|byte| SPACE <= *byte && *byte != DELETE)
+}
+
+/// The text with its control codes escaped, as `\n` or `\u{1b}`, so that a line can hold it.
+///
+/// # Errors
+///
+/// Memory was refused.
+pub fn escaped(alloc: Global, text: &str) -> Result<String, AllocError> {
+    let mut line = String::new(alloc);
+    for character in text.chars() {
+        if character.is_ascii_control() {
+            write!(line, "{}", character.escape_default())?;
+        } else {
+            line.push(character)?;
+        }
+    }
+    Ok(line)
+}

@@ -1,0 +1,4 @@
+mod FilesLoaded
+mod GivenLists
+mod Unparsed
+pub mod ZippedLists

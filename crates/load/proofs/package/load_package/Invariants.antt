@@ -1,0 +1,7 @@
+use Rattle.std.proofs.Common.{drop}
+use Rattle.load.proofs.FilesLoaded.{LoadsSo}
+use Rattle.load.proofs.package.load_package.Given as goal
+
+-- the files so far, and what is left
+abbrev pub invariant-loop-source : goal.invariant-loop-source
+invariant-loop-source l = LoadsSo l.fn.sources.items (drop l.source-index l.fn.sources.items) l.readings.items l.trees.items

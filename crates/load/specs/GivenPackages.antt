@@ -1,0 +1,88 @@
+-- Packages as they are given, and what is loaded of them: each with its files as they are read, in the order of their
+-- paths, no two of one path.
+use Rattle.std.specs.Prelude.{ℕ, ◌≡◌, Bool, false, true, ◌||◌, List, [], ◌∷◌, ◌++◌, ⊤, map, length, nat_lt, if◌then◌else◌, Option, Some, None, String, Vec, string_bytes, string_cmp, string_eq, IsPermutation, IsSorted}
+use Rattle.std.specs.List.{list_any, AllZip}
+use Rattle.std.specs.declared.alloc.Global.{Global}
+use Rattle.lexer.specs.declared.source.Source.{Source}
+use Rattle.verdicts.specs.Loaded.{LoadedPackage}
+use Rattle.loaded.specs.declared.loaded_package.LoadedPackage.{LoadedPackage as KeptPackage}
+use Rattle.loaded.specs.LoadedViews.{TellsPackage, HaveDistinctPaths}
+use Rattle.load.specs.Readings.{AreReadingsOf, IsLoaded}
+use Rattle.load.specs.declared.packages.GivenPackage.{GivenPackage}
+use Rattle.load.specs.declared.packages.LoadFault.{LoadFault}
+use Rattle.load.specs.declared.packages.LoadFault.TheVariants.{TooMany, TwoPackages, OutOfMemory}
+use Rattle.load.specs.declared.packages.TheConstants.{MOST_PACKAGES, MOST_FILES}
+
+abbrev pub Text : Type 0
+Text = String Global
+
+-- a path, and the files of its package
+abbrev pub PathAndFiles : Type 0
+PathAndFiles = Text × Vec Source Global
+
+abbrev pub path_of : GivenPackage → Text
+path_of g = g.path
+
+abbrev pub entry_of : GivenPackage → PathAndFiles
+entry_of g = (g.path, g.sources)
+
+abbrev pub has_many_files : GivenPackage → Bool
+has_many_files g = nat_lt MOST_FILES (length g.sources.items)
+
+-- more packages, or more files of one package, than are loaded in one run
+abbrev pub has_too_many : List GivenPackage → Bool
+has_too_many given = nat_lt MOST_PACKAGES (length given) || list_any has_many_files given
+
+-- the first of these paths that is one of those before it, where some stand before all of them
+abbrev pub first_repeated : List Text → List Text → Option Text
+first_repeated before [] = None
+first_repeated before (p ∷ ps) =
+    if list_any (string_eq p) before then Some p else first_repeated (before ++ p ∷ []) ps
+
+-- why packages are not loaded
+abbrev pub IsLoadFault : List GivenPackage → LoadFault → Type 0
+IsLoadFault given TooMany = has_too_many given ≡ true
+IsLoadFault given (TwoPackages path) =
+    (has_too_many given ≡ false) × (first_repeated [] (map path_of given) ≡ Some path)
+IsLoadFault given OutOfMemory = ⊤
+
+-- of the package of this path with these files, `p` is what was read, and that is kept
+pub record IsLoadedAs (e : PathAndFiles) (p : LoadedPackage) (kept : KeptPackage) : Type 0 where
+  pub tells : TellsPackage p kept
+  pub is_path : p.path ≡ string_bytes e.0
+  pub are_files : AreReadingsOf e.1.items p.files
+  pub are_sources : kept.sources.items ≡ e.1.items
+
+abbrev pub AreLoaded : List PathAndFiles → List LoadedPackage → List KeptPackage → Type 0
+AreLoaded [] [] [] = ⊤
+AreLoaded (e ∷ es) (p ∷ ps) (k ∷ ks) = IsLoadedAs e p k × AreLoaded es ps ks
+AreLoaded [] [] (k ∷ ks) = ⊥
+AreLoaded [] (p ∷ ps) ks = ⊥
+AreLoaded (e ∷ es) [] ks = ⊥
+AreLoaded (e ∷ es) (p ∷ ps) [] = ⊥
+
+-- what is kept are the packages of these paths and files, in the order of their paths, as their files are read
+pub record IsLoadOf (entries : List PathAndFiles) (kept : List KeptPackage) : Type 0 where
+  pub in_order : List PathAndFiles
+  pub same : IsPermutation entries in_order
+  pub sorted : IsSorted string_cmp (map (λ e. e.0) in_order)
+  pub meant : List LoadedPackage
+  pub are_loaded : AreLoaded in_order meant kept
+  pub distinct : HaveDistinctPaths meant
+
+abbrev pub IsLoad : List GivenPackage → List KeptPackage → Type 0
+IsLoad given = IsLoadOf (map entry_of given)
+
+-- What serves the proofs
+
+abbrev pub IsRepeated : List GivenPackage → LoadFault → Type 0
+IsRepeated given TooMany = ⊥
+IsRepeated given (TwoPackages path) = first_repeated [] (map path_of given) ≡ Some path
+IsRepeated given OutOfMemory = ⊤
+
+-- this is kept of the package
+abbrev pub IsRead : PathAndFiles → KeptPackage → Type 0
+IsRead e kept = IsLoaded (string_bytes e.0) e.1.items kept
+
+abbrev pub AreRead : List PathAndFiles → List KeptPackage → Type 0
+AreRead = AllZip IsRead

@@ -1,0 +1,11 @@
+//! Packages, by the bytes of their files. What a file's bytes are is said in `specs/Readings.antt`, and what is loaded
+//! of given packages in `specs/GivenPackages.antt`.
+#![tactic(auto)]
+
+mod package;
+mod packages;
+mod source;
+
+pub use package::load_package;
+pub use packages::{GivenPackage, LoadFault, load, release};
+pub use source::{Parsed, parse_source};

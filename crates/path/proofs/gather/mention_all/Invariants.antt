@@ -1,9 +1,0 @@
-use Rattle.std.proofs.Common.{◌≡◌, ◌++◌, drop}
-use Rattle.path_tree.specs.View.{expressions_syntax}
-use Rattle.path_meaning.specs.FirstPath.{expressions_mentions}
-use Rattle.path.specs.Gathered.{kept_mentions}
-use Rattle.path.proofs.gather.mention_all.Given as goal
-
-abbrev pub invariant-loop-value : goal.invariant-loop-value
-invariant-loop-value l =
-    kept_mentions l.mentions.items ++ expressions_mentions (expressions_syntax (drop l.value-index l.values)) ≡ kept_mentions l.initial.mentions.items ++ expressions_mentions (expressions_syntax l.values)

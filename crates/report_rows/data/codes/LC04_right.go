@@ -1,0 +1,11 @@
+package a
+
+import "context"
+
+func f(p context.Context) {
+	ctx, cancel := context.WithCancel(p)
+	defer cancel()
+	ctx, cancel = context.WithCancel(ctx)
+	defer cancel()
+	use(ctx)
+}

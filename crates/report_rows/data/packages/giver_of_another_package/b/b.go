@@ -1,0 +1,12 @@
+package b
+
+import (
+	"a"
+	"context"
+)
+
+func f(p context.Context) {
+	ctx, cancel := a.With(p)
+	defer cancel()
+	use(ctx)
+}

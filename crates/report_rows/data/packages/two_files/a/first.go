@@ -1,0 +1,7 @@
+package a
+
+import "context"
+
+func finish(stop context.CancelFunc) {
+	stop()
+}

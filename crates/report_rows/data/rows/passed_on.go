@@ -1,5 +1,0 @@
-/* want LC02 - left out: first path */package a
-
-import "context"
-
-func f(p context.Context) { a, b := context.WithCancel(p); g(b) }

@@ -1,0 +1,7 @@
+package a
+
+func f() {
+	defer func() {
+		/* want LC02 - left out: recover */recover()
+	}()
+}
