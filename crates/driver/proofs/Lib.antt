@@ -1,1 +1,1 @@
-mod Loads
+mod ReadGiven

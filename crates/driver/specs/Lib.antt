@@ -1,4 +1,6 @@
--- What is to be trusted: the report of packages, what is written where the program ends, and its statuses.
-pub mod Reports
+-- What is to be trusted: which packages words name and what is read of them, what is written where the program ends,
+-- with which faults it ends, and its statuses.
+pub mod Packages
+pub mod Faults
 pub mod Statuses
 pub mod WrittenReport

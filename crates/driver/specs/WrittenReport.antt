@@ -1,28 +1,17 @@
 -- What a run of the program has written when it ends, by its status: the whole text of the report on the packages that
--- its words name, and nothing besides; or, where a word asks for help, what the library of the command line writes.
--- Which files a folder has, and their bytes, no contract can say: the sources are any with such names, and the function
--- that judges and prints is held to those that it is given (`WritesReportOf`).
-use Rattle.std.specs.Prelude.{◌≡◌, ◌⊎◌, ⊤, ℕ, Bool, true, false, List, Option, string_bytes}
-use Rattle.std.specs.List.{AllZip}
+-- its words name, and nothing besides; or, where a word asks for help, what the library of the command line writes; and
+-- after a fault nothing, unless the fault is that of writing.
+use Rattle.std.specs.Prelude.{◌≡◌, ◌⊎◌, ℕ, Bool, true, false, List, Option}
 use Rattle.std.specs.Io.KnownBytes.{Appends}
 use Rattle.load.specs.declared.packages.GivenPackage.{GivenPackage}
 use Rattle.command_line.specs.Words.{AsksForHelp, IsCheck}
-use Rattle.folders.specs.GoFiles.{AreSourcesOf}
-use Rattle.folders.specs.Packages.{IsPackageWord}
+use Rattle.folders.specs.declared.fault.Fault.{Fault}
 use Rattle.board.specs.declared.reports.Report.{Report}
-use Rattle.driver.specs.Reports.{IsReport}
+use Rattle.judge.specs.Reports.{IsReport}
+use Rattle.driver.specs.Packages.{AreGiven}
+use Rattle.driver.specs.Faults.{IsRunFault, LeavesUnwritten}
 use Rattle.driver.specs.declared.status.Status.{Status}
 use Rattle.driver.specs.declared.status.Status.TheVariants.{Fine, Found, Faulty}
-
--- the word names the package: its path and a folder, whose Go files are the sources
-pub record IsGiven (word : List ℕ) (given : GivenPackage) : Type 0 where
-  pub folder : List ℕ
-  pub is_package : IsPackageWord word (string_bytes given.path) folder
-  pub are_sources : AreSourcesOf folder given.sources.items
-
--- each word names the package in its place
-abbrev pub AreGiven : List (List ℕ) → List GivenPackage → Type 0
-AreGiven = AllZip IsGiven
 
 -- The report on the given packages was written to a writer that held `old` and holds `new`.
 pub record WritesReportOf (given : List GivenPackage) (yes : Bool) (old new : Option (List ℕ)) : Type 0 where
@@ -43,8 +32,15 @@ pub record ChecksPackages (words : List (List ℕ)) (yes : Bool) (old new : Opti
   pub is_check : IsCheck words packages
   pub report : WritesReport packages yes old new
 
--- what a run with these words has written where it ends with this status
+-- a fault of these words ended the run
+pub record EndsInFault (words : List (List ℕ)) (old new : Option (List ℕ)) : Type 0 where
+  pub fault : Fault
+  pub is_fault : IsRunFault words fault
+  pub unwritten : LeavesUnwritten fault old new
+
+-- What a run with these words has written where it ends with this status. Which words are wrong the library of the
+-- command line says.
 abbrev pub EndsWith : List (List ℕ) → Status → Option (List ℕ) → Option (List ℕ) → Type 0
 EndsWith words Fine old new = AsksForHelp words ⊎ ChecksPackages words true old new
 EndsWith words Found old new = ChecksPackages words false old new
-EndsWith words Faulty old new = ⊤
+EndsWith words Faulty old new = (new ≡ old) ⊎ EndsInFault words old new

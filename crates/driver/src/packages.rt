@@ -1,72 +1,85 @@
 //! The packages that words of the command line name.
 
-ghost use Rattle.std.specs.Prelude.{IfOk};
-ghost use Rattle.std.specs.List.{AllZip};
+ghost use Rattle.std.specs.Prelude.{IfErr, IfOk};
 ghost use Rattle.command_line.specs.Words.{texts_of};
-ghost use Rattle.driver.specs.WrittenReport.{AreGiven, IsGiven};
-ghost use Rattle.folders.specs.Packages.{IsPackageWord};
+ghost use Rattle.driver.specs.Packages.{AreNamed, AreRead, IsNamed, IsRead};
+ghost use Rattle.driver.specs.Faults.{IsWordFault, IsWordsFault};
+ghost use Rattle.folders.specs.ReadFaults.{IsReadFault};
 
 use folders::{Fault, escaped, read_folder, split_word};
 use load::GivenPackage;
 use std::alloc::Global;
 use std::rt::Files;
 
-/// The path and the folder of a word `PATH=DIR`.
-fn parts_of(alloc: Global, word: &str) -> Result<(&str, &str), Fault>
-    ensures { IfOk result (λ parts. IsPackageWord word.now parts.0.now parts.1.now) }
+/// The package that a word `PATH=DIR` names: its import path, and the folder of its files.
+#[derive(Clone, Copy, Debug)]
+pub struct Named<'a> {
+    pub path: &'a str,
+    pub folder: &'a str,
+}
+
+/// The package that a word names.
+fn package_of<'a>(alloc: Global, word: &'a str) -> Result<Named<'a>, Fault>
+    ensures named { IfOk result (IsNamed word.now) }
+    ensures fault { IfErr result (IsWordFault word.now) }
 {
     match split_word(word) {
-        Some(parts) => Ok(parts),
+        Some((path, folder)) => Ok(Named { path, folder }),
         None => Err(Fault::BadPackage(escaped(alloc, word)?)),
     }
 }
 
-/// Looks whether each word is a `PATH=DIR`, before any folder is read.
+/// The packages that these words name, in their order.
 ///
 /// # Errors
 ///
-/// The first that is none, or memory was refused.
-pub fn check_words(alloc: Global, words: &[&str]) -> Result<(), Fault> {
+/// The first word that names none, or memory was refused.
+pub fn all_named<'a>(alloc: Global, words: &[&'a str]) -> Result<Vec<Named<'a>>, Fault>
+    ensures named { IfOk result (λ packages. AreNamed (texts_of words.now) packages.items) }
+    ensures fault { IfErr result (IsWordsFault (texts_of words.now)) }
+{
+    let mut packages = Vec::new(alloc);
     for word in words {
-        parts_of(alloc, word)?;
+        packages.push(package_of(alloc, word)?)?;
     }
-    Ok(())
+    Ok(packages)
 }
 
-/// The package that a word names. Its folder is kept where it has no Go file.
+/// The package with the Go files of its folder. The folder is kept where it has none.
 fn read_package<'a, R: Files + AllocGlobal>(
     rt: &R,
-    word: &'a str,
+    one: Named<'a>,
     empty: &mut Vec<&'a str>,
 ) -> Result<GivenPackage, Fault>
-    ensures { IfOk result (IsGiven word.now) }
+    ensures read { IfOk result (IsRead one.entry) }
+    ensures fault { IfErr result IsReadFault }
 {
-    let (path, folder) = parts_of(rt.alloc(), word)?;
-    let sources = read_folder(rt, folder)?;
+    let sources = read_folder(rt, one.folder)?;
     if sources.is_empty() {
-        empty.push(folder)?;
+        empty.push(one.folder)?;
     }
     Ok(GivenPackage {
-        path: String::from_str(rt.alloc(), path)?,
+        path: String::from_str(rt.alloc(), one.path)?,
         sources,
     })
 }
 
-/// The packages that these words name, in their order. Folders that have no Go file are kept.
+/// The packages with the Go files of their folders, in their order. Folders that have no Go file are kept.
 ///
 /// # Errors
 ///
 /// The first folder that can't be listed or file that can't be read, or memory was refused.
 pub fn read_packages<'a, R: Files + AllocGlobal>(
     rt: &R,
-    words: &[&'a str],
+    packages: &[Named<'a>],
     empty: &mut Vec<&'a str>,
 ) -> Result<Vec<GivenPackage>, Fault>
-    ensures { IfOk result (λ given. AreGiven (texts_of words.now) given.items) }
+    ensures read { IfOk result (λ given. AreRead packages.now given.items) }
+    ensures fault { IfErr result IsReadFault }
 {
     let mut given = Vec::new(rt.alloc());
-    for word in words {
-        given.push(read_package(rt, word, empty)?)?;
+    for one in packages {
+        given.push(read_package(rt, *one, empty)?)?;
     }
     Ok(given)
 }

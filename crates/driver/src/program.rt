@@ -1,12 +1,13 @@
 //! The whole program, over two writers.
 
-ghost use Rattle.std.specs.Prelude.{◌≡◌, Bool, IfOk, OnOk, map};
+ghost use Rattle.std.specs.Prelude.{◌≡◌, ◌⊎◌, Bool, IfErr, IfOk, OnOk, map};
 ghost use Rattle.std.specs.Io.KnownBytes.{Appends};
 ghost use Rattle.command_line.specs.Words.{texts_of};
+ghost use Rattle.driver.specs.Faults.{IsCheckFault, IsReportFault, IsRunFault, LeavesUnwritten};
 ghost use Rattle.driver.specs.Statuses.{status_code, status_of};
 ghost use Rattle.driver.specs.WrittenReport.{EndsWith, WritesReport, WritesReportOf};
 
-use crate::packages::{check_words, read_packages};
+use crate::packages::{all_named, read_packages};
 use crate::reports::report_of;
 use crate::status::Status;
 use command_line::{Asked, read_words};
@@ -38,7 +39,7 @@ pub fn run<R: Files + AllocGlobal, S: AsStr, W: Write, E: Write>(
     }
 }
 
-/// The status that the name of the program's faults has, for those that its `main` meets.
+/// Prints the line of a fault that `main` meets before it runs the program, and gives the status to end with.
 pub fn refuse<E: Write>(err: &mut E, fault: &Fault) -> u8
     ensures { result ≡ 2 }
 {
@@ -52,8 +53,10 @@ fn answer<R: Files + AllocGlobal, S: AsStr, W: Write, E: Write>(
     out: &mut W,
     err: &mut E,
 ) -> Result<Status, Fault>
-    ensures { IfOk result (λ status.
+    ensures written { IfOk result (λ status.
         EndsWith (map S.text words.now) status (W.contents out.old) (W.contents out.new)) }
+    ensures fault { IfErr result (IsRunFault (map S.text words.now)) }
+    ensures unwritten { IfErr result (λ fault. LeavesUnwritten fault (W.contents out.old) (W.contents out.new)) }
 {
     match read_words(rt.alloc(), words)? {
         Asked::Packages(packages) => check(rt, &packages, out, err),
@@ -78,12 +81,14 @@ fn check<R: Files + AllocGlobal, W: Write, E: Write>(
     out: &mut W,
     err: &mut E,
 ) -> Result<Status, Fault>
-    ensures { IfOk result (λ status. (yes : Bool) × (status ≡ status_of yes)
+    ensures written { IfOk result (λ status. (yes : Bool) × (status ≡ status_of yes)
         × WritesReport (texts_of words.now) yes (W.contents out.old) (W.contents out.new)) }
+    ensures fault { IfErr result (IsCheckFault (texts_of words.now)) }
+    ensures unwritten { IfErr result (λ fault. LeavesUnwritten fault (W.contents out.old) (W.contents out.new)) }
 {
-    check_words(rt.alloc(), words)?;
+    let packages = all_named(rt.alloc(), words)?;
     let mut empty = Vec::new(rt.alloc());
-    let given = read_packages(rt, words, &mut empty)?;
+    let given = read_packages(rt, &packages, &mut empty)?;
     let status = report(rt.alloc(), given, out)?;
     note_empty(&empty, err);
     Ok(status)
@@ -99,8 +104,10 @@ fn note_empty<E: Write>(folders: &[&str], err: &mut E) {
 
 /// Judges these packages, and prints their report.
 fn report<W: Write>(alloc: Global, given: Vec<GivenPackage>, out: &mut W) -> Result<Status, Fault>
-    ensures { IfOk result (λ status. (yes : Bool) × (status ≡ status_of yes)
+    ensures written { IfOk result (λ status. (yes : Bool) × (status ≡ status_of yes)
         × WritesReportOf given.items yes (W.contents out.old) (W.contents out.new)) }
+    ensures fault { IfErr result (λ fault. (fault ≡ Fault.CannotWrite) ⊎ IsReportFault given.items fault) }
+    ensures unwritten { IfErr result (λ fault. LeavesUnwritten fault (W.contents out.old) (W.contents out.new)) }
 {
     let report = report_of(alloc, given)?;
     print(out, &report.text)?;
@@ -109,7 +116,8 @@ fn report<W: Write>(alloc: Global, given: Vec<GivenPackage>, out: &mut W) -> Res
 
 /// Writes the text to its end. After a fault a beginning of it may have been written.
 fn print<W: Write>(out: &mut W, text: &[u8]) -> Result<(), Fault>
-    ensures { OnOk result (Appends (W.contents out.old) (W.contents out.new) text.now) }
+    ensures written { OnOk result (Appends (W.contents out.old) (W.contents out.new) text.now) }
+    ensures fault { IfErr result (λ fault. fault ≡ Fault.CannotWrite) }
 {
     if out.write_all(text).is_err() || out.flush().is_err() {
         return Err(Fault::CannotWrite);

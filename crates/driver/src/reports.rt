@@ -1,43 +1,37 @@
-//! The report of packages.
+//! The report of given packages, with the faults that the program tells.
 
-ghost use Rattle.std.specs.Prelude.{IfOk};
-ghost use Rattle.board.specs.Reports.{TellsReport};
-ghost use Rattle.driver.specs.Reports.{IsReport};
+ghost use Rattle.std.specs.Prelude.{◌≡◌, IfErr, IfOk};
+ghost use Rattle.driver.specs.Faults.{told_fault, IsReportFault};
+ghost use Rattle.judge.specs.Reports.{IsReport};
 
-use board::{Report, whole_report};
+use board::Report;
 use folders::Fault;
-use load::{GivenPackage, LoadFault, load, release};
-use loaded::LoadedPackage;
-use std::alloc::{AllocError, Global};
+use load::{GivenPackage, LoadFault};
+use std::alloc::Global;
 
-/// The report of packages of different paths, which are let go.
-fn report_loaded(alloc: Global, packages: Vec<LoadedPackage>) -> Result<Report, AllocError>
-    ensures { IfOk result (TellsReport packages.items) }
+/// Why packages are not loaded, as the program tells it.
+fn told_fault(fault: LoadFault) -> Fault
+    ensures { result ≡ told_fault fault }
 {
-    let told = whole_report(alloc, &packages);
-    release(packages);
-    told
+    match fault {
+        LoadFault::TooMany => Fault::TooManyPackages,
+        LoadFault::TwoPackages(path) => Fault::TwoPackages(path),
+        LoadFault::OutOfMemory => Fault::OutOfMemory,
+    }
 }
 
 /// The report of these packages, in the order of their paths.
 ///
 /// # Errors
 ///
-/// There are too many packages, or files of one; two packages have one path; or memory was refused.
+/// There are more than 10,000 packages, or more than 4,294,967,295 files of one; two packages have one path; or memory
+/// was refused.
 pub fn report_of(alloc: Global, given: Vec<GivenPackage>) -> Result<Report, Fault>
-    ensures { IfOk result (IsReport given.items) }
+    ensures report { IfOk result (IsReport given.items) }
+    ensures fault { IfErr result (IsReportFault given.items) }
 {
-    match load(alloc, given) {
-        Ok(packages) => Ok(report_loaded(alloc, packages)?),
-        Err(fault) => Err(load_fault(fault)),
-    }
-}
-
-/// Why packages are not loaded, as the program tells it.
-fn load_fault(fault: LoadFault) -> Fault {
-    match fault {
-        LoadFault::TooMany => Fault::TooManyPackages,
-        LoadFault::TwoPackages(path) => Fault::TwoPackages(path),
-        LoadFault::OutOfMemory => Fault::OutOfMemory,
+    match judge::report_of(alloc, given) {
+        Ok(report) => Ok(report),
+        Err(fault) => Err(told_fault(fault)),
     }
 }

@@ -1,4 +1,5 @@
--- To be trusted: which words name a package, and which files of a folder are its sources.
+-- To be trusted: which words name a package, which files of a folder are its sources, and what can go wrong there.
 pub mod Names
 pub mod Packages
 pub mod GoFiles
+pub mod ReadFaults

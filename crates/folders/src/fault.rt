@@ -1,6 +1,6 @@
 //! What can go wrong outside the judgement.
 
-ghost use Rattle.std.specs.Prelude.{◌≡◌};
+ghost use Rattle.std.specs.Prelude.{◌≡◌, ◌≢◌};
 ghost use Rattle.std.specs.IoError.{error_kind};
 
 use std::alloc::{AllocError, AllocFailed};
@@ -37,19 +37,30 @@ pub enum Fault {
 }
 
 impl From<AllocError> for Fault {
+    ghost use Rattle.folders.specs.declared.fault.Fault.TheVariants.{OutOfMemory};
+
+    ghost from_gives = { λ _ fault. fault ≡ OutOfMemory };
+
     fn from(_error: AllocError) -> Fault {
         Fault::OutOfMemory
     }
 }
 
 impl<T: Drop> From<AllocFailed<T>> for Fault {
+    ghost use Rattle.folders.specs.declared.fault.Fault.TheVariants.{OutOfMemory};
+
+    ghost from_gives = { λ _ fault. fault ≡ OutOfMemory };
+
     fn from(_error: AllocFailed<T>) -> Fault {
         Fault::OutOfMemory
     }
 }
 
 /// The fault of a call to the system on the folder or file of this name.
-pub fn reading(error: &io::Error, name: String) -> Fault {
+pub fn reading(error: &io::Error, name: String) -> Fault
+    ensures memory { error_kind error.now ≡ ErrorKind.OutOfMemory → result ≡ Fault.OutOfMemory }
+    ensures other { error_kind error.now ≢ ErrorKind.OutOfMemory → result ≡ Fault.CannotRead name }
+{
     if error.kind() == ErrorKind::OutOfMemory {
         Fault::OutOfMemory
     } else {
@@ -59,7 +70,8 @@ pub fn reading(error: &io::Error, name: String) -> Fault {
 
 /// Why the words of the command line can't be had.
 pub fn words_fault(error: &io::Error) -> Fault
-    ensures { error_kind error.now ≡ ErrorKind.OutOfMemory → result ≡ Fault.OutOfMemory }
+    ensures memory { error_kind error.now ≡ ErrorKind.OutOfMemory → result ≡ Fault.OutOfMemory }
+    ensures other { error_kind error.now ≢ ErrorKind.OutOfMemory → result ≡ Fault.WordNotText }
 {
     if error.kind() == ErrorKind::OutOfMemory {
         Fault::OutOfMemory

@@ -1,8 +1,9 @@
 //! The Go files of a folder.
 
-ghost use Rattle.std.specs.Prelude.{◌≡◌, ◌++◌, OnOk, option_to_list, IfOk, IfSome, IsSorted, string_bytes, string_cmp};
+ghost use Rattle.std.specs.Prelude.{◌≡◌, ◌++◌, OnOk, option_to_list, IfErr, IfOk, IfSome, IsSorted, string_bytes, string_cmp};
 ghost use Rattle.folders.specs.GoFiles.{is_go_file, slash_after, source_name, AreGoNames, AreSourcesOf};
 ghost use Rattle.folders.specs.Names.{IsPrintable};
+ghost use Rattle.folders.specs.ReadFaults.{IsReadFault};
 
 use crate::fault::{self, Fault};
 use crate::names::{escaped, is_printable};
@@ -52,7 +53,8 @@ fn slash_after(folder: &str) -> &'static str
 ///
 /// The folder can't be listed, a file can't be read, or memory was refused.
 pub fn read_folder<R: Files + AllocGlobal>(rt: &R, folder: &str) -> Result<Vec<Source>, Fault>
-    ensures { IfOk result (λ sources. AreSourcesOf folder.now sources.items) }
+    ensures sources { IfOk result (λ sources. AreSourcesOf folder.now sources.items) }
+    ensures fault { IfErr result IsReadFault }
 {
     let names = go_names(rt, folder)?;
     let mut sources = Vec::new(rt.alloc());
@@ -78,6 +80,7 @@ fn go_names<R: Files + AllocGlobal>(rt: &R, folder: &str) -> Result<Vec<String>,
     ensures sorted { IfOk result (λ names. IsSorted string_cmp names.items) }
     ensures go { IfOk result (λ names. AreGoNames names.items) }
     ensures folder { IfOk result (λ _. IsPrintable folder.now) }
+    ensures fault { IfErr result IsReadFault }
 {
     match list_names(rt, folder) {
         Ok(mut names) => {
@@ -128,7 +131,8 @@ fn keep_name(names: &mut Vec<String>, alloc: Global, name: &[u8]) -> io::Result<
 
 /// The file of this name, or `None` where it is a folder.
 fn read_source<R: Files + AllocGlobal>(rt: &R, name: String) -> Result<Option<Source>, Fault>
-    ensures { IfOk result (λ read. IfSome read (λ source. source.name ≡ name)) }
+    ensures source { IfOk result (λ read. IfSome read (λ source. source.name ≡ name)) }
+    ensures fault { IfErr result IsReadFault }
 {
     match read_bytes(rt, name.as_str()) {
         Ok(Some(bytes)) => Ok(Some(Source { name, bytes })),

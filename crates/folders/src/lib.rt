@@ -8,5 +8,5 @@ mod package;
 
 pub use fault::{Fault, fail, words_fault};
 pub use files::read_folder;
-pub use names::escaped;
+pub use names::{escaped, push_escaped};
 pub use package::split_word;

@@ -18,13 +18,12 @@ pub fn is_printable(name: &[u8]) -> bool
     name.iter().all(|byte| SPACE <= *byte && *byte != DELETE)
 }
 
-/// The text with its control codes escaped, as `\n` or `\u{1b}`, so that a line can hold it.
+/// Adds a text with its control codes escaped, as `\n` or `\u{1b}`, so that a line can hold it.
 ///
 /// # Errors
 ///
 /// Memory was refused.
-pub fn escaped(alloc: Global, text: &str) -> Result<String, AllocError> {
-    let mut line = String::new(alloc);
+pub fn push_escaped(line: &mut String, text: &str) -> Result<(), AllocError> {
     for character in text.chars() {
         if character.is_ascii_control() {
             write!(line, "{}", character.escape_default())?;
@@ -32,5 +31,16 @@ pub fn escaped(alloc: Global, text: &str) -> Result<String, AllocError> {
             line.push(character)?;
         }
     }
+    Ok(())
+}
+
+/// The text with its control codes escaped.
+///
+/// # Errors
+///
+/// Memory was refused.
+pub fn escaped(alloc: Global, text: &str) -> Result<String, AllocError> {
+    let mut line = String::new(alloc);
+    push_escaped(&mut line, text)?;
     Ok(line)
 }

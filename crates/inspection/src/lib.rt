@@ -5,19 +5,13 @@
 mod body_lines;
 mod event_lines;
 mod files;
-mod lines;
-mod nodes;
 mod packages;
 mod parsed;
 mod program;
 mod text_fault;
-mod token_lines;
-mod tree_lines;
 mod use_fault_lines;
 
 pub use event_lines::text_of_events;
 pub use folders::{Fault, words_fault};
 pub use packages::Package;
 pub use program::{refuse, run};
-pub use token_lines::text_of_tokens;
-pub use tree_lines::text_of_tree;

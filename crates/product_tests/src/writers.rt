@@ -5,6 +5,8 @@ use driver::run;
 use std::alloc::Global;
 use std::fs;
 use std::io::{self, ErrorKind, Write};
+use std::process::Abort;
+use std::rt::Files;
 use std::test::Fail;
 
 /// Keeps what it takes: at most `step` bytes at a call and `room` bytes in all, and then it fails. It
@@ -73,32 +75,42 @@ fn slow_and_short_writers(rt: HostRuntime) -> Result<(), Fail> {
     Ok(fs::remove_dir_all(&rt, folder.as_str())?)
 }
 
+/// Runs the program with these words while standard output fails: at once, after some bytes, or in passing them on.
+fn expect_unwritable<R: Files + AllocGlobal + Abort>(rt: &R, words: &[&str]) -> Result<(), Fail> {
+    for (room, passes) in [(0, true), (3, true), (9999, false)] {
+        let mut out = Narrow::new(rt.alloc(), 9999, room, passes);
+        let mut err = Vec::new(rt.alloc());
+        assert_eq!(rt; run(rt, words, &mut out, &mut err), 2);
+        assert_eq!(rt; err.as_slice(), UNWRITABLE);
+    }
+    Ok(())
+}
+
+/// Runs the program with these words while standard error fails.
+fn expect_untold<R: Files + AllocGlobal + Abort>(
+    rt: &R,
+    words: &[&str],
+    status: u8,
+    text: &str,
+) -> Result<(), Fail> {
+    let mut out = Vec::new(rt.alloc());
+    let mut err = Narrow::new(rt.alloc(), 1, 0, false);
+    assert_eq!(rt; run(rt, words, &mut out, &mut err), status);
+    assert_eq!(rt; out.as_slice(), text.as_bytes());
+    Ok(())
+}
+
 #[test]
 fn writers_fail(rt: HostRuntime) -> Result<(), Fail> {
     let folder = new_folder(&rt, "writers")?;
     let package = format!(in rt.alloc(); "a={folder}")?;
     let check = ["check", package.as_str()];
+    expect_unwritable(&rt, check.as_slice())?;
+    expect_unwritable(&rt, ["--help"].as_slice())?;
 
-    // Standard output fails at once, after some bytes, or where it passes them on.
-    for words in [check.as_slice(), ["--help"].as_slice()] {
-        for (room, passes) in [(0, true), (3, true), (9999, false)] {
-            let mut out = Narrow::new(rt.alloc(), 9999, room, passes);
-            let mut err = Vec::new(rt.alloc());
-            assert_eq!(rt; run(&rt, words, &mut out, &mut err), 2);
-            assert_eq!(rt; err.as_slice(), UNWRITABLE);
-        }
-    }
-
-    // Standard error may fail too. A note that can't be written changes no answer.
-    for (words, status, text) in [
-        (["check", "a"].as_slice(), 2, ""),
-        (["check"].as_slice(), 2, ""),
-        (check.as_slice(), 0, "yes a\n"),
-    ] {
-        let mut out = Vec::new(rt.alloc());
-        let mut err = Narrow::new(rt.alloc(), 1, 0, false);
-        assert_eq!(rt; run(&rt, words, &mut out, &mut err), status);
-        assert_eq!(rt; out.as_slice(), text.as_bytes());
-    }
+    // A note that can't be written changes no answer.
+    expect_untold(&rt, ["check", "a"].as_slice(), 2, "")?;
+    expect_untold(&rt, ["check"].as_slice(), 2, "")?;
+    expect_untold(&rt, check.as_slice(), 0, "yes a\n")?;
     Ok(fs::remove_dir_all(&rt, folder.as_str())?)
 }

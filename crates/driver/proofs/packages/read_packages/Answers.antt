@@ -1,13 +1,12 @@
-use Rattle.std.proofs.Common.{ap, drop}
+use Rattle.std.proofs.Common.{drop}
 use Rattle.std.proofs.lemmas.List.{drop_all}
-use Rattle.command_line.specs.Words.{texts_of}
-use Rattle.driver.specs.WrittenReport.{IsGiven}
+use Rattle.driver.specs.Packages.{IsRead}
 use Rattle.load.proofs.ZippedLists.{zips_all}
 use Rattle.driver.proofs.packages.read_packages.Goals as goal
 
-pub returns : goal.returns
-returns g c =
-    let words = c.args.words.now in
-    let at = c.loop-word.word-index in
-    zips_all IsGiven (texts_of words) (texts_of (drop at words)) c.loop-word.given.items
-    (ap texts_of (drop_all at words c.loop-word-test.false)) c.loop-word.invariant
+pub returns-clause-read : goal.returns-clause-read
+returns-clause-read g c =
+    let packages = c.args.packages.now in
+    let at = c.loop-one.one-index in
+    zips_all IsRead packages (drop at packages) c.loop-one.given.items
+    (drop_all at packages c.loop-one-test.false) c.loop-one.invariant

@@ -1,8 +1,27 @@
+use Rattle.std.proofs.Common.{subst}
+use Rattle.command_line.specs.Words.{texts_of}
+use Rattle.driver.specs.Faults.{IsCheckFault}
+use Rattle.driver.specs.Packages.{AreGiven, AreRead}
+use Rattle.driver.proofs.ReadGiven.{handed_on, of_judging, of_reading}
 use Rattle.driver.proofs.program.check.Goals as goal
 
-pub returns : goal.returns
-returns g c = (
-  c.in_ok-status.ensures.0,
-  c.in_ok-status.ensures.1,
-  record { given = c.in_ok-given.given.items; are_given = c.in_ok-given.ensures; told = c.in_ok-status.ensures.2 },
-)
+pub returns-in_err-given-clause-fault : goal.returns-in_err-given-clause-fault
+returns-in_err-given-clause-fault g c =
+    let words = texts_of c.args.words.now in
+    let fault = c.in_err-given.field-0.0 in
+    handed_on c.from_residual-in_err-given.result fault (IsCheckFault words) c.from_residual-in_err-given.ensures.1
+    (of_reading words c.in_ok-packages.packages.items fault c.in_ok-packages.ensures.named c.in_err-given.ensures.fault)
+
+pub returns-in_err-status-clause-fault : goal.returns-in_err-status-clause-fault
+returns-in_err-status-clause-fault g c =
+    let words = texts_of c.args.words.now in
+    let given = c.in_ok-given.given.items in
+    let fault = c.in_err-status.field-0.0 in
+    let are : AreGiven words given
+    = record {
+      packages = c.in_ok-packages.packages.items;
+      are_named = c.in_ok-packages.ensures.named;
+      are_read = subst (λ packages. AreRead packages given) c.deref.ensures.value c.in_ok-given.ensures.read;
+    } in
+    handed_on c.from_residual-in_err-status.result fault (IsCheckFault words) c.from_residual-in_err-status.ensures.1
+    (of_judging words given fault are c.in_err-status.ensures.fault)

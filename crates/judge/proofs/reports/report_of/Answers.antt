@@ -1,5 +1,5 @@
-use Rattle.driver.proofs.Loads.{is_report}
-use Rattle.driver.proofs.reports.report_of.Goals as goal
+use Rattle.judge.proofs.Loads.{is_report}
+use Rattle.judge.proofs.reports.report_of.Goals as goal
 
 pub returns-in_ok-report_loaded-in-Ok : goal.returns-in_ok-report_loaded-in-Ok
 returns-in_ok-report_loaded-in-Ok c =

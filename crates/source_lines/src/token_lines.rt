@@ -1,6 +1,6 @@
 //! The text of a file's tokens.
 
-use crate::lines::push_escaped;
+use folders::push_escaped;
 use lexer::Token;
 use std::alloc::{AllocError, Global};
 

@@ -8,7 +8,7 @@ use Rattle.load.specs.declared.packages.GivenPackage.{GivenPackage}
 use Rattle.load.specs.GivenPackages.{PathAndFiles, AreLoaded, IsLoad}
 use Rattle.board.specs.declared.reports.Report.{Report}
 use Rattle.board.specs.Reports.{TellsReport}
-use Rattle.driver.specs.Reports.{IsReport}
+use Rattle.judge.specs.Reports.{IsReport}
 
 are_as_many : (es : List PathAndFiles) (ps : List LoadedPackage) (ks : List KeptPackage) → AreLoaded es ps ks
     → length ps ≡ length ks

@@ -1,6 +1,6 @@
 use Rattle.std.proofs.Common.{IfOk, subst}
 use Rattle.board.specs.Reports.{TellsReport}
-use Rattle.driver.proofs.reports.report_loaded.Goals as goal
+use Rattle.judge.proofs.reports.report_loaded.Goals as goal
 
 pub returns : goal.returns
 returns c =

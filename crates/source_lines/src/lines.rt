@@ -1,5 +1,6 @@
 //! The lines of a tree's text, as they grow.
 
+use folders::push_escaped;
 use std::alloc::{AllocError, Global};
 use tree::{BasicLitKind, BinaryOperator, ChanDirection, DeclKeyword, Span, UnaryOperator};
 
@@ -144,20 +145,4 @@ fn begin(text: &mut String, slot: Slot) -> Result<(), AllocError> {
 fn push_word(text: &mut String, word: &str) -> Result<(), AllocError> {
     text.push(' ')?;
     push_escaped(text, word)
-}
-
-/// Adds a text with its control codes escaped, as `\n` or `\u{1b}`, so that a line can hold it.
-///
-/// # Errors
-///
-/// Memory was refused.
-pub fn push_escaped(line: &mut String, text: &str) -> Result<(), AllocError> {
-    for character in text.chars() {
-        if character.is_ascii_control() {
-            write!(line, "{}", character.escape_default())?;
-        } else {
-            line.push(character)?;
-        }
-    }
-    Ok(())
 }

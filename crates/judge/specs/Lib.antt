@@ -1,0 +1,2 @@
+-- For a reader of the contracts: the report of given packages.
+pub mod Reports

@@ -1,0 +1,7 @@
+//! Judges packages that are given by the bytes of their files: loads them, and tells what is to be said of them. What
+//! the report of given packages is says `specs/Reports.antt`.
+#![tactic(auto)]
+
+mod reports;
+
+pub use reports::report_of;
