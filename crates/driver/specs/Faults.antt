@@ -25,27 +25,22 @@ abbrev pub HasBadWord : List (List ℕ) → Type 0
 HasBadWord [] = ⊥
 HasBadWord (w ∷ ws) = NamesNone w ⊎ (NamesOne w × HasBadWord ws)
 
--- the fault of a word that should name a package
-abbrev pub IsWordFault : List ℕ → Fault → Type 0
-IsWordFault word WordNotText = ⊥
-IsWordFault word (WrongWords which) = ⊥
-IsWordFault word (BadPackage text) = NamesNone word
-IsWordFault word (CannotRead name) = ⊥
-IsWordFault word CannotWrite = ⊥
-IsWordFault word (TwoPackages path) = ⊥
-IsWordFault word TooManyPackages = ⊥
-IsWordFault word OutOfMemory = ⊤
+-- the fault of words that should name packages, where this says that one does not
+abbrev pub IsFaultWhere : Type 0 → Fault → Type 0
+IsFaultWhere is_bad WordNotText = ⊥
+IsFaultWhere is_bad (WrongWords which) = ⊥
+IsFaultWhere is_bad (BadPackage text) = is_bad
+IsFaultWhere is_bad (CannotRead name) = ⊥
+IsFaultWhere is_bad CannotWrite = ⊥
+IsFaultWhere is_bad (TwoPackages path) = ⊥
+IsFaultWhere is_bad TooManyPackages = ⊥
+IsFaultWhere is_bad OutOfMemory = ⊤
 
--- the fault of words that should name packages
+abbrev pub IsWordFault : List ℕ → Fault → Type 0
+IsWordFault word = IsFaultWhere (NamesNone word)
+
 abbrev pub IsWordsFault : List (List ℕ) → Fault → Type 0
-IsWordsFault words WordNotText = ⊥
-IsWordsFault words (WrongWords which) = ⊥
-IsWordsFault words (BadPackage text) = HasBadWord words
-IsWordsFault words (CannotRead name) = ⊥
-IsWordsFault words CannotWrite = ⊥
-IsWordsFault words (TwoPackages path) = ⊥
-IsWordsFault words TooManyPackages = ⊥
-IsWordsFault words OutOfMemory = ⊤
+IsWordsFault words = IsFaultWhere (HasBadWord words)
 
 -- the fault of packages that should be judged
 abbrev pub IsReportFault : List GivenPackage → Fault → Type 0
