@@ -1,9 +1,9 @@
 -- Packages that are loaded are kept as they are meant.
-use Rattle.std.proofs.Common.{◌≡◌, ℕ, zero, suc, List, [], ◌∷◌, length, Option, Some, None, refl, ap, subst}
+use Rattle.std.proofs.Common.{◌≡◌, ℕ, zero, suc, List, [], ◌∷◌, length, Some, refl, ap, subst}
 use Rattle.std.specs.Prelude.{slice_get}
 use Rattle.verdicts.specs.Loaded.{LoadedPackage}
 use Rattle.loaded.specs.declared.loaded_package.LoadedPackage.{LoadedPackage as KeptPackage}
-use Rattle.loaded.specs.LoadedViews.{TellsPackage, TellPackages}
+use Rattle.loaded.specs.LoadedViews.{TellsPackage}
 use Rattle.load.specs.declared.packages.GivenPackage.{GivenPackage}
 use Rattle.load.specs.GivenPackages.{PathAndFiles, AreLoaded, IsLoad}
 use Rattle.board.specs.declared.reports.Report.{Report}

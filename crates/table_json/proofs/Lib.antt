@@ -1,0 +1,5 @@
+mod Arranged
+mod Readings
+mod TableLaws
+mod ValueParts
+mod Writing

@@ -1,0 +1,220 @@
+-- Lists, functions and tables, from what is found in their values.
+use Rattle.std.proofs.Common.{◌≡◌, ℕ, List, [], ◌∷◌, ◌++◌, Option, Some, None, Result, IfErr, map, get_or, length, ◌<◌, zero, suc, refl, sym, ap, subst, ◌∙◌, arith}
+use Rattle.std.proofs.lemmas.Cmp.{nat_cmp_total, nat_list_cmp_total}
+use Rattle.std.proofs.lemmas.List.{append-nil}
+use Rattle.std.proofs.lemmas.Result.{err_from_is_err_and}
+use Rattle.std.specs.List.{AllZip}
+use Rattle.std.specs.Ordering.{nat_cmp}
+use Rattle.std.specs.Result.{IsErrAnd}
+use Rattle.serde_json.specs.Data.{Data, Items}
+use Rattle.serde_json.specs.View.{items_of}
+use Rattle.table_json.specs.declared.fault.TableFault.{TableFault}
+use Rattle.table_json.specs.declared.fault.TableFault.TheVariants.{NotJson, WrongVersion, WrongShape, OutOfMemory}
+use Rattle.table_json.specs.Parts.{all_of, function_in, functions_in, parameter_in, position_in, Refuses}
+use Rattle.table_json.specs.Tables.{Entry, by_bytes, itself, name_of, position_of, IsArranged}
+use Rattle.table_json.specs.TableTexts.{version_of}
+use Rattle.table_json.specs.TableValues.{whole, parameter_value, function_with, AreValuesOf, IsFunctionValue, IsTableValue}
+use Rattle.table_json.proofs.Arranged.{one_arrangement}
+use Rattle.table_json.proofs.ValueParts.{Finds, finds_positions, finds_parameters, of_all, all_there, of_function, function_there, of_functions, functions_there, same_items, some_same}
+
+-- Nothing is read
+
+-- what is read of a whole is read of its part, so a part that is refused refuses the whole
+pub refuses_so : {A B : Type 0} (P : A → Type 0) (Q : B → Type 0) → ((b : B) → Q b → (a : A) × P a)
+    → (fault : TableFault)
+    → Refuses P fault
+    → Refuses Q fault
+refuses_so P Q part NotJson h = h
+refuses_so P Q part WrongVersion h = h
+refuses_so P Q part WrongShape h = λ b q. let p = part b q in h p.0 p.1
+refuses_so P Q part OutOfMemory h = tt
+
+-- a fault that `?` hands on as it is
+pub handed_on : {T : Type 0} (r : Result T TableFault) (fault : TableFault) (P : TableFault → Type 0)
+    → IsErrAnd r (λ told. told ≡ fault)
+    → P fault
+    → IfErr r P
+handed_on r fault P h holds =
+    let told = err_from_is_err_and r h in subst (λ x. IfErr x P) (sym told.1) (subst P (sym told.2) holds)
+
+-- The values of a list
+
+module _ {A : Type 0} (value_of : A → Data) (position : A → ℕ) (find : Data → Option A) (finds : Finds value_of position find) where
+  pub is_kept : (values : List Data) (given kept : List A) → all_of find values ≡ Some given
+      → IsArranged nat_cmp position given kept
+      → AreValuesOf value_of position values kept
+  is_kept values given kept e arranged =
+      let h = of_all value_of position find finds values given e in
+      record { given = given; are_values = h.0; fit = h.1; arranged = arranged }
+
+  all_found : (values : List Data) (kept : List A) (h : AreValuesOf value_of position values kept)
+      → all_of find values ≡ Some h.given
+  all_found values kept h = ap (all_of find) h.are_values ∙ all_there value_of position find finds h.given h.fit
+
+  pub given_there : (values : List Data) (kept : List A) → AreValuesOf value_of position values kept
+      → (given : List A) × (all_of find values ≡ Some given)
+  given_there values kept h = (h.given, all_found values kept h)
+
+  pub not_kept : (values : List Data) (given : List A) → all_of find values ≡ Some given
+      → ((other : List A) → ¬ IsArranged nat_cmp position given other)
+      → (kept : List A)
+      → ¬ AreValuesOf value_of position values kept
+  not_kept values given e none kept h =
+      let same = some_same h.given given (sym (all_found values kept h) ∙ e) in
+      none kept (subst (λ g. IsArranged nat_cmp position g kept) same h.arranged)
+
+  pub one_kept : (values : List Data) (a b : List A) → AreValuesOf value_of position values a
+      → AreValuesOf value_of position values b
+      → a ≡ b
+  one_kept values a b h k =
+      let same = some_same h.given k.given (sym (all_found values a h) ∙ all_found values b k) in
+      one_arrangement nat_cmp_total position k.given a b
+      (subst (λ g. IsArranged nat_cmp position g a) same h.arranged) k.arranged
+
+-- Functions
+
+FoundAs : Data → List ℕ → List Data → List Data → Type 0
+FoundAs value name gives params = function_in value ≡ Some (name, items_of gives, items_of params)
+
+pub record HasParts (gives params : List Data) (f : Entry) : Type 0 where
+  pub are_gives : AreValuesOf whole itself gives f.gives
+  pub are_params : AreValuesOf parameter_value position_of params f.params
+
+pub parts_of : (value : Data) (name : List ℕ) (gives params : List Data) (f : Entry)
+    → function_in value ≡ Some (name, items_of gives, items_of params)
+    → IsFunctionValue value f
+    → HasParts gives params f
+parts_of value name gives params f e h =
+    let same =
+    some_same {A = List ℕ × Items × Items} (f.name, items_of h.gives, items_of h.params) (name, items_of gives, items_of params)
+    (sym (function_there f.name h.gives h.params) ∙ (ap function_in (sym h.is_value) ∙ e)) in
+    record {
+      are_gives =
+          subst (λ vs. AreValuesOf whole itself vs f.gives) (same_items h.gives gives (ap (λ p. p.1) same)) h.are_gives;
+      are_params =
+          subst (λ vs. AreValuesOf parameter_value position_of vs f.params)
+          (same_items h.params params (ap (λ p. p.2) same)) h.are_params;
+    }
+
+pub is_function : (value : Data) (name : List ℕ) (gives params : List Data) (f : Entry)
+    → function_in value ≡ Some (name, items_of gives, items_of params)
+    → f.name ≡ name
+    → AreValuesOf whole itself gives f.gives
+    → AreValuesOf parameter_value position_of params f.params
+    → IsFunctionValue value f
+is_function value name gives params f e same_name are_gives are_params = record {
+  gives = gives;
+  params = params;
+  is_value = of_function value name gives params e ∙ (λ i. function_with (sym same_name i) gives params);
+  are_gives = are_gives;
+  are_params = are_params;
+}
+
+pub none_some : {A : Type 0} (o : Option A) (a : A) → o ≡ None → o ≡ Some a → ⊥
+none_some o a e h = cc
+
+pub no_function : (value : Data) → function_in value ≡ None → (f : Entry) → ¬ IsFunctionValue value f
+no_function value e f h =
+    none_some (function_in value) _ e (ap function_in h.is_value ∙ function_there f.name h.gives h.params)
+
+-- Tables
+
+pub functions_of : (value : Data) (functions : List Data) (table : List Entry)
+    → functions_in value ≡ Some (items_of functions)
+    → IsTableValue value table
+    → (given : List Entry) × (AllZip IsFunctionValue functions given) × IsArranged by_bytes name_of given table
+functions_of value functions table e h =
+    let same =
+    same_items h.functions functions
+    (some_same (items_of h.functions) (items_of functions)
+    (sym (functions_there h.functions) ∙ (ap functions_in (sym h.is_value) ∙ e))) in
+    (h.given, subst (λ vs. AllZip IsFunctionValue vs h.given) same h.are_functions, h.arranged)
+
+pub is_table : (value : Data) (functions : List Data) (given table : List Entry)
+    → functions_in value ≡ Some (items_of functions)
+    → version_of value ≡ Some 1
+    → AllZip IsFunctionValue functions given
+    → IsArranged by_bytes name_of given table
+    → IsTableValue value table
+is_table value functions given table e version are_functions arranged = record {
+  functions = functions;
+  is_value = of_functions value functions e version;
+  given = given;
+  are_functions = are_functions;
+  arranged = arranged;
+}
+
+pub no_table : (value : Data) → functions_in value ≡ None → (table : List Entry) → ¬ IsTableValue value table
+no_table value e table h =
+    none_some (functions_in value) _ e (ap functions_in h.is_value ∙ functions_there h.functions)
+
+-- There is one table of a value
+
+one_name : (value : Data) (f g : Entry) (h : IsFunctionValue value f) (k : IsFunctionValue value g) → f.name ≡ g.name
+one_name value f g h k =
+    ap (λ p. p.0)
+    (some_same {A = List ℕ × Items × Items} (f.name, items_of h.gives, items_of h.params) (g.name, items_of k.gives, items_of k.params)
+    (sym (function_there f.name h.gives h.params)
+    ∙ (ap function_in (sym h.is_value ∙ k.is_value) ∙ function_there g.name k.gives k.params)))
+
+one_function : (value : Data) (f g : Entry) → IsFunctionValue value f → IsFunctionValue value g → f ≡ g
+one_function value f g h k =
+    let found = ap function_in k.is_value ∙ function_there g.name k.gives k.params in
+    let parts = parts_of value g.name k.gives k.params f found h in
+    let gives = one_kept whole itself position_in finds_positions k.gives f.gives g.gives parts.are_gives k.are_gives in
+    let params =
+    one_kept parameter_value position_of parameter_in finds_parameters k.params f.params g.params parts.are_params
+    k.are_params in
+    let name = one_name value f g h k in
+    λ i. record { name = name i; gives = gives i; params = params i }
+
+one_list : (values : List Data) (fs gs : List Entry) → AllZip IsFunctionValue values fs
+    → AllZip IsFunctionValue values gs
+    → fs ≡ gs
+one_list [] [] [] h k = refl
+one_list [] [] (g ∷ gs) h k = absurd k
+one_list [] (f ∷ fs) gs h k = absurd h
+one_list (v ∷ values) [] gs h k = absurd h
+one_list (v ∷ values) (f ∷ fs) [] h k = absurd k
+one_list (v ∷ values) (f ∷ fs) (g ∷ gs) h k =
+    let first = one_function v f g h.0 k.0 in
+    let rest = one_list values fs gs h.1 k.1 in
+    λ i. first i ∷ rest i
+
+pub one_table : (value : Data) (a b : List Entry) → IsTableValue value a → IsTableValue value b → a ≡ b
+one_table value a b h k =
+    let found = ap functions_in k.is_value ∙ functions_there k.functions in
+    let of_h = functions_of value k.functions a found h in
+    let same = one_list k.functions of_h.0 k.given of_h.1 k.are_functions in
+    one_arrangement nat_list_cmp_total name_of k.given a b
+    (subst (λ g. IsArranged by_bytes name_of g a) same of_h.2) k.arranged
+
+pub none_ordered : (value : Data) (functions : List Data) (given : List Entry)
+    → functions_in value ≡ Some (items_of functions)
+    → AllZip IsFunctionValue functions given
+    → ((other : List Entry) → ¬ IsArranged by_bytes name_of given other)
+    → (table : List Entry)
+    → ¬ IsTableValue value table
+none_ordered value functions given e are_functions none table h =
+    let found = functions_of value functions table e h in
+    none table
+    (subst (λ g. IsArranged by_bytes name_of g table) (one_list functions found.0 given found.1 are_functions) found.2)
+
+-- Lists that are read one by one
+
+module _ {X A B : Type 0} (R : A → B → Type 0) (seen : X → A) where
+  -- each element of a list that is read stands for one that is kept
+  pub at_each : (xs : List X) (bs : List B) (i : ℕ) (x : X) → i < length xs → get_or xs i x ≡ x
+      → AllZip R (map seen xs) bs
+      → (b : B) × R (seen x) b
+  at_each [] bs i x within is h = absurd (omega arith)
+  at_each (y ∷ xs) [] i x within is h = absurd h
+  at_each (y ∷ xs) (b ∷ bs) zero x within is h = (b, subst (λ z. R (seen z) b) is h.0)
+  at_each (y ∷ xs) (b ∷ bs) (suc i) x within is h = at_each xs bs i x (omega arith) is h.1
+
+  pub all_read : {Y : Type 0} (told : Y → B) (xs left : List X) (ys : List Y) → left ≡ []
+      → ((rest : List B) → AllZip R (map seen left) rest → AllZip R (map seen xs) (map told ys ++ rest))
+      → AllZip R (map seen xs) (map told ys)
+  all_read told xs left ys none so =
+      subst (AllZip R (map seen xs)) (append-nil (map told ys))
+      (so [] (subst (λ zs. AllZip R (map seen zs) []) (sym none) tt))

@@ -1,0 +1,79 @@
+-- Tables as JSON: the value of a table, as it is written, and which values are those of a table when they are read. As
+-- an object has each key once and in order, the order of keys is free in a text, and of equal keys the last one counts.
+use Rattle.std.specs.Prelude.{ℕ, ◌≡◌, ◌<◌, ◌^◌, List, map, codes}
+use Rattle.std.specs.List.{AllByRecursion, AllZip}
+use Rattle.std.specs.Ordering.{nat_cmp}
+use Rattle.serde_json.specs.Data.{Data, boolean, number, unsigned, string, array, object, member, no_members}
+use Rattle.serde_json.specs.View.{items_of}
+use Rattle.table_json.specs.declared.table.Parameter.{Parameter}
+use Rattle.table_json.specs.declared.table.Parameter.TheVariants.{Cancel, Group}
+use Rattle.table_json.specs.Tables.{Entry, itself, position_of, name_of, by_bytes, IsArranged}
+
+-- The value of a table
+
+abbrev pub whole : ℕ → Data
+whole n = number (unsigned n)
+
+abbrev pub list : List Data → Data
+list values = array (items_of values)
+
+-- `{"at":n,"calls":b,"kind":"cancel"}` or `{"at":n,"kind":"group"}`
+abbrev pub parameter_value : Parameter → Data
+parameter_value (Cancel at calls) = object (
+    member (codes "at") (whole at) (
+    member (codes "calls") (boolean calls) (
+    member (codes "kind") (string (codes "cancel")) no_members)))
+parameter_value (Group at) = object (
+    member (codes "at") (whole at) (
+    member (codes "kind") (string (codes "group")) no_members))
+
+-- `{"gives":[n,..],"name":s,"params":[P,..]}`
+abbrev pub function_with : List ℕ → List Data → List Data → Data
+function_with name gives params = object (
+    member (codes "gives") (list gives) (
+    member (codes "name") (string name) (
+    member (codes "params") (list params) no_members)))
+
+abbrev pub function_value : Entry → Data
+function_value f = function_with f.name (map whole f.gives) (map parameter_value f.params)
+
+-- `{"functions":[F,..],"version":1}`
+abbrev pub table_with : List Data → Data
+table_with functions = object (
+    member (codes "functions") (list functions) (
+    member (codes "version") (whole 1) no_members))
+
+abbrev pub table_value : List Entry → Data
+table_value table = table_with (map function_value table)
+
+-- Which values are those of a table
+
+-- a position is a whole number from 0 to 4,294,967,295
+abbrev pub Fits : ℕ → Type 0
+Fits n = n < 2 ^ 32
+
+abbrev pub AllFit : {A : Type 0} → (A → ℕ) → List A → Type 0
+AllFit position xs = AllByRecursion (λ a. Fits (position a)) xs
+
+-- these are the values of what is kept, in any order: each position fits, and none comes twice
+pub record AreValuesOf {A : Type 0} (value_of : A → Data) (position : A → ℕ) (values : List Data) (kept : List A)
+    : Type 0 where
+  pub given : List A
+  pub are_values : values ≡ map value_of given
+  pub fit : AllFit position given
+  pub arranged : IsArranged nat_cmp position given kept
+
+pub record IsFunctionValue (value : Data) (f : Entry) : Type 0 where
+  pub gives : List Data
+  pub params : List Data
+  pub is_value : value ≡ function_with f.name gives params
+  pub are_gives : AreValuesOf whole itself gives f.gives
+  pub are_params : AreValuesOf parameter_value position_of params f.params
+
+-- this is the value of the table, with its functions in any order: no name comes twice
+pub record IsTableValue (value : Data) (table : List Entry) : Type 0 where
+  pub functions : List Data
+  pub is_value : value ≡ table_with functions
+  pub given : List Entry
+  pub are_functions : AllZip IsFunctionValue functions given
+  pub arranged : IsArranged by_bytes name_of given table

@@ -1,0 +1,16 @@
+//! Tables of facts as JSON: the text of a table, and the table of a text. What a table says is in `specs/Tables.antt`,
+//! which values are those of a table in `specs/TableValues.antt`, and which texts, and why a text is none, in
+//! `specs/TableTexts.antt`.
+#![tactic(auto)]
+
+mod fault;
+mod order;
+mod parts;
+mod read;
+mod table;
+mod written;
+
+pub use fault::TableFault;
+pub use read::from_json;
+pub use table::{Function, Parameter, Table};
+pub use written::to_json;

@@ -1,0 +1,171 @@
+//! The table of a text.
+
+ghost use Rattle.std.specs.Prelude.{◌≡◌, List, Some, IfErr, IfOk, map};
+ghost use Rattle.std.specs.List.{AllZip};
+ghost use Rattle.serde_json.specs.Read.{read};
+ghost use Rattle.serde_json.specs.View.{view};
+ghost use Rattle.table_json.specs.declared.fault.TableFault.TheVariants.{OutOfMemory};
+ghost use Rattle.table_json.specs.Parts.{all_of, parameter_in, position_in, IsTextFault, IsValueFault, Refuses};
+ghost use Rattle.table_json.specs.Tables.{Entry, entries_of, entry_of, itself, position_of, IsInOrder};
+ghost use Rattle.table_json.specs.TableTexts.{version_of, IsTableFault, IsTableText};
+ghost use Rattle.table_json.specs.TableValues.{parameter_value, whole, AreValuesOf, IsFunctionValue, IsTableValue};
+
+use crate::fault::TableFault;
+use crate::order::{functions_in_order, parameters_in_order, positions_in_order};
+use crate::parts::{function_in, functions_in, parameter_in, position_in};
+use crate::table::{Function, Parameter, Table, VERSION};
+use serde_json::Value;
+use std::alloc::Global;
+
+/// Positions as they stand.
+fn positions_as_given(alloc: Global, values: &[Value]) -> Result<Vec<u32>, TableFault>
+    ensures ok { IfOk result (λ given. all_of position_in (map view values.now) ≡ Some given.items) }
+    ensures err { IfErr result (Refuses (λ given. all_of position_in (map view values.now) ≡ Some given)) }
+{
+    let mut given = Vec::new(alloc);
+    for value in values {
+        let Some(position) = position_in(value) else {
+            return Err(TableFault::WrongShape);
+        };
+        given.push(position)?;
+    }
+    Ok(given)
+}
+
+fn read_positions(alloc: Global, values: &[Value]) -> Result<Vec<u32>, TableFault>
+    ensures ok { IfOk result (λ kept. AreValuesOf whole itself (map view values.now) kept.items) }
+    ensures err { IfErr result (Refuses (AreValuesOf whole itself (map view values.now))) }
+{
+    let given = positions_as_given(alloc, values)?;
+    match positions_in_order(given) {
+        Some(kept) => Ok(kept),
+        None => Err(TableFault::WrongShape),
+    }
+}
+
+/// Parameters as they stand.
+fn parameters_as_given(alloc: Global, values: &[Value]) -> Result<Vec<Parameter>, TableFault>
+    ensures ok { IfOk result (λ given. all_of parameter_in (map view values.now) ≡ Some given.items) }
+    ensures err { IfErr result (Refuses (λ given. all_of parameter_in (map view values.now) ≡ Some given)) }
+{
+    let mut given = Vec::new(alloc);
+    for value in values {
+        let Some(parameter) = parameter_in(value) else {
+            return Err(TableFault::WrongShape);
+        };
+        given.push(parameter)?;
+    }
+    Ok(given)
+}
+
+fn read_parameters(alloc: Global, values: &[Value]) -> Result<Vec<Parameter>, TableFault>
+    ensures ok { IfOk result (λ kept. AreValuesOf parameter_value position_of (map view values.now) kept.items) }
+    ensures err { IfErr result (Refuses (AreValuesOf parameter_value position_of (map view values.now))) }
+{
+    let given = parameters_as_given(alloc, values)?;
+    match parameters_in_order(given) {
+        Some(kept) => Ok(kept),
+        None => Err(TableFault::WrongShape),
+    }
+}
+
+fn read_function(alloc: Global, value: &Value) -> Result<Function, TableFault>
+    ensures ok { IfOk result (λ function. IsFunctionValue (view value.now) (entry_of function)) }
+    ensures err { IfErr result (Refuses (IsFunctionValue (view value.now))) }
+{
+    let Some(parts) = function_in(value) else {
+        return Err(TableFault::WrongShape);
+    };
+    let gives = read_positions(alloc, parts.gives)?;
+    let params = read_parameters(alloc, parts.params)?;
+    Ok(Function {
+        name: String::from_str(alloc, parts.name)?,
+        gives,
+        params,
+    })
+}
+
+fn read_functions(alloc: Global, values: &[Value]) -> Result<Vec<Function>, TableFault>
+    ensures ok { IfOk result
+        (λ given. AllZip IsFunctionValue (map view values.now) (map entry_of given.items)) }
+    ensures err { IfErr result (Refuses (AllZip IsFunctionValue (map view values.now))) }
+{
+    let mut given = Vec::new(alloc);
+    for value in values {
+        given.push(read_function(alloc, value)?)?;
+    }
+    Ok(given)
+}
+
+/// The table of a value with the right version.
+fn read_table(alloc: Global, value: &Value) -> Result<Table, TableFault>
+    requires { version_of (view value.now) ≡ Some 1 }
+    ensures ok { IfOk result (λ table. IsTableValue (view value.now) (entries_of table)) }
+    ensures err { IfErr result (Refuses (IsTableValue (view value.now))) }
+{
+    let Some(values) = functions_in(value) else {
+        return Err(TableFault::WrongShape);
+    };
+    let given = read_functions(alloc, values)?;
+    match functions_in_order(given) {
+        Some(functions) => Ok(Table { functions }),
+        None => Err(TableFault::WrongShape),
+    }
+}
+
+fn version_of(value: &Value) -> Option<u64>
+    ensures { result ≡ version_of (view value.now) }
+{
+    value.get("version").and_then(Value::as_u64)
+}
+
+/// The table of a value; a wrong version is told before any other fault of its shape.
+fn read_value(alloc: Global, value: &Value) -> Result<Table, TableFault>
+    ensures ok { IfOk result (λ table. IsTableValue (view value.now) (entries_of table)) }
+    ensures err { IfErr result (IsValueFault (view value.now)) }
+{
+    match version_of(value) {
+        Some(VERSION) => read_table(alloc, value),
+        Some(_) => Err(TableFault::WrongVersion),
+        None => Err(TableFault::WrongShape),
+    }
+}
+
+fn parse(alloc: Global, text: &str) -> Result<Value, TableFault>
+    ensures ok { IfOk result (λ value. read text.now ≡ Some (view value)) }
+    ensures err { IfErr result (IsTextFault text.now) }
+{
+    match Value::from_str(alloc, text) {
+        Ok(value) => Ok(value),
+        Err(error) => {
+            if error.is_memory() {
+                Err(TableFault::OutOfMemory)
+            } else {
+                Err(TableFault::NotJson)
+            }
+        }
+    }
+}
+
+/// The table of a text, in order: its functions by the bytes of their names, and the positions of each as they rise. In
+/// the text the order of functions, positions and keys is free. A function without positions is kept, although a table
+/// that is written has none. So what `to_json` writes of a table in order reads back as that table.
+///
+/// # Errors
+///
+/// The text is no JSON; its version is missing or no whole number; it is another than 1; the rest is no table, as a key
+/// is missing or unknown, a value of another kind, a position above 4,294,967,295, or a function or a position comes
+/// twice; or memory was refused. This is the order in which it is looked for them. A text that is a table's is refused
+/// for want of memory alone.
+pub fn from_json(alloc: Global, text: &str) -> Result<Table, TableFault>
+    ensures table { IfOk result (λ table. IsTableText text.now (entries_of table)) }
+    ensures in_order { IfOk result (λ table. IsInOrder (entries_of table)) }
+    ensures no_other { IfOk result
+        (λ table. (other : List Entry) → IsTableText text.now other → other ≡ entries_of table) }
+    ensures fault { IfErr result (IsTableFault text.now) }
+    ensures only_memory { IfErr result
+        (λ fault. (table : List Entry) → IsTableText text.now table → fault ≡ OutOfMemory) }
+{
+    let value = parse(alloc, text)?;
+    read_value(alloc, &value)
+}
