@@ -1,0 +1,17 @@
+mod Adequacy
+mod Simulation
+mod ExampleBodies
+mod EachStep
+mod Contexts
+mod Places
+mod Invariant
+mod FrameEvents
+mod FrameCalls
+mod FlatRuns
+mod Findings
+mod FlatPromise
+mod ExampleRuns
+mod EventSources
+mod Bindings
+mod OwnVariables
+mod OwnBindings

@@ -1,0 +1,53 @@
+//! The machine that an analysed program is, and laws of it. It runs nothing.
+#![tactic(auto)]
+
+ghost use Rattle.machine.specs.Doings.{MovesAreLists};
+ghost use Rattle.machine.specs.Laws.{ContextsAreSound, FramesHaveSteps};
+ghost use Rattle.machine.specs.EventSources.{BindingsAreOfLocals, EventsHaveSources};
+ghost use Rattle.machine.specs.FlatPrograms.{FlatYesIsQuiet};
+ghost use Rattle.machine.specs.Returns.{ReturnsExist};
+
+/// The moves of a code are its lists of events: each list that the code may go through is done by its moves, one after
+/// another, and what moves do is a list.
+pub fn moves_are_lists<E>()
+    ensures { MovesAreLists E }
+{}
+
+/// Each event of a body is that of a mark in it, or says nothing, or is the return at the body's end.
+pub fn events_have_sources()
+    ensures { EventsHaveSources }
+{}
+
+/// An event of a body that binds a cancel variable is that of a mention of a local which the body declares in its
+/// block: no parameter, and none of a body around it.
+pub fn bindings_are_of_locals()
+    ensures { BindingsAreOfLocals }
+{}
+
+/// A goroutine's running frame always has a step, but for what is done to a group, and for a call of a function that
+/// gets cancel functions, of which nothing is said here.
+pub fn frames_have_steps()
+    ensures { FramesHaveSteps }
+{}
+
+/// In every world of a run: a cancel function that was called has ended its context and all that come from it; a
+/// context that is made from a done one is born done; and what is done stays done.
+pub fn contexts_are_sound()
+    ensures { ContextsAreSound }
+{}
+
+/// Runs come to returns: to quiet ones of a function that saves the call, of one that passes its cancel function to
+/// another one, and of one that saves a literal; and to ones that are not quiet of a function that forgets the call,
+/// and of one that assigns to the variable before its function was called.
+pub fn returns_exist()
+    ensures { ReturnsExist }
+{}
+
+/// A first case of what a yes promises: of programs without literals. Their bodies make contexts, bind what makers and
+/// givers give, call and save calls, hand functions on, and pass them to functions that are known to call them, at once
+/// or under `defer`, in recursion too. Where nothing is to be said of the files of a package, each of its returns is
+/// quiet, in every run. Two things are premises here, and are to be proved of all bodies: that what is bound is tracked
+/// as a cancel variable, and that flags hold of the bodies that they are about.
+pub fn flat_yes_is_quiet()
+    ensures { FlatYesIsQuiet }
+{}
