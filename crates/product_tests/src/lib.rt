@@ -3,9 +3,9 @@
 #![tactic(auto)]
 
 #[cfg(test)]
-mod folders;
-#[cfg(test)]
 mod packages;
+#[cfg(test)]
+mod real_folders;
 #[cfg(test)]
 mod refusals;
 #[cfg(test)]

@@ -1,6 +1,6 @@
 //! Several packages in one run.
 
-use crate::folders::{Entry, make, new_folder};
+use crate::real_folders::{Entry, make, new_folder};
 use crate::runs::expect_run;
 use driver::{Fault, GivenPackage, report_of};
 use std::fs;

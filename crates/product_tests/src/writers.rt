@@ -1,6 +1,6 @@
 //! Writers that fail, and one that takes a byte at a time.
 
-use crate::folders::new_folder;
+use crate::real_folders::new_folder;
 use driver::run;
 use std::alloc::Global;
 use std::fs;
