@@ -16,7 +16,7 @@ use Rattle.machine.proofs.Places.{eqb_is}
 use Rattle.machine.proofs.EventSources.{events_have_sources}
 
 -- events that bind nothing
-abbrev Harmless : List Event → Type 0
+abbrev pub Harmless : List Event → Type 0
 Harmless es = (e : Event) → Contains es e → (u : VariableAt) → BindsCancel e u → ⊥
 
 abbrev HarmlessIf : Option (List Event) → Type 0
@@ -26,7 +26,7 @@ HarmlessIf (Some es) = Harmless es
 none_given : Harmless []
 none_given e h u b = contains_nil e h
 
-abbrev is_binding : Event → Bool
+abbrev pub is_binding : Event → Bool
 is_binding other = false
 is_binding (obtain u c n is_new) = true
 is_binding (clear u) = true
@@ -47,10 +47,10 @@ binds_so : (e : Event) (u : VariableAt) → BindsCancel e u → is_binding e ≡
 binds_so e u obtains = refl
 binds_so e u clears = refl
 
-no_binding : (e : Event) (u : VariableAt) → is_binding e ≡ false → BindsCancel e u → ⊥
+pub no_binding : (e : Event) (u : VariableAt) → is_binding e ≡ false → BindsCancel e u → ⊥
 no_binding e u q b = let bad : false ≡ true = sym q ∙ binds_so e u b in cc
 
-single : (x : Event) → is_binding x ≡ false → Harmless (x ∷ [])
+pub single : (x : Event) → is_binding x ≡ false → Harmless (x ∷ [])
 single x q e h u b =
     elim (contains_cases x e [] h) [ inl same ↦ no_binding x u q (subst (λ y. BindsCancel y u) (sym same) b) | inr n ↦ contains_nil e n ]
 
@@ -131,7 +131,7 @@ use_outcome_harmless : (kind : VariableKind) (l : Local) (m : Mention) (o : Opti
 use_outcome_harmless kind l m None h = none_given
 use_outcome_harmless kind l m (Some es) h = h
 
-mention_harmless : (seen : Seen) (l : Local) (kind : Option VariableKind) (bodies : List BodyPlace) (m : Mention) → Harmless (mention_outcome seen l kind bodies m).events
+pub mention_harmless : (seen : Seen) (l : Local) (kind : Option VariableKind) (bodies : List BodyPlace) (m : Mention) → Harmless (mention_outcome seen l kind bodies m).events
 mention_harmless seen l None bodies m = none_given
 mention_harmless seen l (Some kind) bodies m = use_outcome_harmless kind l m (kind_use seen l kind bodies m) (kind_use_harmless seen l kind bodies m)
 

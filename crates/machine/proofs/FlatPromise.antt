@@ -11,6 +11,7 @@ use Rattle.machine.proofs.Findings.{file_of, no_path_fault}
 use Rattle.machine.proofs.Bindings.{bindings_are_of_locals}
 use Rattle.machine.proofs.OwnBindings.{BindsItsOwn}
 use Rattle.machine.proofs.OwnVariables.{binds_own}
+use Rattle.machine.proofs.TrackedBindings.{bindings_are_tracked}
 use Rattle.machine.proofs.FlatRuns.{HasNoFault, HoldsFlag, is_quiet}
 
 module _ (p : Program) (flags : FlagsHold p) where
@@ -35,6 +36,6 @@ module _ (p : Program) (flags : FlagsHold p) where
       }
 
 pub flat_yes_is_quiet : FlatYesIsQuiet
-flat_yes_is_quiet p flat tracked flags said =
-    let own : BindsItsOwn p = record { each = λ b t o u of reached binds. let h = bindings_are_of_locals b t o u reached binds in binds_own b u h (tracked.each b t o u of reached binds h) } in
+flat_yes_is_quiet p flat flags said =
+    let own : BindsItsOwn p = record { each = λ b t o u of reached binds. let h = bindings_are_of_locals b t o u reached binds in binds_own b u h (bindings_are_tracked p b t o u of reached binds h) } in
     is_quiet p flat own (no_fault p flags said) (holds p flags)

@@ -15,3 +15,5 @@ mod EventSources
 mod Bindings
 mod OwnVariables
 mod OwnBindings
+mod LeftSides
+mod TrackedBindings

@@ -113,7 +113,7 @@ find_is (x ∷ xs) n l e = by (x.number == n) refl e (find_is xs n l)
         (subst (λ y. Contains (x ∷ xs) y) same (contains_here x xs), ap (λ (y : Local). y.number) (sym same) ∙ eqb_is x.number n q)
     by false q is f = let r = f is in (contains_there x l xs r.0, r.1)
 
-found_is : (seen : Seen) (o : Option ℕ) (l : Local) → found seen o ≡ Some l → (found seen (Some l.number) ≡ Some l) × Contains seen.locals l
+pub found_is : (seen : Seen) (o : Option ℕ) (l : Local) → found seen o ≡ Some l → (found seen (Some l.number) ≡ Some l) × Contains seen.locals l
 found_is seen None l e = let bad : None ≡ Some l = e in cc
 found_is seen (Some n) l e =
     let r = find_is seen.locals n l e in (ap (find_local seen.locals) r.1 ∙ e, r.0)

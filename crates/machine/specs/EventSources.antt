@@ -3,12 +3,13 @@
 use Rattle.std.specs.Prelude.{◌≡◌, true, List, [], Some, Contains}
 use Rattle.meaning.specs.Code.{Occurrence}
 use Rattle.meaning.specs.Lists.{Reaches}
+use Rattle.meaning.specs.FunctionFacts.{cancel}
 use Rattle.meaning.specs.Mentions.{Mention}
 use Rattle.meaning.specs.Tracked.{Placed, Local, in_block, variable_of}
-use Rattle.meaning.specs.Uses.{VariableAt, Event, other, return_event, found, is_body}
+use Rattle.meaning.specs.Uses.{VariableAt, Event, other, return_event, found, is_body, tracked_kind}
 use Rattle.meaning.specs.BodyEvents.{mark_events}
 use Rattle.package_meaning.specs.PathFaults.{BindsCancel}
-use Rattle.machine.specs.Bodies.{Body, code_of}
+use Rattle.machine.specs.Bodies.{Program, Body, IsOf, code_of}
 
 pub data HasSource (b : Body) : Event → Type 0 where
   says_nothing : HasSource b other
@@ -38,3 +39,12 @@ BindingsAreOfLocals = (b : Body) (t : List (Occurrence Event)) (o : Occurrence E
     → Reaches (code_of b) t o
     → BindsCancel o.event u
     → IsBound b u
+
+-- such a local is tracked as a cancel variable
+abbrev pub BindingsAreTracked : Type 0
+BindingsAreTracked = (p : Program) (b : Body) (t : List (Occurrence Event)) (o : Occurrence Event) (u : VariableAt)
+    → IsOf p b
+    → Reaches (code_of b) t o
+    → BindsCancel o.event u
+    → (h : IsBound b u)
+    → tracked_kind b.file (Some h.local) ≡ Some cancel

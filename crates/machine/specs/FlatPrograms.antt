@@ -1,18 +1,17 @@
--- A first case of the promise: programs without literals. Two things are asked here that are to be shown of all
--- bodies: that what is bound is tracked as a cancel variable, and that flags hold of the bodies that they are about.
+-- A first case of the promise: programs without literals. One thing is asked here that is to be shown of all bodies:
+-- that flags hold of the bodies that they are about.
 use Rattle.std.specs.Prelude.{◌≡◌, ℕ, Bool, true, false, List, Some, slice_get, Contains}
 use Rattle.meaning.specs.Code.{Occurrence}
 use Rattle.meaning.specs.Lists.{Reaches}
 use Rattle.meaning.specs.FunctionFacts.{cancel}
-use Rattle.meaning.specs.Uses.{Callee, VariableAt, Event, other, obtain, clear, call, defer_call, pass, defer_pass, lend, start, try, wait, defer_wait, make, defer_literal, return_event, tracked_kind}
+use Rattle.meaning.specs.Uses.{Callee, Event, other, obtain, clear, call, defer_call, pass, defer_pass, lend, start, try, wait, defer_wait, make, defer_literal, return_event}
 use Rattle.meaning.specs.BodyEvents.{Variable, own_parameter}
 use Rattle.meaning.specs.Classes.{Promises}
-use Rattle.package_meaning.specs.PathFaults.{BindsCancel, paths_of, KeepsCall}
+use Rattle.package_meaning.specs.PathFaults.{paths_of, KeepsCall}
 use Rattle.package_meaning.specs.Credits.{Credits, promises_in}
 use Rattle.package_meaning.specs.CallsFlags.{is_function, calls_by}
 use Rattle.verdicts.specs.Loaded.{LoadedPackage, imported_flags}
 use Rattle.machine.specs.Bodies.{Program, Body, IsOf, code_of, variables_in, IsLiteralIn, IsFunction}
-use Rattle.machine.specs.EventSources.{IsBound}
 use Rattle.machine.specs.Runs.{IsQuietProgram}
 use Rattle.machine.specs.Promise.{HasNoFinding}
 
@@ -40,15 +39,6 @@ pub record IsFlat (p : Program) : Type 0 where
       → Reaches (code_of b) t o
       → is_flat o.event ≡ true
   pub no_literal : (b literal : Body) → IsOf p b → IsLiteralIn b literal → ⊥
-
--- what an event of a body binds is tracked as a cancel variable
-pub record BindsTracked (p : Program) : Type 0 where
-  pub each : (b : Body) (t : List (Occurrence Event)) (o : Occurrence Event) (u : VariableAt)
-      → IsOf p b
-      → Reaches (code_of b) t o
-      → BindsCancel o.event u
-      → (h : IsBound b u)
-      → tracked_kind b.file (Some h.local) ≡ Some cancel
 
 -- the variable is a parameter of the body that its package's table says it calls
 pub record IsFlagged (p : Program) (b : Body) (v : Variable) : Type 0 where
@@ -90,4 +80,4 @@ pub record FlagsHold (p : Program) : Type 0 where
       × KeepsCall (paths_of b.file (promises_in (calls_in p h.loaded) credits b.place.at) b.place) v
 
 abbrev pub FlatYesIsQuiet : Type 0
-FlatYesIsQuiet = (p : Program) → IsFlat p → BindsTracked p → FlagsHold p → HasNoFinding p → IsQuietProgram p
+FlatYesIsQuiet = (p : Program) → IsFlat p → FlagsHold p → HasNoFinding p → IsQuietProgram p

@@ -3,7 +3,7 @@
 
 ghost use Rattle.machine.specs.Doings.{MovesAreLists};
 ghost use Rattle.machine.specs.Laws.{ContextsAreSound, FramesHaveSteps};
-ghost use Rattle.machine.specs.EventSources.{BindingsAreOfLocals, EventsHaveSources};
+ghost use Rattle.machine.specs.EventSources.{BindingsAreOfLocals, BindingsAreTracked, EventsHaveSources};
 ghost use Rattle.machine.specs.FlatPrograms.{FlatYesIsQuiet};
 ghost use Rattle.machine.specs.Returns.{ReturnsExist};
 
@@ -22,6 +22,12 @@ pub fn events_have_sources()
 /// block: no parameter, and none of a body around it.
 pub fn bindings_are_of_locals()
     ensures { BindingsAreOfLocals }
+{}
+
+/// The local that an event of a body binds is tracked as a cancel variable: a row obtains and clears only what is of
+/// that kind, by its type or by a row that obtains it.
+pub fn bindings_are_tracked()
+    ensures { BindingsAreTracked }
 {}
 
 /// A goroutine's running frame always has a step, but for what is done to a group, and for a call of a function that
@@ -46,8 +52,8 @@ pub fn returns_exist()
 /// A first case of what a yes promises: of programs without literals. Their bodies make contexts, bind what makers and
 /// givers give, call and save calls, hand functions on, and pass them to functions that are known to call them, at once
 /// or under `defer`, in recursion too. Where nothing is to be said of the files of a package, each of its returns is
-/// quiet, in every run. Two things are premises here, and are to be proved of all bodies: that what is bound is tracked
-/// as a cancel variable, and that flags hold of the bodies that they are about.
+/// quiet, in every run. One thing is a premise here, and is to be proved of all bodies: that flags hold of the bodies
+/// that they are about.
 pub fn flat_yes_is_quiet()
     ensures { FlatYesIsQuiet }
 {}
