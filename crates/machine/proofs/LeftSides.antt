@@ -29,15 +29,31 @@ Stands (returns at es) = Unit {0}
 Stands (opens b) = Unit {0}
 Stands closes = Unit {0}
 
-record AllStand (ms : List Mark) : Type 0 where
-  each : (m : Mark) → Contains ms m → Stands m
+-- The same of a mark inside an expression, a type or a statement, where each body is that of a literal, which has no
+-- name.
+abbrev pub Inside : Mark → Type 0
+Inside (mentions m) = Fits m.named m.declares m.role
+Inside (defers_literal site at) = Unit {0}
+Inside (returns at es) = Unit {0}
+Inside (opens b) = b.name ≡ None
+Inside closes = Unit {0}
+
+stands : (m : Mark) → Inside m → Stands m
+stands (mentions m) h = h
+stands (defers_literal site at) h = tt
+stands (returns at es) h = tt
+stands (opens b) h = tt
+stands closes h = tt
+
+pub record AllStand (ms : List Mark) : Type 0 where
+  pub each : (m : Mark) → Contains ms m → Inside m
 
 none : AllStand []
 none = record { each = λ m h. absurd (contains_nil m h) }
 
-and_then : (x : Mark) (xs : List Mark) → Stands x → AllStand xs → AllStand (x ∷ xs)
+and_then : (x : Mark) (xs : List Mark) → Inside x → AllStand xs → AllStand (x ∷ xs)
 and_then x xs s h = record {
-  each = λ m k. elim (contains_cases x m xs k) [ inl q ↦ subst Stands q s | inr r ↦ h.each m r ];
+  each = λ m k. elim (contains_cases x m xs k) [ inl q ↦ subst Inside q s | inr r ↦ h.each m r ];
 }
 
 both : {xs ys : List Mark} → AllStand xs → AllStand ys → AllStand (xs ++ ys)
@@ -45,7 +61,7 @@ both {xs} {ys} h k = record {
   each = λ m among. elim (Contains-append_cases xs ys m among) [ inl r ↦ h.each m r | inr r ↦ k.each m r ];
 }
 
-only : (x : Mark) → Stands x → AllStand (x ∷ [])
+only : (x : Mark) → Inside x → AllStand (x ∷ [])
 only x s = and_then x [] s none
 
 chosen : (b : Bool) {xs ys : List Mark} → AllStand xs → AllStand ys → AllStand (if b then xs else ys)
@@ -108,8 +124,8 @@ deferring other_use site at = none
 deferring deferred_call site at = only (defers_literal site at) tt
 deferring (started_by n) site at = none
 
-within : (b : BodyPlace) {ms : List Mark} → AllStand ms → AllStand (in_body b ms)
-within b {ms} h = and_then (opens b) (ms ++ closes ∷ []) tt (both h (only closes tt))
+within : (b : BodyPlace) {ms : List Mark} → b.name ≡ None → AllStand ms → AllStand (in_body b ms)
+within b {ms} e h = and_then (opens b) (ms ++ closes ∷ []) e (both h (only closes tt))
 
 typed : (is_plain : Bool) (t : Expression) (site : ℕ) {ms : List Mark} → AllStand ms → AllStand (parameter_type_or is_plain t site ms)
 typed is_plain t site h =
@@ -141,7 +157,7 @@ mutual
       only (mention spot.site (name_role spot.place) (bare text span.start)) (name_fits spot.place (bare text span.start))
   of_form spot span (basic_literal kind) = none
   of_form spot span (function_literal signature ss braces) =
-      both (within (literal_body spot.literal span.start signature ss braces) (both (of_signature span.start signature) (of_statements ss))) (deferring spot.literal spot.site span.start)
+      both (within (literal_body spot.literal span.start signature ss braces) refl (both (of_signature span.start signature) (of_statements ss))) (deferring spot.literal spot.site span.start)
   of_form spot span (composite_literal t es) =
       both (of_expression (part_of spot.site) t) (of_expressions (part_of spot.site) es)
   of_form spot span (literal_value es) = of_expressions (part_of spot.site) es
@@ -291,30 +307,41 @@ of_receiver : (site : ℕ) (ps : Option Parameters) → AllStand (receiver_marks
 of_receiver site None = none
 of_receiver site (Some ps) = of_parameters true site ps
 
-of_types : (f : Function) → AllStand (function_types_marks f)
+pub of_types : (f : Function) → AllStand (function_types_marks f)
 of_types f = both (of_receiver f.span.start f.receiver) (of_signature f.span.start f.signature)
 
-of_function : (f : Function) (b : Option Block) → AllStand (function_marks f b)
-of_function f None = of_types f
-of_function f (Some b) = within (function_body f b) (both (of_types f) (of_statements b.statements))
-
-of_outer_specs : (specs : Specs) → AllStand (outer_specs_marks specs)
+pub of_outer_specs : (specs : Specs) → AllStand (outer_specs_marks specs)
 of_outer_specs no_spec = none
 of_outer_specs (value_and ns t es span specs) =
     both (of_optional span.start t) (both (of_expressions (part_of span.start) es) (of_outer_specs specs))
 of_outer_specs (type_and n is_alias t span specs) =
     both (of_expression (part_of span.start) t) (of_outer_specs specs)
 
-of_top_level : (d : TopLevelDeclaration) → AllStand (top_level_marks d)
-of_top_level (function_declaration f) = of_function f f.body
-of_top_level (general_declaration (declaration_of keyword specs is_grouped span)) = of_outer_specs specs
+pub of_block : (f : Function) (b : Block) → AllStand ((function_types_marks f ++ statements_marks b.statements) ++ closes ∷ [])
+of_block f b = both (both (of_types f) (of_statements b.statements)) (only closes tt)
 
-of_top_levels : (ds : List TopLevelDeclaration) → AllStand (top_levels_marks ds)
-of_top_levels [] = none
-of_top_levels (d ∷ ds) = both (of_top_level d) (of_top_levels ds)
+of_function : (f : Function) (b : Option Block) (m : Mark) → Contains (function_marks f b) m → Stands m
+of_function f None m h = stands m ((of_types f).each m h)
+of_function f (Some b) m h =
+    elim (contains_cases (opens (function_body f b)) m ((function_types_marks f ++ statements_marks b.statements) ++ closes ∷ []) h) [
+      | inl q ↦ subst Stands q tt
+      | inr r ↦ stands m ((of_block f b).each m r)
+    ]
+
+of_top_level : (d : TopLevelDeclaration) (m : Mark) → Contains (top_level_marks d) m → Stands m
+of_top_level (function_declaration f) m h = of_function f f.body m h
+of_top_level (general_declaration (declaration_of keyword specs is_grouped span)) m h =
+    stands m ((of_outer_specs specs).each m h)
+
+of_top_levels : (ds : List TopLevelDeclaration) (m : Mark) → Contains (top_levels_marks ds) m → Stands m
+of_top_levels [] m h = absurd (contains_nil m h)
+of_top_levels (d ∷ ds) m h = elim (Contains-append_cases (top_level_marks d) (top_levels_marks ds) m h) [
+  | inl r ↦ of_top_level d m r
+  | inr r ↦ of_top_levels ds m r
+]
 
 -- a mark that is placed is one of the marks
-is_placed : (bodies : List BodyPlace) (ms : List Mark) (p : Placed) → Contains (placed bodies ms) p → Contains ms p.mark
+pub is_placed : (bodies : List BodyPlace) (ms : List Mark) (p : Placed) → Contains (placed bodies ms) p → Contains ms p.mark
 unfolding placed
 is_placed bodies [] p h = absurd (contains_nil p h)
 is_placed bodies (mentions m ∷ ms) p h = elim (contains_cases _ p (placed bodies ms) h) [
@@ -337,4 +364,4 @@ is_placed bodies (closes ∷ ms) p h = contains_there closes p.mark ms (is_place
 
 -- of each mark of a file
 pub left_sides_fit : (file : SourceFile) (p : Placed) → Contains (placed [] (file_marks file)) p → Stands p.mark
-left_sides_fit file p h = (of_top_levels file.declarations).each p.mark (is_placed [] (file_marks file) p h)
+left_sides_fit file p h = of_top_levels file.declarations p.mark (is_placed [] (file_marks file) p h)

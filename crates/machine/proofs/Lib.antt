@@ -16,4 +16,6 @@ mod Bindings
 mod OwnVariables
 mod OwnBindings
 mod LeftSides
+mod NamedBodies
+mod KnownFlags
 mod TrackedBindings

@@ -1,5 +1,4 @@
--- A first case of the promise: programs without literals. One thing is asked here that is to be shown of all bodies:
--- that flags hold of the bodies that they are about.
+-- A first case of the promise: programs without literals.
 use Rattle.std.specs.Prelude.{◌≡◌, ℕ, Bool, true, false, List, Some, slice_get, Contains}
 use Rattle.meaning.specs.Code.{Occurrence}
 use Rattle.meaning.specs.Lists.{Reaches}
@@ -13,7 +12,7 @@ use Rattle.package_meaning.specs.CallsFlags.{is_function, calls_by}
 use Rattle.verdicts.specs.Loaded.{LoadedPackage, imported_flags}
 use Rattle.machine.specs.Bodies.{Program, Body, IsOf, code_of, variables_in, IsLiteralIn, IsFunction}
 use Rattle.machine.specs.Runs.{IsQuietProgram}
-use Rattle.machine.specs.Promise.{HasNoFinding}
+use Rattle.machine.specs.Promise.{AreWellKnown, HasNoFinding}
 
 -- the event is about no literal and no group
 abbrev pub is_flat : Event → Bool
@@ -40,7 +39,16 @@ pub record IsFlat (p : Program) : Type 0 where
       → is_flat o.event ≡ true
   pub no_literal : (b literal : Body) → IsOf p b → IsLiteralIn b literal → ⊥
 
--- the variable is a parameter of the body that its package's table says it calls
+abbrev pub FlatYesIsQuiet : Type 0
+FlatYesIsQuiet = (p : Program) → IsFlat p → AreWellKnown p → HasNoFinding p → IsQuietProgram p
+
+-- What serves the proof
+
+-- what the package of the body relies on of functions: its own flags, and those of what it imports
+abbrev pub calls_in : Program → LoadedPackage → Callee → ℕ → Bool
+calls_in p loaded = calls_by (p.tables loaded.path).calls (imported_flags loaded p.tables)
+
+-- the variable is a parameter of the body that its package's table says it calls, and the body's paths keep it
 pub record IsFlagged (p : Program) (b : Body) (v : Variable) : Type 0 where
   pub loaded : LoadedPackage
   pub name : List ℕ
@@ -51,6 +59,8 @@ pub record IsFlagged (p : Program) (b : Body) (v : Variable) : Type 0 where
   pub is_of_body : Contains (variables_in b) v
   pub is_parameter : v.role ≡ own_parameter position
   pub is_cancel_variable : v.kind ≡ cancel
+  pub credits : Credits
+  pub keeps : KeepsCall (paths_of b.file (promises_in (calls_in p loaded) credits b.place.at) b.place) v
 
 -- the function that the body names has a body, and each that it has is known to call that parameter
 pub record TakesUp (p : Program) (b : Body) (f : Callee) (k : ℕ) : Type 0 where
@@ -61,23 +71,3 @@ pub record TakesUp (p : Program) (b : Body) (f : Callee) (k : ℕ) : Type 0 wher
 -- what is relied on of functions holds of their bodies
 abbrev pub AreTakenUp : Program → Body → Promises → Type 0
 AreTakenUp p b relies = (f : Callee) (k : ℕ) → relies.calls f k ≡ true → TakesUp p b f k
-
--- what the package of the body relies on of functions: its own flags, and those of what it imports
-abbrev pub calls_in : Program → LoadedPackage → Callee → ℕ → Bool
-calls_in p loaded = calls_by (p.tables loaded.path).calls (imported_flags loaded p.tables)
-
-pub record FlagsHold (p : Program) : Type 0 where
-  pub are_taken_up : (b : Body) (loaded : LoadedPackage)
-      → IsOf p b
-      → slice_get p.packages b.home ≡ Some loaded
-      → (f : Callee) (k : ℕ)
-      → calls_in p loaded f k ≡ true
-      → TakesUp p b f k
-  pub are_kept : (b : Body) (v : Variable)
-      → IsOf p b
-      → (h : IsFlagged p b v)
-      → (credits : Credits)
-      × KeepsCall (paths_of b.file (promises_in (calls_in p h.loaded) credits b.place.at) b.place) v
-
-abbrev pub FlatYesIsQuiet : Type 0
-FlatYesIsQuiet = (p : Program) → IsFlat p → FlagsHold p → HasNoFinding p → IsQuietProgram p

@@ -52,8 +52,7 @@ pub fn returns_exist()
 /// A first case of what a yes promises: of programs without literals. Their bodies make contexts, bind what makers and
 /// givers give, call and save calls, hand functions on, and pass them to functions that are known to call them, at once
 /// or under `defer`, in recursion too. Where nothing is to be said of the files of a package, each of its returns is
-/// quiet, in every run. One thing is a premise here, and is to be proved of all bodies: that flags hold of the bodies
-/// that they are about.
+/// quiet, in every run.
 pub fn flat_yes_is_quiet()
     ensures { FlatYesIsQuiet }
 {}
