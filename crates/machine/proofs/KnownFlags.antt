@@ -131,13 +131,13 @@ among_paths (q ∷ qs) path e =
       | inr r ↦ contains_there q path qs (among_paths qs path r)
     ]
 
-abbrev item : LoadedPackage → Package
+abbrev pub item : LoadedPackage → Package
 item q = record { path = q.path; imports = imported_paths q }
 
 in_lists : (ps : List LoadedPackage) (j : ℕ) (q : LoadedPackage) → slice_get ps j ≡ Some q → slice_get (import_list ps) j ≡ Some (item q)
 in_lists ps j q is = slice_get-map item ps j ∙ ap (option_map item) is
 
-given_in_lists : (ps : List LoadedPackage) (j : ℕ) (found : Package) → slice_get (import_list ps) j ≡ Some found → (q : LoadedPackage) × (slice_get ps j ≡ Some q) × (item q ≡ found)
+pub given_in_lists : (ps : List LoadedPackage) (j : ℕ) (found : Package) → slice_get (import_list ps) j ≡ Some found → (q : LoadedPackage) × (slice_get ps j ≡ Some q) × (item q ≡ found)
 given_in_lists ps j found is = by (slice_get ps j) refl
   where
     by : (o : Option LoadedPackage) → slice_get ps j ≡ o → (q : LoadedPackage) × (slice_get ps j ≡ Some q) × (item q ≡ found)

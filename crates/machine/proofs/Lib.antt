@@ -10,6 +10,7 @@ mod FrameCalls
 mod FlatRuns
 mod Findings
 mod FlatPromise
+mod FlatReports
 mod ExampleRuns
 mod EventSources
 mod Bindings

@@ -11,4 +11,5 @@ pub mod Doings
 pub mod Examples
 pub mod Returns
 pub mod FlatPrograms
+pub mod FlatReports
 pub mod EventSources

@@ -5,6 +5,7 @@ ghost use Rattle.machine.specs.Doings.{MovesAreLists};
 ghost use Rattle.machine.specs.Laws.{ContextsAreSound, FramesHaveSteps};
 ghost use Rattle.machine.specs.EventSources.{BindingsAreOfLocals, BindingsAreTracked, EventsHaveSources};
 ghost use Rattle.machine.specs.FlatPrograms.{FlatYesIsQuiet};
+ghost use Rattle.machine.specs.FlatReports.{YesOfAFlatPackageIsQuiet};
 ghost use Rattle.machine.specs.Returns.{ReturnsExist};
 
 /// The moves of a code are its lists of events: each list that the code may go through is done by its moves, one after
@@ -55,4 +56,11 @@ pub fn returns_exist()
 /// quiet, in every run.
 pub fn flat_yes_is_quiet()
     ensures { FlatYesIsQuiet }
+{}
+
+/// So it is by a report of packages. Where it says nothing of a package, its tables know what holds of that package and
+/// of all given ones below it, and none of these has a finding; so if their bodies are without literals, and none of
+/// these packages imports `errgroup`, each return of the package is quiet, in every run.
+pub fn yes_of_a_flat_package_is_quiet()
+    ensures { YesOfAFlatPackageIsQuiet }
 {}
