@@ -1,26 +1,10 @@
 -- Packages to try runs on: the trees of the texts above them. Each text stands after the lines `package a`, an empty
 -- one, `import "context"` and an empty one, so that `func` begins at offset 29.
 use Rattle.std.specs.Prelude.{ℕ, ◌+◌, false, List, [], ◌∷◌, None, Some, length, map, codes}
-use Rattle.tree.specs.declared.span.Span.{Span}
-use Rattle.tree.specs.Syntax.{Identifier, Expression, expression_node, ExpressionForm, name_expression, function_literal, selector_expression, call_expression, no_expression, expression_and, no_parameter, named_and, signature_of, Statement, statement_node, StatementForm, expression_statement, assignment, define_statement, defer_statement, Statements, no_statement, statement_and, Function, function_declaration, SourceFile}
+use Rattle.tree.specs.Syntax.{Expression, function_literal, selector_expression, call_expression, no_expression, expression_and, no_parameter, named_and, signature_of, Statement, expression_statement, assignment, define_statement, defer_statement, Statements, no_statement, statement_and, Function, function_declaration, SourceFile}
+pub use Rattle.meaning.specs.TreeExamples.{from_to, node, doing, name, use_of}
 use Rattle.verdicts.specs.Loaded.{has_tree, LoadedPackage, no_table}
 use Rattle.machine.specs.Bodies.{Program}
-
-abbrev pub from_to : ℕ → ℕ → Span
-from_to start end = record { start = start; end = end }
-
-abbrev pub node : ℕ → ℕ → ExpressionForm → Expression
-node start end form = expression_node form (from_to start end)
-
-abbrev pub doing : ℕ → ℕ → StatementForm → Statement
-doing start end form = statement_node form (from_to start end)
-
--- a name that begins at an offset
-abbrev pub name : List ℕ → ℕ → Identifier
-name text at = record { text = text; span = from_to at (at + length text) }
-
-abbrev pub use_of : List ℕ → ℕ → Expression
-use_of text at = node at (at + length text) (name_expression text)
 
 -- `context.member`
 abbrev pub of_context : List ℕ → ℕ → Expression
