@@ -1,1 +1,2 @@
+mod QuietYes
 mod Loads

@@ -7,8 +7,9 @@ use Rattle.loaded.specs.LoadedViews.{TellsPackage}
 use Rattle.load.specs.declared.packages.GivenPackage.{GivenPackage}
 use Rattle.load.specs.GivenPackages.{PathAndFiles, AreLoaded, IsLoad}
 use Rattle.board.specs.declared.reports.Report.{Report}
-use Rattle.board.specs.Reports.{TellsReport}
+use Rattle.board.specs.Reports.{AreReports, TellsReport}
 use Rattle.judge.specs.Reports.{IsReport}
+use Rattle.judge.proofs.QuietYes.{of_texts, yes_are_quiet}
 
 are_as_many : (es : List PathAndFiles) (ps : List LoadedPackage) (ks : List KeptPackage) → AreLoaded es ps ks
     → length ps ≡ length ks
@@ -43,16 +44,16 @@ each (e ∷ es) (p ∷ ps) (k ∷ ks) h (suc i) q m is_p is_k = each es ps ks h.
 pub is_report : (given : List GivenPackage) (packages : List KeptPackage) (report : Report) → IsLoad given packages
     → TellsReport packages report
     → IsReport given report
-is_report given packages report load judged = record {
-  packages = packages;
-  load = load;
-  said = judged.said;
-  are_reports =
-      judged.are_reports load.meant
-      (record {
-        are_as_many = are_as_many load.in_order load.meant packages load.are_loaded;
-        each = each load.in_order load.meant packages load.are_loaded;
-      })
-      load.distinct;
-  told = judged.told;
-}
+is_report given packages report load judged =
+    let reports : AreReports load.meant packages judged.said = judged.are_reports load.meant record {
+      are_as_many = are_as_many load.in_order load.meant packages load.are_loaded;
+      each = each load.in_order load.meant packages load.are_loaded;
+    } load.distinct in
+    record {
+      packages = packages;
+      load = load;
+      said = judged.said;
+      are_reports = reports;
+      told = judged.told;
+      quiet = yes_are_quiet load.meant judged.said reports.is_report (of_texts load.in_order load.meant packages load.are_loaded);
+    }

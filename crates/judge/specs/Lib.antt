@@ -1,2 +1,3 @@
 -- For a reader of the contracts: the report of given packages.
+pub mod QuietYes
 pub mod Reports

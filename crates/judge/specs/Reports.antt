@@ -1,4 +1,5 @@
--- The report of given packages, which are loaded in the order of their paths: its text, and whether each is yes.
+-- The report of given packages, which are loaded in the order of their paths: its text, whether each is yes, and what a
+-- yes says of runs.
 use Rattle.std.specs.Prelude.{List}
 use Rattle.loaded.specs.declared.loaded_package.LoadedPackage.{LoadedPackage as KeptPackage}
 use Rattle.load.specs.declared.packages.GivenPackage.{GivenPackage}
@@ -6,6 +7,7 @@ use Rattle.load.specs.GivenPackages.{IsLoad}
 use Rattle.board.specs.declared.judged.Judged.{Judged}
 use Rattle.board.specs.Reports.{AreReports, IsTold}
 use Rattle.board.specs.declared.reports.Report.{Report}
+use Rattle.judge.specs.QuietYes.{YesAreQuiet}
 
 -- The given packages are loaded in the order of their paths, as their files are read, and it is their report.
 pub record IsReport (given : List GivenPackage) (report : Report) : Type 0 where
@@ -14,3 +16,4 @@ pub record IsReport (given : List GivenPackage) (report : Report) : Type 0 where
   pub said : List Judged
   pub are_reports : AreReports load.meant packages said
   pub told : IsTold said report
+  pub quiet : YesAreQuiet load.meant are_reports.is_report.tables said

@@ -12,7 +12,7 @@ use Rattle.meaning.specs.Uses.{Seen, Event, other, obtain, call, defer_call, pas
 use Rattle.meaning.specs.BodyEvents.{seen_file}
 use Rattle.imports.specs.Ranks.{ends}
 use Rattle.verdicts.specs.Loaded.{known_in}
-use Rattle.machine.specs.Bodies.{Body, IsOf, IsOutermost, IsLiteralIn, IsFunction, is_parameter_of, code_of}
+use Rattle.machine.specs.Bodies.{Body, IsOf, IsOutermost, IsLiteralIn, IsFunction, is_parameter_of, is_captured_by, code_of}
 use Rattle.machine.specs.Examples.{from_to, doing, call_at, file_with, loaded_with, program_with, saving, forgetting, passing, taking, deferring, overwriting}
 
 -- names, marks and code are seen through
@@ -216,6 +216,10 @@ literal_is = refl
 pub has_no_parameter : is_parameter_of (body_in (deferring ∷ []) literal) 61 ≡ false
 unfolding seeing
 has_no_parameter = refl
+
+pub captures_it : is_captured_by (body_in (deferring ∷ []) literal) 61 ≡ true
+unfolding seeing
+captures_it = refl
 
 -- what the assignment binds
 abbrev pub assigns : Event

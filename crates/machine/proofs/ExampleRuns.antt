@@ -3,7 +3,7 @@ use Rattle.std.proofs.Common.{◌≡◌, ℕ, ◌<◌, cond, inl, inr, List, [],
 use Rattle.meaning.specs.Code.{Occurrence, Code, skip, does, then_code}
 use Rattle.meaning.specs.Uses.{Event, other, call, defer_call, defer_literal, return_event}
 use Rattle.meaning.proofs.Membership.{contains_here, contains_there, contains_cases, contains_nil}
-use Rattle.machine.specs.Bodies.{Program, Body, IsOf, IsOutermost, code_of}
+use Rattle.machine.specs.Bodies.{Program, Body, IsOf, IsOutermost, is_captured_by, code_of}
 use Rattle.machine.specs.World.{Value, nothing, cancel_function, Store, put_at, cell_or, with_new, calling, any_nothing, any_function, Given, runs, Frame, World, empty_world, with_stack, with_cells, in_cell, held, new_frame, nothing_around}
 use Rattle.machine.specs.Moves.{Moves, happens, first_moves, first_is_done}
 use Rattle.machine.specs.Steps.{GoesOn, ComesTo, DoesNext, IsAtEnd, new_one, is_first, Fits, of_function, Acts, moves_on, does_other, obtains_one, calls_one, saves_call, evaluates, makes_call, saves_literal, comes_to_return, runs_call, runs_literal, returns_now, starts, of_goroutine, of_environment}
@@ -12,7 +12,7 @@ use Rattle.machine.specs.Examples.{program_with, saving, forgetting, passing, ta
 use Rattle.machine.specs.Returns.{HasQuietReturn, HasLoudReturn, ReturnsExist}
 use Rattle.machine.proofs.Contexts.{put_at-same, put_at-other, called_done, run_is_sound}
 use Rattle.machine.proofs.Places.{called_now}
-use Rattle.machine.proofs.ExampleBodies.{one, body_in, place_of, event_at, obtains, passed, both, literal, saving_is_of, saving_is_outermost, saving_is, forgetting_is_of, forgetting_is_outermost, forgetting_is, passing_is_of, passing_is_outermost, passing_is, deferring_is_of, deferring_is_outermost, deferring_is, taking_is_function, taking_is, has_parameter, literal_is_in, literal_is, has_no_parameter, assigns, overwriting_is_of, overwriting_is_outermost, overwriting_is}
+use Rattle.machine.proofs.ExampleBodies.{one, body_in, place_of, event_at, obtains, passed, both, literal, saving_is_of, saving_is_outermost, saving_is, forgetting_is_of, forgetting_is_outermost, forgetting_is, passing_is_of, passing_is_outermost, passing_is, deferring_is_of, deferring_is_outermost, deferring_is, taking_is_function, taking_is, has_parameter, literal_is_in, literal_is, has_no_parameter, captures_it, assigns, overwriting_is_of, overwriting_is_outermost, overwriting_is}
 
 -- the one goroutine acts
 act : (p : Program) (w : World) (f : Frame) (others : List Frame) (after : Store) (frames : List Frame) → Run p w → w.stacks 0 ≡ f ∷ others → Acts p w.store f after frames → Run p (with_stack w after 0 (frames ++ others))
@@ -84,7 +84,7 @@ fits_g s value more is = record {
 
 -- what the parameter of `g` holds
 holds_parameter : (s : Store) (t : Store) → t.cells s.cell_count 114 ≡ cancel_function 0 → held t (new_frame s (body_in both (place_of taking)) nothing_around) 114 ≡ cancel_function 0
-holds_parameter s t e = ap (λ b. in_cell t 114 (cond b (Some s.cell_count) None)) has_parameter ∙ e
+holds_parameter s t e = ap (λ b. in_cell t 114 (cond b (Some s.cell_count) (cond (is_captured_by (body_in both (place_of taking)) 114) None None))) has_parameter ∙ e
 
 -- The frame has obtained its function, and stands before the next event.
 abbrev standing : Body → Code Event → (ℕ → Option ℕ) → Frame
@@ -146,7 +146,10 @@ quiet_by_call = from_there (obtained_one _ _ _ _ passing_is_of passing_is_outerm
 -- what the literal's variable around it holds
 holds_around : (s : Store) (t : Store) (around : ℕ → Option ℕ) (k : ℕ) → around 61 ≡ Some k → t.cells k 61 ≡ cancel_function 0 → held t (new_frame s (body_in (deferring ∷ []) literal) around) 61 ≡ cancel_function 0
 holds_around s t around k n e =
-    ap (λ b. in_cell t 61 (cond b (Some s.cell_count) (around 61))) has_no_parameter ∙ ap (in_cell t 61) n ∙ e
+    ap (λ b. in_cell t 61 (cond b (Some s.cell_count) (cond (is_captured_by (body_in (deferring ∷ []) literal) 61) (around 61) None))) has_no_parameter
+    ∙ ap (λ b. in_cell t 61 (cond b (around 61) None)) captures_it
+    ∙ ap (in_cell t 61) n
+    ∙ e
 
 still_there : (h : Stands (program_with (deferring ∷ [])) (body_in (deferring ∷ []) (place_of deferring)) (before 94 (defer_literal 100) 122)) → (with_cells h.world.store (λ v. nothing)).cells 1 61 ≡ cancel_function 0
 still_there h = ap (λ (c : ℕ → Value). c 61) (put_at-other h.world.store.cells h.world.store.cell_count (λ v. nothing) 1 (λ q. let more = h.has_more in omega (arith, q, more))) ∙ h.holds_it

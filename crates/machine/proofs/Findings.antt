@@ -5,7 +5,7 @@ use Rattle.std.proofs.lemmas.List.Elements.{Contains-append_right}
 use Rattle.meaning.specs.Mentions.{BodyPlace}
 use Rattle.meaning.specs.Uses.{Callee, Seen}
 use Rattle.meaning.specs.BodyEvents.{variables_of, too_many_faults, faults_of}
-use Rattle.meaning.proofs.Membership.{contains_here, contains_cases, contains_nil}
+use Rattle.meaning.proofs.Membership.{contains_here, contains_there, contains_cases, contains_nil}
 use Rattle.package_meaning.specs.PathFaults.{PathFault, IsPathFault, paths_of, of_a_path}
 use Rattle.package_meaning.specs.Credits.{bodies_of, promises_in}
 use Rattle.package_meaning.specs.CallsFlags.{FileWithCredits}
@@ -27,16 +27,17 @@ pub record IsCredited (files : List FileWithCredits) (seen : Seen) : Type 0 wher
   pub number : ℕ
   pub file : FileWithCredits
   pub is_there : slice_get files number ≡ Some file
+  pub is_among : Contains files file
   pub is_it : file.seen ≡ seen
 
 credited_next : (file : FileWithCredits) (files : List FileWithCredits) (seen : Seen) → IsCredited files seen → IsCredited (file ∷ files) seen
-credited_next file files seen c = record { number = suc c.number; file = c.file; is_there = c.is_there; is_it = c.is_it }
+credited_next file files seen c = record { number = suc c.number; file = c.file; is_there = c.is_there; is_among = contains_there file c.file files c.is_among; is_it = c.is_it }
 
 pub credited : (seens : List Seen) (files : List FileWithCredits) (seen : Seen) → AreFairlyCredited seens files → Contains seens seen → IsCredited files seen
 credited seens files seen no_file h = absurd (contains_nil seen h)
 credited seens files seen (file_and {seen = first} {rest = rest} {file = file} {files = others} same fair more) h =
     elim (contains_cases first seen rest h) [
-      | inl q ↦ record { number = 0; file = file; is_there = refl; is_it = same ∙ q }
+      | inl q ↦ record { number = 0; file = file; is_there = refl; is_among = contains_here file others; is_it = same ∙ q }
       | inr g ↦ credited_next file others seen (credited rest others seen more g)
     ]
 

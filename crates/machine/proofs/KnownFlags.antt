@@ -14,13 +14,14 @@ use Rattle.meaning.specs.TwoFunctions.{FunctionName, function_names_in, function
 use Rattle.meaning.specs.Uses.{Callee, Seen}
 use Rattle.meaning.specs.BodyEvents.{Variable, own_parameter}
 use Rattle.meaning.proofs.Membership.{contains_here, contains_there, contains_cases, contains_nil}
+use Rattle.package_meaning.specs.Credits.{AreFairCredits}
 use Rattle.package_meaning.specs.CallsFlags.{FileWithCredits, flag_of, is_function}
 use Rattle.imports.specs.Ranks.{Package, Imports, Chain, ends, goes_on}
 use Rattle.verdicts.specs.Loaded.{LoadedPackage, NumberedTree, numbered_trees, trees_of, imported_paths, import_list, is_imported, no_table, PackageTable, imported_flags, known_in, seen_files}
 use Rattle.verdicts.specs.WholeFaults.{HasNoWholeFault, has_two_functions}
 use Rattle.machine.specs.Bodies.{Program, Body, IsBelow, IsOf, IsNamed}
 use Rattle.machine.specs.Promise.{AreFairlyCredited, no_file, file_and, AreWellKnown}
-use Rattle.machine.specs.FlatPrograms.{IsFlagged, TakesUp, calls_in}
+use Rattle.machine.specs.Duties.{IsFlagged, TakesUp, calls_in}
 use Rattle.machine.proofs.NamedBodies.{AreApart, apart, one_body}
 
 some_inj : {A : Type 0} (x y : A) → Some x ≡ Some y → x ≡ y
@@ -89,6 +90,14 @@ credited_seen seens files file (file_and {seen = first} {rest = rest} {file = on
     elim (contains_cases one file others h) [
       | inl q ↦ subst (λ x. Contains (first ∷ rest) x) (sym same ∙ ap (λ (x : FileWithCredits). x.seen) q) (contains_here first rest)
       | inr r ↦ contains_there first file.seen rest (credited_seen rest others file more r)
+    ]
+
+pub credited_fairly : (seens : List Seen) (files : List FileWithCredits) (file : FileWithCredits) → AreFairlyCredited seens files → Contains files file → AreFairCredits file.seen file.credits
+credited_fairly seens files file no_file h = absurd (contains_nil file h)
+credited_fairly seens files file (file_and {seen = first} {rest = rest} {file = one} {files = others} same fair more) h =
+    elim (contains_cases one file others h) [
+      | inl q ↦ subst (λ (x : FileWithCredits). AreFairCredits x.seen x.credits) q (subst (λ x. AreFairCredits x one.credits) (sym same) fair)
+      | inr r ↦ credited_fairly rest others file more r
     ]
 
 -- The package of a path
@@ -196,6 +205,7 @@ module _ (p : Program) (known : AreWellKnown p) where
         is_parameter = kept.is_claim.is_parameter;
         is_cancel_variable = kept.is_claim.is_cancel_variable;
         credits = kept.file.credits;
+        are_fair = credited_fairly (seen_files p.packages p.tables q) w.files kept.file w.are_files kept.is_of_package;
         keeps = kept.keeps;
       } in
       record {
@@ -241,5 +251,8 @@ module _ (p : Program) (known : AreWellKnown p) where
         let w = imported_by loaded p.tables path f.name k e in
         of_first path q w.0 w.1 (first_or_none path p.packages)
 
-    pub are_taken_up : calls_in p loaded f k ≡ true → TakesUp p b f k
-    are_taken_up e = of_path f.path refl e
+    pub functions_taken_up_by : calls_in p loaded f k ≡ true → TakesUp p b f k
+    functions_taken_up_by e = of_path f.path refl e
+
+pub functions_taken_up : (p : Program) (known : AreWellKnown p) (b : Body) (loaded : LoadedPackage) → IsOf p b → slice_get p.packages b.home ≡ Some loaded → (f : Callee) (k : ℕ) → calls_in p loaded f k ≡ true → TakesUp p b f k
+functions_taken_up p known b loaded of is f k e = functions_taken_up_by p known b loaded of is f k e

@@ -16,7 +16,7 @@ use Rattle.machine.specs.EventSources.{IsBound}
 use Rattle.machine.proofs.OwnBindings.{BindsOwn}
 use Rattle.machine.proofs.Places.{eqb_is}
 
-some-inj : {A : Type 0} (x y : A) → Some x ≡ Some y → x ≡ y
+pub some-inj : {A : Type 0} (x y : A) → Some x ≡ Some y → x ≡ y
 some-inj x y e = cc
 
 -- lists that are put in order
@@ -57,7 +57,7 @@ order_has (v ∷ vs) x h =
       | inr n ↦ contains_there v x (in_their_order vs) (order_has vs x n)
     ])
 
-order_from : (vs : List Variable) (x : Variable) → Contains (in_their_order vs) x → Contains vs x
+pub order_from : (vs : List Variable) (x : Variable) → Contains (in_their_order vs) x → Contains vs x
 order_from [] x h = h
 order_from (v ∷ vs) x h =
     elim (contains_cases v x (in_their_order vs) (put_from v (in_their_order vs) x h)) [
@@ -97,13 +97,13 @@ among_has seen body (m ∷ ms) n x h k =
       | inr r ↦ Contains-append_right (variable_found seen body (found seen (Some m))) (variables_among seen body ms) x (among_has seen body ms n x r k)
     ]
 
-among_from : (seen : Seen) (body : ℕ) (ns : List ℕ) (x : Variable) → Contains (variables_among seen body ns) x → (n : ℕ) × Contains (variable_found seen body (found seen (Some n))) x
+pub among_from : (seen : Seen) (body : ℕ) (ns : List ℕ) (x : Variable) → Contains (variables_among seen body ns) x → (n : ℕ) × Contains (variable_found seen body (found seen (Some n))) x
 among_from seen body [] x h = absurd (contains_nil x h)
 among_from seen body (m ∷ ms) x h =
     elim (Contains-append_cases (variable_found seen body (found seen (Some m))) (variables_among seen body ms) x h) [ inl k ↦ (m, k) | inr k ↦ among_from seen body ms x k ]
 
 -- the local of a number
-find_is : (ls : List Local) (n : ℕ) (l : Local) → find_local ls n ≡ Some l → Contains ls l × (l.number ≡ n)
+pub find_is : (ls : List Local) (n : ℕ) (l : Local) → find_local ls n ≡ Some l → Contains ls l × (l.number ≡ n)
 find_is [] n l e = let bad : None ≡ Some l = e in cc
 find_is (x ∷ xs) n l e = by (x.number == n) refl e (find_is xs n l)
   where

@@ -10,7 +10,7 @@ use Rattle.meaning.specs.Mentions.{Named, Row, Role, elsewhere, called, called_i
 use Rattle.meaning.specs.Tracked.{Known, Giving, blank_left, name_left, left_name, left_local, local_meant_or, variable_of, is_in, are_locals, row_giving, obtains_there, row_obtains, GroupState, row_makes, Placed, LocalRole, parameter, receiver, variadic, result, in_block, Local, kind_of_local}
 use Rattle.meaning.specs.Uses.{Seen, found, kind_of, may_be_tracked, tracked_kind, VariableAt, Event, other, defer_literal, return_event, Binding, obtained, cleared, made, is_cancel, kind_at, are_cancels, row_binds, row_clears, are_groups, is_second_free, made_binding, binding_at, binding_event, binding_outcome, row_outcome, role_outcome, local_outcome, is_own, body_gives}
 use Rattle.meaning.specs.BodyEvents.{handed_on, mark_events, seen_file}
-use Rattle.meaning.proofs.Membership.{contains_cases, contains_nil}
+use Rattle.meaning.proofs.Membership.{contains_here, contains_there, contains_cases, contains_nil}
 use Rattle.package_meaning.specs.PathFaults.{BindsCancel, obtains, clears}
 use Rattle.verdicts.specs.Loaded.{known_in, seen_from, trees_of}
 use Rattle.machine.specs.Bodies.{Body}
@@ -33,7 +33,7 @@ second_part : (b c : Bool) → (b && c) ≡ true → c ≡ true
 second_part true c e = e
 second_part false c e = let bad : false ≡ true = e in cc
 
-each_of : (test : ℕ → Bool) (ns : List ℕ) (k : ℕ) → is_in k ns ≡ true → list_all test ns ≡ true → test k ≡ true
+pub each_of : (test : ℕ → Bool) (ns : List ℕ) (k : ℕ) → is_in k ns ≡ true → list_all test ns ≡ true → test k ≡ true
 each_of test [] k e h = let bad : false ≡ true = e in cc
 each_of test (n ∷ ns) k e h =
     by (n == k) refl e (λ r. each_of test ns k r (second_part (test n) (list_all test ns) h))
@@ -161,12 +161,12 @@ by_mark seen bodies (opens x) e u fits h binds = absurd (contains_nil e h)
 by_mark seen bodies closes e u fits h binds = absurd (contains_nil e h)
 
 -- the file of a body is a tree with what is known in it
-of_tree : (known : ℕ → Known) (n : ℕ) (trees : List SourceFile) (seen : Seen) → Contains (seen_from known n trees) seen → (k : Known) × (tree : SourceFile) × (seen_file k tree ≡ seen)
+pub of_tree : (known : ℕ → Known) (n : ℕ) (trees : List SourceFile) (seen : Seen) → Contains (seen_from known n trees) seen → (k : Known) × (tree : SourceFile) × (seen_file k tree ≡ seen) × Contains trees tree
 of_tree known n [] seen h = absurd (contains_nil seen h)
 of_tree known n (tree ∷ trees) seen h =
     elim (contains_cases (seen_file (known n) tree) seen (seen_from known (n + 1) trees) h) [
-      | inl q ↦ (known n, tree, q)
-      | inr r ↦ of_tree known (n + 1) trees seen r
+      | inl q ↦ (known n, tree, q, contains_here tree trees)
+      | inr r ↦ let w = of_tree known (n + 1) trees seen r in (w.0, w.1, w.2, contains_there tree w.1 trees w.3)
     ]
 
 marks_stand : (seen : Seen) (k : Known) (tree : SourceFile) → seen_file k tree ≡ seen → (mark : Placed) → Contains seen.marks mark → Stands mark.mark

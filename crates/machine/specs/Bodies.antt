@@ -1,14 +1,14 @@
 -- The bodies that a run goes through: those of the functions, methods and literals of a package, and of all given
 -- packages that it imports, at once or through others.
 -- (The Go specification, "Import declarations", "Function declarations", "Function literals", "Calls".)
-use Rattle.std.specs.Prelude.{ℕ, ◌≡◌, ◌==◌, ◌&&◌, Bool, true, List, [], Option, Some, None, slice_get, Contains}
+use Rattle.std.specs.Prelude.{ℕ, ◌≡◌, ◌==◌, ◌&&◌, Bool, true, false, List, [], Option, Some, None, slice_get, Contains}
 use Rattle.std.specs.List.{list_any}
 use Rattle.meaning.specs.Code.{Code}
 use Rattle.meaning.specs.StatementCode.{body_code}
 use Rattle.meaning.specs.Mentions.{BodyPlace, opens}
 use Rattle.meaning.specs.Tracked.{Placed, outer}
 use Rattle.meaning.specs.Uses.{Callee, Event, Seen, is_body}
-use Rattle.meaning.specs.BodyEvents.{Variable, is_cancel_variable, is_parameter, sites_of, variables_of}
+use Rattle.meaning.specs.BodyEvents.{Variable, VariableRole, own_parameter, own_receiver, declared_in_body, captured, is_cancel_variable, is_parameter, sites_of, variables_of}
 use Rattle.package_meaning.specs.PathFaults.{block_of}
 use Rattle.package_meaning.specs.Credits.{bodies_of}
 use Rattle.package_meaning.specs.CallsFlags.{is_function}
@@ -50,6 +50,18 @@ variables_in b = variables_of b.file b.place.at
 abbrev pub is_parameter_of : Body → ℕ → Bool
 is_parameter_of b number =
     list_any (λ v. (v.number == number) && (is_cancel_variable v && is_parameter v.role)) (variables_in b)
+
+abbrev pub is_captured : VariableRole → Bool
+is_captured (own_parameter k) = false
+is_captured own_receiver = false
+is_captured declared_in_body = false
+is_captured captured = true
+
+-- the tracked variable of that number is declared in a body around this one; this one mentions it, or a literal in it
+-- does; and it holds a cancel function
+abbrev pub is_captured_by : Body → ℕ → Bool
+is_captured_by b number =
+    list_any (λ v. (v.number == number) && (is_cancel_variable v && is_captured v.role)) (variables_in b)
 
 -- the body stands in no other: that of a function, of a method, or of a literal outside all functions
 pub record IsOutermost (b : Body) : Type 0 where

@@ -10,6 +10,7 @@ pub mod Laws
 pub mod Doings
 pub mod Examples
 pub mod Returns
-pub mod FlatPrograms
-pub mod FlatReports
+pub mod Duties
+pub mod PackageYes
 pub mod EventSources
+pub mod BodyOffsets

@@ -6,7 +6,7 @@
 use Rattle.std.specs.Prelude.{◌≡◌, ℕ, ◌+◌, ◌<◌, ◌==◌, Bool, if◌then◌else◌, List, [], ◌∷◌, Option, Some, None, Contains}
 use Rattle.meaning.specs.Code.{Code}
 use Rattle.meaning.specs.Uses.{Callee, Event, VariableAt}
-use Rattle.machine.specs.Bodies.{Body, code_of, is_parameter_of}
+use Rattle.machine.specs.Bodies.{Body, code_of, is_parameter_of, is_captured_by}
 
 -- what a tracked variable holds: a cancel function, or nothing that is one
 pub data Value : Type 0 where
@@ -167,13 +167,13 @@ binding s f u value =
 abbrev pub binds : Store → Frame → VariableAt → Frame
 binds s f u = record f { newest = put_at f.newest u.number (Some (bound_cell s f u)) }
 
--- an activation that has done nothing yet, in a store to which the cells of its parameters come; its other variables
--- are in these cells
+-- an activation that has done nothing yet, in a store to which the cells of its parameters come; what it captures is in
+-- the cells around it
 abbrev pub new_frame : Store → Body → (ℕ → Option ℕ) → Frame
 new_frame s b around = record {
   body = b;
   stage = runs (code_of b);
-  newest = λ v. if is_parameter_of b v then Some s.cell_count else around v;
+  newest = λ v. if is_parameter_of b v then Some s.cell_count else if is_captured_by b v then around v else None;
   waiting = None;
   saved = [];
   obtained = [];

@@ -1,17 +1,23 @@
 //! The machine that an analysed program is, and laws of it. It runs nothing.
 #![tactic(auto)]
 
+ghost use Rattle.machine.specs.BodyOffsets.{BodiesAreApart};
 ghost use Rattle.machine.specs.Doings.{MovesAreLists};
 ghost use Rattle.machine.specs.Laws.{ContextsAreSound, FramesHaveSteps};
 ghost use Rattle.machine.specs.EventSources.{BindingsAreOfLocals, BindingsAreTracked, EventsHaveSources};
-ghost use Rattle.machine.specs.FlatPrograms.{FlatYesIsQuiet};
-ghost use Rattle.machine.specs.FlatReports.{YesOfAFlatPackageIsQuiet};
+ghost use Rattle.machine.specs.Promise.{YesIsQuiet};
+ghost use Rattle.machine.specs.PackageYes.{YesOfAPackageIsQuiet};
 ghost use Rattle.machine.specs.Returns.{ReturnsExist};
 
 /// The moves of a code are its lists of events: each list that the code may go through is done by its moves, one after
 /// another, and what moves do is a list.
 pub fn moves_are_lists<E>()
     ensures { MovesAreLists E }
+{}
+
+/// In the tree of a text no two bodies begin at one offset, and a body that stands in another begins behind it.
+pub fn bodies_are_apart()
+    ensures { BodiesAreApart }
 {}
 
 /// Each event of a body is that of a mark in it, or says nothing, or is the return at the body's end.
@@ -50,17 +56,16 @@ pub fn returns_exist()
     ensures { ReturnsExist }
 {}
 
-/// A first case of what a yes promises: of programs without literals. Their bodies make contexts, bind what makers and
-/// givers give, call and save calls, hand functions on, and pass them to functions that are known to call them, at once
-/// or under `defer`, in recursion too. Where nothing is to be said of the files of a package, each of its returns is
-/// quiet, in every run.
-pub fn flat_yes_is_quiet()
-    ensures { FlatYesIsQuiet }
+/// What a yes promises, of packages without groups: where nothing is to be said of the files of a package, under tables
+/// that are consistent, of it and of the given packages below it, each of its returns is quiet, in every run. Literals
+/// share the variables that they capture with the activation around them, be they deferred or called by anyone.
+pub fn yes_is_quiet()
+    ensures { YesIsQuiet }
 {}
 
 /// So it is by a report of packages. Where it says nothing of a package, its tables know what holds of that package and
-/// of all given ones below it, and none of these has a finding; so if their bodies are without literals, and none of
-/// these packages imports `errgroup`, each return of the package is quiet, in every run.
-pub fn yes_of_a_flat_package_is_quiet()
-    ensures { YesOfAFlatPackageIsQuiet }
+/// of all given ones below it, and none of these has a finding; so if none of these packages imports `errgroup`, each
+/// return of the package is quiet, in every run.
+pub fn yes_of_a_package_is_quiet()
+    ensures { YesOfAPackageIsQuiet }
 {}

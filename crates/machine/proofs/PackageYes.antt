@@ -15,9 +15,9 @@ use Rattle.verdicts.specs.PackageTables.{AreCredited, no_file, file_and, IsJudge
 use Rattle.verdicts.specs.PackageReports.{Said, IsFileFinding, of_whole, of_import, of_file, IsYes, IsReportOf}
 use Rattle.machine.specs.Promise as promise
 use Rattle.machine.specs.Promise.{AreFairlyCredited, IsWellKnown, AreWellKnown, HasNoFinding}
-use Rattle.machine.specs.FlatReports.{IsYesIn, program_of, AreOfTexts, AreWithoutGroups, YesOfAFlatPackageIsQuiet}
+use Rattle.machine.specs.PackageYes.{IsYesIn, program_of, AreOfTexts, AreWithoutGroups, YesOfAPackageIsQuiet}
 use Rattle.machine.proofs.KnownFlags.{given_in_lists}
-use Rattle.machine.proofs.FlatPromise.{flat_yes_is_quiet}
+use Rattle.machine.proofs.QuietPromise.{yes_is_quiet}
 
 -- Imports as they are written
 
@@ -139,9 +139,9 @@ is_yes ps report i is_report said_none x h =
     let w = is_report.of_package i said_none.loaded said_none.said said_none.is_package said_none.is_said in
     contains_nil x (subst (λ xs. Contains xs x) said_none.is_yes ((w.1.each x).1 h))
 
-pub yes_of_a_flat_package_is_quiet : YesOfAFlatPackageIsQuiet
-yes_of_a_flat_package_is_quiet ps report i is_report said_none texts groups flat =
+pub yes_of_a_package_is_quiet : YesOfAPackageIsQuiet
+yes_of_a_package_is_quiet ps report i is_report said_none texts groups =
     let h = is_yes ps report i is_report said_none in
     let tables = is_report.tables in
     let are = is_report.are_tables in
-    flat_yes_is_quiet (program_of ps tables i) flat (are_well_known ps tables are i h texts groups) (has_no_finding ps tables are i h said_none.loaded said_none.is_package)
+    yes_is_quiet (program_of ps tables i) (are_well_known ps tables are i h texts groups) (has_no_finding ps tables are i h said_none.loaded said_none.is_package)

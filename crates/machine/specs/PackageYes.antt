@@ -1,5 +1,5 @@
--- The first case of the promise, said of a report of packages: under the tables of the report, a package of which the
--- report says nothing is quiet, if it is flat, and neither it nor a given package below it imports `errgroup`.
+-- The promise, said of a report of packages: under the tables of the report, a package of which the report says nothing
+-- is quiet, if neither it nor a given package below it imports `errgroup`.
 use Rattle.std.specs.Prelude.{◌≡◌, ℕ, false, List, [], Some, slice_get}
 use Rattle.meaning.specs.FunctionFacts.{errgroup_path}
 use Rattle.verdicts.specs.Loaded.{LoadedPackage, Tables, is_imported}
@@ -7,7 +7,6 @@ use Rattle.verdicts.specs.PackageReports.{Said, IsReportOf}
 use Rattle.machine.specs.Bodies.{Program, IsBelow}
 use Rattle.machine.specs.Runs.{IsQuietProgram}
 use Rattle.machine.specs.Promise.{AreTreesOfTexts}
-use Rattle.machine.specs.FlatPrograms.{IsFlat}
 
 -- the report has the package at that place, and nothing is said of it
 pub record IsYesIn (ps : List LoadedPackage) (report : List Said) (i : ℕ) : Type 0 where
@@ -30,11 +29,10 @@ abbrev pub AreWithoutGroups : Program → Type 0
 AreWithoutGroups p =
     (i : ℕ) (q : LoadedPackage) → IsBelow p i → slice_get p.packages i ≡ Some q → is_imported q errgroup_path ≡ false
 
-abbrev pub YesOfAFlatPackageIsQuiet : Type 0
-YesOfAFlatPackageIsQuiet = (ps : List LoadedPackage) (report : List Said) (i : ℕ)
+abbrev pub YesOfAPackageIsQuiet : Type 0
+YesOfAPackageIsQuiet = (ps : List LoadedPackage) (report : List Said) (i : ℕ)
     → (is_report : IsReportOf ps report)
     → IsYesIn ps report i
     → AreOfTexts (program_of ps is_report.tables i)
     → AreWithoutGroups (program_of ps is_report.tables i)
-    → IsFlat (program_of ps is_report.tables i)
     → IsQuietProgram (program_of ps is_report.tables i)

@@ -1,0 +1,64 @@
+-- The trees of loaded packages are those of texts, so that what a yes says of runs holds of a report on them.
+use Rattle.std.proofs.Common.{◌≡◌, ℕ, ◌+◌, zero, suc, true, false, inl, inr, List, [], ◌∷◌, map, Option, Some, None, Contains, refl, sym, ap, ◌∙◌, subst}
+use Rattle.std.specs.Prelude.{slice_get, option_map}
+use Rattle.std.proofs.lemmas.Option.{slice_get-map}
+use Rattle.lexer.specs.declared.source.Source.{Source}
+use Rattle.tree.specs.Syntax.{SourceFile}
+use Rattle.meaning.specs.TreeOfText.{IsTreeOf}
+use Rattle.meaning.proofs.Membership.{contains_cases, contains_nil}
+use Rattle.report.specs.declared.diagnostics.Diagnostic.{Diagnostic}
+use Rattle.verdicts.specs.Loaded.{Reading, has_tree, has_text_fault, has_tree_fault, LoadedPackage, NumberedTree, trees_from}
+use Rattle.verdicts.specs.PackageReports.{IsReportOf}
+use Rattle.loaded.specs.declared.loaded_package.LoadedPackage.{LoadedPackage as KeptPackage}
+use Rattle.load.specs.Readings.{AreReadingsOf}
+use Rattle.load.specs.GivenPackages.{PathAndFiles, AreLoaded}
+use Rattle.board.specs.declared.judged.Judged.{Judged}
+use Rattle.report.specs.Entries.{entry_of}
+use Rattle.board.specs.Reports.{says_nothing, is_yes, said_view}
+use Rattle.machine.specs.Promise.{AreTreesOfTexts}
+use Rattle.machine.specs.PackageYes.{program_of}
+use Rattle.machine.proofs.PackageYes.{yes_of_a_package_is_quiet}
+use Rattle.judge.specs.QuietYes.{IsToldYes, YesAreQuiet}
+
+abbrev tree_in : NumberedTree → SourceFile
+tree_in t = t.tree
+
+read_trees : (sources : List Source) (files : List Reading) → AreReadingsOf sources files → (n : ℕ) (tree : SourceFile) → Contains (map tree_in (trees_from n files)) tree → (text : List ℕ) × IsTreeOf text tree
+read_trees [] [] are n tree h = absurd (contains_nil tree h)
+read_trees [] (r ∷ rs) are n tree h = absurd are
+read_trees (s ∷ ss) [] are n tree h = absurd are
+read_trees (s ∷ ss) (has_tree t ∷ rs) are n tree h =
+    elim (contains_cases t tree (map tree_in (trees_from (n + 1) rs)) h) [
+      | inl q ↦ (s.bytes.items, subst (λ x. IsTreeOf s.bytes.items x) q are.0)
+      | inr later ↦ read_trees ss rs are.1 (n + 1) tree later
+    ]
+read_trees (s ∷ ss) (has_text_fault at why ∷ rs) are n tree h = read_trees ss rs are.1 (n + 1) tree h
+read_trees (s ∷ ss) (has_tree_fault at why ∷ rs) are n tree h = read_trees ss rs are.1 (n + 1) tree h
+
+none_there : {p : LoadedPackage} (n : ℕ) → slice_get {X = LoadedPackage} [] n ≡ Some p → ⊥
+none_there zero e = cc
+none_there (suc n) e = cc
+
+pub of_texts : (es : List PathAndFiles) (ps : List LoadedPackage) (ks : List KeptPackage) → AreLoaded es ps ks → (i : ℕ) (p : LoadedPackage) → slice_get ps i ≡ Some p → AreTreesOfTexts p
+of_texts [] [] ks h i p is = absurd (none_there i is)
+of_texts (e ∷ es) [] ks h i p is = absurd (none_there i is)
+of_texts [] (q ∷ qs) ks h i p is = absurd h
+of_texts (e ∷ es) (q ∷ qs) [] h i p is = absurd h
+of_texts (e ∷ es) (q ∷ qs) (k ∷ ks) h zero p is =
+    let same : q ≡ p = cc in
+    subst AreTreesOfTexts same (λ tree among. read_trees e.1.items q.files h.0.are_files 0 tree among)
+of_texts (e ∷ es) (q ∷ qs) (k ∷ ks) h (suc i) p is = of_texts es qs ks h.1 i p is
+
+no_entry : (ds : List Diagnostic) → says_nothing ds ≡ true → map entry_of ds ≡ []
+no_entry [] e = refl
+no_entry (d ∷ ds) e = let bad : false ≡ true = e in cc
+
+pub yes_are_quiet : (ps : List LoadedPackage) (said : List Judged) (is_report : IsReportOf ps (map said_view said)) → ((i : ℕ) (p : LoadedPackage) → slice_get ps i ≡ Some p → AreTreesOfTexts p) → YesAreQuiet ps is_report.tables said
+yes_are_quiet ps said is_report texts i told groups =
+    yes_of_a_package_is_quiet ps (map said_view said) i is_report record {
+      loaded = told.loaded;
+      said = said_view told.judged;
+      is_package = told.is_package;
+      is_said = slice_get-map said_view said i ∙ ap (option_map said_view) told.is_said;
+      is_yes = no_entry told.judged.report.diagnostics.items told.is_yes;
+    } (λ j q below is. texts j q is) groups

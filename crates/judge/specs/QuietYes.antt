@@ -1,0 +1,23 @@
+-- What a yes says of runs: where nothing is said of a package, and neither it nor a given package below it imports
+-- `errgroup`, each return of a frame of the package is quiet, in every run over the package and those below it.
+-- `machine` has the runs.
+use Rattle.std.specs.Prelude.{ℕ, ◌≡◌, true, List, Some, slice_get}
+use Rattle.verdicts.specs.Loaded.{LoadedPackage, Tables}
+use Rattle.board.specs.declared.judged.Judged.{Judged}
+use Rattle.board.specs.Reports.{is_yes}
+use Rattle.machine.specs.PackageYes.{program_of, AreWithoutGroups}
+use Rattle.machine.specs.Runs.{IsQuietProgram}
+
+-- the package at that place is told as a yes
+pub record IsToldYes (ps : List LoadedPackage) (said : List Judged) (i : ℕ) : Type 0 where
+  pub loaded : LoadedPackage
+  pub judged : Judged
+  pub is_package : slice_get ps i ≡ Some loaded
+  pub is_said : slice_get said i ≡ Some judged
+  pub is_yes : is_yes judged.report ≡ true
+
+abbrev pub YesAreQuiet : List LoadedPackage → Tables → List Judged → Type 0
+YesAreQuiet ps tables said = (i : ℕ)
+    → IsToldYes ps said i
+    → AreWithoutGroups (program_of ps tables i)
+    → IsQuietProgram (program_of ps tables i)
