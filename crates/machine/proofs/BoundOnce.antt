@@ -1,11 +1,10 @@
 -- Where nothing is found in a file, a variable that a literal mentions is bound only where it is declared: elsewhere its
 -- binding is a fault.
-use Rattle.std.proofs.Common.{◌≡◌, ℕ, zero, suc, ◌+◌, Bool, true, false, inl, inr, List, [], ◌∷◌, ◌++◌, map, Option, Some, None, Contains, refl, sym, ap, ◌∙◌, subst}
-use Rattle.std.specs.Prelude.{◌==◌, ◌&&◌, ◌||◌, if◌then◌else◌, not, is_some, slice_get}
-use Rattle.std.specs.List.{list_all}
+use Rattle.std.proofs.Common.{◌≡◌, ℕ, zero, suc, Bool, true, false, inl, inr, List, [], ◌∷◌, ◌++◌, map, Option, Some, None, Contains, refl, sym, ap, ◌∙◌, subst}
+use Rattle.std.specs.Prelude.{◌&&◌, if◌then◌else◌, not, is_some, slice_get}
 use Rattle.std.proofs.lemmas.Bool.{and_parts, eq-eqb}
 use Rattle.std.proofs.lemmas.List.Elements.{Contains-append_left, Contains-append_right}
-use Rattle.tree.specs.Syntax.{Identifier, Expressions, no_expression, expression_and, SourceFile}
+use Rattle.tree.specs.Syntax.{Identifier, Expressions, no_expression, expression_and}
 use Rattle.meaning.specs.Code.{Occurrence}
 use Rattle.meaning.specs.Lists.{Reaches}
 use Rattle.meaning.specs.Scopes.{is_blank}
@@ -14,17 +13,16 @@ use Rattle.meaning.specs.FunctionFacts.{VariableKind}
 use Rattle.meaning.specs.Mentions.{Named, bare, as_bare, RowForm, defines, assigns, declares, Row, Role, elsewhere, called, called_in_brackets, argument, returned, left, names_type, new_literal, parameter_pointer, Mention, BodyPlace, Mark, mentions, defers_literal, returns, opens, closes}
 use Rattle.meaning.specs.Tracked.{Known, Giving, local_meant_or, variable_of, declared_there, declared_by, blank_left, name_left, other_left, left_name, left_of_name, left_of_named, lefts_of_expressions, lefts_of, left_local, local_at, may_bind, row_giving, is_in, are_locals, obtains_there, row_obtains, row_makes, made_by_form, Placed, LocalRole, parameter, receiver, variadic, result, in_block, Local}
 use Rattle.meaning.specs.Uses.{Seen, found, kind_of, tracked_kind, VariableAt, Event, other, defer_literal, return_event, Binding, obtained, cleared, made, is_cancel, kind_at, row_binds, row_clears, made_binding, binding_at, binding_event, is_in_literal, fault_at, bound_again, UseFault, first_faults, again_faults, binding_outcome, row_outcome, role_outcome, local_outcome, variable_outcome, is_own, is_body, body_gives}
-use Rattle.meaning.specs.BodyEvents.{handed_on, mark_events, mark_faults, faults_of, variables_of, too_many_faults, body_faults, seen_file}
+use Rattle.meaning.specs.BodyEvents.{handed_on, mark_events, mark_faults, faults_of, variables_of, too_many_faults, body_faults}
 use Rattle.meaning.proofs.Membership.{contains_here, contains_cases, contains_nil}
 use Rattle.package_meaning.specs.PathFaults.{BindsCancel, obtains, clears}
 use Rattle.package_meaning.specs.Credits.{bodies_of}
-use Rattle.verdicts.specs.Loaded.{known_in, seen_from, trees_of}
+use Rattle.verdicts.specs.Loaded.{known_in, trees_of}
 use Rattle.verdicts.specs.PackageReports.{of_use}
 use Rattle.machine.specs.Bodies.{Program, Body, IsOf, code_of}
 use Rattle.machine.specs.World.{is_declaration}
 use Rattle.machine.specs.EventSources.{HasSource, says_nothing, falls_off, of_mark}
 use Rattle.machine.specs.Promise.{HasNoFinding}
-use Rattle.machine.proofs.Places.{eqb_is}
 use Rattle.machine.proofs.EventSources.{events_have_sources}
 use Rattle.machine.proofs.Bindings.{no_binding, single, mention_harmless}
 use Rattle.machine.proofs.OwnVariables.{some-inj, find_is, found_is}

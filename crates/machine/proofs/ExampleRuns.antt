@@ -15,27 +15,27 @@ use Rattle.machine.proofs.Places.{called_now}
 use Rattle.machine.proofs.ExampleBodies.{one, body_in, place_of, event_at, obtains, passed, both, literal, saving_is_of, saving_is_outermost, saving_is, forgetting_is_of, forgetting_is_outermost, forgetting_is, passing_is_of, passing_is_outermost, passing_is, deferring_is_of, deferring_is_outermost, deferring_is, taking_is_function, taking_is, has_parameter, literal_is_in, literal_is, has_no_parameter, captures_it, assigns, overwriting_is_of, overwriting_is_outermost, overwriting_is}
 
 -- the one goroutine acts
-act : (p : Program) (w : World) (f : Frame) (others : List Frame) (after : Store) (frames : List Frame) → Run p w → w.stacks 0 ≡ f ∷ others → Acts p w.store f after frames → Run p (with_stack w after 0 (frames ++ others))
+pub act : (p : Program) (w : World) (f : Frame) (others : List Frame) (after : Store) (frames : List Frame) → Run p w → w.stacks 0 ≡ f ∷ others → Acts p w.store f after frames → Run p (with_stack w after 0 (frames ++ others))
 act p w f others after frames r at a = step_more r (of_goroutine 0 at a)
 
-goes : (f : Frame) (o : Option (Occurrence Event)) (c d : Code Event) → f.stage ≡ runs c → Moves c o d → GoesOn f o d
+pub goes : (f : Frame) (o : Option (Occurrence Event)) (c d : Code Event) → f.stage ≡ runs c → Moves c o d → GoesOn f o d
 goes f o c d e m = record { code = c; stage = e; moves = m }
 
-comes_at : (f : Frame) (at : ℕ) (e : Event) (c d : Code Event) → f.stage ≡ runs c → Moves c (Some (event_at at e)) d → ComesTo f e d
+pub comes_at : (f : Frame) (at : ℕ) (e : Event) (c d : Code Event) → f.stage ≡ runs c → Moves c (Some (event_at at e)) d → ComesTo f e d
 comes_at f at e c d s m = record { at = at; order = 0; goes_on = goes f _ c d s m }
 
-next_at : (f : Frame) (at : ℕ) (e : Event) (c d : Code Event) → f.stage ≡ runs c → Moves c (Some (event_at at e)) d → f.waiting ≡ None → DoesNext f e d
+pub next_at : (f : Frame) (at : ℕ) (e : Event) (c d : Code Event) → f.stage ≡ runs c → Moves c (Some (event_at at e)) d → f.waiting ≡ None → DoesNext f e d
 next_at f at e c d s m n = record { comes_to = comes_at f at e c d s m; none_waits = n }
 
 -- the world in which the environment has called a function
 abbrev pub begun : Body → World
 begun b = with_stack empty_world (with_cells empty_world.store (λ v. nothing)) 0 (new_frame empty_world.store b nothing_around ∷ [])
 
-begins : (p : Program) (b : Body) → IsOf p b → IsOutermost b → Run p (begun b)
+pub begins : (p : Program) (b : Body) → IsOf p b → IsOutermost b → Run p (begun b)
 begins p b h out = step_more no_step (of_environment (starts 0 b (λ v. nothing) refl h out (λ v. any_nothing)))
 
 -- the one function that was obtained
-only_one : {A : Type 0} (x y : A) → Contains (x ∷ []) y → x ≡ y
+pub only_one : {A : Type 0} (x y : A) → Contains (x ∷ []) y → x ≡ y
 only_one x y h = elim (contains_cases x y [] h) [ inl e ↦ e | inr g ↦ absurd (contains_nil y g) ]
 
 owes_first : (f : Frame) → Contains f.obtained 0 → f.handed_on ≡ [] → Owes f 0

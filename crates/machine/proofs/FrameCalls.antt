@@ -10,11 +10,10 @@ use Rattle.meaning.specs.Classes.{Promises, CancelClass, opened, safe, change_ca
 use Rattle.meaning.proofs.Membership.{contains_here, contains_there, contains_nil, contains_map}
 use Rattle.package_meaning.specs.PathFaults.{returns_open, is_handed}
 use Rattle.machine.specs.Bodies.{Program, Body, IsFunction, variables_in}
-use Rattle.machine.specs.World.{Value, cancel_function, Store, Given, Passing, Closure, Saved, saved_literal, exits, Frame, in_cell, held}
+use Rattle.machine.specs.World.{Value, cancel_function, Store, Given, Passing, Closure, Saved, saved_literal, exits, Frame, held}
 use Rattle.machine.specs.Steps.{ComesTo, DoesNext, MayJoin, is_first, is_next, joining, evaluating, Fits, IsAtEnd}
 use Rattle.machine.specs.Duties.{IsFlagged, AreTakenUp}
-use Rattle.machine.proofs.OwnNumbers.{is_own}
-use Rattle.machine.proofs.Invariant.{IsLow, Saves, Holds, IsSettled, was_called, is_saved, is_shared, is_passed, is_waiting, is_held, IsOwn, HandsOn, HasDuty, IsRelied, MustCall, IsSharing, IsFine, relied_there}
+use Rattle.machine.proofs.Invariant.{IsLow, Saves, Holds, IsSettled, was_called, is_saved, is_shared, is_passed, is_waiting, is_held, IsOwn, HandsOn, HasDuty, MustCall, IsSharing, IsFine, relied_there}
 use Rattle.machine.proofs.FrameEvents.{none≢some, fine_event, still_held, held_is, reaches}
 use Rattle.machine.proofs.Places.{Place, class_of, exits≢runs, handed_there, on}
 

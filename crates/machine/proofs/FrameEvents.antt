@@ -1,5 +1,5 @@
 -- What a frame does, event by event, keeps it fine.
-use Rattle.std.proofs.Common.{◌≡◌, ℕ, ◌+◌, ◌≤◌, ◌<◌, ◌⊎◌, inl, inr, Bool, true, false, cond, List, [], ◌∷◌, ◌++◌, Option, Some, None, Contains, refl, sym, ap, ◌∙◌, subst, arith}
+use Rattle.std.proofs.Common.{◌≡◌, ℕ, ◌+◌, ◌<◌, ◌⊎◌, inl, inr, Bool, true, false, cond, List, [], ◌∷◌, ◌++◌, Option, Some, None, Contains, refl, sym, ap, ◌∙◌, subst, arith}
 use Rattle.std.proofs.lemmas.Bool.{eq-eqb, ne_eqb, cases_eq, cases_Bool}
 use Rattle.meaning.specs.Code.{Occurrence, Code}
 use Rattle.meaning.specs.Lists.{Reaches}
@@ -14,7 +14,7 @@ use Rattle.machine.specs.Steps.{GoesOn, DoesNext, at_code, with_function}
 use Rattle.machine.proofs.OwnBindings.{BindsOwn}
 use Rattle.machine.proofs.OwnNumbers.{is_own, declared_is_own, captured_is_not}
 use Rattle.machine.proofs.Contexts.{put_at-same, put_at-other}
-use Rattle.machine.proofs.Invariant.{IsLow, by_call, Holds, IsSettled, was_called, is_saved, is_shared, is_passed, is_waiting, is_held, IsOwn, HandsOn, AreBoundOnce, HasDuty, IsRelied, of_flag, of_credit, IsSharing, IsFine}
+use Rattle.machine.proofs.Invariant.{IsLow, by_call, Holds, IsSettled, was_called, is_saved, is_shared, is_passed, is_waiting, is_held, IsOwn, HandsOn, HasDuty, IsRelied, of_flag, of_credit, IsSharing, IsFine}
 use Rattle.machine.proofs.Places.{Grows, IsAt, Place, called_more, called_now, calling_cells, calling_count, class_next, class_of, exits≢runs, goes_there, is_reached, on, runs-inj, stays_there}
 
 pub none≢some : {A : Type 0} (x : A) → None ≡ Some x → ⊥

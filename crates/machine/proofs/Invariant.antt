@@ -1,7 +1,7 @@
 -- What holds of each frame, in every world of a run. A frame has to call what its variables obtained, what it got at
 -- parameters that it is known to call, and, if it is that of a saved literal, what the variables held that it is known to
 -- call.
-use Rattle.std.proofs.Common.{◌≡◌, ℕ, ◌≤◌, ◌<◌, ◌⊎◌, inl, inr, Bool, true, false, List, [], ◌∷◌, length, Option, Some, None, Contains, sym, ap, ◌∙◌, subst, arith}
+use Rattle.std.proofs.Common.{◌≡◌, ℕ, ◌≤◌, ◌<◌, ◌⊎◌, inl, inr, true, false, List, [], ◌∷◌, length, Option, Some, None, Contains, sym, ◌∙◌, subst, arith}
 use Rattle.meaning.specs.Code.{Occurrence, Code}
 use Rattle.meaning.specs.Lists.{Reaches}
 use Rattle.meaning.specs.FunctionFacts.{cancel}

@@ -30,3 +30,8 @@ mod LeftSides
 mod NamedBodies
 mod KnownFlags
 mod TrackedBindings
+mod RunLists
+mod LoudBodies
+mod LoudRuns
+mod GivenValues
+mod CallSteps

@@ -1,18 +1,14 @@
 -- Where nothing is found in the files of a package, and packages are well known, all that the invariant asks for is
 -- there.
-use Rattle.std.proofs.Common.{◌≡◌, ℕ, Bool, true, false, List, Some, ap, sym, ◌∙◌, subst, Contains}
+use Rattle.std.proofs.Common.{◌≡◌, ℕ, true, false, Some, ap, sym, ◌∙◌, subst, Contains}
 use Rattle.std.specs.Prelude.{slice_get}
-use Rattle.tree.specs.Syntax.{SourceFile}
-use Rattle.meaning.specs.TreeOfText.{IsTreeOf}
-use Rattle.meaning.specs.Mentions.{file_marks}
-use Rattle.meaning.specs.Tracked.{placed}
 use Rattle.meaning.specs.Uses.{Callee, Seen}
 use Rattle.meaning.specs.BodyEvents.{Variable}
 use Rattle.package_meaning.specs.PathFaults.{PathFault, IsPathFault, paths_of}
 use Rattle.package_meaning.specs.Credits.{Credits, AreFairCredits, bodies_of, no_calls, promises_in}
 use Rattle.verdicts.specs.Loaded.{LoadedPackage, known_in, trees_of}
 use Rattle.machine.specs.Bodies.{Program, Body, IsOf}
-use Rattle.machine.specs.BodyOffsets.{AreApart, BodiesAreApart}
+use Rattle.machine.specs.BodyOffsets.{AreApart}
 use Rattle.machine.specs.Promise.{AreWellKnown, HasNoFinding, YesIsQuiet}
 use Rattle.machine.specs.Duties.{TakesUp, AreTakenUp, calls_in}
 use Rattle.machine.proofs.BodyOffsets.{bodies_are_apart}

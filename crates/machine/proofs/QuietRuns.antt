@@ -1,5 +1,5 @@
 -- In every run of a program in which nothing is found each return of the package that is looked at is quiet.
-use Rattle.std.proofs.Common.{◌≡◌, ℕ, suc, ◌+◌, ◌≤◌, ◌<◌, ◌⊎◌, inl, inr, Bool, true, false, cond, List, [], ◌∷◌, ◌++◌, length, Option, Some, None, Contains, refl, sym, ap, ◌∙◌, subst, arith}
+use Rattle.std.proofs.Common.{◌≡◌, ℕ, suc, ◌+◌, ◌<◌, ◌⊎◌, inl, inr, Bool, true, false, cond, List, [], ◌∷◌, ◌++◌, length, Option, Some, None, Contains, refl, sym, ap, ◌∙◌, subst, arith}
 use Rattle.std.specs.Prelude.{◌==◌, ◌&&◌, ◌||◌, slice_get}
 use Rattle.std.specs.List.{list_any}
 use Rattle.std.proofs.lemmas.Bool.{eq-eqb, cases_eq, cases_Bool}
@@ -9,7 +9,7 @@ use Rattle.meaning.specs.Lists.{Lists, Reaches}
 use Rattle.meaning.specs.FunctionFacts.{cancel}
 use Rattle.meaning.specs.Mentions.{BodyPlace, opens}
 use Rattle.meaning.specs.Tracked.{Placed}
-use Rattle.meaning.specs.Uses.{Event, obtain, clear, pass, defer_pass, defer_literal, is_cancel, Seen}
+use Rattle.meaning.specs.Uses.{Event, obtain, clear, pass, defer_pass, is_cancel, Seen}
 use Rattle.meaning.specs.BodyEvents.{Variable, is_parameter, is_cancel_variable}
 use Rattle.meaning.specs.Classes.{Promises, entry_cancel}
 use Rattle.meaning.proofs.Membership.{contains_here, contains_there, contains_cases, contains_nil}
@@ -26,7 +26,7 @@ use Rattle.machine.proofs.OwnNumbers.{is_own, parameter_is_own, captured_is_not,
 use Rattle.machine.proofs.Contexts.{put_at-same, put_at-other, called_done, run_is_sound}
 use Rattle.machine.proofs.Invariant.{IsLow, Saves, by_call, by_pass, Holds, IsSettled, was_called, is_saved, is_shared, is_passed, is_waiting, is_held, AreBoundOnce, IsRelied, of_flag, of_credit, IsNeverOpen, MustCall, IsSharing, IsFine, Above, AreFine, StillMust, all_stand}
 use Rattle.machine.proofs.FrameEvents.{fine_silent, binding_grows, fine_other, fine_calling, fine_saving, fine_deferring, fine_clearing, fine_obtaining}
-use Rattle.machine.proofs.FrameCalls.{taken_up, fine_evaluating, fine_returning, GoesOnWith, fine_still, own_called, must_called}
+use Rattle.machine.proofs.FrameCalls.{taken_up, fine_evaluating, fine_returning, fine_still, own_called, must_called}
 use Rattle.machine.proofs.Places.{Grows, Place, called_more, called_now, calling_cells, calling_count, is_reached, lower_place, on, other_place, same_cells}
 
 -- that nothing is found on the paths of a body

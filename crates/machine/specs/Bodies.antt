@@ -46,7 +46,7 @@ code_of b = body_code (sites_of b.file b.place.at) (block_of b.place)
 abbrev pub variables_in : Body → List Variable
 variables_in b = variables_of b.file b.place.at
 
--- the tracked variable of that number is a parameter of the body, or its receiver, and holds a cancel function
+-- a cancel variable of that number is a parameter of the body, or its receiver
 abbrev pub is_parameter_of : Body → ℕ → Bool
 is_parameter_of b number =
     list_any (λ v. (v.number == number) && (is_cancel_variable v && is_parameter v.role)) (variables_in b)
@@ -57,8 +57,8 @@ is_captured own_receiver = false
 is_captured declared_in_body = false
 is_captured captured = true
 
--- the tracked variable of that number is declared in a body around this one; this one mentions it, or a literal in it
--- does; and it holds a cancel function
+-- a cancel variable of that number is declared in a body around this one, and is mentioned in this one or in a literal
+-- in it
 abbrev pub is_captured_by : Body → ℕ → Bool
 is_captured_by b number =
     list_any (λ v. (v.number == number) && (is_cancel_variable v && is_captured v.role)) (variables_in b)
@@ -79,7 +79,7 @@ pub record IsLiteralIn (b literal : Body) : Type 0 where
   pub same_file : literal.file ≡ b.file
   pub same_home : literal.home ≡ b.home
 
--- The package that a path names in a file of the package at `home`; without a path it is this one.
+-- The package that a path names in a file of the package at `home`; without a path it is that at `home` itself.
 abbrev pub IsNamed : Program → ℕ → Option (List ℕ) → ℕ → Type 0
 IsNamed p home None place = place ≡ home
 IsNamed p home (Some path) place =

@@ -30,8 +30,8 @@ IsReady f (make g state) = ⊥
 IsReady f (defer_literal at) = (b : Body) × IsLiteralIn f.body b × (b.place.at ≡ at)
 IsReady f (return_event handed) = Unit {0}
 
--- A goroutine's running frame has a step where it goes on in its code, and at its return. Nothing is said here of one
--- whose call is under way, nor of a pass that was saved.
+-- A goroutine's running frame has a step where it goes on in its code, and at its return. Of one whose call is under
+-- way, and of a pass that was saved, CallSteps tells.
 pub record FramesGoOn (p : Program) (w : World) (g : ℕ) (f : Frame) (others : List Frame) : Type 0 where
   pub silently : {rest : Code Event} → GoesOn f None rest → HasStep p w
   pub by_event : (e : Event) {rest : Code Event} → DoesNext f e rest → IsReady f e → HasStep p w

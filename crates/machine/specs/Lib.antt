@@ -5,12 +5,16 @@ pub mod Moves
 pub mod Steps
 pub mod Runs
 pub mod Promise
--- What shows that they aren't empty.
+pub mod PackageYes
+-- What shows that they aren't empty, and leave nothing out.
 pub mod Laws
+pub mod CallSteps
 pub mod Doings
+pub mod RunLists
 pub mod Examples
 pub mod Returns
-pub mod Duties
-pub mod PackageYes
+pub mod LoudReturns
+-- What serves the proofs.
 pub mod EventSources
 pub mod BodyOffsets
+pub mod Duties

@@ -54,7 +54,8 @@ pub record AreWellKnown (p : Program) : Type 0 where
       → ((i : ℕ) (q : LoadedPackage) → slice_get p.packages i ≡ Some q → q.path ≡ path → ⊥)
       → IsEmpty (p.tables path)
 
--- Nothing is to be said of the files of the package that is looked at. Of what it imports nothing is asked here: where
+-- Nothing is to be said of the files of the package that is looked at, under some fair credits, perhaps others than
+-- those by which its flags are known. Of what it imports nothing is asked here: where
 -- that has a finding, as a use that the rules don't allow, its functions may do in Go what they do in no run.
 pub record HasNoFinding (p : Program) : Type 0 where
   pub loaded : LoadedPackage

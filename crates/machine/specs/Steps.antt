@@ -1,5 +1,6 @@
 -- One step of a program: of the running frame of a goroutine, or of the environment. Any goroutine may be the next, and
--- the environment may act between any two steps. A panic has no step, and neither has what is done to a group.
+-- the environment may act between any two steps. Behind a call of `panic` nothing comes, and what is done to a group
+-- has no step.
 -- (The Go specification, "Calls", "Return statements", "Defer statements", "Go statements"; the documentation of
 -- `context`.)
 use Rattle.std.specs.Prelude.{◌≡◌, ℕ, ◌<◌, ◌&&◌, ◌||◌, ◌++◌, Bool, true, false, List, [], ◌∷◌, Option, Some, None, map, codes, Contains}
@@ -118,7 +119,7 @@ pub data Acts (p : Program) (s : Store) (f : Frame) : Store → List Frame → T
   -- a branch is taken, or the end of a statement is passed
   moves_on : {rest : Code Event} → GoesOn f None rest → Acts p s f s (at_code f rest ∷ [])
   does_other : {rest : Code Event} → DoesNext f other rest → Acts p s f s (at_code f rest ∷ [])
-  -- whether it declares its variable its offset tells, as that of `clears_one`
+  -- that it declares its variable is told by offsets (`is_declaration`), here and at `clears_one`
   obtains_one : {u : VariableAt} {c : Callee} {n : ℕ} {is_new : Bool} {rest : Code Event} {value : Value} {made : Store}
       → DoesNext f (obtain u c n is_new) rest
       → Obtains s c value made
@@ -156,8 +157,8 @@ pub data Acts (p : Program) (s : Store) (f : Frame) : Store → List Frame → T
       → b.place.at ≡ at
       → Acts p s f s
       ((record f { stage = runs rest; saved = saved_literal record { literal = b; newest = f.newest } ∷ f.saved }) ∷ [])
-  -- What is handed on is read; items that are whole calls of makers or givers stand in no variable, and what they give
-  -- the environment makes.
+  -- What is handed on is read. An item that is a call of a maker or giver is no variable, so it is not among this, and
+  -- the environment makes what it gives.
   comes_to_return : {handed : List Handed} {rest : Code Event}
       → DoesNext f (return_event handed) rest
       → Acts p s f s ((record f { stage = exits; handed_on = map (λ h. held s f h.number) handed }) ∷ [])

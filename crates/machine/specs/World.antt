@@ -8,7 +8,7 @@ use Rattle.meaning.specs.Code.{Code}
 use Rattle.meaning.specs.Uses.{Callee, Event, VariableAt}
 use Rattle.machine.specs.Bodies.{Body, code_of, is_parameter_of, is_captured_by}
 
--- what a tracked variable holds: a cancel function, or nothing that is one
+-- what a tracked variable holds: a cancel function, or nothing
 pub data Value : Type 0 where
   nothing : Value
   cancel_function : ℕ → Value
@@ -60,7 +60,7 @@ abbrev pub calling : Store → Value → Store
 calling s nothing = s
 calling s (cancel_function a) = record s { called = a ∷ s.called; ended = a ∷ s.ended }
 
--- a value that a variable can hold
+-- nothing, or a cancel function that the world has
 pub data IsAny (s : Store) : Value → Type 0 where
   any_nothing : IsAny s nothing
   any_function : {a : ℕ} → a < s.context_count → IsAny s (cancel_function a)
@@ -78,7 +78,7 @@ pub record Passing : Type 0 where
   pub is_deferred : Bool
   pub given : List Given
 
--- a literal, with the newest cells of the frame that evaluated it, which it shares with it
+-- a literal, with the newest cells of the frame that evaluated it; both go on using them
 pub record Closure : Type 0 where
   pub literal : Body
   pub newest : ℕ → Option ℕ
@@ -99,7 +99,7 @@ pub record Frame : Type 0 where
   pub stage : Stage
   -- what made the newest cell of each variable
   pub newest : ℕ → Option ℕ
-  -- the call whose arguments were evaluated last, and which has not been made yet
+  -- a call of which some arguments were evaluated, and which was neither made nor saved yet
   pub waiting : Option Passing
   -- the last one first
   pub saved : List Saved

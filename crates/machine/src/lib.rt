@@ -2,11 +2,14 @@
 #![tactic(auto)]
 
 ghost use Rattle.machine.specs.BodyOffsets.{BodiesAreApart};
+ghost use Rattle.machine.specs.CallSteps.{CallsHaveSteps};
 ghost use Rattle.machine.specs.Doings.{MovesAreLists};
 ghost use Rattle.machine.specs.Laws.{ContextsAreSound, FramesHaveSteps};
 ghost use Rattle.machine.specs.EventSources.{BindingsAreOfLocals, BindingsAreTracked, EventsHaveSources};
 ghost use Rattle.machine.specs.Promise.{YesIsQuiet};
 ghost use Rattle.machine.specs.PackageYes.{YesOfAPackageIsQuiet};
+ghost use Rattle.machine.specs.RunLists.{ListsAreRun};
+ghost use Rattle.machine.specs.LoudReturns.{LostFunctionsAreSeen};
 ghost use Rattle.machine.specs.Returns.{ReturnsExist};
 
 /// The moves of a code are its lists of events: each list that the code may go through is done by its moves, one after
@@ -38,9 +41,15 @@ pub fn bindings_are_tracked()
 {}
 
 /// A goroutine's running frame always has a step, but for what is done to a group, and for a call of a function that
-/// gets cancel functions, of which nothing is said here.
+/// gets cancel functions, of which `calls_have_steps` tells.
 pub fn frames_have_steps()
     ensures { FramesHaveSteps }
+{}
+
+/// A call of a function that gets cancel functions always begins, at once or when what was saved runs: in every world
+/// of a run there are values that it can give.
+pub fn calls_have_steps()
+    ensures { CallsHaveSteps }
 {}
 
 /// In every world of a run: a cancel function that was called has ended its context and all that come from it; a
@@ -68,4 +77,18 @@ pub fn yes_is_quiet()
 /// return of the package is quiet, in every run.
 pub fn yes_of_a_package_is_quiet()
     ensures { YesOfAPackageIsQuiet }
+{}
+
+/// Each list of a body is the list of events of some run, as far as its events are runnable: they are about no group,
+/// and no body is known for a function that gets a cancel function. The run begins with a call of the body, and comes
+/// to what is left of it after the list, or to its return.
+pub fn lists_are_run()
+    ensures { ListsAreRun }
+{}
+
+/// Runs come to returns that are not quiet in each of these packages: one passes its cancel function to a function that
+/// does not call it, one saves such a call, one saves a literal that calls nothing, one a literal that calls it in one
+/// branch, one uses the function in another way, one calls it in one branch, and one returns before the call.
+pub fn lost_functions_are_seen()
+    ensures { LostFunctionsAreSeen }
 {}
