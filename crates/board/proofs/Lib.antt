@@ -7,5 +7,7 @@ mod KnownImports
 mod NextPackage
 mod PackageNames
 mod PathsInOrder
+mod PlainNames
+mod PlainTables
 mod Verdicts
 mod WholeOnly

@@ -2,5 +2,6 @@
 -- are those of `verdicts/specs/PackageReports.antt` and `verdicts/specs/PackageTables.antt`.
 pub mod Judgments
 pub mod Reports
+pub mod Tables
 -- What serves the proofs: what is known while packages are judged one after another.
 pub mod Progress

@@ -8,7 +8,9 @@ mod package_names;
 mod packages;
 mod progress;
 mod reports;
+mod tables;
 
 pub use judged::{Around, Judged, judge};
 pub use packages::check;
 pub use reports::{Report, whole_report};
+pub use tables::final_tables;

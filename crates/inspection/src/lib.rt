@@ -3,15 +3,19 @@
 #![tactic(auto)]
 
 mod body_lines;
-mod event_lines;
+mod event_words;
+mod fact_lines;
 mod files;
+mod graph_lines;
+mod node_lines;
+mod package_lines;
 mod packages;
-mod parsed;
+mod page;
 mod program;
+mod table_calls;
 mod text_fault;
 mod use_fault_lines;
 
-pub use event_lines::text_of_events;
 pub use folders::{Fault, words_fault};
-pub use packages::Package;
+pub use packages::{Shown, text_of_packages};
 pub use program::{refuse, run};

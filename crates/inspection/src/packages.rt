@@ -1,35 +1,45 @@
 //! The packages that are looked into.
 
+use crate::fact_lines::text_of_facts;
+use crate::package_lines::text_of_bodies;
+use crate::table_calls::named_tables;
+use board::final_tables;
 use folders::{Fault, escaped, read_folder, split_word};
-use lexer::Source;
+use load::{GivenPackage, LoadFault, load, release};
+use loaded::LoadedPackage;
+use std::alloc::{AllocError, Global};
 use std::rt::Files;
 
-/// A package: its import path, and its Go files in the order of their names.
-#[derive(Drop)]
-pub struct Package {
-    pub path: String,
-    pub sources: Vec<Source>,
+/// What is shown of packages.
+#[derive(Clone, Copy)]
+pub enum Shown {
+    /// What their bodies do to tracked variables.
+    Events,
+    /// The same, with the graph of each body, and the classes that arrive at its nodes.
+    Graphs,
+    /// Their final tables.
+    Facts,
 }
 
-/// The packages that these words, `PATH=DIR` each, name, in the order of their paths.
+/// The packages that these words, `PATH=DIR` each, name, in their order.
 ///
 /// # Errors
 ///
-/// A word is no `PATH=DIR`, two have one path, a folder or a file can't be read, or memory was refused.
+/// A word is no `PATH=DIR`, a folder or a file can't be read, or memory was refused.
 pub fn read_packages<R: Files + AllocGlobal>(
     rt: &R,
     words: &[String],
-) -> Result<Vec<Package>, Fault> {
+) -> Result<Vec<GivenPackage>, Fault> {
     let mut packages = Vec::new(rt.alloc());
     for word in words {
-        add_package(&mut packages, read_package(rt, word.as_str())?)?;
+        packages.push(read_package(rt, word.as_str())?)?;
     }
     Ok(packages)
 }
 
-fn read_package<R: Files + AllocGlobal>(rt: &R, word: &str) -> Result<Package, Fault> {
+fn read_package<R: Files + AllocGlobal>(rt: &R, word: &str) -> Result<GivenPackage, Fault> {
     match split_word(word) {
-        Some((path, folder)) => Ok(Package {
+        Some((path, folder)) => Ok(GivenPackage {
             path: String::from_str(rt.alloc(), path)?,
             sources: read_folder(rt, folder)?,
         }),
@@ -37,18 +47,49 @@ fn read_package<R: Files + AllocGlobal>(rt: &R, word: &str) -> Result<Package, F
     }
 }
 
-/// Puts a package behind those of lesser paths.
-fn add_package(packages: &mut Vec<Package>, package: Package) -> Result<(), Fault> {
-    let mut place: usize = 0;
-    for other in packages.iter() {
-        if other.path == package.path {
-            return Err(Fault::TwoPackages(package.path));
-        }
-        if other.path < package.path {
-            place = place.saturating_add(1);
-        }
+/// The lines of what is shown of these packages, in the order of their paths.
+///
+/// # Errors
+///
+/// Two packages have one path, there are too many, or memory was refused.
+pub fn text_of_packages(
+    alloc: Global,
+    shown: Shown,
+    given: Vec<GivenPackage>,
+) -> Result<String, Fault> {
+    match load(alloc, given) {
+        Ok(packages) => Ok(text_of_owned(alloc, shown, packages)?),
+        Err(LoadFault::TooMany) => Err(Fault::TooManyPackages),
+        Err(LoadFault::TwoPackages(path)) => Err(Fault::TwoPackages(path)),
+        Err(LoadFault::OutOfMemory) => Err(Fault::OutOfMemory),
     }
-    let place = place.min(packages.len());
-    packages.insert(place, package)?;
-    Ok(())
+}
+
+/// The lines of packages, which are let go.
+fn text_of_owned(
+    alloc: Global,
+    shown: Shown,
+    packages: Vec<LoadedPackage>,
+) -> Result<String, AllocError> {
+    let text = text_of_loaded(alloc, shown, &packages);
+    release(packages);
+    text
+}
+
+fn text_of_loaded(
+    alloc: Global,
+    shown: Shown,
+    packages: &[LoadedPackage],
+) -> Result<String, AllocError> {
+    match shown {
+        Shown::Events => text_of_bodies(alloc, packages, None),
+        Shown::Graphs => text_of_graphs(alloc, packages),
+        Shown::Facts => text_of_facts(alloc, packages),
+    }
+}
+
+fn text_of_graphs(alloc: Global, packages: &[LoadedPackage]) -> Result<String, AllocError> {
+    let tables = final_tables(alloc, packages)?;
+    let named = named_tables(alloc, packages, &tables)?;
+    text_of_bodies(alloc, packages, Some(&named))
 }

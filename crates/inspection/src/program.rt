@@ -1,8 +1,7 @@
 //! The whole program, over two writers.
 
-use crate::event_lines::text_of_events;
 use crate::files::read_source;
-use crate::packages::read_packages;
+use crate::packages::{Shown, read_packages, text_of_packages};
 use crate::text_fault::{TextFault, lexical_fault, tree_fault};
 use folders::{Fault, fail};
 use lexer::{Source, lex, place};
@@ -26,6 +25,13 @@ const HELP: &str = "Shows what ctxvet makes of Go files, step by step
                          for each function, method and literal of the Go files in DIR, which are the package with the
                          import path PATH: uses that the rules do not allow, the cancel functions and groups that are
                          tracked, and what each statement does to them, in the order of the body's text
+  inspect graph PATH=DIR..
+                         the same, and behind each event: -> and the numbers of those that can directly follow it; then
+                         | and for each variable what may be so before the event, as a sum. Of a cancel function:
+                         1 unset, 2 open, 4 safe, and 8, 16, .. left to the first group, the second, .. Of a group:
+                         1 not made, 2 idle, 4 live, 8 a Wait is deferred. 0 where nothing arrives
+  inspect facts PATH=DIR..
+                         for each package a line with PATH and, as JSON, what is known of its functions
   inspect --help
 
 Exit status:
@@ -40,7 +46,7 @@ enum Asked<'a> {
     Help,
     Tokens(&'a str),
     Tree(&'a str),
-    Events(&'a [String]),
+    Packages(Shown, &'a [String]),
 }
 
 /// What a run that meets no fault of its own prints.
@@ -84,9 +90,9 @@ fn answered<R: Files + AllocGlobal>(rt: &R, words: &[String]) -> Result<Answer, 
         Some(Asked::Help) => Ok(Answer::Lines(String::from_str(rt.alloc(), HELP)?)),
         Some(Asked::Tokens(path)) => tokens_answer(rt.alloc(), &read_source(rt, path)?),
         Some(Asked::Tree(path)) => tree_answer(rt.alloc(), &read_source(rt, path)?),
-        Some(Asked::Events(packages)) => {
-            let packages = read_packages(rt, packages)?;
-            Ok(Answer::Lines(text_of_events(rt.alloc(), &packages)?))
+        Some(Asked::Packages(shown, words)) => {
+            let packages = read_packages(rt, words)?;
+            Ok(Answer::Lines(text_of_packages(rt.alloc(), shown, packages)?))
         }
         None => Err(Fault::WrongWords(PROGRAM)),
     }
@@ -97,7 +103,17 @@ fn read_words(words: &[String]) -> Option<Asked<'_>> {
         [word] if word.as_str() == "--help" => Some(Asked::Help),
         [word, path] if word.as_str() == "tokens" => Some(Asked::Tokens(path.as_str())),
         [word, path] if word.as_str() == "tree" => Some(Asked::Tree(path.as_str())),
-        [word, package, ..] if word.as_str() == "events" => Some(Asked::Events(&words[1..])),
+        [word, _, ..] => Some(Asked::Packages(shown_by(word.as_str())?, &words[1..])),
+        _ => None,
+    }
+}
+
+/// What the word asks to show of packages.
+fn shown_by(word: &str) -> Option<Shown> {
+    match word {
+        "events" => Some(Shown::Events),
+        "graph" => Some(Shown::Graphs),
+        "facts" => Some(Shown::Facts),
         _ => None,
     }
 }

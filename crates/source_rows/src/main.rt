@@ -1,17 +1,20 @@
 //! Goes through rows of Go sources, and prints which of them are as they are to be: sources in which marks say what
-//! each use of a name means, and packages with what is to be told of the events of their bodies.
+//! each use of a name means, and packages with what is to be shown of the events of their bodies, of their graphs, and
+//! of what is known of their functions.
 //!
-//! The rows lie in `data/names` and `data/events`: a new test is one more file there, and one more line of `stdout`. A
-//! source with marks may have two files of a package, with the line `// NEXT FILE` between them.
+//! The rows lie in `data/names`, `data/events`, `data/graphs` and `data/facts`: a new test is one more file there, and
+//! one more line of `stdout`. A source with marks may have two files of a package, with the line `// NEXT FILE` between
+//! them.
 #![tactic(auto)]
 
-mod event_rows;
 mod marks;
+mod package_rows;
 
-use event_rows::differs;
+use inspection::Shown;
 use lexer::{Source, lex};
 use marks::differences;
 use names::{NameFault, PackageNames, resolve};
+use package_rows::differs;
 use parser::parse;
 use std::alloc::{AllocError, Global};
 use std::fs;
@@ -21,6 +24,10 @@ use tree_hold::release;
 const NAMES: &str = "names";
 
 const EVENTS: &str = "events";
+
+const GRAPHS: &str = "graphs";
+
+const FACTS: &str = "facts";
 
 const NEXT_FILE: &str = "// NEXT FILE\n";
 
@@ -36,10 +43,9 @@ fn main(rt: HostRuntime) -> anyhow::Result<()> {
     for name in &entries(&rt, NAMES)? {
         show_names(&rt, name.as_str())?;
     }
-    for name in &entries(&rt, EVENTS)? {
-        show_events(&rt, name.as_str())?;
-    }
-    Ok(())
+    show_rows(&rt, EVENTS, Shown::Events)?;
+    show_rows(&rt, GRAPHS, Shown::Graphs)?;
+    show_rows(&rt, FACTS, Shown::Facts)
 }
 
 /// The names of a folder's entries, in the order of their bytes.
@@ -69,11 +75,17 @@ fn show_names(rt: &HostRuntime, name: &str) -> anyhow::Result<()> {
     Ok(())
 }
 
-/// Tells whether the events of this row's packages are those that it wants.
-fn show_events(rt: &HostRuntime, name: &str) -> anyhow::Result<()> {
-    let path = format!(in rt.alloc(); "{EVENTS}/{name}")?;
+/// Tells of each row of the folder whether this of its packages is as it wants.
+fn show_rows(rt: &HostRuntime, folder: &str, shown: Shown) -> anyhow::Result<()> {
+    for name in &entries(rt, folder)? {
+        show_row(rt, format!(in rt.alloc(); "{folder}/{name}")?, shown)?;
+    }
+    Ok(())
+}
+
+fn show_row(rt: &HostRuntime, path: String, shown: Shown) -> anyhow::Result<()> {
     let text = fs::read_to_string(rt, path.as_str())?;
-    match differs(rt.alloc(), text.as_str())? {
+    match differs(rt.alloc(), shown, text.as_str())? {
         None => println!(rt; "{path}: as wanted")?,
         Some(found) => println!(rt; "{path}: otherwise:\n{found}")?,
     }

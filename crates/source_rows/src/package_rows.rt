@@ -1,10 +1,11 @@
-//! Packages in which each file, and what is told of the events of their bodies, stand one after another in one row.
+//! Packages in which each file, and what is to be shown of the packages, stand one after another in one row.
 //!
 //! A line `FILE NAME OF PATH` begins a file of the package with that import path, and the line `WANT` what is to be
-//! told. Packages stand in the order of their paths, and the files of one package together.
+//! shown. The files of one package stand together.
 
-use inspection::{Package, text_of_events};
+use inspection::{Fault, Shown, text_of_packages};
 use lexer::Source;
+use load::GivenPackage;
 use std::alloc::{AllocError, Global};
 
 const FILE: &str = "FILE ";
@@ -16,19 +17,19 @@ const WANT: &str = "WANT";
 /// What stands in a row.
 #[derive(Drop)]
 struct Row {
-    packages: Vec<Package>,
+    packages: Vec<GivenPackage>,
     wanted: String,
 }
 
-/// What is told otherwise than the row wants, and nothing where all is as wanted.
+/// What is shown otherwise than the row wants, and nothing where all is as wanted.
 ///
 /// # Errors
 ///
-/// Memory was refused.
-pub fn differs(alloc: Global, text: &str) -> Result<Option<String>, AllocError> {
-    let row = read_row(alloc, text)?;
-    let found = text_of_events(alloc, &row.packages)?;
-    if found == row.wanted {
+/// Two packages of the row have one path, or memory was refused.
+pub fn differs(alloc: Global, shown: Shown, text: &str) -> Result<Option<String>, Fault> {
+    let Row { packages, wanted } = read_row(alloc, text)?;
+    let found = text_of_packages(alloc, shown, packages)?;
+    if found == wanted {
         return Ok(None);
     }
     Ok(Some(found))
@@ -56,7 +57,7 @@ fn read_row(alloc: Global, text: &str) -> Result<Row, AllocError> {
 /// Begins a file, or adds a line to the last one.
 fn add_line(
     alloc: Global,
-    packages: &mut Vec<Package>,
+    packages: &mut Vec<GivenPackage>,
     line: &str,
     words: &str,
 ) -> Result<(), AllocError> {
@@ -72,7 +73,7 @@ fn add_line(
 
 fn begin_file(
     alloc: Global,
-    packages: &mut Vec<Package>,
+    packages: &mut Vec<GivenPackage>,
     name: &str,
     path: &str,
 ) -> Result<(), AllocError> {
@@ -87,14 +88,14 @@ fn begin_file(
     }
     let mut sources = Vec::new(alloc);
     sources.push(source)?;
-    packages.push(Package {
+    packages.push(GivenPackage {
         path: String::from_str(alloc, path)?,
         sources,
     })?;
     Ok(())
 }
 
-fn extend_file(packages: &mut Vec<Package>, line: &str) -> Result<(), AllocError> {
+fn extend_file(packages: &mut Vec<GivenPackage>, line: &str) -> Result<(), AllocError> {
     if let Some(package) = packages.last_mut() {
         if let Some(source) = package.sources.last_mut() {
             source.bytes.extend_from_slice(line.as_bytes())?;

@@ -1,0 +1,2 @@
+-- What tables in memory say of calls.
+pub mod TableCalls
