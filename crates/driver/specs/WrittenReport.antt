@@ -6,8 +6,7 @@ use Rattle.std.specs.Io.KnownBytes.{Appends}
 use Rattle.load.specs.declared.packages.GivenPackage.{GivenPackage}
 use Rattle.command_line.specs.Words.{AsksForHelp, IsCheck}
 use Rattle.folders.specs.declared.fault.Fault.{Fault}
-use Rattle.board.specs.declared.reports.Report.{Report}
-use Rattle.judge.specs.Reports.{IsReport}
+use Rattle.judge.specs.Reports.{IsReport, Report}
 use Rattle.driver.specs.Packages.{AreGiven}
 use Rattle.driver.specs.Faults.{IsRunFault, LeavesUnwritten}
 use Rattle.driver.specs.declared.status.Status.{Status}

@@ -6,8 +6,8 @@ mod program;
 mod reports;
 mod status;
 
-pub use board::Report;
 pub use folders::{Fault, words_fault};
+pub use judge::Report;
 pub use load::GivenPackage;
 pub use program::{refuse, run};
 pub use reports::report_of;

@@ -4,8 +4,8 @@ ghost use Rattle.std.specs.Prelude.{◌≡◌, IfErr, IfOk};
 ghost use Rattle.driver.specs.Faults.{told_fault, IsReportFault};
 ghost use Rattle.judge.specs.Reports.{IsReport};
 
-use board::Report;
 use folders::Fault;
+use judge::Report;
 use load::{GivenPackage, LoadFault};
 use std::alloc::Global;
 

@@ -6,7 +6,7 @@ use Rattle.load.specs.declared.packages.GivenPackage.{GivenPackage}
 use Rattle.load.specs.GivenPackages.{IsLoad}
 use Rattle.board.specs.declared.judged.Judged.{Judged}
 use Rattle.board.specs.Reports.{AreReports, IsTold}
-use Rattle.board.specs.declared.reports.Report.{Report}
+pub use Rattle.board.specs.declared.reports.Report.{Report}
 use Rattle.judge.specs.QuietYes.{YesAreQuiet}
 
 -- The given packages are loaded in the order of their paths, as their files are read, and it is their report.

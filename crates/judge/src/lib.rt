@@ -4,4 +4,5 @@
 
 mod reports;
 
+pub use board::Report;
 pub use reports::report_of;
