@@ -1,4 +1,4 @@
-"""What bench/lexer and bench/parser share: Go texts, and how programs are built and timed."""
+"""What bench/lexer, bench/parser and bench/check share: Go texts, and how programs are built and timed."""
 
 import os
 import random
@@ -82,12 +82,16 @@ def write(folder, name, data):
     return path
 
 
-def build(crate):
-    """Builds the program of a crate that reads the files that it is given, and gives its path."""
-    folder = os.path.join(ROOT, "crates", crate)
-    if subprocess.run(["rt", "run", "--", os.devnull], cwd=folder, stdout=subprocess.DEVNULL).returncode != 0:
-        sys.exit(f"{sys.argv[0]}: crates/{crate} could not be built")
-    return os.path.join(folder, "out", crate)
+def built(program):
+    """Where a program of the repository lies once it is built."""
+    return os.path.join(ROOT, "crates", program, "out", program)
+
+
+def build(program):
+    """Builds a program of the repository by its script, where it isn't built yet, and gives the path of what was built."""
+    if subprocess.run([os.path.join(ROOT, program), "--help"], stdout=subprocess.DEVNULL).returncode != 0:
+        sys.exit(f"{sys.argv[0]}: {program} could not be built")
+    return built(program)
 
 
 def build_go(folder, name):
@@ -131,3 +135,13 @@ def throughput(label, words, files):
 
 def on_one_processor():
     os.sched_setaffinity(0, {min(os.sched_getaffinity(0))})
+
+
+def one_body(size, groups=0):
+    """A file with one function of little under `size` bytes, which has 48 cancel functions and so many groups, and uses
+    of all of them."""
+    front = 'package a\n\nimport (\n\t"context"\n\t"golang.org/x/sync/errgroup"\n)\n\nfunc f(p context.Context) {\n'
+    front += "".join(f"\t_, c{i} := context.WithCancel(p)\n" for i in range(48))
+    front += "".join(f"\tvar g{i} errgroup.Group\n" for i in range(groups))
+    part = "".join(f"\tc{i}()\n" for i in range(48)) + "".join(f"\tg{i}.Wait()\n" for i in range(groups))
+    return front + part * ((size - len(front) - 2) // len(part)) + "}\n"

@@ -1,17 +1,32 @@
-//! The program `inspect`, for people who look into ctxvet: hands the words of its command line and its streams to the
-//! library `inspection`.
+//! The program `inspect`, for people who look into ctxvet or work on it: shows what ctxvet makes of a file and of
+//! packages, goes through the rows of its tests, and counts what files have.
 #![tactic(auto)]
 
-use inspection::{Fault, refuse, run, words_fault};
+mod counting;
+mod counts;
+mod file_lines;
+mod files;
+mod name_marks;
+mod name_rows;
+mod output;
+mod package_rows;
+mod program;
+mod report_marks;
+mod row_folders;
+mod text_fault;
+mod transcripts;
+mod trees;
+
+use folders::{Fault, words_fault};
+use program::{refuse, run};
 use std::env;
 use std::process::ExitCode;
 
 /// Runs the program and ends with its status.
 fn main(rt: HostRuntime) -> ExitCode {
-    let mut err = rt.stderr();
     let status = match words(&rt) {
-        Ok(words) => run(&rt, &words, &mut rt.stdout(), &mut err),
-        Err(fault) => refuse(&mut err, &fault),
+        Ok(words) => run(&rt, &words),
+        Err(fault) => refuse(&rt, &fault),
     };
     ExitCode::from(status)
 }

@@ -1,21 +1,18 @@
-//! The program `inspect` as a library: what ctxvet's lexer and its parser make of a file, and what it makes of the
-//! bodies of packages, as lines for people.
+//! What ctxvet makes of packages, as lines for people: what their bodies do to tracked variables, with their graphs,
+//! and what is known of their functions. The program `inspect` prints them.
 #![tactic(auto)]
 
 mod body_lines;
 mod event_words;
 mod fact_lines;
-mod files;
 mod graph_lines;
 mod node_lines;
 mod package_lines;
 mod packages;
 mod page;
-mod program;
 mod table_calls;
-mod text_fault;
+mod telling;
 mod use_fault_lines;
 
-pub use folders::{Fault, words_fault};
-pub use packages::{Shown, text_of_packages};
-pub use program::{refuse, run};
+pub use packages::{Shown, read_packages, text_of_packages};
+pub use telling::tell;

@@ -1,175 +1,519 @@
--- Rules that give marks: what is spelled between two places has its bodies between them. One lemma a way to put rules
--- together.
-use Rattle.std.proofs.Common.{◌≡◌, ℕ, ◌<◌, ◌≤◌, inl, inr, Bool, true, false, List, [], ◌∷◌, ◌++◌, Option, Some, None, refl, ap, ◌∙◌, subst, arith}
+-- Rules that give marks: what is spelled between two places has its bodies and sites between them. One lemma a way to
+-- put rules together.
+use Rattle.std.proofs.Common.{◌≡◌, ℕ, ◌<◌, ◌≤◌, inl, inr, Bool, true, false, List, [], ◌∷◌, ◌++◌, Option, Some, None, refl, sym, ap, ◌∙◌, subst, arith, append-nil, true≢false}
 use Rattle.lexer.specs.declared.token.Token.{Token}
 use Rattle.lexer.specs.declared.token.TokenKind.{TokenKind}
-use Rattle.lexer.specs.declared.token.TokenKind.TheVariants.{FuncKeyword}
+use Rattle.lexer.specs.declared.token.TokenKind.TheVariants.{FuncKeyword, ReturnKeyword}
 use Rattle.tree.specs.declared.span.Span.{Span}
-use Rattle.tree.specs.Syntax.{Identifier}
-use Rattle.meaning.specs.Mentions.{BodyPlace, Mark, in_body}
-use Rattle.meaning.specs.Cursor.{Cursor, Rule, ◌⨾◌, ◌⇒◌, nothing, never, one_of, optional, chosen, token, string_token, not_before, semicolon, TakesSemicolon, Semicolons, no_semicolon, semicolon_and, spanning, first_start, identifier, optional_identifier, more_identifiers, identifiers}
+use Rattle.tree.specs.Syntax.{Identifier, Expressions, StatementForm}
+use Rattle.meaning.specs.Mentions.{BodyPlace, LiteralUse, other_use, deferred_call, started_by, deferral, Mark, mentions, defers_literal, returns, opens, closes, in_body}
+use Rattle.meaning.specs.Cursor.{Cursor, Rule, ◌⨾◌, ◌⇒◌, nothing, never, one_of, optional, chosen, token, string_token, not_before, semicolon, TakesSemicolon, Semicolons, no_semicolon, semicolon_and, spanning, start_at, first_start, identifier, optional_identifier, more_identifiers, identifiers}
+use Rattle.meaning.specs.Grammar.{statement_start}
+use Rattle.machine.proofs.AskedSites.{asked_statements}
 use Rattle.machine.proofs.BodyOffsetsWithin.{Within, IsPlain, no_marks, plain_and, wider, longer, both_within, turned_within, body_within}
-use Rattle.machine.proofs.BodyOffsetsTokens.{Ordered, first_ordered}
+use Rattle.machine.proofs.BodyOffsetsTokens.{is_solid, Ordered, first_ordered, from_first}
+use Rattle.machine.proofs.SitesWithin.{Around, no_site, from_site, behind_site, Fits, still_fits, IsOwn, AreOwn, Sited, own_sited, wider_sited, longer_sited, both_sited, turned_sited, own_before, own_behind, foreign_sited, past_sited, unasked_sited, settled_sited, return_sited, body_sited}
+use Rattle.machine.proofs.SavedLiterals.{AreSaved, IsMention, AreMentions, mention_is_own, mentions_are_own, none_saved, both_saved, mentions_saved, return_saved, body_saved, literal_saved}
 
--- from an offset on up to a place stand these marks
-pub record Given (lo : ℕ) (to : Cursor) (ms : List Mark) : Type 0 where
+-- the next token stands where the tokens may begin that are left, or behind
+abbrev pub IsNextBehind : Cursor → Type 0
+IsNextBehind place = (low : ℕ) → Ordered low place.left → low ≤ start_at place
+
+-- From an offset on up to a place stand these marks, with these sites that are asked for. Where the part takes bytes,
+-- its first token begins before its end.
+pub record Given (takes : Bool) (own : Around) (lo : ℕ) (from to : Cursor) (asks : List ℕ)
+    (ms : List Mark) : Type 0 where
   pub hi : ℕ
   pub left : Ordered hi to.left
   pub within : Within lo hi ms
+  pub sited : Sited own lo hi asks ms
+  pub saved : (bodies : List BodyPlace) → AreSaved bodies ms
+  pub has_bytes : takes ≡ true → IsNextBehind from × (start_at from < hi)
 
-abbrev pub Gives : List Mark → Rule → Type 0
-Gives ms rule = (from to : Cursor) (lo : ℕ) → Ordered lo from.left → rule from to → Given lo to ms
+-- what the rule spells is given so, wherever it stands
+abbrev pub Gives : Bool → Around → List ℕ → List Mark → Rule → Type 0
+Gives takes own asks ms rule = (from to : Cursor) (lo : ℕ)
+    → Fits own lo
+    → Ordered lo from.left
+    → rule from to
+    → Given takes own lo from to asks ms
 
-pub both : {ms ns : List Mark} {first second : Rule} → Gives ms first → Gives ns second → Gives (ms ++ ns) (first ⨾ second)
-both h k from to lo o s =
-    let a = h from s.0 lo o s.1 in
-    let b = k s.0 to a.hi a.left s.2 in
-    record { hi = b.hi; left = b.left; within = both_within a.within b.within }
+module _ {takes more : Bool} {own : Around} where
+  pub both : {qs rs : List ℕ} {ms ns : List Mark} {first second : Rule}
+      → Gives takes own qs ms first
+      → Gives more own rs ns second
+      → Gives takes own (qs ++ rs) (ms ++ ns) (first ⨾ second)
+  both {ms = ms} {ns = ns} h k from to lo f o s =
+      let a = h from s.0 lo f o s.1 in
+      let b = k s.0 to a.hi (still_fits own lo a.hi a.within.goes_up f) a.left s.2 in
+      record {
+        hi = b.hi;
+        left = b.left;
+        within = both_within a.within b.within;
+        sited = both_sited a.within.goes_up b.within.goes_up a.sited b.sited;
+        saved = λ bodies. both_saved bodies ms ns (a.within.splits bodies) (a.saved bodies) (b.saved bodies);
+        has_bytes = λ e. let x = a.has_bytes e in (x.0, omega (arith, x.1, b.within.goes_up));
+      }
 
--- the marks of the second part stand before those of the first
-pub turned : {ms ns : List Mark} {first second : Rule} → Gives ms first → Gives ns second → Gives (ns ++ ms) (first ⨾ second)
-turned h k from to lo o s =
-    let a = h from s.0 lo o s.1 in
-    let b = k s.0 to a.hi a.left s.2 in
-    record { hi = b.hi; left = b.left; within = turned_within a.within b.within }
+  -- the marks of the second part stand before those of the first
+  pub turned : {qs rs : List ℕ} {ms ns : List Mark} {first second : Rule}
+      → Gives takes own qs ms first
+      → Gives more own rs ns second
+      → Gives takes own (rs ++ qs) (ns ++ ms) (first ⨾ second)
+  turned {ms = ms} {ns = ns} h k from to lo f o s =
+      let a = h from s.0 lo f o s.1 in
+      let b = k s.0 to a.hi (still_fits own lo a.hi a.within.goes_up f) a.left s.2 in
+      record {
+        hi = b.hi;
+        left = b.left;
+        within = turned_within a.within b.within;
+        sited = turned_sited a.within.goes_up b.within.goes_up a.sited b.sited;
+        saved = λ bodies. both_saved bodies ns ms (b.within.splits bodies) (b.saved bodies) (a.saved bodies);
+        has_bytes = λ e. let x = a.has_bytes e in (x.0, omega (arith, x.1, b.within.goes_up));
+      }
 
--- the first part gives nothing
-pub behind : {ms : List Mark} {first second : Rule} → Gives [] first → Gives ms second → Gives ms (first ⨾ second)
-behind h k from to lo o s =
-    let a = h from s.0 lo o s.1 in
-    let b = k s.0 to a.hi a.left s.2 in
-    record { hi = b.hi; left = b.left; within = longer a.within.goes_up b.within }
+  -- the first part gives nothing
+  pub behind : {asks : List ℕ} {ms : List Mark} {first second : Rule}
+      → Gives takes own [] [] first
+      → Gives more own asks ms second
+      → Gives takes own asks ms (first ⨾ second)
+  behind h k from to lo f o s =
+      let a = h from s.0 lo f o s.1 in
+      let b = k s.0 to a.hi (still_fits own lo a.hi a.within.goes_up f) a.left s.2 in
+      record {
+        hi = b.hi;
+        left = b.left;
+        within = longer a.within.goes_up b.within;
+        sited = longer_sited a.within.goes_up b.sited;
+        saved = b.saved;
+        has_bytes = λ e. let x = a.has_bytes e in (x.0, omega (arith, x.1, b.within.goes_up));
+      }
 
--- the last part gives nothing
-pub ending : {ms : List Mark} {first second : Rule} → Gives ms first → Gives [] second → Gives ms (first ⨾ second)
-ending h k from to lo o s =
-    let a = h from s.0 lo o s.1 in
-    let b = k s.0 to a.hi a.left s.2 in
-    record { hi = b.hi; left = b.left; within = wider b.within.goes_up a.within }
+  -- the last part gives nothing
+  pub ending : {asks : List ℕ} {ms : List Mark} {first second : Rule}
+      → Gives takes own asks ms first
+      → Gives more own [] [] second
+      → Gives takes own asks ms (first ⨾ second)
+  ending h k from to lo f o s =
+      let a = h from s.0 lo f o s.1 in
+      let b = k s.0 to a.hi (still_fits own lo a.hi a.within.goes_up f) a.left s.2 in
+      record {
+        hi = b.hi;
+        left = b.left;
+        within = wider b.within.goes_up a.within;
+        sited = wider_sited b.within.goes_up a.sited;
+        saved = a.saved;
+        has_bytes = λ e. let x = a.has_bytes e in (x.0, omega (arith, x.1, b.within.goes_up));
+      }
 
-pub given : {ms : List Mark} {fact : Type 0} {rule : Rule} → Gives ms rule → Gives ms (fact ⇒ rule)
-given h from to lo o s = h from to lo o s.1
+pub given : {takes : Bool} {own : Around} {asks : List ℕ} {ms : List Mark} {fact : Type 0} {rule : Rule}
+    → Gives takes own asks ms rule
+    → Gives takes own asks ms (fact ⇒ rule)
+given h from to lo f o s = h from to lo f o s.1
 
-pub spanned : {ms : List Mark} {span : Span} {rule : Rule} → Gives ms rule → Gives ms (spanning span rule)
-spanned h from to lo o s = h from to lo o s.0
+pub spanned : {takes : Bool} {own : Around} {asks : List ℕ} {ms : List Mark} {span : Span} {rule : Rule}
+    → Gives takes own asks ms rule
+    → Gives takes own asks ms (spanning span rule)
+spanned h from to lo f o s = h from to lo f o s.0
 
-pub gives_nothing : Gives [] nothing
-gives_nothing from to lo o p =
-    record { hi = lo; left = subst (λ (place : Cursor). Ordered lo place.left) p o; within = no_marks (omega arith) }
+-- whether it takes bytes is not said
+pub loosely : {takes : Bool} {own : Around} {asks : List ℕ} {ms : List Mark} {rule : Rule}
+    → Gives takes own asks ms rule
+    → Gives false own asks ms rule
+loosely h from to lo f o s =
+    let a = h from to lo f o s in
+    record {
+      hi = a.hi;
+      left = a.left;
+      within = a.within;
+      sited = a.sited;
+      saved = a.saved;
+      has_bytes = λ e. absurd (true≢false (sym e));
+    }
 
-pub gives_never : {ms : List Mark} → Gives ms never
-gives_never from to lo o s = absurd s
+pub gives_nothing : {own : Around} → Gives false own [] [] nothing
+gives_nothing {own} from to lo f o p =
+    record {
+      hi = lo;
+      left = subst (λ (place : Cursor). Ordered lo place.left) p o;
+      within = no_marks (omega arith);
+      sited = own_sited own lo lo [] tt;
+      saved = none_saved;
+      has_bytes = λ e. absurd (true≢false (sym e));
+    }
 
-pub gives_not_before : (test : TokenKind → Bool) → Gives [] (not_before test)
-gives_not_before test from to lo o s = gives_nothing from to lo o s.0
+pub gives_never : {takes : Bool} {own : Around} {asks : List ℕ} {ms : List Mark} → Gives takes own asks ms never
+gives_never from to lo f o s = absurd s
 
-pub gives_token : (kind : TokenKind) → Gives [] (token kind)
-gives_token kind from to lo o t =
-    let h = first_ordered lo record { kind = kind; start = t.start; end = to.end } to.left (subst (λ (l : List Token). Ordered lo l) t.taken o) in
+pub gives_not_before : {own : Around} (test : TokenKind → Bool) → Gives false own [] [] (not_before test)
+gives_not_before test from to lo f o s = gives_nothing from to lo f o s.0
+
+pub gives_token : {own : Around} (kind : TokenKind) → Gives (is_solid kind) own [] [] (token kind)
+gives_token {own} kind from to lo f o t =
+    let first : Token = record { kind = kind; start = t.start; end = to.end } in
+    let split = λ (low : ℕ) (k : Ordered low from.left).
+    first_ordered low first to.left (subst (λ (l : List Token). Ordered low l) t.taken k) in
+    let h = split lo o in
     let a : lo ≤ t.start = h.0.begins in
     let b : t.start ≤ to.end = h.0.ends in
-    record { hi = to.end; left = h.1; within = no_marks (omega arith) }
+    let here : start_at from ≡ t.start = ap (λ (l : List Token). first_start from.end l) t.taken in
+    record {
+      hi = to.end;
+      left = h.1;
+      within = no_marks (omega arith);
+      sited = own_sited own lo to.end [] tt;
+      saved = none_saved;
+      has_bytes = λ e. let c : t.start < to.end = h.0.takes e in
+          (λ low k. omega (arith, here, (split low k).0.begins), omega (arith, here, c));
+    }
 
-pub gives_one : {ms : List Mark} {first second : Rule} → Gives ms first → Gives ms second → Gives ms (one_of first second)
-gives_one h k from to lo o (inl s) = h from to lo o s
-gives_one h k from to lo o (inr s) = k from to lo o s
+pub gives_one : {takes : Bool} {own : Around} {asks : List ℕ} {ms : List Mark} {first second : Rule}
+    → Gives takes own asks ms first
+    → Gives takes own asks ms second
+    → Gives takes own asks ms (one_of first second)
+gives_one h k from to lo f o (inl s) = h from to lo f o s
+gives_one h k from to lo f o (inr s) = k from to lo f o s
 
-pub gives_optional : {rule : Rule} → Gives [] rule → Gives [] (optional rule)
-gives_optional h = gives_one gives_nothing h
+pub gives_optional : {takes : Bool} {own : Around} {rule : Rule}
+    → Gives takes own [] [] rule
+    → Gives false own [] [] (optional rule)
+gives_optional h = gives_one gives_nothing (loosely h)
 
-pub gives_chosen : (b : Bool) {ms : List Mark} {first second : Rule} → Gives ms first → Gives ms second → Gives ms (chosen b first second)
+pub gives_chosen : (b : Bool) {takes : Bool} {own : Around} {asks : List ℕ} {ms : List Mark} {first second : Rule}
+    → Gives takes own asks ms first
+    → Gives takes own asks ms second
+    → Gives takes own asks ms (chosen b first second)
 gives_chosen true h k = h
 gives_chosen false h k = k
 
-pub enclosed : (first last : TokenKind) {ms : List Mark} {inner : Rule} → Gives ms inner → Gives ms (token first ⨾ inner ⨾ token last)
+pub gives_only_if : (b : Bool) {takes : Bool} {own : Around} {rule : Rule}
+    → Gives takes own [] [] rule
+    → Gives false own [] [] (chosen b rule nothing)
+gives_only_if true h = loosely h
+gives_only_if false h = gives_nothing
+
+pub enclosed : (first last : TokenKind) {takes : Bool} {own : Around} {asks : List ℕ} {ms : List Mark} {inner : Rule}
+    → Gives takes own asks ms inner
+    → Gives (is_solid first) own asks ms (token first ⨾ inner ⨾ token last)
 enclosed first last h = behind (gives_token first) (ending h (gives_token last))
 
-pub gives_string : Gives [] string_token
+pub gives_string : {own : Around} → Gives true own [] [] string_token
 gives_string = gives_one (gives_token _) (gives_token _)
 
-gives_takes_semicolon : (from to : Cursor) (lo : ℕ) → Ordered lo from.left → TakesSemicolon from to → Given lo to []
-gives_takes_semicolon from to lo o t =
+gives_takes_semicolon : {own : Around} (from to : Cursor) (lo : ℕ)
+    → Ordered lo from.left
+    → TakesSemicolon from to
+    → Given false own lo from to [] []
+gives_takes_semicolon {own = own} from to lo o t =
     let h = first_ordered lo _ to.left (subst (λ (l : List Token). Ordered lo l) t.taken o) in
     let a : lo ≤ t.start = h.0.begins in
     let b : t.start ≤ t.stop = h.0.ends in
-    record { hi = t.stop; left = h.1; within = no_marks (omega arith) }
+    record {
+      hi = t.stop;
+      left = h.1;
+      within = no_marks (omega arith);
+      sited = own_sited own lo t.stop [] tt;
+      saved = none_saved;
+      has_bytes = λ e. absurd (true≢false (sym e));
+    }
 
-pub gives_semicolon : Gives [] semicolon
-gives_semicolon from to lo o (inl t) = gives_takes_semicolon from to lo o t
-gives_semicolon from to lo o (inr s) = gives_nothing from to lo o s.0
+pub gives_semicolon : {own : Around} → Gives false own [] [] semicolon
+gives_semicolon from to lo f o (inl t) = gives_takes_semicolon from to lo o t
+gives_semicolon from to lo f o (inr s) = gives_nothing from to lo f o s.0
 
-pub gives_semicolons : {from to : Cursor} (lo : ℕ) → Ordered lo from.left → Semicolons from to → Given lo to []
-gives_semicolons lo o no_semicolon = record { hi = lo; left = o; within = no_marks (omega arith) }
-gives_semicolons lo o (semicolon_and t more) =
-    let a = gives_takes_semicolon _ _ lo o t in
-    let b = gives_semicolons a.hi a.left more in
-    record { hi = b.hi; left = b.left; within = wider b.within.goes_up a.within }
+pub gives_semicolons : {own : Around} {from to : Cursor} (lo : ℕ)
+    → Ordered lo from.left
+    → Semicolons from to
+    → Given false own lo from to [] []
+gives_semicolons {own} lo o no_semicolon =
+    record {
+      hi = lo;
+      left = o;
+      within = no_marks (omega arith);
+      sited = own_sited own lo lo [] tt;
+      saved = none_saved;
+      has_bytes = λ e. absurd (true≢false (sym e));
+    }
+gives_semicolons {own} lo o (semicolon_and t more) =
+    let a = gives_takes_semicolon {own = own} _ _ lo o t in
+    let b = gives_semicolons {own = own} a.hi a.left more in
+    record {
+      hi = b.hi;
+      left = b.left;
+      within = wider b.within.goes_up a.within;
+      sited = own_sited own lo b.hi [] tt;
+      saved = none_saved;
+      has_bytes = λ e. absurd (true≢false (sym e));
+    }
 
-pub gives_identifier : (text : List ℕ) (n : Identifier) → Gives [] (identifier text n)
-gives_identifier text n from to lo o s = gives_token _ from to lo o s.0.0
+pub gives_identifier : {own : Around} (text : List ℕ) (n : Identifier) → Gives true own [] [] (identifier text n)
+gives_identifier text n from to lo f o s = gives_token _ from to lo f o s.0.0
 
-pub gives_optional_identifier : (text : List ℕ) (n : Option Identifier) → Gives [] (optional_identifier text n)
+pub gives_optional_identifier : {own : Around} (text : List ℕ) (n : Option Identifier)
+    → Gives false own [] [] (optional_identifier text n)
 gives_optional_identifier text None = gives_nothing
-gives_optional_identifier text (Some n) = gives_identifier text n
+gives_optional_identifier text (Some n) = loosely (gives_identifier text n)
 
-gives_more_identifiers : (text : List ℕ) (ns : List Identifier) → Gives [] (more_identifiers text ns)
+gives_more_identifiers : {own : Around} (text : List ℕ) (ns : List Identifier)
+    → Gives false own [] [] (more_identifiers text ns)
 gives_more_identifiers text [] = gives_nothing
 gives_more_identifiers text (n ∷ ns) =
-    behind (gives_token _) (behind (gives_identifier text n) (gives_more_identifiers text ns))
+    loosely (behind (gives_token _) (behind (gives_identifier text n) (gives_more_identifiers text ns)))
 
-pub gives_identifiers : (text : List ℕ) (ns : List Identifier) → Gives [] (identifiers text ns)
+pub gives_identifiers : {own : Around} (text : List ℕ) (ns : List Identifier)
+    → Gives true own [] [] (identifiers text ns)
 gives_identifiers text [] = gives_never
 gives_identifiers text (n ∷ ns) = behind (gives_identifier text n) (gives_more_identifiers text ns)
 
 -- Marks that stand otherwise
 
-pub moved : {ms ns : List Mark} {rule : Rule} → ms ≡ ns → Gives ms rule → Gives ns rule
-moved e h from to lo o s =
-    let a = h from to lo o s in
-    record { hi = a.hi; left = a.left; within = subst (λ (l : List Mark). Within lo a.hi l) e a.within }
+pub moved : {takes : Bool} {own : Around} {asks : List ℕ} {ms ns : List Mark} {rule : Rule}
+    → ms ≡ ns
+    → Gives takes own asks ms rule
+    → Gives takes own asks ns rule
+moved {takes} {own} {asks} {rule = rule} e h = subst (λ (l : List Mark). Gives takes own asks l rule) e h
 
--- one plain mark in place of them
-pub replaced : (m : Mark) {ms : List Mark} {rule : Rule} → IsPlain m → Gives ms rule → Gives (m ∷ []) rule
-replaced m plain h from to lo o s =
-    let a = h from to lo o s in
-    record { hi = a.hi; left = a.left; within = plain_and m plain (no_marks a.within.goes_up) }
+pub asked_so : {takes : Bool} {own : Around} {qs rs : List ℕ} {ms : List Mark} {rule : Rule}
+    → qs ≡ rs
+    → Gives takes own qs ms rule
+    → Gives takes own rs ms rule
+asked_so {takes} {own} {ms = ms} {rule = rule} e h = subst (λ (l : List ℕ). Gives takes own l ms rule) e h
 
-pub plain_then : (m : Mark) {ms : List Mark} {rule : Rule} → IsPlain m → Gives ms rule → Gives (m ∷ ms) rule
-plain_then m plain h from to lo o s =
-    let a = h from to lo o s in
-    record { hi = a.hi; left = a.left; within = plain_and m plain a.within }
+plain_own : (own : Around) (m : Mark) → IsOwn own m → IsPlain m
+plain_own own (mentions m) h = tt
+plain_own own (defers_literal site at) h = tt
+plain_own own (returns site es) h = absurd h
+plain_own own (opens b) h = absurd h
+plain_own own closes h = absurd h
 
-abbrev pub ArePlain : List Mark → Type 0
+-- no body begins or ends at any of them
+abbrev ArePlain : List Mark → Type 0
 ArePlain [] = Unit {0}
 ArePlain (m ∷ ms) = IsPlain m × ArePlain ms
+
+all_plain : (own : Around) (ms : List Mark) → AreOwn own ms → ArePlain ms
+all_plain own [] h = tt
+all_plain own (m ∷ ms) h = (plain_own own m h.0, all_plain own ms h.1)
 
 plain_within : {lo hi : ℕ} (ms : List Mark) → ArePlain ms → lo ≤ hi → Within lo hi ms
 plain_within [] h up = no_marks up
 plain_within (m ∷ ms) h up = plain_and m h.0 (plain_within ms h.1 up)
 
--- plain marks before the others, or behind them
-pub plain_before : (ns : List Mark) {ms : List Mark} {rule : Rule} → ArePlain ns → Gives ms rule → Gives (ns ++ ms) rule
-plain_before ns plain h from to lo o s =
-    let a = h from to lo o s in
-    record { hi = a.hi; left = a.left; within = both_within (plain_within ns plain (omega arith)) a.within }
+own_within : (own : Around) (lo hi : ℕ) (ms : List Mark) → AreOwn own ms → lo ≤ hi → Within lo hi ms
+own_within own lo hi ms are up = plain_within ms (all_plain own ms are) up
 
-pub plain_behind : (ns : List Mark) {ms : List Mark} {rule : Rule} → ArePlain ns → Gives ms rule → Gives (ms ++ ns) rule
-plain_behind ns plain h from to lo o s =
-    let a = h from to lo o s in
-    record { hi = a.hi; left = a.left; within = both_within a.within (plain_within ns plain (omega arith)) }
-
--- a body that begins with `func`
-pub bodied : (b : BodyPlace) {span : Span} {ms : List Mark} {rule : Rule} → b.at ≡ span.start → Gives ms rule → Gives (in_body b ms) (spanning span (token FuncKeyword ⨾ rule))
-bodied b {span} {ms} same h from to lo o s =
-    let t = s.0.1 in
-    let after = s.0.0 in
-    let f = first_ordered lo record { kind = FuncKeyword; start = t.start; end = after.end } after.left (subst (λ (l : List Token). Ordered lo l) t.taken o) in
-    let low : lo ≤ t.start = f.0.begins in
-    let takes : t.start < after.end = f.0.takes refl in
-    let here : b.at ≡ t.start = same ∙ (s.1 ∙ ap (λ (l : List Token). first_start from.end l) t.taken) in
-    let a = h after to after.end f.1 s.0.2 in
+-- one mention of the site around in place of them
+pub replaced : (m : Mark) {takes : Bool} {own : Around} {asks : List ℕ} {ms : List Mark} {rule : Rule}
+    → IsMention own m
+    → Gives takes own asks ms rule
+    → Gives takes own [] (m ∷ []) rule
+replaced m {own = own} is h from to lo f o s =
+    let a = h from to lo f o s in
     record {
       hi = a.hi;
       left = a.left;
-      within = longer (omega arith) (body_within b (longer (omega arith) a.within));
+      within = plain_and m (plain_own own m (mention_is_own own m is)) (no_marks a.within.goes_up);
+      sited = own_sited own lo a.hi (m ∷ []) (mention_is_own own m is, tt);
+      saved = λ bodies. mentions_saved own bodies (m ∷ []) (is, tt);
+      has_bytes = a.has_bytes;
+    }
+
+-- mentions of the site around before the others, or behind them
+pub plain_before : (ns : List Mark) {takes : Bool} {own : Around} {asks : List ℕ} {ms : List Mark} {rule : Rule}
+    → AreMentions own ns
+    → Gives takes own asks ms rule
+    → Gives takes own asks (ns ++ ms) rule
+plain_before ns {own = own} {ms = ms} are h from to lo f o s =
+    let a = h from to lo f o s in
+    record {
+      hi = a.hi;
+      left = a.left;
+      within = both_within (own_within own lo lo ns (mentions_are_own own ns are) (omega arith)) a.within;
+      sited = own_before ns (mentions_are_own own ns are) a.within.goes_up a.sited;
+      saved = λ bodies. both_saved bodies ns ms
+          ((own_within own lo lo ns (mentions_are_own own ns are) (omega arith)).splits bodies)
+          (mentions_saved own bodies ns are) (a.saved bodies);
+      has_bytes = a.has_bytes;
+    }
+
+pub plain_behind : (ns : List Mark) {takes : Bool} {own : Around} {ms : List Mark} {rule : Rule}
+    → AreMentions own ns
+    → Gives takes own [] ms rule
+    → Gives takes own [] (ms ++ ns) rule
+plain_behind ns {own = own} {ms = ms} are h from to lo f o s =
+    let a = h from to lo f o s in
+    record {
+      hi = a.hi;
+      left = a.left;
+      within = both_within a.within (own_within own a.hi a.hi ns (mentions_are_own own ns are) (omega arith));
+      sited = own_behind ns (mentions_are_own own ns are) a.within.goes_up a.sited;
+      saved = λ bodies. both_saved bodies ms ns (a.within.splits bodies) (a.saved bodies)
+          (mentions_saved own bodies ns are);
+      has_bytes = a.has_bytes;
+    }
+
+-- a literal that is called under `defer`, or not
+pub whole_literal : (b : BodyPlace) (used : LiteralUse) (site : ℕ) (ms : List Mark) {takes : Bool} {rule : Rule}
+    → Gives takes (from_site site) [] (in_body b ms) rule
+    → Gives takes (from_site site) [] (in_body b ms ++ deferral used site b.at) rule
+whole_literal b other_use site ms h = moved (sym (append-nil (in_body b ms))) h
+whole_literal b (started_by n) site ms h = moved (sym (append-nil (in_body b ms))) h
+whole_literal b deferred_call site ms h = λ from to lo f o s.
+    let a = h from to lo f o s in
+    let last = defers_literal site b.at ∷ [] in
+    record {
+      hi = a.hi;
+      left = a.left;
+      within = both_within a.within (plain_within last (tt, tt) (omega arith));
+      sited = own_behind last (refl, tt) a.within.goes_up a.sited;
+      saved = λ bodies. literal_saved b bodies site ms (a.within.splits bodies) (a.saved bodies);
+      has_bytes = a.has_bytes;
+    }
+
+-- Statements
+
+-- the part begins at the offset
+abbrev pub beginning : ℕ → Rule → Rule
+beginning at rule from to = rule from to × (at ≡ start_at from)
+
+-- the statement of that form does
+abbrev pub statement_at : ℕ → StatementForm → Rule → Rule
+statement_at at form rule from to = rule from to × (at ≡ statement_start form from)
+
+module _ {takes : Bool} {own : Around} {asks : List ℕ} {ms : List Mark} {rule : Rule} where
+  pub begun : {at : ℕ} → Gives takes own asks ms rule → Gives takes own asks ms (beginning at rule)
+  begun h from to lo f o s = h from to lo f o s.0
+
+  pub given_begun : {at : ℕ} {fact : Type 0}
+      → Gives takes own asks ms (beginning at rule)
+      → Gives takes own asks ms (beginning at (fact ⇒ rule))
+  given_begun h from to lo f o s = h from to lo f o (s.0.1, s.1)
+
+  pub spanned_begun : {span : Span}
+      → Gives takes own asks ms (beginning span.start rule)
+      → Gives takes own asks ms (spanning span rule)
+  spanned_begun h from to lo f o s = h from to lo f o (s.0, s.1)
+
+  pub unasked : Gives takes own asks ms rule → Gives takes own [] ms rule
+  unasked h from to lo f o s =
+      let a = h from to lo f o s in
+      record {
+        hi = a.hi;
+        left = a.left;
+        within = a.within;
+        sited = unasked_sited a.sited;
+        saved = a.saved;
+        has_bytes = a.has_bytes;
+      }
+
+-- other statements behind the beginning of this one
+pub foreign : {at : ℕ} {takes : Bool} {asks : List ℕ} {ms : List Mark} {rule : Rule}
+    → Gives takes no_site asks ms rule
+    → Gives takes (behind_site at) asks ms rule
+foreign h from to lo f o s =
+    let a = h from to lo tt o s in
+    record {
+      hi = a.hi;
+      left = a.left;
+      within = a.within;
+      sited = foreign_sited f a.sited;
+      saved = a.saved;
+      has_bytes = a.has_bytes;
+    }
+
+-- its own expressions behind its first token
+pub past : {at : ℕ} {takes : Bool} {asks : List ℕ} {ms : List Mark} {rule : Rule}
+    → Gives takes (from_site at) asks ms rule
+    → Gives takes (behind_site at) asks ms rule
+past h from to lo f o s =
+    let a = h from to lo (omega (arith, f)) o s in
+    record {
+      hi = a.hi;
+      left = a.left;
+      within = a.within;
+      sited = past_sited a.sited;
+      saved = a.saved;
+      has_bytes = a.has_bytes;
+    }
+
+-- a statement that begins with an expression or a name
+pub simple : {at : ℕ} {asks : List ℕ} {ms : List Mark} {rule : Rule}
+    → Gives true (from_site at) asks ms rule
+    → Gives true no_site (at ∷ asks) ms (beginning at rule)
+simple {at} h from to lo f o s =
+    let first = from_first lo from.end from.left o in
+    let here : at ≡ start_at from = s.1 in
+    let a = h from to (start_at from) (omega (arith, here)) first s.0 in
+    let x = a.has_bytes refl in
+    let b = x.0 lo o in
+    record {
+      hi = a.hi;
+      left = a.left;
+      within = longer b a.within;
+      sited = settled_sited (λ y e. e) refl (omega (arith, here, b)) (omega (arith, here, x.1)) b a.sited;
+      saved = a.saved;
+      has_bytes = λ e. x;
+    }
+
+-- a statement or clause that begins with a token of its own
+pub led : {at : ℕ} (kind : TokenKind) {takes : Bool} {asks : List ℕ} {ms : List Mark} {rule : Rule}
+    → is_solid kind ≡ true
+    → Gives takes (behind_site at) asks ms rule
+    → Gives true no_site (at ∷ asks) ms (beginning at (token kind ⨾ rule))
+led {at} kind solid h from to lo f o s =
+    let a = gives_token {own = no_site} kind from s.0.0 lo tt o s.0.1 in
+    let x = a.has_bytes solid in
+    let here : at ≡ start_at from = s.1 in
+    let b = h s.0.0 to a.hi (omega (arith, here, x.1)) a.left s.0.2 in
+    let up = b.within.goes_up in
+    record {
+      hi = b.hi;
+      left = b.left;
+      within = longer a.within.goes_up b.within;
+      sited = settled_sited (λ y e. e) refl (omega (arith, here, x.0 lo o))
+          (omega (arith, here, x.1, up)) a.within.goes_up b.sited;
+      saved = b.saved;
+      has_bytes = λ e. (x.0, omega (arith, x.1, up));
+    }
+
+pub returned : {at : ℕ} (es : Expressions) {takes : Bool} {ms : List Mark} {rule : Rule}
+    → Gives takes (from_site at) [] ms rule
+    → Gives true no_site [] (ms ++ returns at es ∷ []) (beginning at (token ReturnKeyword ⨾ rule))
+returned {at} es {ms = ms} h from to lo f o s =
+    let a = gives_token {own = no_site} ReturnKeyword from s.0.0 lo tt o s.0.1 in
+    let x = a.has_bytes refl in
+    let here : at ≡ start_at from = s.1 in
+    let b = h s.0.0 to a.hi (omega (arith, here, x.1)) a.left s.0.2 in
+    let up = b.within.goes_up in
+    record {
+      hi = b.hi;
+      left = b.left;
+      within = longer a.within.goes_up (both_within b.within
+          (plain_within (returns at es ∷ []) (tt, tt) (omega arith)));
+      sited = longer_sited (omega (arith, here, x.0 lo o)) (return_sited es (omega (arith, here, x.1)) up b.sited);
+      saved = λ bodies. both_saved bodies ms (returns at es ∷ []) (b.within.splits bodies) (b.saved bodies)
+          (return_saved bodies at es);
+      has_bytes = λ e. (x.0, omega (arith, x.1, up));
+    }
+
+-- a body that begins with `func`
+pub bodied : (b : BodyPlace) {span : Span} {takes : Bool} {own : Around} {ms : List Mark} {rule : Rule}
+    → b.at ≡ span.start
+    → Gives takes (behind_site b.at) (asked_statements b.statements) ms rule
+    → Gives true own [] (in_body b ms) (spanning span (token FuncKeyword ⨾ rule))
+bodied b {span} {own = own} {ms = ms} same h from to lo f o s =
+    let t = gives_token {own = no_site} FuncKeyword from s.0.0 lo tt o s.0.1 in
+    let x = t.has_bytes refl in
+    let here : b.at ≡ start_at from = same ∙ s.1 in
+    let before : b.at < t.hi = omega (arith, here, x.1) in
+    let least : lo ≤ b.at = omega (arith, here, x.0 lo o) in
+    let a = h s.0.0 to t.hi before t.left s.0.2 in
+    let up = a.within.goes_up in
+    record {
+      hi = a.hi;
+      left = a.left;
+      within = longer least (body_within b (longer (omega (arith, before)) a.within));
+      sited = body_sited b f least before up a.sited;
+      saved = λ bodies. body_saved b bodies ms (a.within.splits (b ∷ bodies)) (a.saved (b ∷ bodies));
+      has_bytes = λ e. (x.0, omega (arith, x.1, up));
     }

@@ -1,22 +1,28 @@
--- The tokens of a text stand in order: each begins where the one before it ends, or behind, and `func` takes bytes.
-use Rattle.std.proofs.Common.{◌≡◌, ℕ, zero, suc, ◌+◌, ◌<◌, ◌≤◌, Bool, true, false, List, [], ◌∷◌, ◌++◌, if◌then◌else◌, take, drop, Option, Some, None, refl, sym, ◌∙◌, subst, arith}
+-- The tokens of a text stand in order: each begins where the one before it ends, or behind, and each takes bytes but for
+-- semicolons that are inserted.
+use Rattle.std.proofs.Common.{◌≡◌, ℕ, ◌+◌, ◌<◌, ◌≤◌, Bool, true, false, List, [], ◌∷◌, ◌++◌, if◌then◌else◌, drop, Option, Some, None, sym, subst, arith, true≢false}
 use Rattle.lexer.specs.declared.token.Token.{Token}
 use Rattle.lexer.specs.declared.token.TokenKind.{TokenKind}
-use Rattle.lexer.specs.declared.token.TokenKind.TheVariants.{FuncKeyword, Semicolon}
+use Rattle.lexer.specs.declared.token.TokenKind.TheVariants.{Semicolon}
 use Rattle.lexer.specs.declared.pieces.PieceKind.{PieceKind}
 use Rattle.lexer.specs.declared.pieces.PieceKind.TheVariants.{WhiteSpace, Newline, LineComment, GeneralComment, GeneralCommentWithNewline, TokenOf}
 use Rattle.lexer.specs.declared.pieces.Piece.{Piece}
-use Rattle.lexer.specs.Spelling.{same_kind, spelling}
-use Rattle.lexer.specs.Pieces.{IsToken, Reads}
 use Rattle.lexer.specs.Cut.{Cut}
 use Rattle.lexer.specs.Semicolons.{ends_statement, token, semicolon, tokens_at, due_after, tokens_from}
 use Rattle.lexer.specs.Tokens.{mark_size, IsTokens}
+use Rattle.lexer.proofs.Literals.{positive_size}
+use Rattle.meaning.specs.Cursor.{first_start}
+
+-- a token of the kind takes bytes, which an inserted semicolon does not
+abbrev pub is_solid : TokenKind → Bool
+is_solid Semicolon = false
+is_solid kind = true
 
 -- the token begins at the offset or behind it
 pub record Follows (lo : ℕ) (t : Token) : Type 0 where
   pub begins : lo ≤ t.start
   pub ends : t.start ≤ t.end
-  pub takes : t.kind ≡ FuncKeyword → t.start < t.end
+  pub takes : is_solid t.kind ≡ true → t.start < t.end
 
 unfoldable pub Ordered : ℕ → List Token → Type 0
 Ordered lo [] = Unit {0}
@@ -39,14 +45,11 @@ abbrev DueFits : ℕ → ℕ → Option ℕ → Type 0
 DueFits lo at None = lo ≤ at
 DueFits lo at (Some end) = (lo ≤ end) × (end ≤ at)
 
-no_semicolon_taken : Semicolon ≡ FuncKeyword → ⊥
-no_semicolon_taken e = cc
-
 due_semicolon : (lo end : ℕ) → lo ≤ end → Follows lo (token Semicolon end end)
 due_semicolon lo end h = record {
   begins = h;
   ends = omega arith;
-  takes = λ e. absurd (no_semicolon_taken e);
+  takes = λ e. absurd (true≢false (sym e));
 }
 
 semicolon_and : (lo at : ℕ) (due : Option ℕ) (ts : List Token) → DueFits lo at due → ((low : ℕ) → low ≤ at → Ordered low ts) → Ordered lo (semicolon due ++ ts)
@@ -57,27 +60,8 @@ wider_due : (lo at next : ℕ) (due : Option ℕ) → at ≤ next → DueFits lo
 wider_due lo at next None up h = omega (arith, h)
 wider_due lo at next (Some end) up h = (h.0, omega (arith, h.1))
 
-func_spelled : spelling FuncKeyword ≡ 102 ∷ 117 ∷ 110 ∷ 99 ∷ []
-unfolding spelling same_kind
-func_spelled = refl
-
-no_list_is_empty : ◌≡◌ {A = List ℕ} [] (102 ∷ 117 ∷ 110 ∷ 99 ∷ []) → ⊥
-no_list_is_empty h = cc
-
-nothing_there : (bytes : List ℕ) → take zero bytes ≡ spelling FuncKeyword → ⊥
-nothing_there bytes h = no_list_is_empty (h ∙ func_spelled)
-
-func_takes : (size : ℕ) (bytes : List ℕ) → Reads (TokenOf FuncKeyword) (take size bytes) → zero < size
-unfolding Reads IsToken
-func_takes zero bytes h = absurd (nothing_there bytes h)
-func_takes (suc k) bytes h = omega arith
-
-follows : (at size : ℕ) (lo : ℕ) (k : TokenKind) (bytes : List ℕ) → lo ≤ at → Reads (TokenOf k) (take size bytes) → Follows lo (token k at (at + size))
-follows at size lo k bytes low h = record {
-  begins = low;
-  ends = omega arith;
-  takes = λ e. let some = func_takes size bytes (subst (λ (x : TokenKind). Reads (TokenOf x) (take size bytes)) e h) in omega (arith, some);
-}
+follows : (at size : ℕ) (lo : ℕ) (k : TokenKind) → lo ≤ at → 0 < size → Follows lo (token k at (at + size))
+follows at size lo k low some = record { begins = low; ends = omega arith; takes = λ e. omega arith }
 
 due_at : (lo at : ℕ) (b : Bool) → lo ≤ at → DueFits lo at (if b then Some at else None)
 due_at lo at true h = (h, omega arith)
@@ -88,20 +72,20 @@ due_low lo at None h = h
 due_low lo at (Some end) h = omega (arith, h.0, h.1)
 
 -- what a piece adds, and then what stands behind it
-added : (s : PieceKind) (lo at size : ℕ) (due : Option ℕ) (bytes : List ℕ) (ts : List Token)
+added : (s : PieceKind) (lo at size : ℕ) (due : Option ℕ) (ts : List Token)
     → DueFits lo at due
-    → Reads s (take size bytes)
+    → 0 < size
     → ((low : ℕ) → DueFits low (at + size) (due_after s (at + size) due) → Ordered low ts)
     → Ordered lo (tokens_at s at (at + size) due ++ ts)
-added (TokenOf k) lo at size due bytes ts h reads rest =
-    one_and lo (token k at (at + size)) ts (follows at size lo k bytes (due_low lo at due h) reads)
+added (TokenOf k) lo at size due ts h some rest =
+    one_and lo (token k at (at + size)) ts (follows at size lo k (due_low lo at due h) some)
     (rest (at + size) (due_at (at + size) (at + size) (ends_statement k) (omega arith)))
-added Newline lo at size due bytes ts h reads rest = semicolon_and lo at due ts h λ low l. rest low (omega (arith, l))
-added LineComment lo at size due bytes ts h reads rest = semicolon_and lo at due ts h λ low l. rest low (omega (arith, l))
-added GeneralCommentWithNewline lo at size due bytes ts h reads rest =
+added Newline lo at size due ts h some rest = semicolon_and lo at due ts h λ low l. rest low (omega (arith, l))
+added LineComment lo at size due ts h some rest = semicolon_and lo at due ts h λ low l. rest low (omega (arith, l))
+added GeneralCommentWithNewline lo at size due ts h some rest =
     semicolon_and lo at due ts h λ low l. rest low (omega (arith, l))
-added WhiteSpace lo at size due bytes ts h reads rest = rest lo (wider_due lo at (at + size) due (omega arith) h)
-added GeneralComment lo at size due bytes ts h reads rest = rest lo (wider_due lo at (at + size) due (omega arith) h)
+added WhiteSpace lo at size due ts h some rest = rest lo (wider_due lo at (at + size) due (omega arith) h)
+added GeneralComment lo at size due ts h some rest = rest lo (wider_due lo at (at + size) due (omega arith) h)
 
 last_semicolon : (lo at : ℕ) (due : Option ℕ) → DueFits lo at due → Ordered lo (semicolon due)
 last_semicolon lo at None h = none_ordered lo
@@ -111,9 +95,17 @@ listed_ordered : (text : List ℕ) (ps : List Piece) (lo at : ℕ) (due : Option
 unfolding Cut tokens_from
 listed_ordered text [] lo at due c h = last_semicolon lo at due h
 listed_ordered text (p ∷ ps) lo at due c h =
-    added p.kind lo at p.size due text (tokens_from (at + p.size) (due_after p.kind (at + p.size) due) ps) h c.0.begins.reads
+    added p.kind lo at p.size due (tokens_from (at + p.size) (due_after p.kind (at + p.size) due) ps) h
+    (positive_size p text c.0.begins)
     λ low k. listed_ordered (drop p.size text) ps low (at + p.size) (due_after p.kind (at + p.size) due) c.1 k
 
 pub tokens_ordered : (text : List ℕ) (tokens : List Token) → IsTokens text tokens → Ordered 0 tokens
 tokens_ordered text tokens t =
     subst (λ (l : List Token). Ordered 0 l) (sym t.listed) (listed_ordered (drop (mark_size text) text) t.pieces 0 (mark_size text) None t.cut (omega arith))
+
+-- the tokens that are left stand where the first of them begins, or behind
+pub from_first : (lo end : ℕ) (ts : List Token) → Ordered lo ts → Ordered (first_start end ts) ts
+from_first lo end [] h = none_ordered end
+from_first lo end (t ∷ ts) h =
+    let k = first_ordered lo t ts h in
+    one_and t.start t ts (record { begins = omega arith; ends = k.0.ends; takes = k.0.takes }) k.1

@@ -40,7 +40,7 @@ placed_plain bodies (returns at es) ms h = refl
 placed_plain bodies (opens b) ms h = absurd h
 placed_plain bodies closes ms h = absurd h
 
-placed_nil : (bodies : List BodyPlace) → placed bodies [] ≡ []
+pub placed_nil : (bodies : List BodyPlace) → placed bodies [] ≡ []
 unfolding placed
 placed_nil bodies = refl
 
@@ -162,11 +162,14 @@ alone_placed : (b : BodyPlace) (bodies : List BodyPlace) (ms : List Mark) → Sp
 unfolding placed
 alone_placed b bodies ms s = s (closes ∷ []) ∙ append-nil (placed (b ∷ bodies) ms)
 
-opened_placed : (b : BodyPlace) (bodies : List BodyPlace) (ms : List Mark) → placed bodies (opens b ∷ ms) ≡ record { mark = opens b; bodies = b ∷ bodies } ∷ placed (b ∷ bodies) ms
+pub opened_placed : (b : BodyPlace) (bodies : List BodyPlace) (ms : List Mark)
+    → placed bodies (opens b ∷ ms) ≡ record { mark = opens b; bodies = b ∷ bodies } ∷ placed (b ∷ bodies) ms
 unfolding placed
 opened_placed b bodies ms = refl
 
-body_placed : (b : BodyPlace) (bodies : List BodyPlace) (ms : List Mark) → Splits (b ∷ bodies) ms → placed bodies (in_body b ms) ≡ record { mark = opens b; bodies = b ∷ bodies } ∷ placed (b ∷ bodies) ms
+pub body_placed : (b : BodyPlace) (bodies : List BodyPlace) (ms : List Mark)
+    → Splits (b ∷ bodies) ms
+    → placed bodies (in_body b ms) ≡ record { mark = opens b; bodies = b ∷ bodies } ∷ placed (b ∷ bodies) ms
 body_placed b bodies ms s =
     opened_placed b bodies (ms ++ closes ∷ [])
     ∙ ap (λ (l : List Placed). record { mark = opens b; bodies = b ∷ bodies } ∷ l) (alone_placed b bodies ms s)
@@ -183,7 +186,7 @@ same_body b c e = cc
 not_closed : (b : BodyPlace) → closes ≡ opens b → ⊥
 not_closed b e = cc
 
-of_body : (b c : BodyPlace) (ms : List Mark) → Contains (in_body b ms) (opens c) → (b ≡ c) ⊎ Contains ms (opens c)
+pub of_body : (b c : BodyPlace) (ms : List Mark) → Contains (in_body b ms) (opens c) → (b ≡ c) ⊎ Contains ms (opens c)
 of_body b c ms among = elim (contains_cases (opens b) (opens c) (ms ++ closes ∷ []) among) [
   | inl e ↦ inl (same_body b c e)
   | inr rest ↦ elim (Contains-append_cases ms (closes ∷ []) (opens c) rest) [

@@ -161,7 +161,9 @@ module _ {E : Type 0} (P : E → Type 0) where
     of_body b = (nothing, (of_statements b.statements, at_end))
 
 -- the marks that give what stands at a site
-marked : (seen : Seen) (body : ℕ) (marks : List Placed) (at : ℕ) (e : Event) → Contains (events_at seen body marks at) e → (p : Placed) × Contains marks p × (is_body body p.bodies ≡ true) × Contains (mark_events seen p.bodies p.mark) e
+pub marked : (seen : Seen) (body : ℕ) (marks : List Placed) (at : ℕ) (e : Event)
+    → Contains (events_at seen body marks at) e
+    → (p : Placed) × Contains marks p × (is_body body p.bodies ≡ true) × Contains (mark_events seen p.bodies p.mark) e
 marked seen body [] at e among = absurd (contains_nil e among)
 marked seen body (p ∷ ps) at e among =
     by (is_body body p.bodies) (is_site p.mark at) refl among (marked seen body ps at e)

@@ -12,6 +12,9 @@ mod Findings
 mod Credited
 mod BodyOffsetsWithin
 mod BodyOffsetsTokens
+mod AskedSites
+mod SitesWithin
+mod SavedLiterals
 mod BodyOffsetsRules
 mod BodyOffsetsParts
 mod BodyOffsetsSpelled
@@ -20,6 +23,7 @@ mod QuietPromise
 pub mod PackageYes
 mod ExampleRuns
 mod EventSources
+mod MentionEvents
 mod Bindings
 mod OwnVariables
 mod OwnBindings
@@ -30,6 +34,9 @@ mod LeftSides
 mod NamedBodies
 mod KnownFlags
 mod TrackedBindings
+mod LeavingLists
+mod LastReturns
+mod DeferredLiterals
 mod RunLists
 mod LoudBodies
 mod LoudRuns

@@ -4,14 +4,18 @@ use Rattle.meaning.specs.Code.{Occurrence, Code}
 use Rattle.meaning.specs.Lists.{Exit}
 use Rattle.meaning.specs.Uses.{Event, other, obtain, clear, call, defer_call, pass, defer_pass, lend, start, try, wait, defer_wait, make, defer_literal, return_event}
 use Rattle.meaning.proofs.Membership.{contains_here, contains_there}
-use Rattle.machine.specs.Bodies.{Program, Body, IsOf, IsOutermost, code_of}
+use Rattle.verdicts.specs.Loaded.{known_in, trees_of}
+use Rattle.machine.specs.Bodies.{Program, Body, IsOf, IsOutermost, IsLiteralIn, code_of}
 use Rattle.machine.specs.World.{nothing, any_nothing, Store, Saved, runs, exits, Frame, World, with_stack}
 use Rattle.machine.specs.Moves.{Moves}
 use Rattle.machine.specs.Steps.{ComesTo, DoesNext, new_one, is_first, of_none, Acts, moves_on, does_other, obtains_one, clears_one, calls_one, saves_call, evaluates, evaluates_deferred, makes_call, saves_pass, saves_literal, comes_to_return, starts, of_goroutine, of_environment}
 use Rattle.machine.specs.Runs.{Run, no_step, step_more}
 use Rattle.machine.specs.Doings.{Does, stays, silently, by_event, CanDo}
-use Rattle.machine.specs.RunLists.{events_of, events_of_act, IsRunnable, is_return, ReturnsComeLast, ends_in_return, HasGoneThrough, ListsAreRun}
+use Rattle.machine.specs.RunLists.{events_of, events_of_act, IsRunnable, is_return, ReturnsComeLast, ends_in_return, HasGoneThrough, ListsAreRun, BodiesAreOfTexts, IsRunnableOfText, ListsOfTextsAreRun}
 use Rattle.machine.proofs.Adequacy.{list_is_done}
+use Rattle.machine.proofs.TrackedBindings.{of_tree}
+use Rattle.machine.proofs.LastReturns.{returns_are_last}
+use Rattle.machine.proofs.DeferredLiterals.{deferred_literals_are_there}
 
 is_or_not : (r : Bool) → (r ≡ true) ⊎ (r ≡ false)
 is_or_not true = inl refl
@@ -205,3 +209,35 @@ pub lists_are_run : ListsAreRun
 lists_are_run p b t x of out lists each last =
     let can = list_is_done (code_of b) t x lists in
     gone_through p b t x can (through p b [] t (code_of b) can.rest can.does_it each last (began p b of out))
+
+pub bodies_are_of_texts : BodiesAreOfTexts
+bodies_are_of_texts p b of texts =
+    let found = of_tree (known_in p.packages p.tables of.loaded) 0 (trees_of of.loaded) b.file of.is_file in
+    let of_text = texts found.1 found.3 in
+    record { text = of_text.0; tree = found.1; known = found.0; is_tree = of_text.1; is_file = sym found.2 }
+
+runnable_of_text : (p : Program) (b : Body) (e : Event)
+    → ((at : ℕ) → e ≡ defer_literal at → (d : Body) × IsLiteralIn b d × (d.place.at ≡ at))
+    → IsRunnableOfText p b e
+    → IsRunnable p b e
+runnable_of_text p b (defer_literal at) there h = there at refl
+runnable_of_text p b other there h = h
+runnable_of_text p b (obtain u c n is_new) there h = h
+runnable_of_text p b (clear u) there h = h
+runnable_of_text p b (call v) there h = h
+runnable_of_text p b (defer_call v) there h = h
+runnable_of_text p b (pass u c n) there h = h
+runnable_of_text p b (defer_pass u c n) there h = h
+runnable_of_text p b (lend g c n) there h = h
+runnable_of_text p b (start g literal) there h = h
+runnable_of_text p b (try g) there h = h
+runnable_of_text p b (wait g) there h = h
+runnable_of_text p b (defer_wait g) there h = h
+runnable_of_text p b (make u state) there h = h
+runnable_of_text p b (return_event handed) there h = h
+
+pub lists_of_texts_are_run : ListsOfTextsAreRun
+lists_of_texts_are_run p b t x of out text lists each =
+    lists_are_run p b t x of out lists (λ o among. runnable_of_text p b o.event
+    (λ at. deferred_literals_are_there b t x o at text lists among) (each o among))
+    (returns_are_last b t x text of.is_body lists)

@@ -2,14 +2,20 @@
 -- machine does. The run begins with a call of the body from outside, and then only this one goroutine acts.
 -- (The Go specification, "Statements", "Calls", "Return statements".)
 use Rattle.std.specs.Prelude.{◌≡◌, ℕ, Bool, true, false, if◌then◌else◌, ◌++◌, List, [], ◌∷◌, None, Contains}
+use Rattle.tree.specs.Syntax.{SourceFile}
+use Rattle.meaning.specs.TreeOfText.{IsTreeOf}
+use Rattle.meaning.specs.Tracked.{Known}
+use Rattle.meaning.specs.BodyEvents.{seen_file}
 use Rattle.meaning.specs.Code.{Occurrence, Code}
 use Rattle.meaning.specs.Lists.{Exit, Lists}
 use Rattle.meaning.specs.Uses.{Event, other, obtain, clear, call, defer_call, pass, defer_pass, lend, start, try, wait, defer_wait, make, defer_literal, return_event}
+use Rattle.package_meaning.specs.Credits.{bodies_of}
 use Rattle.machine.specs.Bodies.{Program, Body, IsOf, IsOutermost, IsLiteralIn, IsFunction, code_of}
 use Rattle.machine.specs.World.{Store, runs, exits, Frame, World}
 use Rattle.machine.specs.Steps.{ComesTo, Acts, moves_on, does_other, obtains_one, clears_one, calls_one, saves_call, evaluates, evaluates_deferred, makes_call, saves_pass, saves_literal, comes_to_return, runs_call, runs_pass, runs_literal, returns_now, Step, of_goroutine, of_environment}
 use Rattle.machine.specs.Runs.{Run, no_step, step_more}
 use Rattle.machine.specs.Doings.{Does, IsLeft}
+use Rattle.machine.specs.Promise.{AreTreesOfTexts}
 
 -- The events of a run
 
@@ -67,13 +73,13 @@ IsRunnable p b (make g state) = ⊥
 IsRunnable p b (defer_literal at) = (d : Body) × IsLiteralIn b d × (d.place.at ≡ at)
 IsRunnable p b (return_event handed) = Unit {0}
 
+-- the event of a `return`, or of the end of a body
 abbrev pub is_return : Event → Bool
 is_return (return_event handed) = true
 is_return e = false
 
--- No event but the last one is a return. The lists of a tree of a text should all be so, which is not shown here: the
--- event of a return is the last one of its statement, and the code leaves the body then, or it is at the body's end. A
--- tree with two statements at one offset, which no text has, may have other lists.
+-- No event but the last one is a return. The lists of a tree of a text are all so (`ReturnsAreLast`). A tree with two
+-- statements at one offset, which no text has, may have other lists.
 abbrev pub ReturnsComeLast : List (Occurrence Event) → Type 0
 ReturnsComeLast [] = Unit {0}
 ReturnsComeLast (o ∷ []) = Unit {0}
@@ -110,4 +116,52 @@ ListsAreRun = (p : Program) (b : Body) (t : List (Occurrence Event)) (x : Exit)
     → Lists (code_of b) t x
     → ((o : Occurrence Event) → Contains t o → IsRunnable p b o.event)
     → ReturnsComeLast t
+    → HasGoneThrough p b t x
+
+-- Lists of trees of texts
+
+-- the tree of the body's file is that of a text
+pub record IsOfText (b : Body) : Type 0 where
+  pub text : List ℕ
+  pub tree : SourceFile
+  pub known : Known
+  pub is_tree : IsTreeOf text tree
+  pub is_file : b.file ≡ seen_file known tree
+
+-- So it is of each body of a package whose trees are those of texts, as the promise asks for.
+abbrev pub BodiesAreOfTexts : Type 0
+BodiesAreOfTexts = (p : Program) (b : Body) (of : IsOf p b) → AreTreesOfTexts of.loaded → IsOfText b
+
+-- There no event of a list but the last one is a return: the event of a return is the last one at its offset, for whose
+-- events no other statement asks, and the code leaves the body then; or it is at the body's end.
+abbrev pub ReturnsAreLast : Type 0
+ReturnsAreLast = (b : Body) (t : List (Occurrence Event)) (x : Exit)
+    → IsOfText b
+    → Contains (bodies_of b.file) b.place
+    → Lists (code_of b) t x
+    → ReturnsComeLast t
+
+-- There each literal whose call is saved stands in the body.
+abbrev pub DeferredLiteralsAreThere : Type 0
+DeferredLiteralsAreThere = (b : Body) (t : List (Occurrence Event)) (x : Exit) (o : Occurrence Event) (at : ℕ)
+    → IsOfText b
+    → Lists (code_of b) t x
+    → Contains t o
+    → o.event ≡ defer_literal at
+    → (d : Body) × IsLiteralIn b d × (d.place.at ≡ at)
+
+-- so an event that saves a literal asks for nothing there
+abbrev pub IsRunnableOfText : Program → Body → Event → Type 0
+IsRunnableOfText p b (defer_literal at) = Unit {0}
+IsRunnableOfText p b e = IsRunnable p b e
+
+-- So there each list is that of a run, as far as its events are about no group, and no body is known for a function
+-- that gets a cancel function.
+abbrev pub ListsOfTextsAreRun : Type 0
+ListsOfTextsAreRun = (p : Program) (b : Body) (t : List (Occurrence Event)) (x : Exit)
+    → IsOf p b
+    → IsOutermost b
+    → IsOfText b
+    → Lists (code_of b) t x
+    → ((o : Occurrence Event) → Contains t o → IsRunnableOfText p b o.event)
     → HasGoneThrough p b t x

@@ -8,7 +8,7 @@ ghost use Rattle.machine.specs.Laws.{ContextsAreSound, FramesHaveSteps};
 ghost use Rattle.machine.specs.EventSources.{BindingsAreOfLocals, BindingsAreTracked, EventsHaveSources};
 ghost use Rattle.machine.specs.Promise.{YesIsQuiet};
 ghost use Rattle.machine.specs.PackageYes.{YesOfAPackageIsQuiet};
-ghost use Rattle.machine.specs.RunLists.{ListsAreRun};
+ghost use Rattle.machine.specs.RunLists.{BodiesAreOfTexts, DeferredLiteralsAreThere, ListsAreRun, ListsOfTextsAreRun, ReturnsAreLast};
 ghost use Rattle.machine.specs.LoudReturns.{LostFunctionsAreSeen};
 ghost use Rattle.machine.specs.Returns.{ReturnsExist};
 
@@ -84,6 +84,28 @@ pub fn yes_of_a_package_is_quiet()
 /// to what is left of it after the list, or to its return.
 pub fn lists_are_run()
     ensures { ListsAreRun }
+{}
+
+/// The tree of a body's file is that of a text where the trees of its package are, as the promise asks for.
+pub fn bodies_are_of_texts()
+    ensures { BodiesAreOfTexts }
+{}
+
+/// In the tree of a text no event of a body's list but the last one is a return: the event of a return is the last one
+/// at its offset, and no other statement asks for the events there.
+pub fn returns_are_last()
+    ensures { ReturnsAreLast }
+{}
+
+/// In the tree of a text each literal whose call an event of a body saves stands in the body.
+pub fn deferred_literals_are_there()
+    ensures { DeferredLiteralsAreThere }
+{}
+
+/// So each list of an outermost body in the tree of a text is the list of events of some run, as far as its events are
+/// about no group, and no body is known for a function that gets a cancel function.
+pub fn lists_of_texts_are_run()
+    ensures { ListsOfTextsAreRun }
 {}
 
 /// Runs come to returns that are not quiet in each of these packages: one passes its cancel function to a function that

@@ -8,8 +8,8 @@ use Rattle.reach.specs.Marks.{Rows, unmarked, is_marked, is_open, mark}
 
 -- there is such a value
 pub record Has (rows : Rows) (n i : ℕ) : Type 0 where
-  pub node : n < length rows
-  pub flag : i < length (get_or rows n [])
+  pub flag : i < length rows
+  pub node : n < length (get_or rows i [])
 
 -- what is not the default stands within the list
 within_row : (row : List Bool) (i : ℕ) (d : Bool) → (get_or row i d ≡ d → ⊥) → i < length row
@@ -22,18 +22,18 @@ within_row row i d h =
 no_row : (i : ℕ) → i < length {A = Bool} [] → ⊥
 no_row i h = omega (arith, h)
 
-has_row : (rows : Rows) (n i : ℕ) → i < length (get_or rows n []) → Has rows n i
+has_row : (rows : Rows) (n i : ℕ) → n < length (get_or rows i []) → Has rows n i
 has_row rows n i h =
-    elim (cases_lt n (length rows)) [
-      | inl l ↦ record { node = l; flag = h }
-      | inr past ↦ absurd (no_row i (subst (λ row. i < length row) (get_or_past rows n [] past) h))
+    elim (cases_lt i (length rows)) [
+      | inl l ↦ record { flag = l; node = h }
+      | inr past ↦ absurd (no_row n (subst (λ row. n < length row) (get_or_past rows i [] past) h))
     ]
 
 true_false : true ≡ false → ⊥
 true_false e = cc
 
 pub marked-has : (rows : Rows) (n i : ℕ) → is_marked rows n i ≡ true → Has rows n i
-marked-has rows n i e = has_row rows n i (within_row (get_or rows n []) i false (λ f. true_false (sym e ∙ f)))
+marked-has rows n i e = has_row rows n i (within_row (get_or rows i []) n false (λ f. true_false (sym e ∙ f)))
 
 not_true : (b : Bool) → not b ≡ true → b ≡ false
 not_true true e = cc
@@ -45,38 +45,39 @@ not_false false e = cc
 
 pub open-has : (rows : Rows) (n i : ℕ) → is_open rows n i ≡ true → Has rows n i
 open-has rows n i e =
-    has_row rows n i (within_row (get_or rows n []) i true (λ f. true_false (sym f ∙ not_true _ e)))
+    has_row rows n i (within_row (get_or rows i []) n true (λ f. true_false (sym f ∙ not_true _ e)))
 
 pub closed-marked : (rows : Rows) (n i : ℕ) → is_open rows n i ≡ false → Has rows n i → is_marked rows n i ≡ true
-closed-marked rows n i e h = get_or_default (get_or rows n []) i false true h.flag ∙ not_false _ e
+closed-marked rows n i e h = get_or_default (get_or rows i []) n false true h.node ∙ not_false _ e
 
 -- A mark
 
-row_marked : (rows : Rows) (n i : ℕ) → n < length rows → get_or (mark rows n i) n [] ≡ set (get_or rows n []) i true
-row_marked rows n i l = get_or-set_same rows n (set (get_or rows n []) i true) [] l
+row_marked : (rows : Rows) (n i : ℕ) → i < length rows → get_or (mark rows n i) i [] ≡ set (get_or rows i []) n true
+row_marked rows n i l = get_or-set_same rows i (set (get_or rows i []) n true) [] l
 
-row_other : (rows : Rows) (n i m : ℕ) → (m ≡ n → ⊥) → get_or (mark rows n i) m [] ≡ get_or rows m []
-row_other rows n i m h = get_or-set_other rows n m (set (get_or rows n []) i true) [] h
+row_other : (rows : Rows) (n i j : ℕ) → (j ≡ i → ⊥) → get_or (mark rows n i) j [] ≡ get_or rows j []
+row_other rows n i j h = get_or-set_other rows i j (set (get_or rows i []) n true) [] h
 
 pub mark-marked : (rows : Rows) (n i : ℕ) → Has rows n i → is_marked (mark rows n i) n i ≡ true
 mark-marked rows n i h =
-    ap (λ row. get_or row i false) (row_marked rows n i h.node)
-    ∙ get_or-set_same (get_or rows n []) i true false h.flag
+    ap (λ row. get_or row n false) (row_marked rows n i h.flag)
+    ∙ get_or-set_same (get_or rows i []) n true false h.node
 
-same_row : (rows : Rows) (n i j : ℕ) → Has rows n i → (j ≡ i → ⊥) → is_marked (mark rows n i) n j ≡ is_marked rows n j
-same_row rows n i j h other =
-    ap (λ row. get_or row j false) (row_marked rows n i h.node)
-    ∙ get_or-set_other (get_or rows n []) i j true false other
+same_row : (rows : Rows) (n i m : ℕ) → Has rows n i → (m ≡ n → ⊥) → is_marked (mark rows n i) m i ≡ is_marked rows m i
+same_row rows n i m h other =
+    ap (λ row. get_or row m false) (row_marked rows n i h.flag)
+    ∙ get_or-set_other (get_or rows i []) n m true false other
 
 pub mark-others : (rows : Rows) (n i m j : ℕ)
     → Has rows n i
     → (m ≡ n → j ≡ i → ⊥)
     → is_marked (mark rows n i) m j ≡ is_marked rows m j
 mark-others rows n i m j h other =
-    elim (cases_eq m n) [
+    elim (cases_eq j i) [
       | inl e ↦
-          subst (λ k. is_marked (mark rows n i) k j ≡ is_marked rows k j) (sym e) (same_row rows n i j h (other e))
-      | inr k ↦ ap (λ row. get_or row j false) (row_other rows n i m k)
+          subst (λ k. is_marked (mark rows n i) m k ≡ is_marked rows m k) (sym e)
+          (same_row rows n i m h (λ f. other f e))
+      | inr k ↦ ap (λ row. get_or row m false) (row_other rows n i j k)
     ]
 
 -- it is marked now, or it is as it was
@@ -96,28 +97,28 @@ mark-cases rows n i m j h =
 -- Shapes
 
 pub record SameShape (a b : Rows) : Type 0 where
-  pub nodes : length b ≡ length a
-  pub flags : (n : ℕ) → length (get_or b n []) ≡ length (get_or a n [])
+  pub flags : length b ≡ length a
+  pub nodes : (i : ℕ) → length (get_or b i []) ≡ length (get_or a i [])
 
 pub same_shape-itself : (a : Rows) → SameShape a a
-same_shape-itself a = record { nodes = refl; flags = λ _. refl }
+same_shape-itself a = record { flags = refl; nodes = λ _. refl }
 
 pub same_shape-then : (a b c : Rows) → SameShape a b → SameShape b c → SameShape a c
-same_shape-then a b c p q = record { nodes = q.nodes ∙ p.nodes; flags = λ n. q.flags n ∙ p.flags n }
+same_shape-then a b c p q = record { flags = q.flags ∙ p.flags; nodes = λ i. q.nodes i ∙ p.nodes i }
 
 pub same_shape-has : (a b : Rows) (n i : ℕ) → SameShape a b → Has a n i → Has b n i
 same_shape-has a b n i p h = record {
-  node = subst (λ k. n < k) (sym p.nodes) h.node;
-  flag = subst (λ k. i < k) (sym (p.flags n)) h.flag;
+  flag = subst (λ k. i < k) (sym p.flags) h.flag;
+  node = subst (λ k. n < k) (sym (p.nodes i)) h.node;
 }
 
-pub mark-shape : (rows : Rows) (n i : ℕ) → n < length rows → SameShape rows (mark rows n i)
+pub mark-shape : (rows : Rows) (n i : ℕ) → i < length rows → SameShape rows (mark rows n i)
 mark-shape rows n i l = record {
-  nodes = length-set rows n (set (get_or rows n []) i true);
-  flags = λ m. elim (cases_eq m n) [
+  flags = length-set rows i (set (get_or rows i []) n true);
+  nodes = λ j. elim (cases_eq j i) [
     | inl e ↦ subst (λ k. length (get_or (mark rows n i) k []) ≡ length (get_or rows k [])) (sym e)
-        (ap length (row_marked rows n i l) ∙ length-set (get_or rows n []) i true)
-    | inr k ↦ ap length (row_other rows n i m k)
+        (ap length (row_marked rows n i l) ∙ length-set (get_or rows i []) n true)
+    | inr k ↦ ap length (row_other rows n i j k)
   ];
 }
 
@@ -139,25 +140,25 @@ less_in_row row i l e =
 pub mark-less : (rows : Rows) (n i : ℕ) → is_open rows n i ≡ true → unset (mark rows n i) + 1 ≡ unset rows
 mark-less rows n i e =
     let h : Has rows n i = open-has rows n i e in
-    let f = sum_by-set (count_by not) rows n (set (get_or rows n []) i true) [] h.node in
-    let g = less_in_row (get_or rows n []) i h.flag (not_true _ e) in
+    let f = sum_by-set (count_by not) rows i (set (get_or rows i []) n true) [] h.flag in
+    let g = less_in_row (get_or rows i []) n h.node (not_true _ e) in
     omega arith
 
 -- Rows without a mark
 
-pub unmarked-length : (nodes width : ℕ) → length (unmarked nodes width) ≡ nodes
-unmarked-length nodes width = length-replicate nodes (replicate width false)
+pub unmarked-width : (nodes width : ℕ) → length (unmarked nodes width) ≡ width
+unmarked-width nodes width = length-replicate width (replicate nodes false)
 
-pub unmarked-width : (nodes width n : ℕ) → n < nodes → length (get_or (unmarked nodes width) n []) ≡ width
-unmarked-width nodes width n l =
-    ap length (get_or-replicate nodes n (replicate width false) [] l) ∙ length-replicate width false
+pub unmarked-length : (nodes width i : ℕ) → i < width → length (get_or (unmarked nodes width) i []) ≡ nodes
+unmarked-length nodes width i l =
+    ap length (get_or-replicate width i (replicate nodes false) [] l) ∙ length-replicate nodes false
 
 -- nothing is marked
 pub unmarked-none : (nodes width n i : ℕ) → is_marked (unmarked nodes width) n i ≡ true → ⊥
 unmarked-none nodes width n i e =
     let h : Has (unmarked nodes width) n i = marked-has _ n i e in
-    let l : n < nodes = subst (λ k. n < k) (unmarked-length nodes width) h.node in
-    let w : i < width = subst (λ k. i < k) (unmarked-width nodes width n l) h.flag in
-    let row : get_or (unmarked nodes width) n [] ≡ replicate width false =
-    get_or-replicate nodes n (replicate width false) [] l in
-    true_false (sym e ∙ ap (λ r. get_or r i false) row ∙ get_or-replicate width i false false w)
+    let w : i < width = subst (λ k. i < k) (unmarked-width nodes width) h.flag in
+    let l : n < nodes = subst (λ k. n < k) (unmarked-length nodes width i w) h.node in
+    let row : get_or (unmarked nodes width) i [] ≡ replicate nodes false =
+    get_or-replicate width i (replicate nodes false) [] w in
+    true_false (sym e ∙ ap (λ r. get_or r n false) row ∙ get_or-replicate nodes n false false l)

@@ -10,12 +10,12 @@ abbrev Vec : Type 0 → Type 0
 Vec T = VecIn T Global
 
 pub row_written : (rows : List (Vec Bool)) (n i : ℕ) (row written : Vec Bool)
-    → n < length rows
-    → row ≡ get_or rows n row
-    → written.items ≡ set row.items i true
-    → rows_view (set rows n written) ≡ mark (rows_view rows) n i
+    → i < length rows
+    → row ≡ get_or rows i row
+    → written.items ≡ set row.items n true
+    → rows_view (set rows i written) ≡ mark (rows_view rows) n i
 row_written rows n i row written l is w =
-    let read : get_or (rows_view rows) n [] ≡ row.items =
-    get_or-map (λ (r : Vec Bool). r.items) rows n row [] l ∙ sym (ap (λ (r : Vec Bool). r.items) is) in
-    map-set (λ (r : Vec Bool). r.items) rows n written
-    ∙ ap (λ r. set (rows_view rows) n r) (w ∙ ap (λ r. set r i true) (sym read))
+    let read : get_or (rows_view rows) i [] ≡ row.items =
+    get_or-map (λ (r : Vec Bool). r.items) rows i row [] l ∙ sym (ap (λ (r : Vec Bool). r.items) is) in
+    map-set (λ (r : Vec Bool). r.items) rows i written
+    ∙ ap (λ r. set (rows_view rows) i r) (w ∙ ap (λ r. set r n true) (sym read))

@@ -25,8 +25,8 @@ module _ {E : Type 0} (g : Graph E) (step : E → ℕ → ℕ) (width : ℕ) (en
       → is_marked rows m (step o.event i) ≡ true
 
   pub record Searches (s : Marks) : Type 0 where
-    pub nodes : length s.rows ≡ length g.nodes
-    pub flags : (n : ℕ) → n < length g.nodes → length (get_or s.rows n []) ≡ width
+    pub flags : length s.rows ≡ width
+    pub nodes : (i : ℕ) → i < width → length (get_or s.rows i []) ≡ length g.nodes
     pub sound : (n i : ℕ) → is_marked s.rows n i ≡ true → IsReached g step entries n i
     pub stacked : (n i : ℕ) → Contains s.stack (n, i) → is_marked s.rows n i ≡ true
     pub entered : (n i : ℕ)
@@ -48,8 +48,8 @@ module _ {E : Type 0} (g : Graph E) (step : E → ℕ → ℕ) (width : ℕ) (en
 
   fresh-has : (n i : ℕ) → n < length g.nodes → i < width → Has fresh.rows n i
   fresh-has n i l w = record {
-    node = subst (λ k. n < k) (sym (unmarked-length (length g.nodes) width)) l;
-    flag = subst (λ k. i < k) (sym (unmarked-width (length g.nodes) width n l)) w;
+    flag = subst (λ k. i < k) (sym (unmarked-width (length g.nodes) width)) w;
+    node = subst (λ k. n < k) (sym (unmarked-length (length g.nodes) width i w)) l;
   }
 
   pub begins : Searches (visited_each g.starts entries fresh)
@@ -57,8 +57,8 @@ module _ {E : Type 0} (g : Graph E) (step : E → ℕ → ℕ) (width : ℕ) (en
       let v : Visits (λ m j. Contains g.starts m × Contains entries j) fresh (visited_each g.starts entries fresh) =
       visits_each g.starts entries fresh in
       record {
-        nodes = v.shape.nodes ∙ unmarked-length (length g.nodes) width;
-        flags = λ n l. v.shape.flags n ∙ unmarked-width (length g.nodes) width n l;
+        flags = v.shape.flags ∙ unmarked-width (length g.nodes) width;
+        nodes = λ i w. v.shape.nodes i ∙ unmarked-length (length g.nodes) width i w;
         sound = λ n i e. either_way
             (λ was. absurd (unmarked-none (length g.nodes) width n i was))
             (λ w. starts w.0 w.1)
@@ -96,8 +96,8 @@ module _ {E : Type 0} (g : Graph E) (step : E → ℕ → ℕ) (width : ℕ) (en
         → IsFollowed t.rows n i
         → Searches t
     goes_on W t v reaches follows = record {
-      nodes = v.shape.nodes ∙ h.nodes;
-      flags = λ m l. v.shape.flags m ∙ h.flags m l;
+      flags = v.shape.flags ∙ h.flags;
+      nodes = λ j w. v.shape.nodes j ∙ h.nodes j w;
       sound = λ m j e. either_way (h.sound m j) (reaches m j) (v.finds m j e);
       stacked = λ m j c. either_way
           (λ was. v.grows m j (h.stacked m j (on_stack m j was)))
@@ -126,11 +126,11 @@ module _ {E : Type 0} (g : Graph E) (step : E → ℕ → ℕ) (width : ℕ) (en
     in_place : Within → (e : E) (m : ℕ) → m < length g.nodes → Has s.rows m (step e i)
     in_place within e m l =
         let own : Has s.rows n i = marked-has s.rows n i is_there in
-        let first : n < length g.nodes = subst (λ k. n < k) h.nodes own.node in
-        let small : i < width = subst (λ k. i < k) (h.flags n first) own.flag in
+        let small : i < width = subst (λ k. i < k) h.flags own.flag in
+        let next : step e i < width = within e i small in
         record {
-          node = subst (λ k. m < k) (sym h.nodes) l;
-          flag = subst (λ k. step e i < k) (sym (h.flags m l)) (within e i small);
+          flag = subst (λ k. step e i < k) (sym h.flags) next;
+          node = subst (λ k. m < k) (sym (h.nodes (step e i) next)) l;
         }
 
     after : Within

@@ -98,7 +98,7 @@ module _ (n i : ℕ) (s : Marks) where
       let less = mark-less s.rows n i e in
       let long : length (s.stack ++ (n, i) ∷ []) ≡ length s.stack + 1 = length_push s.stack (n, i) in
       record {
-        shape = mark-shape s.rows n i h.node;
+        shape = mark-shape s.rows n i h.flag;
         grows = λ m j was. either_way
             (λ p. at_pair (λ k l. is_marked (mark s.rows n i) k l ≡ true) n i m j p now)
             (λ f. f ∙ was)

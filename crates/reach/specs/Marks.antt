@@ -1,5 +1,5 @@
--- The search for the flags that arrive at each node, as a function of lists: a row for each node, with a value for each
--- flag that says whether it was found there, and a stack of what was found and is not followed yet.
+-- The search for the flags that arrive at each node, as a function of lists: a row for each flag, with a value for each
+-- node that says whether it was found there, and a stack of what was found and is not followed yet.
 use Rattle.std.specs.Prelude.{ℕ, Bool, true, false, not, if◌then◌else◌, List, [], ◌∷◌, ◌++◌, slice_index_or, slice_set, replicate, Option, Some, None, slice_get}
 use Rattle.meaning.specs.Code.{Occurrence}
 use Rattle.flow.specs.Walks.{Graph}
@@ -10,17 +10,17 @@ abbrev pub Rows : Type 0
 Rows = List (List Bool)
 
 abbrev pub unmarked : ℕ → ℕ → Rows
-unmarked nodes width = replicate nodes (replicate width false)
+unmarked nodes width = replicate width (replicate nodes false)
 
 abbrev pub is_marked : Rows → ℕ → ℕ → Bool
-is_marked rows n i = slice_index_or (slice_index_or rows n []) i false
+is_marked rows n i = slice_index_or (slice_index_or rows i []) n false
 
--- there is a value for the flag at the node, and it is not set
+-- there is a value for the node in the flag's row, and it is not set
 abbrev pub is_open : Rows → ℕ → ℕ → Bool
-is_open rows n i = not (slice_index_or (slice_index_or rows n []) i true)
+is_open rows n i = not (slice_index_or (slice_index_or rows i []) n true)
 
 abbrev pub mark : Rows → ℕ → ℕ → Rows
-mark rows n i = slice_set rows n (slice_set (slice_index_or rows n []) i true)
+mark rows n i = slice_set rows i (slice_set (slice_index_or rows i []) n true)
 
 -- The search
 

@@ -11,7 +11,7 @@ use crate::steps::Steps;
 use flow::Graph;
 use std::alloc::{AllocError, Global};
 
-/// For each node a row that says of each flag whether a walk carries it there.
+/// For each flag a row that says of each node whether a walk carries it there.
 #[derive(Drop)]
 pub struct Reached {
     rows: Vec<Vec<bool>>,

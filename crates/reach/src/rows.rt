@@ -1,4 +1,4 @@
-//! Rows of values, one for each node, with a value for each flag.
+//! Rows of values, one for each flag, with a value for each node: flags are few and nodes many, so there are few rows.
 
 ghost use Rattle.std.specs.Prelude.{◌≡◌, true, false, IfOk};
 ghost use Rattle.reach.specs.Marks.{unmarked, is_marked, is_open, mark};
@@ -15,8 +15,8 @@ pub fn unmarked(alloc: Global, nodes: usize, width: usize) -> Result<Vec<Vec<boo
     ensures { IfOk result (λ rows. rows_view rows.items ≡ unmarked nodes width) }
 {
     let mut rows = Vec::new(alloc);
-    for _ in 0..nodes {
-        rows.push(vec![in alloc; false; width]?)?;
+    for _ in 0..width {
+        rows.push(vec![in alloc; false; nodes]?)?;
     }
     Ok(rows)
 }
@@ -25,8 +25,8 @@ pub fn unmarked(alloc: Global, nodes: usize, width: usize) -> Result<Vec<Vec<boo
 pub fn is_marked(rows: &[Vec<bool>], node: usize, flag: usize) -> bool
     ensures { result ≡ is_marked (rows_view rows.now) node flag }
 {
-    match rows.get(node) {
-        Some(row) => flag < row.len() && row[flag],
+    match rows.get(flag) {
+        Some(row) => node < row.len() && row[node],
         None => false,
     }
 }
@@ -37,9 +37,9 @@ pub fn mark(rows: &mut Vec<Vec<bool>>, node: usize, flag: usize) -> bool
     ensures marked { result ≡ true → rows_view rows.new.items ≡ mark (rows_view rows.old.items) node flag }
     ensures kept { result ≡ false → rows_view rows.new.items ≡ rows_view rows.old.items }
 {
-    if node >= rows.len() || flag >= rows[node].len() || rows[node][flag] {
+    if flag >= rows.len() || node >= rows[flag].len() || rows[flag][node] {
         return false;
     }
-    rows[node][flag] = true;
+    rows[flag][node] = true;
     true
 }

@@ -10,8 +10,8 @@ use crate::steps::Steps;
 use flow::Graph;
 use std::alloc::{AllocError, Global};
 
-/// What was found so far: for each node a row that says of each flag whether it arrives, and a stack of the nodes and
-/// flags that were found and are not followed yet.
+/// What was found so far: for each flag a row that says of each node whether it arrives there, and a stack of the nodes
+/// and flags that were found and are not followed yet.
 #[derive(Drop)]
 pub struct Search {
     pub rows: Vec<Vec<bool>>,

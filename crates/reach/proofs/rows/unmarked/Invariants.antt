@@ -5,4 +5,4 @@ use Rattle.reach.proofs.rows.unmarked.Given as goal
 
 -- so many rows were added
 abbrev pub invariant-loop : goal.invariant-loop
-invariant-loop l = rows_view l.rows.items ≡ replicate l.counter (replicate l.width false)
+invariant-loop l = rows_view l.rows.items ≡ replicate l.counter (replicate l.nodes false)

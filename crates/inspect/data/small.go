@@ -1,7 +1,0 @@
-package a
-
-// f returns.
-func f(é int) string {
-	return `x
-	y` + "\n"
-}

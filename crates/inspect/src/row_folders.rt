@@ -1,0 +1,148 @@
+//! Folders of rows: each of their entries says what is wanted of it, or is run.
+//!
+//! A new test is one more entry, and one more line of the output that is stored.
+
+use crate::files::{entries, read_text};
+use crate::name_rows::names_otherwise;
+use crate::output::print;
+use crate::package_rows::{Wanted, shown_otherwise};
+use crate::program::PROGRAM;
+use crate::report_marks::reported_otherwise;
+use crate::transcripts::{show_counts, show_examples, show_runs};
+use folders::Fault;
+use inspection::Shown;
+use std::alloc::Global;
+
+/// How the entries of a folder are read.
+#[derive(Clone, Copy)]
+enum Rows {
+    /// Each is compared with what it wants itself.
+    Compared(Compared),
+    /// Each is a folder with the packages of one run.
+    Packages,
+    /// Each is the package of one run.
+    Examples,
+    /// All are files of one count.
+    Counts,
+}
+
+/// What a row is compared with.
+#[derive(Clone, Copy)]
+enum Compared {
+    /// Marks that say what names mean.
+    Names,
+    /// Marks that say what is reported.
+    Report,
+    /// What is shown of its files.
+    Shown(Wanted),
+}
+
+impl Compared {
+    /// How a row is that is as it is to be.
+    fn as_it_should(self) -> &'static str {
+        match self {
+            Compared::Names | Compared::Report => "as marked",
+            Compared::Shown(_) => "as wanted",
+        }
+    }
+}
+
+/// How the entries of a folder of this name are read.
+fn rows_of(name: &str) -> Option<Rows> {
+    match name {
+        "names" => Some(Rows::Compared(Compared::Names)),
+        "events" => Some(shown_rows(Wanted::Packages(Shown::Events))),
+        "graphs" => Some(shown_rows(Wanted::Packages(Shown::Graphs))),
+        "facts" => Some(shown_rows(Wanted::Packages(Shown::Facts))),
+        "tokens" => Some(shown_rows(Wanted::Tokens)),
+        "trees" => Some(shown_rows(Wanted::Trees)),
+        "codes" | "rows" => Some(Rows::Compared(Compared::Report)),
+        "packages" => Some(Rows::Packages),
+        "examples" => Some(Rows::Examples),
+        "counts" => Some(Rows::Counts),
+        _ => None,
+    }
+}
+
+fn shown_rows(wanted: Wanted) -> Rows {
+    Rows::Compared(Compared::Shown(wanted))
+}
+
+/// The last element of a folder's path.
+fn last_element(folder: &str) -> &str {
+    match folder.rsplit_once('/') {
+        Some((_, name)) => name,
+        None => folder,
+    }
+}
+
+/// Goes through these folders, tells of each row, and gives whether all that are compared are as they are to be.
+///
+/// # Errors
+///
+/// A folder has a name for which no rows are known, and then none is gone through; a folder or a file can't be read;
+/// what is told can't be written; or memory was refused.
+pub fn show_folders(rt: &HostRuntime, folders: &[String]) -> Result<bool, Fault> {
+    let mut kinds = Vec::new(rt.alloc());
+    for folder in folders {
+        match rows_of(last_element(folder)) {
+            Some(rows) => kinds.push(rows)?,
+            None => return Err(Fault::WrongWords(PROGRAM)),
+        }
+    }
+    let mut is_well = true;
+    for (folder, rows) in folders.iter().zip(kinds.iter()) {
+        is_well = show_folder(rt, folder, *rows)? && is_well;
+    }
+    Ok(is_well)
+}
+
+/// Goes through a folder, and gives whether all of it that is compared is as it is to be.
+fn show_folder(rt: &HostRuntime, folder: &str, rows: Rows) -> Result<bool, Fault> {
+    match rows {
+        Rows::Compared(compared) => return compare_all(rt, folder, compared),
+        Rows::Packages => show_runs(rt, folder)?,
+        Rows::Examples => show_examples(rt, folder)?,
+        Rows::Counts => show_counts(rt, folder)?,
+    }
+    Ok(true)
+}
+
+/// Tells of each row of the folder whether it is as it is to be, and gives whether all are.
+fn compare_all(rt: &HostRuntime, folder: &str, compared: Compared) -> Result<bool, Fault> {
+    let mut is_well = true;
+    for name in &entries(rt, folder)? {
+        let path = format!(in rt.alloc(); "{folder}/{name}")?;
+        is_well = compare(rt, &path, compared)? && is_well;
+    }
+    Ok(is_well)
+}
+
+/// Tells whether the row in this file is as it is to be.
+fn compare(rt: &HostRuntime, path: &str, compared: Compared) -> Result<bool, Fault> {
+    let text = read_text(rt, path)?;
+    let (line, is_well) = match otherwise(rt.alloc(), &text, compared)? {
+        None => {
+            let well = compared.as_it_should();
+            (format!(in rt.alloc(); "{path}: {well}\n")?, true)
+        }
+        Some(found) => (
+            format!(in rt.alloc(); "{path}: otherwise:\n{found}\n")?,
+            false,
+        ),
+    };
+    print(rt, line.as_bytes())?;
+    Ok(is_well)
+}
+
+/// What is found otherwise than the row wants.
+fn otherwise(alloc: Global, text: &str, compared: Compared) -> Result<Option<String>, Fault> {
+    match compared {
+        Compared::Names => {
+            let found = names_otherwise(alloc, text)?;
+            Ok(if found.is_empty() { None } else { Some(found) })
+        }
+        Compared::Report => reported_otherwise(alloc, text),
+        Compared::Shown(wanted) => shown_otherwise(alloc, wanted, text),
+    }
+}
