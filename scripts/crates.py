@@ -1,0 +1,117 @@
+"""The crates of this repository, and runs of `rt ci` over some of them: what scripts/build, bench/gate and bench/planted
+share.
+
+Such a run has a folder of its own with copies of crates, which stands for a repository. So it takes nothing from the
+checkout and leaves nothing in it; and what it proves is kept where the toolchain keeps what the gate passed, by the
+sums of all that a proof reads. There the gate finds it, and a later run here.
+"""
+import hashlib
+import os
+import re
+import shutil
+import signal
+import subprocess
+
+ROOT = os.path.dirname(os.path.dirname(os.path.abspath(__file__)))
+
+# What a proof reads of a crate, and what else its run reads.
+PROVED = ("src", "specs", "proofs")
+RUN_ON = ("args", "data", "status", "stdin", "stdout")
+
+
+def listed():
+    """For each crate of crates.txt, in its order, the names of those that its line names."""
+    found = {}
+    with open(f"{ROOT}/crates.txt", encoding="utf-8") as lines:
+        for line in lines:
+            head, _, names = line.split("#")[0].partition(":")
+            if head.strip():
+                found[head.split()[0]] = names.split()
+    return found
+
+
+def below(names):
+    """These crates and all those of the repository on which they stand, in the order of crates.txt."""
+    crates, found, waiting = listed(), set(), list(names)
+    while waiting:
+        name = waiting.pop()
+        if name in crates and name not in found:
+            found.add(name)
+            waiting += crates[name]
+    return [name for name in crates if name in found]
+
+
+def files_of(name, parts=PROVED):
+    """The paths of a crate's files in these parts of its folder, sorted."""
+    found = []
+    for part in parts:
+        top = f"{ROOT}/crates/{name}/{part}"
+        found += [top] if os.path.isfile(top) else [f"{at}/{file}" for at, _, files in os.walk(top) for file in files]
+    return sorted(found)
+
+
+def digest(names):
+    """A sum of all that the proofs of these crates read of the repository."""
+    made = hashlib.sha256(repr([(name, listed()[name]) for name in names]).encode())
+    for path in [f"{ROOT}/HANDLES", *(path for name in names for path in files_of(name))]:
+        with open(path, "rb") as file:
+            made.update(repr((os.path.relpath(path, ROOT), hashlib.sha256(file.read()).hexdigest())).encode())
+    return made.hexdigest()
+
+
+def copy(names, room):
+    """Makes of an empty folder a repository of these crates, without must-fail edits."""
+    with open(f"{ROOT}/crates.txt", encoding="utf-8") as lines, open(f"{room}/crates.txt", "w", encoding="utf-8") as to:
+        to.writelines(line for line in lines if re.split(r"[\s:]", line)[0] in names)
+    shutil.copy(f"{ROOT}/HANDLES", room)
+    # By this `rt ci` takes it for the top of a repository, wherever it lies.
+    os.mkdir(f"{room}/.git")
+    for name in names:
+        for path in files_of(name, PROVED + RUN_ON):
+            to = os.path.join(room, os.path.relpath(path, ROOT))
+            os.makedirs(os.path.dirname(to), exist_ok=True)
+            shutil.copy(path, to)
+
+
+def jobs():
+    """As many checks side by side as there are processors, where each finds 4 GB of memory."""
+    with open("/proc/meminfo", encoding="utf-8") as lines:
+        free = next(int(line.split()[1]) for line in lines if line.startswith("MemAvailable:"))
+    return max(1, min(len(os.sched_getaffinity(0)), free // 4_000_000))
+
+
+def start(room, thrifty):
+    """Starts `rt ci` in this folder; what it prints comes line by line. It leads its own processes, so that Ctrl-C
+    reaches only its caller, which then calls `end`.
+
+    Thrifty, each check has one job: this takes the least of the processors, and suits where much is to be checked. Else
+    a check is given what others leave idle, so the longest chain of crates takes less time on the clock: a check in
+    several jobs reads the libraries below it several times, which costs a sixth more.
+    """
+    return subprocess.Popen(
+        ["rt", "ci"],
+        cwd=room,
+        env=dict(os.environ, RT_JOBS=str(jobs()) if thrifty else ""),
+        stdin=subprocess.DEVNULL,
+        stdout=subprocess.PIPE,
+        stderr=subprocess.STDOUT,
+        text=True,
+        errors="replace",
+        start_new_session=True,
+    )
+
+
+def end(gate):
+    """Ends a run that still goes on, with all that it started."""
+    for kind in (signal.SIGTERM, signal.SIGKILL):
+        try:
+            os.killpg(gate.pid, kind)
+            gate.wait(timeout=10)
+        except (ProcessLookupError, subprocess.TimeoutExpired):
+            pass
+
+
+def proved(line):
+    """The crate that this line of `rt ci` says is proved, or was before (then with True), or None."""
+    found = re.match(r"rt: (\w+) (proved|is kept:)", line)
+    return found and (found[1], found[2] != "proved")
