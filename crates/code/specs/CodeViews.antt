@@ -104,11 +104,6 @@ module _ {E : Type 0} where
         → Result (KeptCode E) F → Type 0
     Joins f first second result = (a b : Code E) → IsCode first a → IsCode second b → IsCode result (f a b)
 
-    abbrev pub JoinsThree : (Code E → Code E → Code E → Code E) → Result (KeptCode E) F → Result (KeptCode E) F
-        → Result (KeptCode E) F → Result (KeptCode E) F → Type 0
-    JoinsThree f first second third result =
-        (a b c : Code E) → IsCode first a → IsCode second b → IsCode third c → IsCode result (f a b c)
-
     abbrev pub JoinsFour : (Code E → Code E → Code E → Code E → Code E) → Result (KeptCode E) F
         → Result (KeptCode E) F → Result (KeptCode E) F → Result (KeptCode E) F → Result (KeptCode E) F → Type 0
     JoinsFour f first second third fourth result =

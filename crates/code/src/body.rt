@@ -12,7 +12,7 @@ ghost use Rattle.tree.specs.View.{identifier_syntax, statement_form, statement_s
 use crate::clauses::{one_clause, one_communication};
 use crate::code::{Code, Occurrence, Way};
 use crate::parts::{
-    Exit, Made, first_and_turns, in_sequence, label_of, one_of, then, turns, two_ways, way_to,
+    Exit, Made, in_sequence, label_of, one_of, one_turn, then, turns, two_ways, way_to,
 };
 use crate::site::{declaration, site};
 use crate::sites::Sites;
@@ -129,51 +129,72 @@ fn form<'a, E: Copy>(
             post,
             body,
             ..
-        } => first_and_turns(
+        } => then(
             alloc,
-            labels,
             optional(alloc, sites, init),
-            site(alloc, sites, at),
-            is_present(condition),
-            statements(alloc, sites, &body.statements),
-            optional(alloc, sites, post),
+            turns(
+                alloc,
+                labels,
+                site(alloc, sites, at),
+                one_turn(
+                    alloc,
+                    labels,
+                    is_present(condition),
+                    statements(alloc, sites, &body.statements),
+                    optional(alloc, sites, post),
+                ),
+            ),
         ),
         StmtKind::RangeAssign(_, _, body) => turns(
             alloc,
             labels,
             site(alloc, sites, at),
-            true,
-            statements(alloc, sites, &body.statements),
-            Ok(Code::Skip),
+            one_turn(
+                alloc,
+                labels,
+                true,
+                statements(alloc, sites, &body.statements),
+                Ok(Code::Skip),
+            ),
         ),
         StmtKind::RangeDefine(_, _, body) => turns(
             alloc,
             labels,
             site(alloc, sites, at),
-            true,
-            statements(alloc, sites, &body.statements),
-            Ok(Code::Skip),
+            one_turn(
+                alloc,
+                labels,
+                true,
+                statements(alloc, sites, &body.statements),
+                Ok(Code::Skip),
+            ),
         ),
         StmtKind::Switch { init, clauses, .. } => {
             let list: &'a [CaseClause] = clauses;
-            one_clause(
+            then(
                 alloc,
-                labels,
                 optional(alloc, sites, init),
-                site(alloc, sites, at),
-                list,
-                cases(alloc, sites, list),
+                one_clause(
+                    alloc,
+                    labels,
+                    site(alloc, sites, at),
+                    list,
+                    cases(alloc, sites, list),
+                ),
             )
         }
         StmtKind::TypeSwitch { init, clauses, .. } => {
             let list: &'a [CaseClause] = clauses;
-            one_clause(
+            then(
                 alloc,
-                labels,
                 optional(alloc, sites, init),
-                site(alloc, sites, at),
-                list,
-                cases(alloc, sites, list),
+                one_clause(
+                    alloc,
+                    labels,
+                    site(alloc, sites, at),
+                    list,
+                    cases(alloc, sites, list),
+                ),
             )
         }
         StmtKind::Select(clauses) => one_communication(

@@ -1,7 +1,7 @@
 //! Which clause of a switch or a select is entered.
 
 ghost use Rattle.std.specs.Prelude.{◌≡◌, map};
-ghost use Rattle.code.specs.CodeViews.{text_now, Changes, Joins, JoinsThree};
+ghost use Rattle.code.specs.CodeViews.{text_now, Changes, Joins};
 ghost use Rattle.meaning.specs.Code.{then_code};
 ghost use Rattle.meaning.specs.StatementCode.{is_default, has_default, or_past, breaks_end};
 ghost use Rattle.tree.specs.declared.statement.CaseClause.{out-CaseClause};
@@ -44,20 +44,19 @@ fn or_past<'a, E: Copy>(alloc: Global, clauses: &[CaseClause], code: Made<'a, E>
     }
 }
 
-/// The code of a `switch`: first its statement, then the header, then one of the clauses, or past them.
+/// The code of a `switch`, but for the statement before it: the header, and then one of the clauses, or past them.
 pub fn one_clause<'a, E: Copy>(
     alloc: Global,
     labels: &[&'a str],
-    first: Made<'a, E>,
     header: Made<'a, E>,
     clauses: &[CaseClause],
     entered: Made<'a, E>,
 ) -> Made<'a, E>
-    ensures { JoinsThree (λ f h e. then_code f (then_code h (breaks_end (map text_now labels.now)
-        (or_past (cases_syntax clauses.now) e)))) first.entry header.entry entered.entry result }
+    ensures { Joins (λ h e. then_code h (breaks_end (map text_now labels.now)
+        (or_past (cases_syntax clauses.now) e))) header.entry entered.entry result }
 {
     let whole = breaks_end(alloc, labels, or_past(alloc, clauses, entered));
-    then(alloc, first, then(alloc, header, whole))
+    then(alloc, header, whole)
 }
 
 /// The code of a `select`: the header, and then one of the clauses.

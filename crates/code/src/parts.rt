@@ -2,9 +2,9 @@
 //! through the tree holds a code while it may fail, and none there lets go of one.
 
 ghost use Rattle.std.specs.Prelude.{◌≡◌, map, option_map};
-ghost use Rattle.code.specs.CodeViews.{text_now, way_view, way_to, turn_or_end, ends_at, sequence, choice, code_view, codes_view, Changes, Joins, JoinsThree, JoinsFour};
+ghost use Rattle.code.specs.CodeViews.{text_now, way_view, way_to, turn_or_end, ends_at, sequence, choice, code_view, codes_view, Changes, Joins, JoinsFour};
 ghost use Rattle.meaning.specs.Code.{then_code, either, repeats, up_to};
-ghost use Rattle.meaning.specs.StatementCode.{label_of, up_to_labels, breaks_end, turns_end, loop};
+ghost use Rattle.meaning.specs.StatementCode.{label_of, up_to_labels, breaks_end, turns_end};
 ghost use Rattle.tree.specs.View.{identifier_syntax};
 
 use crate::code::{Code, Way};
@@ -149,40 +149,34 @@ fn turn_or_end<'a, E: Copy>(alloc: Global, may_end: bool, turn: Made<'a, E>) -> 
     }
 }
 
-/// A loop evaluates its header and goes through its block and its last statement, over and over.
+/// What follows the header of a loop: its block and its last statement, or the end of the loop where the header may
+/// end it.
+pub fn one_turn<'a, E: Copy>(
+    alloc: Global,
+    labels: &[&'a str],
+    may_end: bool,
+    body: Made<'a, E>,
+    post: Made<'a, E>,
+) -> Made<'a, E>
+    ensures { Joins (λ b p. turn_or_end may_end (then_code (turns_end (map text_now labels.now) b) p)) body.entry
+        post.entry result }
+{
+    let turn = then(alloc, turns_end(alloc, labels, body), post);
+    turn_or_end(alloc, may_end, turn)
+}
+
+/// A loop evaluates its header and goes through what follows it, over and over.
 pub fn turns<'a, E: Copy>(
     alloc: Global,
     labels: &[&'a str],
     header: Made<'a, E>,
-    may_end: bool,
-    body: Made<'a, E>,
-    post: Made<'a, E>,
+    turn: Made<'a, E>,
 ) -> Made<'a, E>
-    ensures { JoinsThree (λ h. loop (map text_now labels.now) h may_end) header.entry body.entry post.entry result }
+    ensures { Joins (λ h t. breaks_end (map text_now labels.now) (repeats (then_code h t))) header.entry turn.entry
+        result }
 {
-    let turn = then(alloc, turns_end(alloc, labels, body), post);
-    let round = then(alloc, header, turn_or_end(alloc, may_end, turn));
+    let round = then(alloc, header, turn);
     breaks_end(alloc, labels, repeats(alloc, round))
-}
-
-/// A loop with a statement before it.
-pub fn first_and_turns<'a, E: Copy>(
-    alloc: Global,
-    labels: &[&'a str],
-    first: Made<'a, E>,
-    header: Made<'a, E>,
-    may_end: bool,
-    body: Made<'a, E>,
-    post: Made<'a, E>,
-) -> Made<'a, E>
-    ensures { JoinsFour (λ f h b p. then_code f (loop (map text_now labels.now) h may_end b p)) first.entry
-        header.entry body.entry post.entry result }
-{
-    then(
-        alloc,
-        first,
-        turns(alloc, labels, header, may_end, body, post),
-    )
 }
 
 /// The code of an `if`: first its statement, then the header, then one of its blocks.

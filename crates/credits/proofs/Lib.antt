@@ -1,5 +1,1 @@
-mod CreditedBodies
-pub mod FirstBodies
-mod Growing
-mod OffsetsOf
 mod SettledPlaces

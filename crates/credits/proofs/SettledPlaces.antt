@@ -7,12 +7,12 @@ use Rattle.std.proofs.lemmas.List.Folds.{list_any-append}
 use Rattle.std.proofs.lemmas.Option.{none-some, same_Some, get_or_from_slice_get, slice_get-get_or, slice_get-map, slice_get_past, slice_get_read, slice_get_within}
 use Rattle.std.proofs.lemmas.List.{length-map}
 use Rattle.meaning.specs.BodyEvents.{Variable, VariableRole, own_parameter, own_receiver, declared_in_body, captured}
-use Rattle.package_meaning.specs.PathFaults.{Paths}
-use Rattle.package_meaning.specs.Credits.{Settles}
-use Rattle.variables.specs.declared.variable.Variable.{Variable as KeptVariable}
-use Rattle.variables.specs.VariableViews.{variable_view}
+use Rattle.meaning_packages.specs.PathFaults.{Paths}
+use Rattle.meaning_packages.specs.Credits.{Settles}
+use Rattle.events.specs.declared.variable.Variable.{Variable as KeptVariable}
+use Rattle.events.specs.VariableViews.{variable_view}
 use Rattle.credits.specs.CreditViews.{is_among}
-use Rattle.credits.specs.CreditsFound.{is_captured, SettlesAt, SettlesBefore, SettlesCaptured}
+use Rattle.credits.specs.SettledVariables.{is_captured, SettlesAt, SettlesBefore, SettlesCaptured}
 
 pub is_role : (r : VariableRole) → is_captured r ≡ true → r ≡ captured
 is_role (own_parameter k) e = absurd (false≢true e)

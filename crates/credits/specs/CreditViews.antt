@@ -4,7 +4,7 @@ use Rattle.std.specs.List.{list_any}
 use Rattle.indexmap.specs.IndexMap.{get}
 use Rattle.lists.specs.ListViews.{items_or_none}
 use Rattle.credits.specs.declared.table.Credits.{Credits as KeptCredits}
-use Rattle.package_meaning.specs.Credits.{Credits}
+use Rattle.meaning_packages.specs.Credits.{Credits}
 
 -- whether it is one of these numbers
 abbrev pub is_among : List ℕ → ℕ → Bool

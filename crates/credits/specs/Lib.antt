@@ -1,6 +1,5 @@
--- For a reader of the contracts: what the program keeps of bodies and of credits, and how credits grow. The rules are
--- those of `package_meaning/specs/Credits.antt`.
-pub mod BodyViews
+-- For a reader of the contracts: what the program keeps of credits, and when a variable is settled, by the places of
+-- variables. The rules are those of `meaning_packages/specs/Credits.antt`.
 pub mod CreditViews
-pub mod CreditsFound
+pub mod SettledVariables
 pub mod BodyPaths

@@ -1,13 +1,12 @@
-//! Which literals of a file settle which of the variables that they capture, and what a body may rely on. The rules are
-//! those of `package_meaning/specs/Credits.antt`.
+//! Which literals of a file settle which of the variables that they capture, what a body may rely on, and what
+//! settles a variable by the classes that arrive at a body's returns. The rules are those of
+//! `meaning_packages/specs/Credits.antt`. How the classes are found is not said here.
 #![tactic(auto)]
 
-mod bodies;
-mod found;
 mod reliance;
 mod settled;
 mod table;
 
-pub use found::find_credits;
 pub use reliance::{Calls, NoCalls, Reliance};
+pub use settled::{captures_any, settled_captured};
 pub use table::Credits;

@@ -16,7 +16,7 @@ pub struct Credits {
 
 impl Credits {
     /// No credits.
-    pub(crate) fn new(alloc: Global) -> Self
+    pub fn new(alloc: Global) -> Self
         ensures { HasNone result }
     {
         Credits {
@@ -39,7 +39,7 @@ impl Credits {
     /// # Errors
     ///
     /// Memory was refused.
-    pub(crate) fn tell(&mut self, body: u32, numbers: Vec<u32>) -> Result<(), AllocError>
+    pub fn tell(&mut self, body: u32, numbers: Vec<u32>) -> Result<(), AllocError>
         ensures { OnOk result (SettlesThese body numbers.items self.old self.new) }
     {
         self.settled.insert(body, numbers)?;

@@ -1,1 +1,2 @@
 mod ReadGiven
+mod WrittenParts

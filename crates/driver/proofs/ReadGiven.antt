@@ -1,5 +1,5 @@
 -- Words that name packages, and faults of what is read and judged.
-use Rattle.std.proofs.Common.{◌≡◌, ◌⊎◌, inl, inr, ℕ, List, [], ◌∷◌, IfErr, IsErrAnd, Result, sym, subst}
+use Rattle.std.proofs.Common.{◌≡◌, ◌⊎◌, inl, inr, ℕ, List, [], ◌∷◌, IfErr, IsErrAnd, Result, Ok, Err, sym, subst}
 use Rattle.std.proofs.lemmas.Result.{err_from_is_err_and}
 use Rattle.load.specs.declared.packages.GivenPackage.{GivenPackage}
 use Rattle.folders.specs.ReadFaults.{IsReadFault}
@@ -15,6 +15,11 @@ pub handed_on : {T : Type 0} (r : Result T Fault) (fault : Fault) (P : Fault →
     → IfErr r P
 handed_on r fault P h holds =
     let told = err_from_is_err_and r h in subst (λ x. IfErr x P) (sym told.1) (subst P (sym told.2) holds)
+
+-- whatever the fault is
+pub on_err : {T : Type 0} (r : Result T Fault) {P : Fault → Type 0} → ((fault : Fault) → P fault) → IfErr r P
+on_err (Ok x) h = tt
+on_err (Err fault) h = h fault
 
 -- a bad word among those that are left is one of all
 abbrev pub GoesOn : List (List ℕ) → List (List ℕ) → Type 0

@@ -2,9 +2,11 @@
 #![tactic(auto)]
 
 mod packages;
+mod printing;
 mod program;
 mod reports;
 mod status;
+mod writers;
 
 pub use folders::{Fault, words_fault};
 pub use judge::Report;

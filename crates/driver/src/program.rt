@@ -1,15 +1,17 @@
 //! The whole program, over two writers.
 
-ghost use Rattle.std.specs.Prelude.{◌≡◌, ◌⊎◌, Bool, IfErr, IfOk, OnOk, map};
-ghost use Rattle.std.specs.Io.KnownBytes.{Appends};
+ghost use Rattle.std.specs.Prelude.{◌≡◌, ◌⊎◌, Bool, IfErr, IfOk, map};
 ghost use Rattle.command_line.specs.Words.{texts_of};
 ghost use Rattle.driver.specs.Faults.{IsCheckFault, IsReportFault, IsRunFault, LeavesUnwritten};
+ghost use Rattle.driver.specs.Printing.{refused_by};
 ghost use Rattle.driver.specs.Statuses.{status_code, status_of};
-ghost use Rattle.driver.specs.WrittenReport.{EndsWith, WritesReport, WritesReportOf};
+ghost use Rattle.driver.specs.WrittenReport.{BeginsReport, BeginsReportOf, EndsWith, LeavesBegun, WritesReport, WritesReportOf};
 
 use crate::packages::{all_named, read_packages};
+use crate::printing::print;
 use crate::reports::report_of;
 use crate::status::Status;
+use crate::writers::Refusals;
 use command_line::{Asked, read_words};
 use folders::{Fault, fail};
 use load::GivenPackage;
@@ -33,7 +35,8 @@ pub fn run<R: Files + AllocGlobal, S: AsStr, W: Write, E: Write>(
     ensures { (status : Status) × (result ≡ status_code status)
         × EndsWith (map S.text words.now) status (W.contents out.old) (W.contents out.new) }
 {
-    match answer(rt, words, out, err) {
+    let mut refusals = Refusals::none();
+    match answer(rt, words, out, err, &mut refusals) {
         Ok(status) => status.code(),
         Err(fault) => fail(err, PROGRAM, &fault),
     }
@@ -46,22 +49,26 @@ pub fn refuse<E: Write>(err: &mut E, fault: &Fault) -> u8
     fail(err, PROGRAM, fault)
 }
 
-/// Does what the words ask for.
+/// Does what the words ask for. A write on `out` was refused just where the fault is that of writing.
 fn answer<R: Files + AllocGlobal, S: AsStr, W: Write, E: Write>(
     rt: &R,
     words: &[S],
     out: &mut W,
     err: &mut E,
+    refusals: &mut Refusals,
 ) -> Result<Status, Fault>
     ensures written { IfOk result (λ status.
         EndsWith (map S.text words.now) status (W.contents out.old) (W.contents out.new)) }
     ensures fault { IfErr result (IsRunFault (map S.text words.now)) }
     ensures unwritten { IfErr result (λ fault. LeavesUnwritten fault (W.contents out.old) (W.contents out.new)) }
+    ensures begun { IfErr result (λ fault.
+        LeavesBegun (map S.text words.now) fault (W.contents out.old) (W.contents out.new)) }
+    ensures refused { refusals.new.any ≡ refused_by refusals.old.any result }
 {
     match read_words(rt.alloc(), words)? {
-        Asked::Packages(packages) => check(rt, &packages, out, err),
+        Asked::Packages(packages) => check(rt, &packages, out, err, refusals),
         Asked::Help(text) => {
-            print(out, text.as_bytes())?;
+            print(out, text.as_bytes(), refusals)?;
             Ok(Status::Fine)
         }
         Asked::Wrong(text) => {
@@ -80,16 +87,20 @@ fn check<R: Files + AllocGlobal, W: Write, E: Write>(
     words: &[&str],
     out: &mut W,
     err: &mut E,
+    refusals: &mut Refusals,
 ) -> Result<Status, Fault>
     ensures written { IfOk result (λ status. (yes : Bool) × (status ≡ status_of yes)
         × WritesReport (texts_of words.now) yes (W.contents out.old) (W.contents out.new)) }
     ensures fault { IfErr result (IsCheckFault (texts_of words.now)) }
     ensures unwritten { IfErr result (λ fault. LeavesUnwritten fault (W.contents out.old) (W.contents out.new)) }
+    ensures begun { IfErr result (λ fault. fault ≡ Fault.CannotWrite
+        → BeginsReport (texts_of words.now) (W.contents out.old) (W.contents out.new)) }
+    ensures refused { refusals.new.any ≡ refused_by refusals.old.any result }
 {
     let packages = all_named(rt.alloc(), words)?;
     let mut empty = Vec::new(rt.alloc());
     let given = read_packages(rt, &packages, &mut empty)?;
-    let status = report(rt.alloc(), given, out)?;
+    let status = report(rt.alloc(), given, out, refusals)?;
     note_empty(&empty, err);
     Ok(status)
 }
@@ -103,24 +114,21 @@ fn note_empty<E: Write>(folders: &[&str], err: &mut E) {
 }
 
 /// Judges these packages, and prints their report.
-fn report<W: Write>(alloc: Global, given: Vec<GivenPackage>, out: &mut W) -> Result<Status, Fault>
+fn report<W: Write>(
+    alloc: Global,
+    given: Vec<GivenPackage>,
+    out: &mut W,
+    refusals: &mut Refusals,
+) -> Result<Status, Fault>
     ensures written { IfOk result (λ status. (yes : Bool) × (status ≡ status_of yes)
         × WritesReportOf given.items yes (W.contents out.old) (W.contents out.new)) }
     ensures fault { IfErr result (λ fault. (fault ≡ Fault.CannotWrite) ⊎ IsReportFault given.items fault) }
     ensures unwritten { IfErr result (λ fault. LeavesUnwritten fault (W.contents out.old) (W.contents out.new)) }
+    ensures begun { IfErr result (λ fault. fault ≡ Fault.CannotWrite
+        → BeginsReportOf given.items (W.contents out.old) (W.contents out.new)) }
+    ensures refused { refusals.new.any ≡ refused_by refusals.old.any result }
 {
     let report = report_of(alloc, given)?;
-    print(out, &report.text)?;
+    print(out, &report.text, refusals)?;
     Ok(Status::of_verdict(report.yes))
-}
-
-/// Writes the text to its end. After a fault a beginning of it may have been written.
-fn print<W: Write>(out: &mut W, text: &[u8]) -> Result<(), Fault>
-    ensures written { OnOk result (Appends (W.contents out.old) (W.contents out.new) text.now) }
-    ensures fault { IfErr result (λ fault. fault ≡ Fault.CannotWrite) }
-{
-    if out.write_all(text).is_err() || out.flush().is_err() {
-        return Err(Fault::CannotWrite);
-    }
-    Ok(())
 }

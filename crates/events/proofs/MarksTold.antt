@@ -1,5 +1,5 @@
 -- Marks in their order, each with the bodies around it: what a loop over them tells.
-use Rattle.std.proofs.Common.{◌≡◌, ℕ, ◌+◌, ◌<◌, ◌≤◌, Bool, false, ◌&&◌, ◌||◌, List, [], ◌∷◌, ◌++◌, length, get_or, drop, map, refl, sym, ap, ◌∙◌, subst}
+use Rattle.std.proofs.Common.{◌≡◌, ℕ, ◌+◌, ◌<◌, ◌≤◌, false, ◌&&◌, ◌||◌, List, [], ◌∷◌, ◌++◌, length, get_or, drop, map, refl, sym, ap, ◌∙◌, subst, Vec, Global}
 use Rattle.std.proofs.lemmas.List.{at_drop_all}
 use Rattle.tree.proofs.Depths.{drop_item}
 use Rattle.mentions.specs.declared.mark.BodyPlace.{BodyPlace as KeptBody}
@@ -7,13 +7,12 @@ use Rattle.mentions.specs.declared.mark.Mark.{Mark as KeptMark}
 use Rattle.mentions.specs.MarkViews.{body_view, mark_view, marks_view}
 use Rattle.meaning.specs.Mentions.{BodyPlace, Mark, mentions, defers_literal, returns, opens, closes}
 use Rattle.meaning.specs.Tracked.{Placed, placed}
-use Rattle.meaning.specs.Uses.{Seen, Event, UseFault, is_body, is_outside}
-use Rattle.meaning.specs.BodyEvents.{mark_faults, outer_faults_of, faults_of, mark_events, events_at, is_site, panics_there}
-use Rattle.locals.specs.LocalViews.{bodies_at}
+use Rattle.meaning.specs.Uses.{Seen, is_body, is_outside}
+use Rattle.meaning.specs.BodyEvents.{by_place, opened_by, opened_in, mark_faults, outer_faults_of, faults_of, mark_events, events_at, is_site, panics_there}
+use Rattle.tracked.specs.LocalViews.{bodies_at}
 use Rattle.uses.specs.OutcomeViews.{fault_view}
 use Rattle.events.specs.declared.told.Told.{Told}
-use Rattle.events.specs.EventViews.{faults_at, events_in, has_panic, if_there, opened_by, opened_in, panics_in, TellsNothing, AddsMark, TellsFile}
-use Rattle.lists.specs.ListViews.{items_at}
+use Rattle.events.specs.ToldViews.{faults_at, events_in, has_panic, if_there, panics_in, TellsNothing, AddsMark, TellsFile}
 use Rattle.events.proofs.Grown.{then_or_none, nothing_there, grows, grown, holds_on, holds_at_end}
 
 -- what was told so far, with what the marks that are left give, is what is told of all
@@ -91,19 +90,31 @@ pub tells_first : (s : Seen) (all : List Placed) (told : Told) → TellsNothing 
 tells_first s all told nothing = record {
   outer = ap (λ fs. map fault_view fs ++ outer_faults_of s all) nothing.outer;
   faults = λ body. ap (λ fs. map fault_view fs ++ faults_of s body all) (nothing.faults body);
-  events = λ body at. ap (λ es. Rattle.events.specs.EventViews.events_of_site at es ++ events_at s body all at) (nothing.events body);
+  events = λ body at. ap (λ es. Rattle.events.specs.ToldViews.events_of_site at es ++ events_at s body all at) (nothing.events body);
   panics = λ body at. ap (λ ps. Rattle.std.specs.List.list_any (λ site. Rattle.std.specs.Prelude.nat_eq site at) ps || panics_in s.known body at all) (nothing.panics body);
   opened = ap (λ bs. map body_view bs ++ opened_in all) nothing.opened;
 }
 
+-- the same, with these bodies in place of those
+abbrev with_opened : Told → Vec KeptBody Global → Told
+with_opened told opened = record {
+  outer = told.outer;
+  faults = told.faults;
+  events = told.events;
+  panics = told.panics;
+  opened = opened;
+}
+
 pub tells_all : (s : Seen) (all : List Placed) → all ≡ s.marks → (left : List Placed) → left ≡ [] → (told : Told)
-    → TellsSoFar s left all told → TellsFile s told
-tells_all s all same left none told so_far = record {
+    → TellsSoFar s left all told
+    → (opened : Vec KeptBody Global) → map body_view opened.items ≡ by_place (map body_view told.opened.items)
+    → TellsFile s (with_opened told opened)
+tells_all s all same left none told so_far opened ordered = record {
   outer = grown _ _ _ (ap (outer_faults_of s) none) so_far.outer ∙ ap (outer_faults_of s) same;
   faults = λ body. grown _ _ _ (ap (faults_of s body) none) (so_far.faults body) ∙ ap (faults_of s body) same;
   events = λ body at. grown _ _ _ (ap (λ ps. events_at s body ps at) none) (so_far.events body at) ∙ ap (λ ps. events_at s body ps at) same;
   panics = λ body at. holds_at_end _ _ _ (ap (panics_in s.known body at) none) (so_far.panics body at) ∙ ap (panics_in s.known body at) same;
-  opened = grown _ _ _ (ap opened_in none) so_far.opened ∙ ap opened_in same;
+  opened = ordered ∙ ap by_place (grown _ _ _ (ap opened_in none) so_far.opened ∙ ap opened_in same);
 }
 
 -- a loop over the marks
@@ -125,7 +136,10 @@ module _ (s : Seen) (marks : List KeptMark) (i : ℕ) where
       (tells_more s (map body_view before) (mark_view m) rest all told told_after adds_there so_far_there)
 
   pub tells_last : length marks ≤ i → (bs : List BodyPlace) (all : List Placed) → all ≡ s.marks → (told : Told)
-      → TellsSoFar s (placed bs (marks_view (drop i marks))) all told → TellsFile s told
+      → TellsSoFar s (placed bs (marks_view (drop i marks))) all told
+      → (opened : Vec KeptBody Global) → map body_view opened.items ≡ by_place (map body_view told.opened.items)
+      → TellsFile s (with_opened told opened)
   unfolding placed
-  tells_last past bs all same told so_far =
+  tells_last past bs all same told so_far opened ordered =
       tells_all s all same _ (at_drop_all (λ (ms : List KeptMark). placed bs (marks_view ms)) marks i past) told so_far
+      opened ordered

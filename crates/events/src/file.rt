@@ -1,16 +1,25 @@
 //! What is told of a whole file.
 
-ghost use Rattle.std.specs.Prelude.{◌≡◌, ℕ, IfOk};
-ghost use Rattle.events.specs.EventViews.{TellsFile};
-ghost use Rattle.locals.specs.LocalViews.{seen_view, Sees};
+ghost use Rattle.std.specs.Prelude.{◌≡◌, ℕ, IfOk, OnOk, map};
+ghost use Rattle.events.specs.ToldViews.{TellsFile};
+ghost use Rattle.meaning.specs.BodyEvents.{by_place};
+ghost use Rattle.mentions.specs.MarkViews.{body_view};
+ghost use Rattle.tracked.specs.LocalViews.{seen_view, Sees};
 
 use crate::told::{Told, add_mark};
-use locals::{Seen, enter};
 use mentions::BodyPlace;
 use std::alloc::{AllocError, Global};
+use tracked::{Seen, enter};
+
+/// Puts bodies in the order of their places; those at one place stay in the order that they have.
+fn order_by_place(bodies: &mut Vec<BodyPlace<'_>>) -> Result<(), AllocError>
+    ensures { OnOk result (map body_view bodies.new.items ≡ by_place (map body_view bodies.old.items)) }
+{
+    bodies.sort_by_key(|body| body.at)
+}
 
 /// Tells of all bodies of a file that was looked at: the use faults of each and of what stands in none, the events at
-/// their sites, and the bodies in the order of their marks.
+/// their sites, and the bodies in the order of their places.
 ///
 /// # Errors
 ///
@@ -25,5 +34,6 @@ pub fn tell<'a>(alloc: Global, seen: &Seen<'_, 'a>) -> Result<Told<'a>, AllocErr
         enter(&mut bodies, *mark)?;
         add_mark(alloc, seen, &bodies, *mark, &mut told)?;
     }
+    order_by_place(&mut told.opened)?;
     Ok(told)
 }

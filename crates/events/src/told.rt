@@ -1,21 +1,21 @@
 //! What a mark adds to what is told of the bodies of its file.
 
 ghost use Rattle.std.specs.Prelude.{◌≡◌, ◌++◌, ℕ, OnOk, map};
-ghost use Rattle.allowed.specs.UseViews.{event_view};
-ghost use Rattle.events.specs.EventViews.{AddsMark, AddsFaultsOf, AddsInner, AddsSiteEvent, AddsEvent, AddsSite, AddsPanic, TellsNothing, opened_by, is_at};
-ghost use Rattle.locals.specs.LocalViews.{seen_view, Sees};
+ghost use Rattle.tracked.specs.EventViews.{event_view};
+ghost use Rattle.events.specs.ToldViews.{AddsMark, AddsFaultsOf, AddsInner, AddsSiteEvent, AddsEvent, AddsSite, AddsPanic, TellsNothing, is_at};
+ghost use Rattle.meaning.specs.BodyEvents.{opened_by};
+ghost use Rattle.tracked.specs.LocalViews.{seen_view, Sees};
 ghost use Rattle.meaning.specs.BodyEvents.{is_panic, is_site};
 ghost use Rattle.meaning.specs.Uses.{is_body};
 ghost use Rattle.mentions.specs.MarkViews.{body_view, mark_view, mention_view, role_view};
-ghost use Rattle.rows.specs.RowViews.{known_view};
+ghost use Rattle.tracked.specs.RowViews.{known_view};
 ghost use Rattle.uses.specs.OutcomeViews.{fault_view, AddsFaults, events_view};
 
-use allowed::{Event, is_statement_place};
+use allowed_uses::is_statement_place;
 use lists::Lists;
-use locals::Seen;
 use mentions::{BodyPlace, Mark, Mention, Role};
-use rows::{Known, is_of_universe};
 use std::alloc::{AllocError, Global};
+use tracked::{Event, Known, Seen, is_of_universe};
 use uses::{UseFault, mark_outcome};
 
 /// An event, and the offset of its statement, spec, header or clause.
@@ -35,6 +35,7 @@ pub struct Told<'a> {
     pub events: Lists<SiteEvent<'a>>,
     /// The sites of calls of the universe's `panic` as statements.
     pub panics: Lists<u32>,
+    /// The bodies: while marks are gone over in their order, and in the end in the order of their places.
     pub opened: Vec<BodyPlace<'a>>,
 }
 

@@ -23,7 +23,7 @@ item_view i = record {
 }
 
 abbrev pub parameter_view : KeptParameter → TrackedParameter
-parameter_view p = record { position = p.position; kind = kind_view p.kind; is_called = p.is_called }
+parameter_view p = record { position = p.position; kind = kind_view p.kind }
 
 abbrev pub facts_view : KeptFacts → FunctionFacts
 facts_view f = record {

@@ -2,7 +2,7 @@
 
 ghost use Rattle.std.specs.Prelude.{◌≡◌, ℕ, List, [], ◌∷◌, ◌++◌, IfOk, OnOk, map, option_map};
 ghost use Rattle.meaning.specs.FunctionFacts.{given_at, given_positions, parameter_at, tracked_parameters, signature_facts, facts_in, package_facts};
-ghost use Rattle.meaning.specs.OuterBlocks.{can_be_meant, or_else};
+ghost use Rattle.meaning.specs.OuterBlocks.{or_else};
 ghost use Rattle.names.specs.Answers.{declared_at};
 ghost use Rattle.facts.specs.FactViews.{kind_view, item_view, parameter_view, facts_view, facts_by_name};
 ghost use Rattle.tree.specs.Syntax.{function_declaration};
@@ -12,7 +12,7 @@ use crate::facts::{FunctionFacts, TrackedParameter};
 use crate::items::{Item, parameter_items};
 use crate::kinds::{VariableKind, item_kind};
 use crate::table::Table;
-use names::Names;
+use names::{Names, can_be_meant};
 use std::alloc::{AllocError, Global};
 use tree::{File, Func, Signature, TopLevelDecl};
 
@@ -62,11 +62,7 @@ fn add_tracked(
         parameter_at position (option_map kind_view kind)) }
 {
     if let Some(kind) = kind {
-        tracked.push(TrackedParameter {
-            position,
-            kind,
-            is_called: false,
-        })?;
+        tracked.push(TrackedParameter { position, kind })?;
     }
     Ok(())
 }
@@ -103,14 +99,6 @@ fn signature_facts(
         gives: given_positions(alloc, names, file, &results)?,
         results: results.len(),
     })
-}
-
-/// Whether the function can be referred to by its name alone: no method, and not called `init` or `_`.
-fn can_be_meant(function: &Func) -> bool
-    ensures { result ≡ can_be_meant (function_syntax function.now) }
-{
-    let name = function.name.text.as_str();
-    function.receiver.is_none() && name != "_" && name != "init"
 }
 
 /// Adds what the signature of a function says, if the function can be meant.

@@ -1,7 +1,8 @@
 //! Types that are told by their names.
 
-ghost use Rattle.std.specs.Prelude.{◌≡◌, option_map};
+ghost use Rattle.std.specs.Prelude.{◌≡◌, Some, option_map};
 ghost use Rattle.meaning.specs.FunctionFacts.{is_import, is_of, is_cancel_type, is_group_pointer, kind_of_type, item_kind};
+ghost use Rattle.meaning.specs.Uses.{is_cancel, is_group, is_same_kind};
 ghost use Rattle.mentions.specs.MarkViews.{named_view};
 ghost use Rattle.names.specs.Answers.{decl_view, declared_at};
 ghost use Rattle.facts.specs.FactViews.{kind_view, item_view};
@@ -26,6 +27,38 @@ pub enum VariableKind {
     Cancel,
     /// A group, or a pointer to one.
     Group,
+}
+
+impl VariableKind {
+    /// Whether it is that of cancel functions.
+    pub fn is_cancel(self) -> bool
+        ensures { result ≡ is_cancel (Some (kind_view self)) }
+    {
+        match self {
+            VariableKind::Cancel => true,
+            VariableKind::Group => false,
+        }
+    }
+
+    /// Whether it is that of groups.
+    pub fn is_group(self) -> bool
+        ensures { result ≡ is_group (Some (kind_view self)) }
+    {
+        match self {
+            VariableKind::Cancel => false,
+            VariableKind::Group => true,
+        }
+    }
+
+    /// Whether it is the other kind too.
+    pub fn is_same(self, other: VariableKind) -> bool
+        ensures { result ≡ is_same_kind (kind_view self) (kind_view other) }
+    {
+        match self {
+            VariableKind::Cancel => other.is_cancel(),
+            VariableKind::Group => other.is_group(),
+        }
+    }
 }
 
 /// Whether it is an import of that path.

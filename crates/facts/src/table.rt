@@ -1,6 +1,6 @@
 //! The facts of a package's functions, and those of its imports.
 
-ghost use Rattle.std.specs.Prelude.{◌≡◌, ℕ, List, OnOk, OnErr, option_map, None};
+ghost use Rattle.std.specs.Prelude.{◌≡◌, ℕ, List, OnOk, OnErr, is_some, option_map, None};
 ghost use Rattle.meaning.specs.OuterBlocks.{or_else};
 ghost use Rattle.facts.specs.FactViews.{facts_view, facts_by_name, facts_by_path, table_by_path};
 ghost use Rattle.names.specs.Maps.{only_at};
@@ -27,7 +27,7 @@ impl<'a> Table<'a> {
 
     /// Whether there are facts of a function of that name.
     pub fn has(&self, name: &str) -> bool
-        ensures { result ≡ Rattle.std.specs.Prelude.is_some (facts_by_name self.now name.now) }
+        ensures { result ≡ is_some (facts_by_name self.now name.now) }
     {
         self.functions.contains_key(name)
     }

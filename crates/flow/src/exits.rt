@@ -1,9 +1,9 @@
 //! Where the ways out of a code lead.
 
-ghost use Rattle.std.specs.Prelude.{◌≡◌, OnOk, IfOk};
-ghost use Rattle.code.specs.CodeViews.{way_view};
-ghost use Rattle.flow.specs.GraphOfCode.{same_way, arriving};
-ghost use Rattle.flow.specs.GraphViews.{exits_view};
+ghost use Rattle.std.specs.Prelude.{◌≡◌, OnOk, IfOk, option_map};
+ghost use Rattle.code.specs.CodeViews.{text_now, way_view};
+ghost use Rattle.flow.specs.GraphOfCode.{same_label, same_way, arriving};
+ghost use Rattle.flow.specs.GraphViews.{exits_view, rest_of, Enters};
 
 use crate::node_lists::copied;
 use code::Way;
@@ -24,9 +24,7 @@ pub struct Exits<'a> {
 
 /// Whether they are the same label, or both none.
 fn same_label(one: Option<&str>, other: Option<&str>) -> bool
-    ensures { result ≡ Rattle.flow.specs.GraphOfCode.same_label
-        (Rattle.std.specs.Prelude.option_map Rattle.code.specs.CodeViews.text_now one.entry)
-        (Rattle.std.specs.Prelude.option_map Rattle.code.specs.CodeViews.text_now other.entry) }
+    ensures { result ≡ same_label (option_map text_now one.entry) (option_map text_now other.entry) }
 {
     match (one, other) {
         (Some(one), Some(other)) => one == other,
@@ -66,7 +64,7 @@ impl<'a> Exits<'a> {
     ///
     /// Memory was refused.
     pub fn enter(&mut self, alloc: Global, way: Way<'a>, next: &[usize]) -> Result<(), AllocError>
-        ensures { OnOk result (Rattle.flow.specs.GraphViews.Enters (way_view way.entry) next.now self.old self.new) }
+        ensures { OnOk result (Enters (way_view way.entry) next.now self.old self.new) }
     {
         let next = copied(alloc, next)?;
         self.entries.insert(0, Exit { way, next })?;
@@ -75,7 +73,7 @@ impl<'a> Exits<'a> {
 
     /// The innermost way is left.
     pub fn leave(&mut self)
-        ensures { self.new.entries.items ≡ Rattle.flow.specs.GraphViews.rest_of self.old.entries.items }
+        ensures { self.new.entries.items ≡ rest_of self.old.entries.items }
     {
         if !self.entries.is_empty() {
             self.entries.remove(0);

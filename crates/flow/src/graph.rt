@@ -6,7 +6,7 @@ ghost use Rattle.flow.specs.GraphViews.{graph_view};
 ghost use Rattle.flow.specs.Walks.{graph_of, WalksAreLists};
 
 use crate::exits::Exits;
-use crate::link::link;
+use crate::link::{GraphSoFar, link};
 use crate::turns::{TurnSizes, count};
 use code::{Code, Occurrence};
 use std::alloc::{AllocError, Global};
@@ -36,13 +36,18 @@ pub fn build<E: Copy>(alloc: Global, code: &Code<'_, E>) -> Result<Graph<E>, All
     ensures graph { IfOk result (λ graph. graph_view graph ≡ graph_of (code_view code.now)) }
     ensures walks { IfOk result (λ graph. WalksAreLists (code_view code.now) (graph_view graph)) }
 {
-    let mut exits = Exits {
-        entries: Vec::new(alloc),
-    };
-    let mut nodes = Vec::new(alloc);
     let mut counted = Vec::new(alloc);
     count(code, &mut counted)?;
-    let mut sizes = TurnSizes { left: &counted };
-    let starts = link(alloc, code, &[], &mut exits, &mut nodes, &mut sizes)?;
-    Ok(Graph { nodes, starts })
+    let mut graph = GraphSoFar {
+        nodes: Vec::new(alloc),
+        exits: Exits {
+            entries: Vec::new(alloc),
+        },
+        sizes: TurnSizes { left: &counted },
+    };
+    let starts = link(alloc, code, &[], &mut graph)?;
+    Ok(Graph {
+        nodes: graph.nodes,
+        starts,
+    })
 }

@@ -14,6 +14,15 @@ use crate::turns::TurnSizes;
 use code::{Code, Occurrence};
 use std::alloc::{AllocError, Global};
 
+/// A graph that is being made, from the end of the code on: the nodes that were added, where the ways out lead, and the
+/// sizes of the turns that are still to come.
+#[derive(Drop)]
+pub struct GraphSoFar<'a, 's, E> {
+    pub nodes: Vec<Node<E>>,
+    pub exits: Exits<'a>,
+    pub sizes: TurnSizes<'s>,
+}
+
 /// Adds a node.
 fn add<E: Copy>(
     alloc: Global,
@@ -31,7 +40,7 @@ fn add<E: Copy>(
 }
 
 /// Adds the nodes of a code, the last one first, and gives those that can come first. The sizes of its turns come first
-/// in `sizes`, and are taken.
+/// in those that are left, and are taken.
 ///
 /// # Errors
 ///
@@ -41,32 +50,37 @@ pub fn link<'a, E: Copy>(
     alloc: Global,
     code: &Code<'a, E>,
     next: &[usize],
-    exits: &mut Exits<'a>,
-    nodes: &mut Vec<Node<E>>,
-    sizes: &mut TurnSizes<'_>,
+    graph: &mut GraphSoFar<'a, '_, E>,
 ) -> Result<Vec<usize>, AllocError>
-    ensures { IfOk result (λ first. Takes (turn_sizes (code_view code.now)) sizes.old.left.now sizes.new.left.now
-        (Adds (code_view code.now) next.now exits.old exits.new nodes.old nodes.new first)) }
+    ensures { IfOk result (λ first. Takes (turn_sizes (code_view code.now)) graph.old.sizes.left.now
+        graph.new.sizes.left.now
+        (Adds (code_view code.now) next.now graph.old.exits graph.new.exits graph.old.nodes graph.new.nodes first)) }
 {
     match code {
         Code::Skip => copied(alloc, next),
-        Code::Does(occurrence) => add(alloc, *occurrence, next, nodes),
-        Code::Leave(way) => copied(alloc, exits.at(*way)),
+        Code::Does(occurrence) => add(alloc, *occurrence, next, &mut graph.nodes),
+        Code::Leave(way) => copied(alloc, graph.exits.at(*way)),
         Code::Then(first, second) => {
-            let later = link(alloc, second, next, exits, nodes, sizes)?;
-            link(alloc, first, &later, exits, nodes, sizes)
+            let later = link(alloc, second, next, graph)?;
+            link(alloc, first, &later, graph)
         }
-        Code::Sequence(codes) => link_sequence(alloc, codes, next, exits, nodes, sizes),
-        Code::Choice(codes) => link_choice(alloc, codes, next, exits, nodes, sizes),
+        Code::Sequence(codes) => link_sequence(alloc, codes, next, graph),
+        Code::Choice(codes) => link_choice(alloc, codes, next, graph),
         Code::Repeats(turn) => {
-            let first = firsts_of_turn(alloc, nodes.len(), turn, exits, sizes)?;
-            link(alloc, turn, &first, exits, nodes, sizes)?;
+            let first = firsts_of_turn(
+                alloc,
+                graph.nodes.len(),
+                turn,
+                &mut graph.exits,
+                &mut graph.sizes,
+            )?;
+            link(alloc, turn, &first, graph)?;
             Ok(first)
         }
         Code::UpTo(way, inner) => {
-            exits.enter(alloc, *way, next)?;
-            let first = link(alloc, inner, next, exits, nodes, sizes)?;
-            exits.leave();
+            graph.exits.enter(alloc, *way, next)?;
+            let first = link(alloc, inner, next, graph)?;
+            graph.exits.leave();
             Ok(first)
         }
     }
@@ -77,17 +91,15 @@ fn link_sequence<'a, E: Copy>(
     alloc: Global,
     codes: &[Code<'a, E>],
     next: &[usize],
-    exits: &mut Exits<'a>,
-    nodes: &mut Vec<Node<E>>,
-    sizes: &mut TurnSizes<'_>,
+    graph: &mut GraphSoFar<'a, '_, E>,
 ) -> Result<Vec<usize>, AllocError>
-    ensures { IfOk result (λ first. Takes (all_turn_sizes (map code_view codes.now)) sizes.old.left.now
-        sizes.new.left.now (Adds (backward (map code_view codes.now) skip) next.now exits.old exits.new nodes.old
-        nodes.new first)) }
+    ensures { IfOk result (λ first. Takes (all_turn_sizes (map code_view codes.now)) graph.old.sizes.left.now
+        graph.new.sizes.left.now (Adds (backward (map code_view codes.now) skip) next.now graph.old.exits
+        graph.new.exits graph.old.nodes graph.new.nodes first)) }
 {
     let mut first = copied(alloc, next)?;
     for code in codes {
-        first = link(alloc, code, &first, exits, nodes, sizes)?;
+        first = link(alloc, code, &first, graph)?;
     }
     Ok(first)
 }
@@ -97,17 +109,15 @@ fn link_choice<'a, E: Copy>(
     alloc: Global,
     codes: &[Code<'a, E>],
     next: &[usize],
-    exits: &mut Exits<'a>,
-    nodes: &mut Vec<Node<E>>,
-    sizes: &mut TurnSizes<'_>,
+    graph: &mut GraphSoFar<'a, '_, E>,
 ) -> Result<Vec<usize>, AllocError>
-    ensures { IfOk result (λ first. Takes (all_turn_sizes (map code_view codes.now)) sizes.old.left.now
-        sizes.new.left.now (Adds (one_of (map code_view codes.now) None) next.now exits.old exits.new nodes.old
-        nodes.new first)) }
+    ensures { IfOk result (λ first. Takes (all_turn_sizes (map code_view codes.now)) graph.old.sizes.left.now
+        graph.new.sizes.left.now (Adds (one_of (map code_view codes.now) None) next.now graph.old.exits
+        graph.new.exits graph.old.nodes graph.new.nodes first)) }
 {
     let mut first = Vec::new(alloc);
     for code in codes {
-        let own = link(alloc, code, next, exits, nodes, sizes)?;
+        let own = link(alloc, code, next, graph)?;
         first = joined(own, &first)?;
     }
     Ok(first)

@@ -7,6 +7,7 @@ ghost use Rattle.flow.specs.NodeOrder.{places, AreInOrder};
 
 use crate::graph::Graph;
 use std::alloc::{AllocError, Global};
+use std::cmp::Reverse;
 
 /// Where a node stands: the offset of its statement, keyword or brace, its index among the events there, and its number
 /// in the graph.
@@ -17,7 +18,7 @@ pub struct NodePlace {
     pub node: usize,
 }
 
-/// The nodes of a graph by their offsets and, of one offset, by their order there.
+/// The nodes of a graph by their offsets; of one offset, by their order there; of one order, as the code has them.
 ///
 /// # Errors
 ///
@@ -34,6 +35,6 @@ pub fn in_order<E: Copy>(alloc: Global, graph: &Graph<E>) -> Result<Vec<NodePlac
             node,
         })?;
     }
-    ordered.sort_unstable_by_key(|place| (place.at, place.order));
+    ordered.sort_unstable_by_key(|place| (place.at, place.order, Reverse(place.node)));
     Ok(ordered)
 }

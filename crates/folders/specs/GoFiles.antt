@@ -1,7 +1,8 @@
 -- Which entries of a folder are Go files of the package, and how a report names them.
 -- As with the go command, test files are not part of the package (`go help test`). Build constraints are not read.
-use Rattle.std.specs.Prelude.{◌≡◌, ℕ, Bool, true, not, ◌&&◌, List, [], ◌++◌, if◌then◌else◌, nat_eq, codes, All, String, string_bytes}
+use Rattle.std.specs.Prelude.{◌≡◌, ℕ, Bool, true, not, ◌&&◌, List, [], ◌++◌, map, if◌then◌else◌, nat_eq, codes, All, String, string_bytes, string_cmp}
 use Rattle.std.specs.List.{ends_with}
+use Rattle.std.specs.List.Sorted.{IsStrictlySortedBy}
 use Rattle.lexer.specs.declared.source.Source.{Source}
 use Rattle.folders.specs.Names.{IsPrintable}
 
@@ -32,6 +33,7 @@ pub record IsSourceOf (folder : List ℕ) (source : Source) : Type 0 where
   pub named : string_bytes source.name ≡ source_name folder name
   pub printable : IsPrintable (string_bytes source.name)
 
--- each of the sources is so
-abbrev pub AreSourcesOf : List ℕ → List Source → Type 0
-AreSourcesOf folder sources = All (IsSourceOf folder) sources
+-- Each of the sources is so, and their names ascend, byte by byte. So no file is among them twice.
+pub record AreSourcesOf (folder : List ℕ) (sources : List Source) : Type 0 where
+  pub each : All (IsSourceOf folder) sources
+  pub ascend : IsStrictlySortedBy string_cmp (map (λ s. s.name) sources)

@@ -1,6 +1,7 @@
 //! The Go files of a folder.
 
-ghost use Rattle.std.specs.Prelude.{◌≡◌, ◌++◌, OnOk, option_to_list, IfErr, IfOk, IfSome, IsSorted, string_bytes, string_cmp};
+ghost use Rattle.std.specs.Prelude.{◌≡◌, ◌++◌, OnOk, option_to_list, IfErr, IfOk, IfSome, string_bytes, string_cmp};
+ghost use Rattle.std.specs.List.Sorted.{IsStrictlySortedBy};
 ghost use Rattle.folders.specs.GoFiles.{is_go_file, slash_after, source_name, AreGoNames, AreSourcesOf};
 ghost use Rattle.folders.specs.Names.{IsPrintable};
 ghost use Rattle.folders.specs.ReadFaults.{IsReadFault};
@@ -46,7 +47,7 @@ fn slash_after(folder: &str) -> &'static str
     }
 }
 
-/// The Go files of a folder with their bytes, sorted by the bytes of their names. The first that
+/// The Go files of a folder with their bytes, each once, in the order of the bytes of their names. The first that
 /// can't be read ends it.
 ///
 /// # Errors
@@ -75,23 +76,31 @@ fn keep_source(sources: &mut Vec<Source>, read: Option<Source>) -> Result<(), Al
     Ok(())
 }
 
-/// The names of the folder's Go files, sorted by their bytes. The folder's own name is printable then.
+/// The names of the folder's Go files in the order of their bytes, each once. The folder's own name is printable then.
 fn go_names<R: Files + AllocGlobal>(rt: &R, folder: &str) -> Result<Vec<String>, Fault>
-    ensures sorted { IfOk result (λ names. IsSorted string_cmp names.items) }
+    ensures ascend { IfOk result (λ names. IsStrictlySortedBy string_cmp names.items) }
     ensures go { IfOk result (λ names. AreGoNames names.items) }
     ensures folder { IfOk result (λ _. IsPrintable folder.now) }
     ensures fault { IfErr result IsReadFault }
 {
     match list_names(rt, folder) {
-        Ok(mut names) => {
-            names.sort_unstable();
-            Ok(names)
-        }
+        Ok(names) => Ok(in_order(names)),
         Err(error) => {
             let folder = escaped(rt.alloc(), folder)?;
             Err(fault::reading(&error, folder))
         }
     }
+}
+
+/// The names in the order of their bytes, each once. A listing may have one twice where the folder changes meanwhile.
+fn in_order(names: Vec<String>) -> Vec<String>
+    ensures ascend { IsStrictlySortedBy string_cmp result.items }
+    ensures go { AreGoNames names.items → AreGoNames result.items }
+{
+    let mut ordered = names;
+    ordered.sort_unstable();
+    ordered.dedup();
+    ordered
 }
 
 /// As `go_names`, in the order of the system.

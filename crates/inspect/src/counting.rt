@@ -4,7 +4,7 @@ use crate::counts::Counts;
 use crate::files::read_whole;
 use crate::trees::tree_of;
 use folders::Fault;
-use inspection::tell;
+use inspect_packages::tell;
 use lexer::{LexFault, Source, lex};
 use names::{NameFault, PackageNames, resolve};
 use std::alloc::{AllocError, Global};

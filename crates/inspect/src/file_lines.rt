@@ -1,9 +1,9 @@
 //! What is made of a file by itself: its tokens and its tree.
 
 use crate::text_fault::{TextFault, lexical_fault, tree_fault};
+use inspect_source::{text_of_tokens, text_of_tree};
 use lexer::{Source, lex, place};
 use parser::parse;
-use source_lines::{text_of_tokens, text_of_tree};
 use std::alloc::{AllocError, Global};
 use tree_hold::release;
 

@@ -6,7 +6,7 @@
 use crate::file_lines::{FileLines, lines_of_tokens, lines_of_tree};
 use driver::GivenPackage;
 use folders::Fault;
-use inspection::{Shown, text_of_packages};
+use inspect_packages::{Shown, text_of_packages};
 use lexer::Source;
 use std::alloc::{AllocError, Global};
 
@@ -29,7 +29,7 @@ pub enum Wanted {
 
 /// What stands in a row.
 #[derive(Drop)]
-struct Row {
+struct Case {
     packages: Vec<GivenPackage>,
     wanted: String,
 }
@@ -40,10 +40,10 @@ struct Row {
 ///
 /// Two packages of the row have one path, or memory was refused.
 pub fn shown_otherwise(alloc: Global, wanted: Wanted, text: &str) -> Result<Option<String>, Fault> {
-    let Row {
+    let Case {
         packages,
         wanted: lines,
-    } = read_row(alloc, text)?;
+    } = read_case(alloc, text)?;
     let found = match wanted {
         Wanted::Packages(shown) => text_of_packages(alloc, shown, packages)?,
         Wanted::Tokens | Wanted::Trees => text_of_files(alloc, wanted, &packages)?,
@@ -84,8 +84,8 @@ fn push_file(
     }
 }
 
-fn read_row(alloc: Global, text: &str) -> Result<Row, AllocError> {
-    let mut row = Row {
+fn read_case(alloc: Global, text: &str) -> Result<Case, AllocError> {
+    let mut case = Case {
         packages: Vec::new(alloc),
         wanted: String::new(alloc),
     };
@@ -93,14 +93,14 @@ fn read_row(alloc: Global, text: &str) -> Result<Row, AllocError> {
     for line in text.split_inclusive('\n') {
         let words = line.trim_end_matches('\n');
         if is_wanted {
-            row.wanted.push_str(line)?;
+            case.wanted.push_str(line)?;
         } else if words == WANT {
             is_wanted = true;
         } else {
-            add_line(alloc, &mut row.packages, line, words)?;
+            add_line(alloc, &mut case.packages, line, words)?;
         }
     }
-    Ok(row)
+    Ok(case)
 }
 
 /// Begins a file, or adds a line to the last one.

@@ -6,7 +6,7 @@ use crate::files::read_source;
 use crate::output::print;
 use crate::row_folders::show_folders;
 use folders::{Fault, fail};
-use inspection::{Shown, read_packages, text_of_packages};
+use inspect_packages::{Shown, read_packages, text_of_packages};
 use std::io::Write;
 
 /// The program's name, with which the lines of its faults begin.

@@ -10,12 +10,12 @@ use crate::program::PROGRAM;
 use crate::report_marks::reported_otherwise;
 use crate::transcripts::{show_counts, show_examples, show_runs};
 use folders::Fault;
-use inspection::Shown;
+use inspect_packages::Shown;
 use std::alloc::Global;
 
 /// How the entries of a folder are read.
 #[derive(Clone, Copy)]
-enum Rows {
+enum Cases {
     /// Each is compared with what it wants itself.
     Compared(Compared),
     /// Each is a folder with the packages of one run.
@@ -48,24 +48,24 @@ impl Compared {
 }
 
 /// How the entries of a folder of this name are read.
-fn rows_of(name: &str) -> Option<Rows> {
+fn cases_of(name: &str) -> Option<Cases> {
     match name {
-        "names" => Some(Rows::Compared(Compared::Names)),
-        "events" => Some(shown_rows(Wanted::Packages(Shown::Events))),
-        "graphs" => Some(shown_rows(Wanted::Packages(Shown::Graphs))),
-        "facts" => Some(shown_rows(Wanted::Packages(Shown::Facts))),
-        "tokens" => Some(shown_rows(Wanted::Tokens)),
-        "trees" => Some(shown_rows(Wanted::Trees)),
-        "codes" | "rows" => Some(Rows::Compared(Compared::Report)),
-        "packages" => Some(Rows::Packages),
-        "examples" => Some(Rows::Examples),
-        "counts" => Some(Rows::Counts),
+        "names" => Some(Cases::Compared(Compared::Names)),
+        "events" => Some(shown_cases(Wanted::Packages(Shown::Events))),
+        "graphs" => Some(shown_cases(Wanted::Packages(Shown::Graphs))),
+        "facts" => Some(shown_cases(Wanted::Packages(Shown::Facts))),
+        "tokens" => Some(shown_cases(Wanted::Tokens)),
+        "trees" => Some(shown_cases(Wanted::Trees)),
+        "codes" | "rows" => Some(Cases::Compared(Compared::Report)),
+        "packages" => Some(Cases::Packages),
+        "examples" => Some(Cases::Examples),
+        "counts" => Some(Cases::Counts),
         _ => None,
     }
 }
 
-fn shown_rows(wanted: Wanted) -> Rows {
-    Rows::Compared(Compared::Shown(wanted))
+fn shown_cases(wanted: Wanted) -> Cases {
+    Cases::Compared(Compared::Shown(wanted))
 }
 
 /// The last element of a folder's path.
@@ -85,7 +85,7 @@ fn last_element(folder: &str) -> &str {
 pub fn show_folders(rt: &HostRuntime, folders: &[String]) -> Result<bool, Fault> {
     let mut kinds = Vec::new(rt.alloc());
     for folder in folders {
-        match rows_of(last_element(folder)) {
+        match cases_of(last_element(folder)) {
             Some(rows) => kinds.push(rows)?,
             None => return Err(Fault::WrongWords(PROGRAM)),
         }
@@ -98,12 +98,12 @@ pub fn show_folders(rt: &HostRuntime, folders: &[String]) -> Result<bool, Fault>
 }
 
 /// Goes through a folder, and gives whether all of it that is compared is as it is to be.
-fn show_folder(rt: &HostRuntime, folder: &str, rows: Rows) -> Result<bool, Fault> {
+fn show_folder(rt: &HostRuntime, folder: &str, rows: Cases) -> Result<bool, Fault> {
     match rows {
-        Rows::Compared(compared) => return compare_all(rt, folder, compared),
-        Rows::Packages => show_runs(rt, folder)?,
-        Rows::Examples => show_examples(rt, folder)?,
-        Rows::Counts => show_counts(rt, folder)?,
+        Cases::Compared(compared) => return compare_all(rt, folder, compared),
+        Cases::Packages => show_runs(rt, folder)?,
+        Cases::Examples => show_examples(rt, folder)?,
+        Cases::Counts => show_counts(rt, folder)?,
     }
     Ok(true)
 }

@@ -1,2 +1,3 @@
 mod QuietYes
 mod Loads
+mod SameTexts

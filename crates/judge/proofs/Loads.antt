@@ -1,13 +1,13 @@
 -- Packages that are loaded are kept as they are meant.
 use Rattle.std.proofs.Common.{◌≡◌, ℕ, zero, suc, List, [], ◌∷◌, length, Some, refl, ap, subst}
 use Rattle.std.specs.Prelude.{slice_get}
-use Rattle.verdicts.specs.Loaded.{LoadedPackage}
-use Rattle.loaded.specs.declared.loaded_package.LoadedPackage.{LoadedPackage as KeptPackage}
-use Rattle.loaded.specs.LoadedViews.{TellsPackage}
+use Rattle.meaning_reports.specs.Loaded.{LoadedPackage}
+use Rattle.whole_packages.specs.declared.loaded_package.LoadedPackage.{LoadedPackage as KeptPackage}
+use Rattle.whole_packages.specs.LoadedViews.{TellsPackage}
 use Rattle.load.specs.declared.packages.GivenPackage.{GivenPackage}
 use Rattle.load.specs.GivenPackages.{PathAndFiles, AreLoaded, IsLoad}
-use Rattle.board.specs.declared.reports.Report.{Report}
-use Rattle.board.specs.Reports.{AreReports, TellsReport}
+use Rattle.all_packages.specs.declared.reports.Report.{Report}
+use Rattle.all_packages.specs.Reports.{AreReports, TellsReport}
 use Rattle.judge.specs.Reports.{IsReport}
 use Rattle.judge.proofs.QuietYes.{of_texts, yes_are_quiet}
 

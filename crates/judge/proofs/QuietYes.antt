@@ -7,17 +7,17 @@ use Rattle.tree.specs.Syntax.{SourceFile}
 use Rattle.meaning.specs.TreeOfText.{IsTreeOf}
 use Rattle.meaning.proofs.Membership.{contains_cases, contains_nil}
 use Rattle.report.specs.declared.diagnostics.Diagnostic.{Diagnostic}
-use Rattle.verdicts.specs.Loaded.{Reading, has_tree, has_text_fault, has_tree_fault, LoadedPackage, NumberedTree, trees_from}
-use Rattle.verdicts.specs.PackageReports.{IsReportOf}
-use Rattle.loaded.specs.declared.loaded_package.LoadedPackage.{LoadedPackage as KeptPackage}
+use Rattle.meaning_reports.specs.Loaded.{Reading, has_tree, has_text_fault, has_tree_fault, LoadedPackage, NumberedTree, trees_from}
+use Rattle.meaning_reports.specs.PackageReports.{IsReportOf}
+use Rattle.whole_packages.specs.declared.loaded_package.LoadedPackage.{LoadedPackage as KeptPackage}
 use Rattle.load.specs.Readings.{AreReadingsOf}
 use Rattle.load.specs.GivenPackages.{PathAndFiles, AreLoaded}
-use Rattle.board.specs.declared.judged.Judged.{Judged}
+use Rattle.all_packages.specs.declared.judged.Judged.{Judged}
 use Rattle.report.specs.Entries.{entry_of}
-use Rattle.board.specs.Reports.{says_nothing, is_yes, said_view}
-use Rattle.machine.specs.Promise.{AreTreesOfTexts}
-use Rattle.machine.specs.PackageYes.{program_of}
-use Rattle.machine.proofs.PackageYes.{yes_of_a_package_is_quiet}
+use Rattle.all_packages.specs.Reports.{says_nothing, is_yes, said_view}
+use Rattle.meaning_runs.specs.Promise.{AreTreesOfTexts}
+use Rattle.meaning_runs.specs.PackageYes.{program_of}
+use Rattle.meaning_runs.proofs.PackageYes.{yes_of_a_package_is_quiet}
 use Rattle.judge.specs.QuietYes.{IsToldYes, YesAreQuiet}
 
 abbrev tree_in : NumberedTree → SourceFile
@@ -46,7 +46,7 @@ of_texts [] (q ∷ qs) ks h i p is = absurd h
 of_texts (e ∷ es) (q ∷ qs) [] h i p is = absurd h
 of_texts (e ∷ es) (q ∷ qs) (k ∷ ks) h zero p is =
     let same : q ≡ p = cc in
-    subst AreTreesOfTexts same (λ tree among. read_trees e.1.items q.files h.0.are_files 0 tree among)
+    subst AreTreesOfTexts same (λ tree among. read_trees k.sources.items q.files h.0.are_files 0 tree among)
 of_texts (e ∷ es) (q ∷ qs) (k ∷ ks) h (suc i) p is = of_texts es qs ks h.1 i p is
 
 no_entry : (ds : List Diagnostic) → says_nothing ds ≡ true → map entry_of ds ≡ []

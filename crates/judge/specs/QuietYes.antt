@@ -1,12 +1,12 @@
 -- What a yes says of runs: where nothing is said of a package, and neither it nor a given package below it imports
 -- `errgroup`, each return of a frame of the package is quiet, in every run over the package and those below it.
--- `machine` has the runs.
+-- `meaning_runs` has the runs.
 use Rattle.std.specs.Prelude.{ℕ, ◌≡◌, true, List, Some, slice_get}
-use Rattle.verdicts.specs.Loaded.{LoadedPackage, Tables}
-use Rattle.board.specs.declared.judged.Judged.{Judged}
-use Rattle.board.specs.Reports.{is_yes}
-use Rattle.machine.specs.PackageYes.{program_of, AreWithoutGroups}
-use Rattle.machine.specs.Runs.{IsQuietProgram}
+use Rattle.meaning_reports.specs.Loaded.{LoadedPackage, Tables}
+use Rattle.all_packages.specs.declared.judged.Judged.{Judged}
+use Rattle.all_packages.specs.Reports.{is_yes}
+use Rattle.meaning_runs.specs.PackageYes.{program_of, AreWithoutGroups}
+use Rattle.meaning_runs.specs.Runs.{IsQuietProgram}
 
 -- the package at that place is told as a yes
 pub record IsToldYes (ps : List LoadedPackage) (said : List Judged) (i : ℕ) : Type 0 where

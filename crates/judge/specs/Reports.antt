@@ -1,12 +1,13 @@
 -- The report of given packages, which are loaded in the order of their paths: its text, whether each is yes, and what a
--- yes says of runs.
+-- yes says of runs. Packages that are loaded in one way have one report (`one_report` of `meaning_reports`), and so one
+-- text: `proofs/SameTexts.antt`.
 use Rattle.std.specs.Prelude.{List}
-use Rattle.loaded.specs.declared.loaded_package.LoadedPackage.{LoadedPackage as KeptPackage}
+use Rattle.whole_packages.specs.declared.loaded_package.LoadedPackage.{LoadedPackage as KeptPackage}
 use Rattle.load.specs.declared.packages.GivenPackage.{GivenPackage}
 use Rattle.load.specs.GivenPackages.{IsLoad}
-use Rattle.board.specs.declared.judged.Judged.{Judged}
-use Rattle.board.specs.Reports.{AreReports, IsTold}
-pub use Rattle.board.specs.declared.reports.Report.{Report}
+use Rattle.all_packages.specs.declared.judged.Judged.{Judged}
+use Rattle.all_packages.specs.Reports.{AreReports, IsTold}
+pub use Rattle.all_packages.specs.declared.reports.Report.{Report}
 use Rattle.judge.specs.QuietYes.{YesAreQuiet}
 
 -- The given packages are loaded in the order of their paths, as their files are read, and it is their report.

@@ -4,5 +4,5 @@
 
 mod reports;
 
-pub use board::Report;
+pub use all_packages::Report;
 pub use reports::report_of;

@@ -1,14 +1,14 @@
 //! The report of given packages.
 
 ghost use Rattle.std.specs.Prelude.{IfErr, IfOk};
-ghost use Rattle.board.specs.Reports.{TellsReport};
+ghost use Rattle.all_packages.specs.Reports.{TellsReport};
 ghost use Rattle.judge.specs.Reports.{IsReport};
 ghost use Rattle.load.specs.GivenPackages.{IsLoadFault};
 
-use board::{Report, whole_report};
+use all_packages::{Report, whole_report};
 use load::{GivenPackage, LoadFault, load, release};
-use loaded::LoadedPackage;
 use std::alloc::{AllocError, Global};
+use whole_packages::LoadedPackage;
 
 /// The report of packages of different paths, which are let go.
 fn report_loaded(alloc: Global, packages: Vec<LoadedPackage>) -> Result<Report, AllocError>

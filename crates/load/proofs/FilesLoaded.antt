@@ -1,16 +1,17 @@
 -- The files of a package, one after the other.
-use Rattle.std.proofs.Common.{◌≡◌, ℕ, ◌+◌, List, [], ◌∷◌, ◌++◌, map, length, refl, sym, ap, ◌∙◌, subst, arith}
+use Rattle.std.proofs.Common.{◌≡◌, ℕ, ◌+◌, List, [], ◌∷◌, ◌++◌, map, length, string_bytes, refl, sym, ap, ◌∙◌, subst, arith}
 use Rattle.std.proofs.lemmas.List.{append-nil, append_assoc, map-append, length-append}
 use Rattle.lexer.specs.declared.source.Source.{Source}
 use Rattle.tree.specs.Syntax.{SourceFile}
 use Rattle.tree.specs.View.{file_syntax}
 use Rattle.tree.specs.declared.file.File.{File}
-use Rattle.verdicts.specs.Loaded.{Reading, has_tree, has_text_fault, has_tree_fault, NumberedTree, trees_from}
-use Rattle.loaded.specs.declared.loaded_package.Reading.{Reading as KeptReading}
-use Rattle.loaded.specs.LoadedViews.{readings_of}
-use Rattle.load.specs.declared.source.Parsed.{Parsed}
-use Rattle.load.specs.declared.source.Parsed.TheVariants.{Tree, NoTokens, NoTree}
-use Rattle.load.specs.Readings.{IsReadingOf, AreReadingsOf, parsed_view, kept_reading, kept_trees}
+use Rattle.meaning_reports.specs.Loaded.{Reading, has_tree, has_text_fault, has_tree_fault, NumberedTree, trees_from}
+use Rattle.whole_packages.specs.declared.loaded_package.Reading.{Reading as KeptReading}
+use Rattle.whole_packages.specs.LoadedViews.{readings_of}
+use Rattle.whole_packages.specs.declared.loaded_package.Reading.TheVariants.{Tree, NoTokens, NoTree}
+use Rattle.whole_packages.specs.declared.loaded_package.LoadedPackage.{LoadedPackage as KeptPackage}
+use Rattle.load.specs.FilesByName.{AreByName}
+use Rattle.load.specs.Readings.{IsReadingOf, AreReadingsOf, IsKeptWith, IsLoaded, Joins}
 
 abbrev trees_in : ℕ → List Reading → List SourceFile
 trees_in n files = map (λ (t : NumberedTree). t.tree) (trees_from n files)
@@ -34,53 +35,79 @@ none_loaded all readings trees no_readings no_trees = record {
   are_as_many = ap length (sym no_readings);
 }
 
--- one more file
-one_reading : (p : Parsed) (more : List KeptReading) (rest : List SourceFile)
-    → readings_of (kept_reading p ∷ more) (map file_syntax (kept_trees p) ++ rest) ≡ parsed_view p ∷ readings_of more rest
-one_reading (Tree tree) more rest = refl
-one_reading (NoTokens at why) more rest = refl
-one_reading (NoTree at why) more rest = refl
+-- one more file: what became of it, and its trees
+record IsOne (text : List ℕ) (reading : KeptReading) (added : List File) : Type 0 where
+  pub meant : Reading
+  pub is : IsReadingOf text meant
+  pub completes : (more : List KeptReading) (rest : List SourceFile)
+      → readings_of (reading ∷ more) (map file_syntax added ++ rest) ≡ meant ∷ readings_of more rest
+  pub are_trees : (n : ℕ) → trees_in n (meant ∷ []) ≡ map file_syntax added
 
-trees_after : (n : ℕ) (files : List Reading) (p : Parsed)
-    → trees_in n (files ++ parsed_view p ∷ []) ≡ trees_in n files ++ map file_syntax (kept_trees p)
-trees_after n [] (Tree tree) = refl
-trees_after n [] (NoTokens at why) = refl
-trees_after n [] (NoTree at why) = refl
-trees_after n (has_tree t ∷ fs) p = ap (λ ts. t ∷ ts) (trees_after (n + 1) fs p)
-trees_after n (has_text_fault at why ∷ fs) p = trees_after (n + 1) fs p
-trees_after n (has_tree_fault at why ∷ fs) p = trees_after (n + 1) fs p
+is_one : (text : List ℕ) (reading : KeptReading) (added : List File) → IsKeptWith text reading added → IsOne text reading added
+is_one text Tree [] h = absurd h
+is_one text Tree (tree ∷ []) h = record {
+  meant = has_tree (file_syntax tree);
+  is = h;
+  completes = λ more rest. refl;
+  are_trees = λ n. refl;
+}
+is_one text Tree (tree ∷ next ∷ trees) h = absurd h
+is_one text (NoTokens at why) [] h = record {
+  meant = has_text_fault at why;
+  is = h;
+  completes = λ more rest. refl;
+  are_trees = λ n. refl;
+}
+is_one text (NoTokens at why) (tree ∷ trees) h = absurd h
+is_one text (NoTree at why) [] h = record {
+  meant = has_tree_fault at why;
+  is = h;
+  completes = λ more rest. refl;
+  are_trees = λ n. refl;
+}
+is_one text (NoTree at why) (tree ∷ trees) h = absurd h
 
-pub one_loaded : (all left before : List Source) (source : Source) (p : Parsed) → before ≡ source ∷ left
-    → IsReadingOf source.bytes.items (parsed_view p)
-    → (readings next_readings : List KeptReading) (trees next_trees : List File)
-    → next_readings ≡ readings ++ kept_reading p ∷ []
-    → next_trees ≡ trees ++ kept_trees p
+trees_after : (n : ℕ) (files : List Reading) (last : Reading) (trees : List SourceFile)
+    → ((k : ℕ) → trees_in k (last ∷ []) ≡ trees)
+    → trees_in n (files ++ last ∷ []) ≡ trees_in n files ++ trees
+trees_after n [] last trees are = are n
+trees_after n (has_tree t ∷ fs) last trees are = ap (λ ts. t ∷ ts) (trees_after (n + 1) fs last trees are)
+trees_after n (has_text_fault at why ∷ fs) last trees are = trees_after (n + 1) fs last trees are
+trees_after n (has_tree_fault at why ∷ fs) last trees are = trees_after (n + 1) fs last trees are
+
+pub one_loaded : (all left before : List Source) (source : Source) → before ≡ source ∷ left
+    → (reading : KeptReading) (readings next_readings : List KeptReading) (trees next_trees : List File)
+    → Joins source.bytes.items reading trees next_trees
+    → next_readings ≡ readings ++ reading ∷ []
     → LoadsSo all before readings trees
     → LoadsSo all left next_readings next_trees
-one_loaded all left before source p is reading readings next_readings trees next_trees are_readings are_trees so = record {
-  files = so.files ++ parsed_view p ∷ [];
-  goes_on = λ more are.
-      subst (AreReadingsOf all) (sym (append_assoc so.files (parsed_view p ∷ []) more))
-      (so.goes_on (parsed_view p ∷ more) (subst (λ ss. AreReadingsOf ss (parsed_view p ∷ more)) (sym is) (reading, are)));
-  completes = λ more rest.
-      (λ i. readings_of (are_readings i ++ more) (map file_syntax (are_trees i) ++ rest))
-      ∙ ((λ i. readings_of (append_assoc readings (kept_reading p ∷ []) more i)
-      ((ap (λ ts. ts ++ rest) (map-append file_syntax trees (kept_trees p))
-      ∙ append_assoc (map file_syntax trees) (map file_syntax (kept_trees p)) rest) i))
-      ∙ (so.completes (kept_reading p ∷ more) (map file_syntax (kept_trees p) ++ rest)
-      ∙ (ap (λ rs. so.files ++ rs) (one_reading p more rest)
-      ∙ sym (append_assoc so.files (parsed_view p ∷ []) (readings_of more rest)))));
-  are_trees = λ n.
-      trees_after n so.files p
-      ∙ (ap (λ ts. ts ++ map file_syntax (kept_trees p)) (so.are_trees n)
-      ∙ (sym (map-append file_syntax trees (kept_trees p)) ∙ ap (map file_syntax) (sym are_trees)));
-  are_as_many =
-      let so_far = so.are_as_many in
-      let files = length-append so.files (parsed_view p ∷ []) in
-      let kept = length-append readings (kept_reading p ∷ []) in
-      let next = ap length are_readings in
-      omega (arith, so_far, files, kept, next);
-}
+one_loaded all left before source is reading readings next_readings trees next_trees joins are_readings so =
+    let added = joins.added in
+    let one = is_one source.bytes.items reading added joins.is_kept in
+    record {
+      files = so.files ++ one.meant ∷ [];
+      goes_on = λ more are.
+          subst (AreReadingsOf all) (sym (append_assoc so.files (one.meant ∷ []) more))
+          (so.goes_on (one.meant ∷ more) (subst (λ ss. AreReadingsOf ss (one.meant ∷ more)) (sym is) (one.is, are)));
+      completes = λ more rest.
+          (λ i. readings_of (are_readings i ++ more) (map file_syntax (joins.joined i) ++ rest))
+          ∙ ((λ i. readings_of (append_assoc readings (reading ∷ []) more i)
+          ((ap (λ ts. ts ++ rest) (map-append file_syntax trees added)
+          ∙ append_assoc (map file_syntax trees) (map file_syntax added) rest) i))
+          ∙ (so.completes (reading ∷ more) (map file_syntax added ++ rest)
+          ∙ (ap (λ rs. so.files ++ rs) (one.completes more rest)
+          ∙ sym (append_assoc so.files (one.meant ∷ []) (readings_of more rest)))));
+      are_trees = λ n.
+          trees_after n so.files one.meant (map file_syntax added) one.are_trees
+          ∙ (ap (λ ts. ts ++ map file_syntax added) (so.are_trees n)
+          ∙ (sym (map-append file_syntax trees added) ∙ ap (map file_syntax) (sym joins.joined)));
+      are_as_many =
+          let so_far = so.are_as_many in
+          let files = length-append so.files (one.meant ∷ []) in
+          let kept = length-append readings (reading ∷ []) in
+          let next = ap length are_readings in
+          omega (arith, so_far, files, kept, next);
+    }
 
 -- all files
 pub all_files : (all left : List Source) (readings : List KeptReading) (trees : List File) → left ≡ []
@@ -96,3 +123,27 @@ are_files all left readings trees so =
     sym (append-nil so.files)
     ∙ (sym (so.completes [] [])
     ∙ λ i. readings_of (append-nil readings i) (append-nil (map file_syntax trees) i))
+
+-- so that is the package of that path
+pub is_loaded : (path : List ℕ) (given sources : List Source) (left : List Source) (kept : KeptPackage)
+    → AreByName given kept.sources.items
+    → sources ≡ kept.sources.items
+    → string_bytes kept.path ≡ path
+    → left ≡ []
+    → LoadsSo sources left kept.readings.items kept.trees.items
+    → IsLoaded path given kept
+is_loaded path given sources left kept by_name lent is_path none so = record {
+  meant = record { path = path; files = so.files };
+  loaded = record {
+    tells = record {
+      is_path = sym is_path;
+      are_files = are_files sources left kept.readings.items kept.trees.items so;
+      are_trees = so.are_trees 0;
+      are_readings = so.are_as_many;
+    };
+    is_path = refl;
+    by_name = by_name;
+    are_files =
+        subst (λ ss. AreReadingsOf ss so.files) lent (all_files sources left kept.readings.items kept.trees.items none so);
+  };
+}

@@ -5,9 +5,9 @@ use Rattle.std.proofs.lemmas.Slice.Eq.{bytes_eq-Decides}
 use Rattle.std.specs.Prelude.{slice_get}
 use Rattle.std.specs.List.{list_any, AllByRecursion, IsDistinct}
 use Rattle.std.specs.Map.{keys_of, lookup}
-use Rattle.verdicts.specs.Loaded.{LoadedPackage}
-use Rattle.loaded.specs.declared.loaded_package.LoadedPackage.{LoadedPackage as KeptPackage}
-use Rattle.loaded.specs.LoadedViews.{HaveDistinctPaths}
+use Rattle.meaning_reports.specs.Loaded.{LoadedPackage}
+use Rattle.whole_packages.specs.declared.loaded_package.LoadedPackage.{LoadedPackage as KeptPackage}
+use Rattle.whole_packages.specs.LoadedViews.{HaveDistinctPaths}
 use Rattle.load.specs.declared.packages.GivenPackage.{GivenPackage}
 use Rattle.load.specs.GivenPackages.{Text, PathAndFiles, entry_of, path_of, first_repeated, AreLoaded, AreRead, IsLoadOf}
 
@@ -94,10 +94,7 @@ unfolding meant_of
 are_loaded [] [] h = tt
 are_loaded [] (k ∷ ks) h = absurd h
 are_loaded (e ∷ es) [] h = absurd h
-are_loaded (e ∷ es) (k ∷ ks) h = (
-  record { tells = h.0.tells; is_path = h.0.is_path; are_files = h.0.are_files; are_sources = h.0.are_sources },
-  are_loaded es ks h.1,
-)
+are_loaded (e ∷ es) (k ∷ ks) h = (h.0.loaded, are_loaded es ks h.1)
 
 same_text : (x y : Text) → string_bytes x ≡ string_bytes y → string_eq x y ≡ true
 same_text x y same = (bytes_eq-Decides (string_bytes x) (string_bytes y)).1 same
@@ -119,7 +116,7 @@ not_there x [] (k ∷ ks) h differ j q is same = absurd h
 not_there x (e ∷ es) [] h differ j q is same = absurd h
 not_there x (e ∷ es) (k ∷ ks) h differ zero q is same =
     let is_q : h.0.meant ≡ q = cc in
-    true≢false (sym (same_text x e.0 (same ∙ (ap (λ p. p.path) (sym is_q) ∙ h.0.is_path))) ∙ differ.0)
+    true≢false (sym (same_text x e.0 (same ∙ (ap (λ p. p.path) (sym is_q) ∙ h.0.loaded.is_path))) ∙ differ.0)
 not_there x (e ∷ es) (k ∷ ks) h differ (suc j) q is same = not_there x es ks h.1 differ.1 j q is same
 
 pub distinct : (es : List PathAndFiles) (ks : List KeptPackage) (h : AreRead es ks) → IsDistinct string_eq (keys_of es)
@@ -143,10 +140,10 @@ distinct es ks h differ = record { same = same_place es ks h differ }
     same_place (e ∷ es) (k ∷ ks) h differ zero zero p q is_p is_q same = refl
     same_place (e ∷ es) (k ∷ ks) h differ zero (suc j) p q is_p is_q same =
         let is_first : h.0.meant ≡ p = cc in
-        absurd (not_there e.0 es ks h.1 differ.0 j q is_q (sym h.0.is_path ∙ (ap (λ m. m.path) is_first ∙ same)))
+        absurd (not_there e.0 es ks h.1 differ.0 j q is_q (sym h.0.loaded.is_path ∙ (ap (λ m. m.path) is_first ∙ same)))
     same_place (e ∷ es) (k ∷ ks) h differ (suc i) zero p q is_p is_q same =
         let is_first : h.0.meant ≡ q = cc in
-        absurd (not_there e.0 es ks h.1 differ.0 i p is_p (sym h.0.is_path ∙ (ap (λ m. m.path) is_first ∙ sym same)))
+        absurd (not_there e.0 es ks h.1 differ.0 i p is_p (sym h.0.loaded.is_path ∙ (ap (λ m. m.path) is_first ∙ sym same)))
     same_place (e ∷ es) (k ∷ ks) h differ (suc i) (suc j) p q is_p is_q same =
         ap suc (same_place es ks h.1 differ.1 i j p q is_p is_q same)
 

@@ -1,4 +1,5 @@
 mod FilesLoaded
 mod GivenLists
+mod OneOrder
 mod Unparsed
 pub mod ZippedLists

@@ -1,32 +1,44 @@
--- A text with tokens and no tree.
-use Rattle.std.proofs.Common.{◌≡◌, ◌≢◌, ℕ, ◌≤◌, List, length, sym, subst, ◌∙◌}
+-- A text without a tree, or without tokens.
+use Rattle.std.proofs.Common.{◌≡◌, ◌≢◌, ℕ, ◌≤◌, List, [], length, sym, ◌∙◌, subst}
+use Rattle.std.proofs.lemmas.List.{append-nil}
+use Rattle.lexer.specs.declared.fault.LexFault.{LexFault}
+use Rattle.lexer.specs.declared.fault.LexFault.TheVariants as lex_fault
 use Rattle.lexer.specs.declared.token.Token.{Token}
+use Rattle.lexer.specs.Faults.{IsFault}
 use Rattle.lexer.specs.Tokens.{IsTokens}
 use Rattle.tree.specs.Syntax.{SourceFile}
+use Rattle.tree.specs.declared.file.File.{File}
 use Rattle.meaning.specs.TreeOfText.{IsTreeOf}
 use Rattle.parser.specs.declared.fault.ParseFault.{ParseFault}
 use Rattle.parser.specs.declared.fault.ParseFault.TheVariants as parse_fault
 use Rattle.parser.specs.Faults.{offset_of}
 use Rattle.parser_base.specs.declared.fault.LeftOut.{LeftOut}
 use Rattle.parser_base.specs.declared.fault.LeftOut.TheVariants as form
+use Rattle.report.specs.declared.codes.TextFault.{TextFault}
+use Rattle.report.specs.declared.codes.TextFault.TheVariants.{NotUtf8, Nul, UnclosedString, UnclosedComment, UnclosedRune, UnknownCharacter, TooLong}
 use Rattle.report.specs.declared.codes.TreeFault.{TreeFault}
 use Rattle.report.specs.declared.codes.TreeFault.TheVariants.{UnexpectedToken, TooDeep, Recover}
-use Rattle.load.specs.Readings.{fault_of_form, IsTreeFaultAt, IsUnparsed}
+use Rattle.whole_packages.specs.declared.loaded_package.Reading.{Reading as KeptReading}
+use Rattle.whole_packages.specs.declared.loaded_package.Reading.TheVariants as kept
+use Rattle.load.specs.Readings.{fault_of_form, lex_fault_at, IsKeptWith, IsUnparsed, Joins, TellsLexFault, TellsParseFault}
+
+-- no tree joins the others
+none_joins : (text : List ℕ) (reading : KeptReading) (trees : List File) → IsKeptWith text reading []
+    → Joins text reading trees trees
+none_joins text reading trees is = record { added = []; joined = sym (append-nil trees); is_kept = is }
 
 -- a text has no tree for a reason that is told as another one than the use of `recover`
-told : (text : List ℕ) (tokens : List Token) (offset at : ℕ) (reason why : TreeFault) → IsTokens text tokens
+told : (text : List ℕ) (tokens : List Token) (at : ℕ) (why : TreeFault) (reading : KeptReading) (trees : List File)
+    → IsTokens text tokens
     → ((tree : SourceFile) → IsTreeOf text tree → ⊥)
-    → offset ≤ length text
-    → (at ≡ offset) × (why ≡ reason)
-    → reason ≢ Recover
-    → IsUnparsed text at why
-told text tokens offset at reason why cut none within h other = record {
-  tokens = tokens;
-  cut = cut;
-  no_tree = none;
-  within = subst (λ n. n ≤ length text) (sym h.0) within;
-  of_tree = λ e. other (sym h.1 ∙ e);
-}
+    → at ≤ length text
+    → reading ≡ kept.NoTree at why
+    → why ≢ Recover
+    → Joins text reading trees trees
+told text tokens at why reading trees cut none within is other =
+    let unparsed : IsUnparsed text at why =
+    record { tokens = tokens; cut = cut; no_tree = none; within = within; of_tree = other } in
+    none_joins text reading trees (subst (λ r. IsKeptWith text r []) (sym is) unparsed)
 
 of_form : (left : LeftOut) → fault_of_form left ≢ Recover
 of_form form.TypeParameters e = cc
@@ -34,15 +46,35 @@ of_form form.Goto e = cc
 of_form form.Fallthrough e = cc
 of_form form.DotImport e = cc
 
-pub unparsed : (text : List ℕ) (tokens : List Token) (fault : ParseFault) (at : ℕ) (why : TreeFault) → IsTokens text tokens
+pub unparsed : (text : List ℕ) (tokens : List Token) (fault : ParseFault) (reading : KeptReading) (trees : List File)
+    → IsTokens text tokens
     → (fault ≢ parse_fault.OutOfMemory → (tree : SourceFile) → IsTreeOf text tree → ⊥)
     → offset_of fault ≤ length text
-    → IsTreeFaultAt fault at why
-    → IsUnparsed text at why
-unparsed text tokens (parse_fault.Unexpected offset) at why cut none within h =
-    told text tokens offset at UnexpectedToken why cut (none (λ e. cc)) within h (λ e. cc)
-unparsed text tokens (parse_fault.LeftOut left offset) at why cut none within h =
-    told text tokens offset at (fault_of_form left) why cut (none (λ e. cc)) within h (of_form left)
-unparsed text tokens (parse_fault.TooDeep offset) at why cut none within h =
-    told text tokens offset at TooDeep why cut (none (λ e. cc)) within h (λ e. cc)
-unparsed text tokens parse_fault.OutOfMemory at why cut none within h = elim h [ ]
+    → TellsParseFault fault reading
+    → Joins text reading trees trees
+unparsed text tokens (parse_fault.Unexpected at) reading trees cut none within is =
+    told text tokens at UnexpectedToken reading trees cut (none (λ e. cc)) within is (λ e. cc)
+unparsed text tokens (parse_fault.LeftOut left at) reading trees cut none within is =
+    told text tokens at (fault_of_form left) reading trees cut (none (λ e. cc)) within is (of_form left)
+unparsed text tokens (parse_fault.TooDeep at) reading trees cut none within is =
+    told text tokens at TooDeep reading trees cut (none (λ e. cc)) within is (λ e. cc)
+unparsed text tokens parse_fault.OutOfMemory reading trees cut none within is = elim is [ ]
+
+has_memory : (at : ℕ) (why : TextFault) → lex_fault_at at why ≢ lex_fault.OutOfMemory
+has_memory at NotUtf8 e = cc
+has_memory at Nul e = cc
+has_memory at UnclosedString e = cc
+has_memory at UnclosedComment e = cc
+has_memory at UnclosedRune e = cc
+has_memory at UnknownCharacter e = cc
+has_memory at TooLong e = cc
+
+pub unreadable : (text : List ℕ) (fault : LexFault) (reading : KeptReading) (trees : List File)
+    → (fault ≢ lex_fault.OutOfMemory → IsFault text fault)
+    → TellsLexFault fault reading
+    → Joins text reading trees trees
+unreadable text fault kept.Tree trees is told = absurd told
+unreadable text fault (kept.NoTokens at why) trees is told =
+    none_joins text (kept.NoTokens at why) trees
+    (fault, is (λ e. has_memory at why (sym told.fault_there ∙ e)), told)
+unreadable text fault (kept.NoTree at why) trees is told = absurd told

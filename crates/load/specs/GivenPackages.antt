@@ -1,13 +1,13 @@
 -- Packages as they are given, and what is loaded of them: each with its files as they are read, in the order of their
--- paths, no two of one path.
+-- names, and the packages in the order of their paths, no two of one path.
 use Rattle.std.specs.Prelude.{ℕ, ◌≡◌, Bool, false, true, ◌||◌, List, [], ◌∷◌, ◌++◌, ⊤, map, length, nat_lt, if◌then◌else◌, Option, Some, None, String, Vec, string_bytes, string_cmp, string_eq, IsPermutation, IsSorted}
 use Rattle.std.specs.List.{list_any, AllZip}
 use Rattle.std.specs.declared.alloc.Global.{Global}
 use Rattle.lexer.specs.declared.source.Source.{Source}
-use Rattle.verdicts.specs.Loaded.{LoadedPackage}
-use Rattle.loaded.specs.declared.loaded_package.LoadedPackage.{LoadedPackage as KeptPackage}
-use Rattle.loaded.specs.LoadedViews.{TellsPackage, HaveDistinctPaths}
-use Rattle.load.specs.Readings.{AreReadingsOf, IsLoaded}
+use Rattle.meaning_reports.specs.Loaded.{LoadedPackage}
+use Rattle.whole_packages.specs.declared.loaded_package.LoadedPackage.{LoadedPackage as KeptPackage}
+use Rattle.whole_packages.specs.LoadedViews.{HaveDistinctPaths}
+use Rattle.load.specs.Readings.{IsLoaded, IsLoadedAs}
 use Rattle.load.specs.declared.packages.GivenPackage.{GivenPackage}
 use Rattle.load.specs.declared.packages.LoadFault.{LoadFault}
 use Rattle.load.specs.declared.packages.LoadFault.TheVariants.{TooMany, TwoPackages, OutOfMemory}
@@ -46,22 +46,16 @@ IsLoadFault given (TwoPackages path) =
     (has_too_many given ≡ false) × (first_repeated [] (map path_of given) ≡ Some path)
 IsLoadFault given OutOfMemory = ⊤
 
--- of the package of this path with these files, `p` is what was read, and that is kept
-pub record IsLoadedAs (e : PathAndFiles) (p : LoadedPackage) (kept : KeptPackage) : Type 0 where
-  pub tells : TellsPackage p kept
-  pub is_path : p.path ≡ string_bytes e.0
-  pub are_files : AreReadingsOf e.1.items p.files
-  pub are_sources : kept.sources.items ≡ e.1.items
-
+-- each of these was read so, and that is kept of it
 abbrev pub AreLoaded : List PathAndFiles → List LoadedPackage → List KeptPackage → Type 0
 AreLoaded [] [] [] = ⊤
-AreLoaded (e ∷ es) (p ∷ ps) (k ∷ ks) = IsLoadedAs e p k × AreLoaded es ps ks
+AreLoaded (e ∷ es) (p ∷ ps) (k ∷ ks) = IsLoadedAs (string_bytes e.0) e.1.items p k × AreLoaded es ps ks
 AreLoaded [] [] (k ∷ ks) = ⊥
 AreLoaded [] (p ∷ ps) ks = ⊥
 AreLoaded (e ∷ es) [] ks = ⊥
 AreLoaded (e ∷ es) (p ∷ ps) [] = ⊥
 
--- what is kept are the packages of these paths and files, in the order of their paths, as their files are read
+-- what is kept are the packages of these paths and files, in the order of their paths
 pub record IsLoadOf (entries : List PathAndFiles) (kept : List KeptPackage) : Type 0 where
   pub in_order : List PathAndFiles
   pub same : IsPermutation entries in_order

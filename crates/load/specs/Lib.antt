@@ -1,3 +1,5 @@
--- For a reader of the contracts: what the bytes of files are to be read as, and what is loaded of given packages.
+-- For a reader of the contracts: in which order files are kept, what their bytes are to be read as, and what is loaded
+-- of given packages.
+pub mod FilesByName
 pub mod Readings
 pub mod GivenPackages

@@ -1,6 +1,6 @@
 -- What the bytes of a file are: a text with a tree, one with tokens and no tree, or one without tokens; and a package
--- as its files are read.
-use Rattle.std.specs.Prelude.{ℕ, ◌≡◌, ◌≢◌, ◌≤◌, List, [], ◌∷◌, length, string_bytes}
+-- as its files are read, in the order of their names.
+use Rattle.std.specs.Prelude.{ℕ, ◌≡◌, ◌≢◌, ◌≤◌, List, [], ◌∷◌, ◌++◌, length}
 use Rattle.lexer.specs.declared.fault.LexFault.{LexFault}
 use Rattle.lexer.specs.declared.fault.LexFault.TheVariants as lex_fault
 use Rattle.lexer.specs.declared.source.Source.{Source}
@@ -19,13 +19,12 @@ use Rattle.report.specs.declared.codes.TreeFault.TheVariants.{UnexpectedToken, T
 use Rattle.tree.specs.Syntax.{SourceFile}
 use Rattle.tree.specs.View.{file_syntax}
 use Rattle.tree.specs.declared.file.File.{File}
-use Rattle.verdicts.specs.Loaded.{Reading, has_tree, has_text_fault, has_tree_fault, LoadedPackage}
-use Rattle.loaded.specs.declared.loaded_package.LoadedPackage.{LoadedPackage as KeptPackage}
-use Rattle.loaded.specs.declared.loaded_package.Reading.{Reading as KeptReading}
-use Rattle.loaded.specs.declared.loaded_package.Reading.TheVariants as kept
-use Rattle.loaded.specs.LoadedViews.{TellsPackage}
-use Rattle.load.specs.declared.source.Parsed.{Parsed}
-use Rattle.load.specs.declared.source.Parsed.TheVariants.{Tree, NoTokens, NoTree}
+use Rattle.meaning_reports.specs.Loaded.{Reading, has_tree, has_text_fault, has_tree_fault, LoadedPackage}
+use Rattle.whole_packages.specs.declared.loaded_package.LoadedPackage.{LoadedPackage as KeptPackage}
+use Rattle.whole_packages.specs.declared.loaded_package.Reading.{Reading as KeptReading}
+use Rattle.whole_packages.specs.declared.loaded_package.Reading.TheVariants as kept
+use Rattle.whole_packages.specs.LoadedViews.{TellsPackage}
+use Rattle.load.specs.FilesByName.{AreByName}
 
 -- the lexer's fault of this kind at an offset
 abbrev pub lex_fault_at : ℕ → TextFault → LexFault
@@ -67,31 +66,35 @@ AreReadingsOf [] (r ∷ rs) = ⊥
 AreReadingsOf (s ∷ ss) [] = ⊥
 AreReadingsOf (s ∷ ss) (r ∷ rs) = IsReadingOf s.bytes.items r × AreReadingsOf ss rs
 
--- what is kept is the package of that path with these files
+-- of the package of that path with these files, `p` is what was read, and that is kept
+pub record IsLoadedAs (path : List ℕ) (sources : List Source) (p : LoadedPackage) (kept : KeptPackage) : Type 0 where
+  pub tells : TellsPackage p kept
+  pub is_path : p.path ≡ path
+  pub by_name : AreByName sources kept.sources.items
+  pub are_files : AreReadingsOf kept.sources.items p.files
+
+-- that is kept of the package of that path with these files
 pub record IsLoaded (path : List ℕ) (sources : List Source) (kept : KeptPackage) : Type 0 where
   pub meant : LoadedPackage
-  pub tells : TellsPackage meant kept
-  pub is_path : meant.path ≡ path
-  pub are_files : AreReadingsOf sources meant.files
-  pub are_sources : kept.sources.items ≡ sources
+  pub loaded : IsLoadedAs path sources meant kept
 
 -- What serves the proofs
 
-abbrev pub parsed_view : Parsed → Reading
-parsed_view (Tree tree) = has_tree (file_syntax tree)
-parsed_view (NoTokens at why) = has_text_fault at why
-parsed_view (NoTree at why) = has_tree_fault at why
+-- this became of the text, and these are its trees: one, or none
+abbrev pub IsKeptWith : List ℕ → KeptReading → List File → Type 0
+IsKeptWith text kept.Tree (tree ∷ []) = IsTreeOf text (file_syntax tree)
+IsKeptWith text kept.Tree [] = ⊥
+IsKeptWith text kept.Tree (tree ∷ next ∷ trees) = ⊥
+IsKeptWith text (kept.NoTokens at why) [] = IsUnreadable text at why
+IsKeptWith text (kept.NoTokens at why) (tree ∷ trees) = ⊥
+IsKeptWith text (kept.NoTree at why) [] = IsUnparsed text at why
+IsKeptWith text (kept.NoTree at why) (tree ∷ trees) = ⊥
 
--- what is kept of it
-abbrev pub kept_reading : Parsed → KeptReading
-kept_reading (Tree tree) = kept.Tree
-kept_reading (NoTokens at why) = kept.NoTokens at why
-kept_reading (NoTree at why) = kept.NoTree at why
-
-abbrev pub kept_trees : Parsed → List File
-kept_trees (Tree tree) = tree ∷ []
-kept_trees (NoTokens at why) = []
-kept_trees (NoTree at why) = []
+-- this became of the text, and its tree joined the others, if it has one
+pub record Joins (text : List ℕ) (reading : KeptReading) (old new : List File) : Type 0 where
+  pub added : List File
+  pub joined : new ≡ old ++ added
+  pub is_kept : IsKeptWith text reading added
 
 abbrev pub fault_of_form : LeftOut → TreeFault
 fault_of_form form.TypeParameters = TypeParameters
@@ -99,9 +102,14 @@ fault_of_form form.Goto = Goto
 fault_of_form form.Fallthrough = Fallthrough
 fault_of_form form.DotImport = DotImport
 
--- a fault's offset and what it says
-abbrev pub IsTreeFaultAt : ParseFault → ℕ → TreeFault → Type 0
-IsTreeFaultAt (parse_fault.Unexpected at) offset why = (offset ≡ at) × (why ≡ UnexpectedToken)
-IsTreeFaultAt (parse_fault.LeftOut form at) offset why = (offset ≡ at) × (why ≡ fault_of_form form)
-IsTreeFaultAt (parse_fault.TooDeep at) offset why = (offset ≡ at) × (why ≡ TooDeep)
-IsTreeFaultAt parse_fault.OutOfMemory offset why = ⊥
+-- that became of a text with this fault
+abbrev pub TellsParseFault : ParseFault → KeptReading → Type 0
+TellsParseFault (parse_fault.Unexpected at) reading = reading ≡ kept.NoTree at UnexpectedToken
+TellsParseFault (parse_fault.LeftOut form at) reading = reading ≡ kept.NoTree at (fault_of_form form)
+TellsParseFault (parse_fault.TooDeep at) reading = reading ≡ kept.NoTree at TooDeep
+TellsParseFault parse_fault.OutOfMemory reading = ⊥
+
+abbrev pub TellsLexFault : LexFault → KeptReading → Type 0
+TellsLexFault fault kept.Tree = ⊥
+TellsLexFault fault (kept.NoTokens at why) = IsFaultAt fault at why
+TellsLexFault fault (kept.NoTree at why) = ⊥

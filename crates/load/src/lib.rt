@@ -6,6 +6,4 @@ mod package;
 mod packages;
 mod source;
 
-pub use package::load_package;
 pub use packages::{GivenPackage, LoadFault, load, release};
-pub use source::{Parsed, parse_source};

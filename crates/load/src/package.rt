@@ -1,35 +1,24 @@
 //! A package, by its files.
 
-ghost use Rattle.std.specs.Prelude.{◌≡◌, ◌++◌, ◌∷◌, [], IfOk, OnOk, string_bytes};
-ghost use Rattle.load.specs.Readings.{kept_reading, kept_trees, IsLoaded};
+ghost use Rattle.std.specs.Prelude.{IfOk, string_bytes};
+ghost use Rattle.load.specs.FilesByName.{AreByName};
+ghost use Rattle.load.specs.Readings.{IsLoaded};
 
-use crate::source::{Parsed, parse_source};
+use crate::source::read_source;
 use lexer::Source;
-use loaded::{LoadedPackage, Reading};
 use std::alloc::{AllocError, Global};
-use tree::File;
+use whole_packages::LoadedPackage;
 
-/// Keeps what became of a file, and its tree, if it has one.
-fn keep(
-    parsed: Parsed,
-    readings: &mut Vec<Reading>,
-    trees: &mut Vec<File>,
-) -> Result<(), AllocError>
-    ensures readings { OnOk result (readings.new.items ≡ readings.old.items ++ kept_reading parsed ∷ []) }
-    ensures trees { OnOk result (trees.new.items ≡ trees.old.items ++ kept_trees parsed) }
+/// The files in the order of their names, byte by byte. Those of one name keep their order.
+fn by_name(sources: Vec<Source>) -> Result<Vec<Source>, AllocError>
+    ensures { IfOk result (λ ordered. AreByName sources.items ordered.items) }
 {
-    match parsed {
-        Parsed::Tree(tree) => {
-            trees.push(tree)?;
-            readings.push(Reading::Tree)?;
-        }
-        Parsed::NoTokens(at, why) => readings.push(Reading::NoTokens(at, why))?,
-        Parsed::NoTree(at, why) => readings.push(Reading::NoTree(at, why))?,
-    }
-    Ok(())
+    let mut ordered = sources;
+    ordered.sort_by(|file, other| file.name.cmp(&other.name))?;
+    Ok(ordered)
 }
 
-/// The package of that path with these files.
+/// The package of that path with these files, which are read and kept in the order of their names.
 ///
 /// # Errors
 ///
@@ -37,14 +26,15 @@ fn keep(
 pub fn load_package(
     alloc: Global,
     path: String,
-    sources: Vec<Source>,
+    given: Vec<Source>,
 ) -> Result<LoadedPackage, AllocError>
-    ensures { IfOk result (IsLoaded (string_bytes path) sources.items) }
+    ensures { IfOk result (IsLoaded (string_bytes path) given.items) }
 {
+    let sources = by_name(given)?;
     let mut readings = Vec::new(alloc);
     let mut trees = Vec::new(alloc);
     for source in &sources {
-        keep(parse_source(alloc, source)?, &mut readings, &mut trees)?;
+        readings.push(read_source(alloc, source, &mut trees)?)?;
     }
     Ok(LoadedPackage {
         path,

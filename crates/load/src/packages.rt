@@ -7,8 +7,8 @@ ghost use Rattle.load.specs.GivenPackages.{entry_of, first_repeated, has_many_fi
 use crate::package::load_package;
 use indexmap::IndexMap;
 use lexer::Source;
-use loaded::LoadedPackage;
 use std::alloc::{AllocError, Global};
+use whole_packages::LoadedPackage;
 
 /// The most packages of one run.
 pub const MOST_PACKAGES: usize = 10_000;

@@ -2,9 +2,9 @@
 use Rattle.std.proofs.Common.{◌≡◌, ℕ, ◌+◌, ◌<◌, ◌≤◌, Bool, List, [], ◌∷◌, length, Option, Some, None, refl, ap, ◌∙◌, subst}
 use Rattle.std.proofs.lemmas.Option.{slice_get_within}
 use Rattle.std.specs.Prelude.{slice_get}
-use Rattle.body_graphs.specs.Classified.{TellsClasses, Classifies, cancel_class_after, group_class_after}
-use Rattle.body_graphs.specs.NodeEvents.{events_graph, IsGraphOf}
-use Rattle.body_graphs.specs.declared.node.NodeEvent.{NodeEvent}
+use Rattle.bodies.specs.Classified.{TellsClasses, Classifies, cancel_class_after, group_class_after}
+use Rattle.bodies.specs.NodeEvents.{events_graph, IsGraphOf}
+use Rattle.bodies.specs.declared.node.NodeEvent.{NodeEvent}
 use Rattle.flow.specs.declared.graph.Graph.{Graph as KeptGraph}
 use Rattle.flow.specs.GraphOfCode.{nodes}
 use Rattle.flow.specs.Walks.{Graph}
@@ -17,9 +17,9 @@ use Rattle.meaning.specs.Classes.{Promises, entry_cancel, change_cancel, cancel_
 use Rattle.meaning.specs.Code.{Code}
 use Rattle.meaning.specs.FunctionFacts.{cancel, group}
 use Rattle.meaning.specs.Uses.{Event}
-use Rattle.reach.specs.Carried.{TellsReached}
-use Rattle.reach.specs.MarkViews.{has}
-use Rattle.reach.specs.declared.reached.Reached.{Reached}
+use Rattle.maker.specs.Carried.{TellsReached}
+use Rattle.maker.specs.MarkViews.{has}
+use Rattle.maker.specs.declared.reached.Reached.{Reached}
 use Rattle.states.specs.Bits.{most, cancel_bit, cancel_class, group_bit, group_class, AreInverseBits, AreInverseGroupBits}
 
 -- What was found for the variable of a place, if there is one
@@ -38,17 +38,17 @@ pub record FindsFirst
 -- What it says of classes
 
 module _ (p : Promises) (groups : List ℕ) (g : KeptGraph NodeEvent) (c : Code Event)
-    (is_graph : IsGraphOf c g) (are_groups : groups ≡ with_groups [] (events_graph g).nodes)
+    (is_graph : IsGraphOf c g) (first : List ℕ) (are_groups : groups ≡ with_groups first (events_graph g).nodes)
     (fits : length groups + 3 ≤ most) (inverse : AreInverseBits groups) (group_inverse : AreInverseGroupBits) where
-  of_code : groups ≡ with_groups [] (nodes c)
-  of_code = are_groups ∙ ap (λ (h : Graph Event). with_groups [] h.nodes) is_graph
+  of_code : groups ≡ with_groups first (nodes c)
+  of_code = are_groups ∙ ap (λ (h : Graph Event). with_groups first h.nodes) is_graph
 
   cancel_told : (v : Variable) (found : ℕ → ℕ → Bool)
       → FindsCancel p groups g v found
       → TellsClasses c (cancel_class_after p v) (λ n k. is_marked_flag (found n) (cancel_bit groups k))
   cancel_told v found told =
       tells_classes c (cancel_class groups) (cancel_bit groups) (change_cancel p v.number) (cancel_after p v.number)
-      (cancel_width groups) (cancels_numbered c p v.number groups inverse of_code fits)
+      (cancel_width groups) (cancels_numbered c p v.number groups first inverse of_code fits)
       (entry_cancel v.role) (cancel_entry groups v.role) (entry_has groups v.role) found
       (subst (λ h. TellsReached h (cancel_step p v.number groups) (cancel_width groups)
       (cancel_entry groups v.role ∷ []) found) is_graph told)

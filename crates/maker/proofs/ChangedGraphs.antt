@@ -4,10 +4,10 @@ use Rattle.std.proofs.lemmas.List.{length-map}
 use Rattle.std.proofs.lemmas.Option.{slice_get-map, same_Some, none-some}
 use Rattle.std.specs.Prelude.{slice_get, Result, Ok, Err, IfOk}
 use Rattle.flow.specs.Walks.{Graph}
-use Rattle.reach.specs.Carried.{IsReached, starts, goes, TellsReached}
-use Rattle.reach.specs.MarkViews.{has}
-use Rattle.reach.specs.declared.reached.Reached.{Reached}
-use Rattle.body_graphs.specs.NodeEvents.{changed, changed_graph}
+use Rattle.maker.specs.Carried.{IsReached, starts, goes, TellsReached}
+use Rattle.maker.specs.MarkViews.{has}
+use Rattle.maker.specs.declared.reached.Reached.{Reached}
+use Rattle.bodies.specs.NodeEvents.{changed, changed_graph}
 
 pub unmapped : {A B : Type 0} (f : A → B) (o : Option A) (y : B)
     → option_map f o ≡ Some y

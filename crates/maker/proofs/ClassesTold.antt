@@ -9,9 +9,9 @@ use Rattle.meaning.specs.Uses.{Event}
 use Rattle.flow.specs.GraphOfCode.{nodes}
 use Rattle.flow.specs.Walks.{graph_of, Walk, arrives, goes_on}
 use Rattle.flow.proofs.WalksOfLists.{graphs_walk}
-use Rattle.reach.specs.Carried.{TellsReached, carried, ReachesByLists}
-use Rattle.reach.proofs.CarriedFlags.{reached_by_lists}
-use Rattle.body_graphs.specs.Classified.{TellsClasses, ArrivesAs, IsMarkedAt}
+use Rattle.maker.specs.Carried.{TellsReached, carried, ReachesByLists}
+use Rattle.maker.proofs.CarriedFlags.{reached_by_lists}
+use Rattle.bodies.specs.Classified.{TellsClasses, ArrivesAs, IsMarkedAt}
 use Rattle.maker.specs.Flags.{flag_after, is_marked_flag}
 
 -- What stands in a list of a code is one of its nodes.

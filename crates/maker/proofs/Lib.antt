@@ -1,3 +1,8 @@
+pub mod CarriedFlags
+pub mod MarkedRows
+pub mod Memory
+pub mod Searches
+pub mod Visits
 pub mod Answered
 pub mod ChangedGraphs
 pub mod ClassesTold

@@ -110,7 +110,7 @@ module _ (groups : List ℕ) where
   change_has p v (lend g f n) k fits among h = h
   change_has p v (start g literal) k fits among h =
       started_has p v g literal k (started_among g literal fits among) h
-  change_has p v (try g) k fits among h = h
+  change_has p v (try g literal) k fits among h = h
   change_has p v (wait g) k fits among h = ended_has g k h
   change_has p v (defer_wait g) k fits among h = h
   change_has p v (make g state) k fits among h = ended_has g.number k h
@@ -124,19 +124,19 @@ module _ (groups : List ℕ) where
   entry_has captured = refl
 
 -- the flags of a cancel variable are those of the classes that it can come to
-pub cancels_numbered : (c : Code Event) (p : Promises) (v : ℕ) (groups : List ℕ)
+pub cancels_numbered : (c : Code Event) (p : Promises) (v : ℕ) (groups first : List ℕ)
     → AreInverseBits groups
-    → groups ≡ with_groups [] (nodes c)
+    → groups ≡ with_groups first (nodes c)
     → length groups + 3 ≤ most
     → IsNumbered c (cancel_class groups) (cancel_bit groups) (change_cancel p v) (cancel_after p v)
     (cancel_width groups)
-cancels_numbered c p v groups inverse are fits = record {
+cancels_numbered c p v groups first inverse are fits = record {
   told = inverse.there;
   within = cancel_within groups;
   keeps = λ o k i is e.
       change_has groups p v o.event k fits
       (λ g literal. subst (λ gs. Contains gs g) (sym are)
-      (with_groups-started [] (nodes c) is.0 o g is.1 literal))
+      (with_groups-started first (nodes c) is.0 o g is.1 literal))
       (i, e);
   none = λ k. refl;
   next = λ k o t. refl;

@@ -1,16 +1,16 @@
 -- What the program keeps of a solution, and what it says.
 use Rattle.std.specs.Prelude.{ℕ, Bool, false, List, [], ◌∷◌, Option, Some, None, slice_get}
-use Rattle.body_graphs.specs.NodeEvents.{events_graph}
-use Rattle.body_graphs.specs.declared.node.NodeEvent.{NodeEvent}
+use Rattle.bodies.specs.NodeEvents.{events_graph}
+use Rattle.bodies.specs.declared.node.NodeEvent.{NodeEvent}
 use Rattle.flow.specs.declared.graph.Graph.{Graph}
 use Rattle.maker.specs.Flags.{is_marked_flag, cancel_step, cancel_width, cancel_entry, group_step, group_width, group_entry}
 use Rattle.maker.specs.declared.solution.Solution.{Solution}
 use Rattle.meaning.specs.BodyEvents.{Variable}
 use Rattle.meaning.specs.Classes.{Promises, CancelClass, GroupClass}
 use Rattle.meaning.specs.FunctionFacts.{VariableKind, cancel, group}
-use Rattle.reach.specs.Carried.{TellsReached}
-use Rattle.reach.specs.MarkViews.{has}
-use Rattle.reach.specs.declared.reached.Reached.{Reached}
+use Rattle.maker.specs.Carried.{TellsReached}
+use Rattle.maker.specs.MarkViews.{has}
+use Rattle.maker.specs.declared.reached.Reached.{Reached}
 use Rattle.states.specs.Bits.{cancel_bit, group_bit}
 
 -- whether the flag was found at the node, for a variable that was searched for

@@ -1,10 +1,29 @@
 //! The least solution of a body's graph: which classes of its variables arrive at each node. What a solution tells is
-//! said in `body_graphs/specs/Classified.antt`.
+//! said in `bodies/specs/Classified.antt`. It is found by a search for the flags that the walks of a graph carry to
+//! each node, as `specs/Carried.antt` defines them.
 #![tactic(auto)]
 
+ghost use Rattle.maker.specs.Carried.{ReachedByWalks, ReachedByLists};
+
+mod flag_search;
+pub mod flag_steps;
 mod groups;
+mod marked_rows;
+pub mod reached;
 mod search;
 mod solution;
 mod steps;
 
+pub use flag_steps::Steps;
+pub use reached::{Reached, reach};
 pub use solution::{Solution, solve};
+
+/// A flag is reached at a node exactly if a walk from where the graph starts carries it there.
+pub fn reached_by_walks<E>()
+    ensures { ReachedByWalks E }
+{}
+
+/// In the graph of a code, the flags that are reached are those that the code's lists carry.
+pub fn reached_by_lists<E>()
+    ensures { ReachedByLists E }
+{}

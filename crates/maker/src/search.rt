@@ -3,17 +3,17 @@
 ghost use Rattle.std.specs.Prelude.{◌≡◌, IfOk};
 ghost use Rattle.maker.specs.Flags.{cancel_entry};
 ghost use Rattle.maker.specs.Solutions.{FindsCancel, FindsGroup, Finds};
-ghost use Rattle.reach.specs.MarkViews.{has};
-ghost use Rattle.variables.specs.VariableViews.{variable_role_view, variable_view};
+ghost use Rattle.maker.specs.MarkViews.{has};
+ghost use Rattle.events.specs.VariableViews.{variable_role_view, variable_view};
 
+use crate::reached::{Reached, reach};
 use crate::steps::{CancelSteps, GroupSteps};
-use body_graphs::NodeEvent;
+use bodies::NodeEvent;
+use events::{Variable, VariableRole};
 use facts::VariableKind;
 use flow::Graph;
-use reach::{Reached, reach};
 use states::{Promises, cancel_bit, entry_cancel, entry_group, group_bit};
 use std::alloc::{AllocError, Global};
-use variables::{Variable, VariableRole};
 
 /// The flag of a cancel variable at the body's entry.
 fn cancel_entry(groups: &[u32], role: VariableRole) -> usize

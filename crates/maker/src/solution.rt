@@ -1,22 +1,22 @@
 //! Which classes arrive at each node.
 
 ghost use Rattle.std.specs.Prelude.{◌≡◌, IfOk, map, slice_get};
-ghost use Rattle.body_graphs.specs.Classified.{Classifies};
-ghost use Rattle.body_graphs.specs.NodeEvents.{IsGraphOf};
+ghost use Rattle.bodies.specs.Classified.{Classifies};
+ghost use Rattle.bodies.specs.NodeEvents.{IsGraphOf};
 ghost use Rattle.maker.specs.FlagLaws.{pending_in_group};
 ghost use Rattle.maker.specs.Solutions.{cancel_arrives, group_arrives, found_for};
 ghost use Rattle.meaning.specs.Code.{Code};
 ghost use Rattle.meaning.specs.Uses.{Event};
-ghost use Rattle.variables.specs.VariableViews.{variable_view};
+ghost use Rattle.events.specs.VariableViews.{variable_view};
 
-use crate::groups::started_groups;
+use crate::groups::pending_groups;
+use crate::reached::Reached;
 use crate::search::reach_classes;
-use body_graphs::NodeEvent;
+use bodies::NodeEvent;
+use events::Variable;
 use flow::Graph;
-use reach::Reached;
 use states::{Arrivals, CancelClass, GroupClass, Promises, cancel_bit, group_bit};
 use std::alloc::{AllocError, Global};
-use variables::Variable;
 
 /// Which classes of a body's variables arrive at each node of its graph.
 #[derive(Drop)]
@@ -79,7 +79,7 @@ pub fn solve<P: Promises>(
         → Classifies c (P.promises promises.now) (map variable_view variables.now) (cancel_arrives s)
         (group_arrives s)) }
 {
-    let groups = started_groups(alloc, graph)?;
+    let groups = pending_groups(alloc, graph, variables)?;
     let mut reached = Vec::new(alloc);
     for variable in variables {
         reached.push(reach_classes(alloc, graph, *variable, &groups, promises)?)?;

@@ -1,17 +1,17 @@
 //! What the events of nodes do to the flags of a variable.
 
 ghost use Rattle.std.specs.Prelude.{◌≡◌, ◌<◌, ℕ};
-ghost use Rattle.body_graphs.specs.NodeEvents.{node_event_view};
+ghost use Rattle.bodies.specs.NodeEvents.{node_event_view};
 ghost use Rattle.maker.specs.Flags.{cancel_step, cancel_width, group_step, group_width};
 ghost use Rattle.maker.specs.FlagLaws.{cancel_step-within, group_step-within};
 ghost use Rattle.meaning.specs.Classes.{change_cancel, change_group};
 ghost use Rattle.states.specs.ClassViews.{cancel_class_view, group_class_view};
 
-use body_graphs::NodeEvent;
-use reach::Steps;
+use crate::flag_steps::Steps;
+use bodies::NodeEvent;
 use states::{
-    CancelClass, GroupClass, Promises, cancel_bit, cancel_class, change_cancel, change_group,
-    group_bit, group_class,
+    CancelClass, FIRST_PENDING, GROUP_CLASSES, GroupClass, Promises, cancel_bit, cancel_class,
+    change_cancel, change_group, group_bit, group_class,
 };
 
 /// What is known of the cancel variable of that number after a node.
@@ -60,7 +60,7 @@ impl<'e, 'a, P: Promises> Steps<NodeEvent<'e, 'a>> for CancelSteps<'_, P> {
     ghost step = { λ s e i. cancel_step (P.promises s.promises.now) s.variable s.groups.now (node_event_view e) i };
 
     fn width(&self) -> usize {
-        self.groups.len() + 3
+        self.groups.len() + FIRST_PENDING
     }
 
     fn step(&self, event: NodeEvent<'e, 'a>, flag: usize) -> usize {
@@ -90,7 +90,7 @@ impl<'e, 'a, P: Promises> Steps<NodeEvent<'e, 'a>> for GroupSteps<'_, P> {
     ghost step = { λ s e i. group_step (P.promises s.promises.now) s.variable (node_event_view e) i };
 
     fn width(&self) -> usize {
-        4
+        GROUP_CLASSES
     }
 
     fn step(&self, event: NodeEvent<'e, 'a>, flag: usize) -> usize {

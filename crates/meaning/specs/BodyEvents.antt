@@ -7,11 +7,39 @@
 use Rattle.std.specs.Prelude.{ℕ, zero, suc, ◌+◌, ◌==◌, Bool, true, false, not, ◌&&◌, ◌||◌, if◌then◌else◌, List, [], ◌∷◌, ◌++◌, Option, Some, None, is_some, map, codes, nat_lt, nat_le}
 use Rattle.std.specs.List.{list_any, filter}
 use Rattle.tree.specs.Syntax.{Expression, Expressions, no_expression, expression_and, SourceFile}
+use Rattle.meaning.specs.declared.TheConstants.{MOST_CANCELS, MOST_GROUPS}
 use Rattle.meaning.specs.StatementCode.{Sites}
 use Rattle.meaning.specs.Mentions.{Named, as_bare, Role, called, Mention, BodyPlace, Mark, mentions, defers_literal, returns, opens, closes, file_marks}
 use Rattle.meaning.specs.FunctionFacts.{VariableKind, cancel, group}
 use Rattle.meaning.specs.Tracked.{Known, is_of_universe, local_meant_or, variable_of, is_in, Placed, LocalRole, parameter, receiver, variadic, result, in_block, Local, body_locals}
 use Rattle.meaning.specs.Uses.{Seen, seen_in, found, tracked_kind, is_outside, is_of_local, is_body, body_gives, is_statement_place, Handed, Event, other, defer_literal, return_event, too_many_variables, UseFault, fault_at, variable_outcome, mention_faults, result_faults, is_cancel}
+
+-- Bodies of a file
+
+abbrev pub opened_by : Mark → List BodyPlace
+opened_by (mentions m) = []
+opened_by (defers_literal site at) = []
+opened_by (returns at es) = []
+opened_by (opens b) = b ∷ []
+opened_by closes = []
+
+-- in the order of the marks
+abbrev pub opened_in : List Placed → List BodyPlace
+opened_in [] = []
+opened_in (p ∷ ps) = opened_by p.mark ++ opened_in ps
+
+abbrev pub put_body : BodyPlace → List BodyPlace → List BodyPlace
+put_body b [] = b ∷ []
+put_body b (c ∷ cs) = if nat_le b.at c.at then b ∷ c ∷ cs else c ∷ put_body b cs
+
+-- in the order of their places; of bodies at one place the first comes first
+abbrev pub by_place : List BodyPlace → List BodyPlace
+by_place [] = []
+by_place (b ∷ bs) = put_body b (by_place bs)
+
+-- the bodies of a file, by the places of their `func`
+abbrev pub bodies_of : Seen → List BodyPlace
+bodies_of seen = by_place (opened_in seen.marks)
 
 -- Use faults
 
@@ -238,12 +266,6 @@ variables_of seen body = in_their_order (variables_among seen body (distinct (ma
 
 -- Too many
 
-abbrev pub most_cancels : ℕ
-most_cancels = 48
-
-abbrev pub most_groups : ℕ
-most_groups = 12
-
 abbrev pub is_cancel_variable : Variable → Bool
 is_cancel_variable v = is_cancel (Some v.kind)
 
@@ -255,8 +277,8 @@ fault_after (suc n) (v ∷ vs) = fault_after n vs
 
 abbrev pub too_many_faults : List Variable → List UseFault
 too_many_faults vs =
-    fault_after most_cancels (filter is_cancel_variable vs)
-    ++ fault_after most_groups (filter (λ v. not (is_cancel_variable v)) vs)
+    fault_after MOST_CANCELS (filter is_cancel_variable vs)
+    ++ fault_after MOST_GROUPS (filter (λ v. not (is_cancel_variable v)) vs)
 
 -- All of a body
 

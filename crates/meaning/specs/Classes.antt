@@ -62,7 +62,7 @@ change_cancel p v (pass u f n) k = if (u.number == v) && p.calls f n then safe e
 change_cancel p v (defer_pass u f n) k = if (u.number == v) && p.calls f n then safe else k
 change_cancel p v (lend g f n) k = k
 change_cancel p v (start g literal) k = started p v g literal k
-change_cancel p v (try g) k = k
+change_cancel p v (try g literal) k = k
 change_cancel p v (wait g) k = ended g k
 change_cancel p v (defer_wait g) k = k
 change_cancel p v (make g state) k = ended g.number k
@@ -113,7 +113,7 @@ change_group p v (pass u f n) k = k
 change_group p v (defer_pass u f n) k = k
 change_group p v (lend g f n) k = if g == v then at_work k else k
 change_group p v (start g literal) k = if g == v then at_work k else k
-change_group p v (try g) k = if g == v then at_work k else k
+change_group p v (try g literal) k = if g == v then at_work k else k
 change_group p v (wait g) k = if g == v then at_rest k else k
 change_group p v (defer_wait g) k = if g == v then awaited else k
 change_group p v (make g state) k = if g.number == v then in_state state else k

@@ -83,11 +83,10 @@ item_kind means i = if i.is_variadic then None else kind_of_type means i.type
 
 -- Facts
 
--- a parameter that is tracked, and whether each return of the function is known to have called it
+-- a parameter that is tracked
 pub record TrackedParameter : Type 0 where
   pub position : ℕ
   pub kind : VariableKind
-  pub is_called : Bool
 
 pub record FunctionFacts : Type 0 where
   pub parameters : List TrackedParameter
@@ -98,7 +97,7 @@ pub record FunctionFacts : Type 0 where
 
 abbrev pub parameter_at : ℕ → Option VariableKind → List TrackedParameter
 parameter_at k None = []
-parameter_at k (Some kind) = record { position = k; kind = kind; is_called = false } ∷ []
+parameter_at k (Some kind) = record { position = k; kind = kind } ∷ []
 
 abbrev pub tracked_parameters : Meanings → ℕ → List Item → List TrackedParameter
 tracked_parameters means k [] = []

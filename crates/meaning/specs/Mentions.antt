@@ -93,16 +93,16 @@ pub record Row : Type 0 where
 -- Calls
 
 -- where an expression stands as a whole
-pub data Place : Type 0 where
-  nowhere : Place
-  as_statement : Place
+pub data CallPlace : Type 0 where
+  nowhere : CallPlace
+  as_statement : CallPlace
   -- it is the only value of a row
-  only_value : Row → Place
-  return_item : ℕ → Place
-  deferred : Place
+  only_value : Row → CallPlace
+  return_item : ℕ → CallPlace
+  deferred : CallPlace
 
 -- no call of a `select`'s communication stands as a whole
-abbrev pub place_in : Standing → Place → Place
+abbrev pub place_in : Standing → CallPlace → CallPlace
 place_in ordinary place = place
 place_in first_of_for place = place
 place_in communication place = nowhere
@@ -112,9 +112,9 @@ pub record Call : Type 0 where
   pub callee : Named
   pub arguments : Expressions
   pub has_ellipsis : Bool
-  pub place : Place
+  pub place : CallPlace
 
-abbrev pub call_of : Place → Expression → Expressions → Bool → Option Call
+abbrev pub call_of : CallPlace → Expression → Expressions → Bool → Option Call
 call_of place e es ellipsis =
     option_map (λ n. record { callee = n; arguments = es; has_ellipsis = ellipsis; place = place }) (as_named e)
 
@@ -148,7 +148,7 @@ argument_use None = other_use
 argument_use (Some c) =
     if is_start c.callee && (is_one c.arguments && not c.has_ellipsis) then started_by c.callee else other_use
 
-abbrev pub callee_use : Place → LiteralUse
+abbrev pub callee_use : CallPlace → LiteralUse
 callee_use deferred = deferred_call
 callee_use place = other_use
 
@@ -204,14 +204,14 @@ pub data Mark : Type 0 where
 
 -- where an expression stands: as a whole, how it is used if it is a literal, and the offset of its site
 pub record Spot : Type 0 where
-  pub place : Place
+  pub place : CallPlace
   pub literal : LiteralUse
   pub site : ℕ
 
 abbrev pub part_of : ℕ → Spot
 part_of site = record { place = nowhere; literal = other_use; site = site }
 
-abbrev pub whole : Place → ℕ → Spot
+abbrev pub whole : CallPlace → ℕ → Spot
 whole place site = record { place = place; literal = other_use; site = site }
 
 abbrev pub mention : ℕ → Role → Named → Mark
@@ -225,7 +225,7 @@ declaring site role n number =
 abbrev pub number_of : Identifier → Option ℕ
 number_of n = if is_blank n.text then None else Some n.span.start
 
-abbrev pub name_role : Place → Role
+abbrev pub name_role : CallPlace → Role
 name_role (return_item k) = returned k
 name_role place = elsewhere
 
@@ -254,7 +254,7 @@ argument_at None site k is_last e marks = marks
 argument_at (Some c) site k is_last e marks =
     if is_last && c.has_ellipsis then marks else argument_or c site k e marks
 
-abbrev pub new_literal_or : Place → ℕ → Option Named → List Mark → List Mark
+abbrev pub new_literal_or : CallPlace → ℕ → Option Named → List Mark → List Mark
 new_literal_or (only_value row) site n marks = named_or n site (new_literal row) marks
 new_literal_or place site n marks = marks
 

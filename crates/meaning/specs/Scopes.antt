@@ -75,17 +75,25 @@ signature_declared block (signature_of ps rs brackets) = parameters_declared blo
 abbrev pub type_declared : Span → Identifier → List Naming
 type_declared block n = declared_names type_keyword block n.span.start false (n ∷ [])
 
--- the name of a type switch, anew in each clause
-abbrev pub guard_declared : Option Identifier → Span → List Naming
-guard_declared None clause = []
-guard_declared (Some n) clause =
+abbrev pub end_of : Expression → ℕ
+end_of (expression_node form span) = span.end
+
+-- where the last of these ends, or else the offset
+abbrev pub end_of_last : ℕ → Expressions → ℕ
+end_of_last end no_expression = end
+end_of_last end (expression_and e es) = end_of_last (end_of e) es
+
+-- the name of a type switch, anew in each clause, after the clause's list of types
+abbrev pub guard_declared : Option Identifier → Span → Expressions → List Naming
+guard_declared None clause types = []
+guard_declared (Some n) clause types =
     declared
     record {
       name = n.text;
       number = clause.start;
       kind = Var;
       block = clause;
-      from = clause.start;
+      from = end_of_last clause.start types;
       is_short = false;
     }
 
@@ -96,9 +104,6 @@ first_of (Some q) n = q
 
 abbrev pub embedded_name : TypeName → List Naming
 embedded_name t = let n = first_of t.qualifier t.name in uses_name n.text n.span.start ∷ []
-
-abbrev pub end_of : Expression → ℕ
-end_of (expression_node form span) = span.end
 
 unfoldable mutual
   pub expression_names : Expression → List Naming
@@ -207,7 +212,7 @@ unfoldable mutual
   pub cases_names : Option Identifier → CaseClauses → List Naming
   cases_names guard no_case = []
   cases_names guard (case_and es ss span cs) =
-      guard_declared guard span ++ (expressions_names es ++ (statements_names span ss ++ cases_names guard cs))
+      guard_declared guard span es ++ (expressions_names es ++ (statements_names span ss ++ cases_names guard cs))
 
   pub communications_names : CommunicationClauses → List Naming
   communications_names no_communication = []

@@ -11,7 +11,7 @@ use Rattle.tree.specs.Syntax.{Identifier, Expression, expression_node, function_
 use Rattle.meaning.specs.Scopes.{is_blank}
 use Rattle.meaning.specs.OuterBlocks.{is_init}
 use Rattle.meaning.specs.Declarations.{Meaning, import_name}
-use Rattle.meaning.specs.Mentions.{Named, as_bare, RowForm, defines, assigns, declares, Standing, ordinary, first_of_for, communication, Row, Call, Place, nowhere, as_statement, only_value, return_item, deferred, Role, called, called_in_brackets, argument, returned, left, names_type, new_literal, parameter_pointer, Mention, LiteralUse, other_use, deferred_call, started_by, BodyPlace, Mark, mentions, defers_literal, returns, opens, closes, expression_marks, part_of}
+use Rattle.meaning.specs.Mentions.{Named, as_bare, RowForm, defines, assigns, declares, Standing, ordinary, first_of_for, communication, Row, Call, CallPlace, nowhere, as_statement, only_value, return_item, deferred, Role, called, called_in_brackets, argument, returned, left, names_type, new_literal, parameter_pointer, Mention, LiteralUse, other_use, deferred_call, started_by, BodyPlace, Mark, mentions, defers_literal, returns, opens, closes, expression_marks, part_of}
 use Rattle.meaning.specs.FunctionFacts.{context_path, errgroup_path, is_import, is_selected, is_of, is_cancel_type, VariableKind, cancel, group, TrackedParameter, FunctionFacts, items_of, given_positions}
 use Rattle.meaning.specs.Tracked.{Known, facts_of, is_universe, is_of_universe, is_maker, Giving, giving_of, local_meant_or, variable_of, declared_by, left_local, lefts_of, local_at, is_blank_at, is_binding_form, may_bind, only_call, row_giving, is_in, are_locals, row_obtains, GroupState, row_makes, Placed, placed, LocalRole, parameter, receiver, variadic, result, in_block, Local, find_local, locals_of, kind_of_local}
 
@@ -278,9 +278,9 @@ pub data Event : Type 0 where
   pass : VariableAt → Callee → ℕ → Event
   defer_pass : VariableAt → Callee → ℕ → Event
   lend : ℕ → Callee → ℕ → Event
-  -- with the literal that is started, if it is one
+  -- the group, and the literal that is started, if it is one; a try starts it or does nothing
   start : ℕ → Option ℕ → Event
-  try : ℕ → Event
+  try : ℕ → Option ℕ → Event
   wait : ℕ → Event
   defer_wait : ℕ → Event
   make : VariableAt → GroupState → Event
@@ -291,39 +291,39 @@ pub data Event : Type 0 where
 -- Allowed mentions
 
 -- `:=`, `=` and `var` have a value that stands as a whole; `const` has none
-abbrev pub is_value_place : Place → Bool
+abbrev pub is_value_place : CallPlace → Bool
 is_value_place nowhere = false
 is_value_place as_statement = false
 is_value_place (only_value row) = is_binding_form row.form
 is_value_place (return_item k) = false
 is_value_place deferred = false
 
-abbrev pub is_statement_place : Place → Bool
+abbrev pub is_statement_place : CallPlace → Bool
 is_statement_place nowhere = false
 is_statement_place as_statement = true
 is_statement_place (only_value row) = false
 is_statement_place (return_item k) = false
 is_statement_place deferred = false
 
-abbrev pub is_item_place : Place → Bool
+abbrev pub is_item_place : CallPlace → Bool
 is_item_place nowhere = false
 is_item_place as_statement = false
 is_item_place (only_value row) = false
 is_item_place (return_item k) = true
 is_item_place deferred = false
 
-abbrev pub is_deferred_place : Place → Bool
+abbrev pub is_deferred_place : CallPlace → Bool
 is_deferred_place nowhere = false
 is_deferred_place as_statement = false
 is_deferred_place (only_value row) = false
 is_deferred_place (return_item k) = false
 is_deferred_place deferred = true
 
-abbrev pub is_statement_or_value : Place → Bool
+abbrev pub is_statement_or_value : CallPlace → Bool
 is_statement_or_value p = is_statement_place p || is_value_place p
 
 -- a statement, an only value, or an item of a return list
-abbrev pub is_call_place : Place → Bool
+abbrev pub is_call_place : CallPlace → Bool
 is_call_place p = is_statement_or_value p || is_item_place p
 
 abbrev pub is_same_kind : VariableKind → VariableKind → Bool
@@ -415,7 +415,7 @@ abbrev pub group_tried : Seen → Local → List BodyPlace → Call → Option (
 group_tried seen l bodies c = allowed_if
     (is_statement_or_value c.place && (is_free seen (only_argument c)
     && list_all (is_member_of seen.known l) (literals_between l.body bodies)))
-    (try l.number ∷ [])
+    (try l.number (started_literal (only_argument c)) ∷ [])
 
 -- `g.Wait()` at a call place, and under `defer`; in literals where each one between is deferred, and not as an item
 abbrev pub group_awaited : Local → List BodyPlace → Call → Option (List Event)
@@ -587,7 +587,7 @@ row_call_faults seen n row (Some g) =
 abbrev pub hands_on : List ℕ → ℕ → Giving → Bool
 hands_on gives k g = list_all (λ p. is_in (k + p) gives) g.positions
 
-abbrev pub call_faults : Seen → List BodyPlace → Mention → Giving → Place → List UseFault
+abbrev pub call_faults : Seen → List BodyPlace → Mention → Giving → CallPlace → List UseFault
 call_faults seen bodies m g nowhere = last_fault cancel_used_otherwise m.named
 call_faults seen bodies m g as_statement = fault_at m.site cancel_discarded (last_name m.named)
 call_faults seen bodies m g (only_value row) = row_call_faults seen m.named row (row_giving seen.known row)
@@ -608,7 +608,7 @@ giving_faults seen bodies m (Some g) = giving_role_faults seen bodies m g m.role
 
 -- The package errgroup
 
-abbrev pub is_making_place : Seen → Place → Bool
+abbrev pub is_making_place : Seen → CallPlace → Bool
 is_making_place seen nowhere = false
 is_making_place seen as_statement = false
 is_making_place seen (only_value row) = makes_group seen row

@@ -10,9 +10,11 @@ ghost use Rattle.meaning.specs.UseLaws.{EachMentionIsOneOfThree, EventsStandAtOn
 /// not judged.
 pub const MOST_DEPTH: u32 = 200;
 
-/// The most cancel variables that a function may have. Of one with more that is the fault, and its paths
-/// are not judged.
-pub const MOST_TRACKED: usize = 48;
+/// The most cancel variables that a body may have. Of one with more that is the fault, and its paths are not judged.
+pub const MOST_CANCELS: usize = 48;
+
+/// The most groups that a body may have, in the same way.
+pub const MOST_GROUPS: usize = 12;
 
 /// Each front of a list of events that a code may go through is one at which it may stop, whatever the
 /// events are.

@@ -40,6 +40,14 @@ pub adds_at_spot : (a b : List KeptMark) (s t : Spot) (es : Expressions)
     → Adds a b (expressions_marks t es)
 adds_at_spot a b s t es same = adds_same a b (expressions_marks s es) (expressions_marks t es) (ap (λ x. expressions_marks x es) same)
 
+pub named_at_spot : {T E : Type 0} (result : Result T E) (a b : List KeptMark) (n : Option Named) (role : Role) (s t : Spot) (e : Expression)
+    → s ≡ t
+    → OnOk result (Adds a b (named_or n s.site role (expression_marks s e)))
+    → OnOk result (Adds a b (named_or n t.site role (expression_marks t e)))
+named_at_spot result a b n role s t e same =
+    same_adds result a b (named_or n s.site role (expression_marks s e)) (named_or n t.site role (expression_marks t e))
+    (ap (λ x. named_or n x.site role (expression_marks x e)) same)
+
 -- what is named, and where nothing is, other marks
 pub named_adds : {T E : Type 0} (result : Result T E) (a b : List KeptMark) (n m : Option Named) (site : ℕ) (role : Role) (xs ys : List Mark)
     → n ≡ m

@@ -6,8 +6,8 @@ use Rattle.mentions.specs.declared.mark.RowForm.TheVariants.{Defines, Assigns, D
 use Rattle.mentions.specs.declared.mark.Standing.{Standing as KeptStanding}
 use Rattle.mentions.specs.declared.mark.Standing.TheVariants.{Ordinary, FirstOfFor, Communication}
 use Rattle.mentions.specs.declared.mark.Row.{Row as KeptRow}
-use Rattle.mentions.specs.declared.mark.Place.{Place as KeptPlace}
-use Rattle.mentions.specs.declared.mark.Place.TheVariants.{Nowhere, Statement, OnlyValue, ReturnItem, Deferred}
+use Rattle.mentions.specs.declared.mark.CallPlace.{CallPlace as KeptPlace}
+use Rattle.mentions.specs.declared.mark.CallPlace.TheVariants.{Nowhere, Statement, OnlyValue, ReturnItem, Deferred}
 use Rattle.mentions.specs.declared.mark.Call.{Call as KeptCall}
 use Rattle.mentions.specs.declared.mark.LiteralUse.{LiteralUse as KeptUse}
 use Rattle.mentions.specs.declared.mark.LiteralUse.TheVariants.{Other, DeferredCall, StartedBy}
@@ -19,7 +19,7 @@ use Rattle.mentions.specs.declared.mark.Mark.{Mark as KeptMark}
 use Rattle.mentions.specs.declared.mark.Mark.TheVariants.{Mentions, DefersLiteral, Returns, Opens, Closes}
 use Rattle.mentions.specs.declared.mark.Spot.{Spot as KeptSpot}
 use Rattle.tree.specs.View.{identifier_syntax, parameters_syntax, signature_syntax, expressions_syntax, optional_expression_syntax, statements_syntax}
-use Rattle.meaning.specs.Mentions.{Named, RowForm, defines, assigns, declares, Standing, ordinary, first_of_for, communication, Row, Place, nowhere, as_statement, only_value, return_item, deferred, Call, LiteralUse, other_use, deferred_call, started_by, Role, elsewhere, called, called_in_brackets, argument, returned, left, names_type, new_literal, parameter_pointer, Mention, BodyPlace, Mark, mentions, defers_literal, returns, opens, closes, Spot}
+use Rattle.meaning.specs.Mentions.{Named, RowForm, defines, assigns, declares, Standing, ordinary, first_of_for, communication, Row, CallPlace, nowhere, as_statement, only_value, return_item, deferred, Call, LiteralUse, other_use, deferred_call, started_by, Role, elsewhere, called, called_in_brackets, argument, returned, left, names_type, new_literal, parameter_pointer, Mention, BodyPlace, Mark, mentions, defers_literal, returns, opens, closes, Spot}
 
 abbrev pub named_view : KeptNamed → Named
 named_view n = record { name = n.name.now; at = n.at; selected = option_map (λ m. m.now) n.selected }
@@ -42,7 +42,7 @@ row_view r = record {
   standing = standing_view r.standing;
 }
 
-abbrev pub place_view : KeptPlace → Place
+abbrev pub place_view : KeptPlace → CallPlace
 place_view Nowhere = nowhere
 place_view Statement = as_statement
 place_view (OnlyValue row) = only_value (row_view row)

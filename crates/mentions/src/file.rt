@@ -1,7 +1,7 @@
 //! The marks of a whole file.
 
 ghost use Rattle.std.specs.Prelude.{◌≡◌, OnOk, IfOk, option_map};
-ghost use Rattle.meaning.specs.Mentions.{receiver_marks, function_types_marks, function_marks, outer_specs_marks, top_level_marks, file_marks};
+ghost use Rattle.meaning.specs.Mentions.{part_of, expression_marks, receiver_marks, function_types_marks, function_marks, outer_specs_marks, top_level_marks, file_marks};
 ghost use Rattle.mentions.specs.MarkViews.{Adds, marks_view};
 ghost use Rattle.tree.specs.Syntax.{no_spec};
 ghost use Rattle.tree.specs.View.{expression_syntax, parameters_syntax, block_syntax, function_syntax, specs_syntax, spec_and, top_level_syntax, file_syntax};
@@ -33,8 +33,8 @@ pub fn file_marks<'a>(alloc: Global, file: &'a File) -> Result<Vec<Mark<'a>>, Al
 ///
 /// Memory was refused.
 pub fn expression_marks<'a>(alloc: Global, value: &'a Expr) -> Result<Vec<Mark<'a>>, AllocError>
-    ensures { IfOk result (λ marks. marks_view marks.items ≡ Rattle.meaning.specs.Mentions.expression_marks
-        (Rattle.meaning.specs.Mentions.part_of 0) (expression_syntax value.now)) }
+    ensures { IfOk result (λ marks. marks_view marks.items ≡ expression_marks
+        (part_of 0) (expression_syntax value.now)) }
 {
     let mut marks = Vec::new(alloc);
     expression(&mut marks, part_of(0), value)?;

@@ -12,7 +12,8 @@ mod walk;
 pub use around::is_body;
 pub use file::{expression_marks, file_marks};
 pub use mark::{
-    BodyPlace, Call, LiteralUse, Mark, Mention, Named, Place, Role, Row, RowForm, Spot, Standing,
+    BodyPlace, Call, CallPlace, LiteralUse, Mark, Mention, Named, Role, Row, RowForm, Spot,
+    Standing,
 };
 pub use named::{as_bare, as_bracketed, as_named, as_new_literal, as_pointer};
 pub use parts::call_of;

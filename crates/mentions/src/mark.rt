@@ -44,7 +44,7 @@ pub struct Row<'a> {
 
 /// Where an expression stands as a whole.
 #[derive(Clone, Copy)]
-pub enum Place<'a> {
+pub enum CallPlace<'a> {
     Nowhere,
     Statement,
     /// It is the only value of a row.
@@ -61,7 +61,7 @@ pub struct Call<'a> {
     pub arguments: &'a [Expr],
     /// Whether `...` stands after the last argument.
     pub has_ellipsis: bool,
-    pub place: Place<'a>,
+    pub place: CallPlace<'a>,
 }
 
 /// How a function literal is used.
@@ -133,10 +133,17 @@ pub enum Mark<'a> {
     Closes,
 }
 
+/// Which argument of its call an expression is.
+#[derive(Clone, Copy)]
+pub struct Position {
+    pub index: usize,
+    pub is_last: bool,
+}
+
 /// Where an expression stands: as a whole, how it is used if it is a literal, and the offset of its site.
 #[derive(Clone, Copy)]
 pub struct Spot<'a> {
-    pub place: Place<'a>,
+    pub place: CallPlace<'a>,
     pub literal: LiteralUse<'a>,
     pub site: u32,
 }

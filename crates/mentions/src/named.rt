@@ -1,10 +1,10 @@
 //! Expressions that are names, or names with another one after a dot.
 
 ghost use Rattle.std.specs.Prelude.{◌≡◌, option_map};
-ghost use Rattle.meaning.specs.Mentions.{as_bare, as_named, as_bracketed, as_pointer, as_new_literal, without_brackets, embedded};
+ghost use Rattle.meaning.specs.Mentions.{addressed, select_from, as_bare, as_named, as_bracketed, as_pointer, as_new_literal, without_brackets, embedded};
 ghost use Rattle.mentions.specs.MarkViews.{named_view};
 ghost use Rattle.tree.specs.declared.operator.UnaryOperator.TheVariants.{Address};
-ghost use Rattle.tree.specs.View.{expression_syntax, type_name_syntax};
+ghost use Rattle.tree.specs.View.{expression_syntax, identifier_syntax, type_name_syntax};
 
 use crate::mark::Named;
 use tree::{Expr, ExprKind, Identifier, TypeName, UnaryOperator};
@@ -40,8 +40,8 @@ pub fn as_named(expression: &Expr) -> Option<Named<'_>>
 
 /// `n.m`, where there is an n.
 pub fn select_from<'a>(named: Option<Named<'a>>, member: &'a Identifier) -> Option<Named<'a>>
-    ensures { option_map named_view result ≡ Rattle.meaning.specs.Mentions.select_from
-        (option_map named_view named.entry) (Rattle.tree.specs.View.identifier_syntax member.now) }
+    ensures { option_map named_view result ≡ select_from
+        (option_map named_view named.entry) (identifier_syntax member.now) }
 {
     match named {
         Some(named) => Some(Named {
@@ -111,7 +111,7 @@ fn as_empty_literal(operand: &Expr) -> Option<Named<'_>>
 
 /// `&n`: the operand of the operator.
 pub fn addressed(operator: UnaryOperator, operand: &Expr) -> Option<Named<'_>>
-    ensures { option_map named_view result ≡ Rattle.meaning.specs.Mentions.addressed operator
+    ensures { option_map named_view result ≡ addressed operator
         (expression_syntax operand.now) }
 {
     match operator {

@@ -1,32 +1,29 @@
 //! What a mark says of a name, and the names that are declared.
 
 ghost use Rattle.std.specs.Prelude.{◌≡◌, ◌&&◌, not, [], ◌∷◌, OnOk, option_map, map};
-ghost use Rattle.meaning.specs.Mentions.{call_of, argument_use, callee_use, place_in, name_role, is_one, value_spot, mention, declaring, number_of, left_names, declared_elsewhere, guard_in_clause};
+ghost use Rattle.meaning.specs.Mentions.{part_of, whole, is_start, elsewhere, call_of, argument_use, callee_use, place_in, name_role, is_one, value_spot, mention, declaring, number_of, left_names, declared_elsewhere, guard_in_clause};
 ghost use Rattle.mentions.specs.MarkViews.{Adds, named_view, row_view, place_view, call_view, use_view, role_view, standing_view, spot_view};
 ghost use Rattle.tree.specs.View.{expression_syntax, expressions_syntax, identifier_syntax};
 
-use crate::mark::{Call, LiteralUse, Mark, Mention, Named, Place, Role, Row, Spot, Standing};
+use crate::mark::{Call, CallPlace, LiteralUse, Mark, Mention, Named, Role, Row, Spot, Standing};
 use crate::named::as_named;
 use std::alloc::AllocError;
-use tree::{Expr, Identifier, Span};
-
-/// A name that declares nothing (the Go specification, "Blank identifier").
-const BLANK: &str = "_";
+use tree::{BLANK, Expr, Identifier, Span};
 
 /// A part of an expression: it stands nowhere as a whole.
 pub fn part_of<'a>(site: u32) -> Spot<'a>
-    ensures { spot_view result ≡ Rattle.meaning.specs.Mentions.part_of site }
+    ensures { spot_view result ≡ part_of site }
 {
     Spot {
-        place: Place::Nowhere,
+        place: CallPlace::Nowhere,
         literal: LiteralUse::Other,
         site,
     }
 }
 
 /// An expression at a place.
-pub fn whole(place: Place<'_>, site: u32) -> Spot<'_>
-    ensures { spot_view result ≡ Rattle.meaning.specs.Mentions.whole (place_view place.entry) site }
+pub fn whole(place: CallPlace<'_>, site: u32) -> Spot<'_>
+    ensures { spot_view result ≡ whole (place_view place.entry) site }
 {
     Spot {
         place,
@@ -36,13 +33,13 @@ pub fn whole(place: Place<'_>, site: u32) -> Spot<'_>
 }
 
 /// No call of what a `select` waits for stands as a whole.
-pub fn place_in<'a>(standing: Standing, place: Place<'a>) -> Place<'a>
+pub fn place_in<'a>(standing: Standing, place: CallPlace<'a>) -> CallPlace<'a>
     ensures { place_view result ≡ place_in (standing_view standing) (place_view place.entry) }
 {
     match standing {
         Standing::Ordinary => place,
         Standing::FirstOfFor => place,
-        Standing::Communication => Place::Nowhere,
+        Standing::Communication => CallPlace::Nowhere,
     }
 }
 
@@ -58,7 +55,7 @@ pub fn value_spot(row: Row<'_>, site: u32) -> Spot<'_>
     ensures { spot_view result ≡ value_spot (row_view row.entry) site }
 {
     if is_one(row.values) {
-        whole(place_in(row.standing, Place::OnlyValue(row)), site)
+        whole(place_in(row.standing, CallPlace::OnlyValue(row)), site)
     } else {
         part_of(site)
     }
@@ -66,7 +63,7 @@ pub fn value_spot(row: Row<'_>, site: u32) -> Spot<'_>
 
 /// A call of `n` or `n.m`.
 pub fn call_of<'a>(
-    place: Place<'a>,
+    place: CallPlace<'a>,
     callee: &'a Expr,
     arguments: &'a [Expr],
     has_ellipsis: bool,
@@ -87,7 +84,7 @@ pub fn call_of<'a>(
 
 /// `g.Go` or `g.TryGo`, by its form.
 fn is_start(named: Named<'_>) -> bool
-    ensures { result ≡ Rattle.meaning.specs.Mentions.is_start (named_view named.entry) }
+    ensures { result ≡ is_start (named_view named.entry) }
 {
     match named.selected {
         Some(member) => member == "Go" || member == "TryGo",
@@ -97,7 +94,7 @@ fn is_start(named: Named<'_>) -> bool
 
 /// Whether the call may start its argument: it has one, without `...`.
 fn starts_argument(call: Call<'_>) -> bool
-    ensures { result ≡ (Rattle.meaning.specs.Mentions.is_start (named_view call.entry.callee)
+    ensures { result ≡ (is_start (named_view call.entry.callee)
         && (is_one (expressions_syntax call.entry.arguments.now) && not call.entry.has_ellipsis)) }
 {
     is_start(call.callee) && is_one(call.arguments) && !call.has_ellipsis
@@ -120,21 +117,21 @@ pub fn argument_use(call: Option<Call<'_>>) -> LiteralUse<'_>
 }
 
 /// How a literal is used that is called at the place.
-pub fn callee_use<'a>(place: Place<'_>) -> LiteralUse<'a>
+pub fn callee_use<'a>(place: CallPlace<'_>) -> LiteralUse<'a>
     ensures { use_view result ≡ callee_use (place_view place.entry) }
 {
     match place {
-        Place::Deferred => LiteralUse::DeferredCall,
+        CallPlace::Deferred => LiteralUse::DeferredCall,
         _ => LiteralUse::Other,
     }
 }
 
 /// What the place asks of a name that stands there as a whole.
-pub fn name_role<'a>(place: Place<'_>) -> Role<'a>
+pub fn name_role<'a>(place: CallPlace<'_>) -> Role<'a>
     ensures { role_view result ≡ name_role (place_view place.entry) }
 {
     match place {
-        Place::ReturnItem(index) => Role::Returned(index),
+        CallPlace::ReturnItem(index) => Role::Returned(index),
         _ => Role::Elsewhere,
     }
 }
@@ -217,7 +214,7 @@ pub fn declare_elsewhere<'a>(
     name: &'a Identifier,
 ) -> Result<(), AllocError>
     ensures { OnOk result (Adds marks.old.items marks.new.items (declaring site
-        Rattle.meaning.specs.Mentions.elsewhere (identifier_syntax name.now)
+        elsewhere (identifier_syntax name.now)
         (number_of (identifier_syntax name.now)) ∷ [])) }
 {
     declare(marks, site, Role::Elsewhere, name, number_of(name))

@@ -1,13 +1,14 @@
 //! The marks of expressions, types and statements.
 
 ghost use Rattle.std.specs.Prelude.{◌≡◌, ◌+◌, ◌<◌, ◌&&◌, not, OnOk, drop, length, option_map};
-ghost use Rattle.meaning.specs.Mentions.{named_or, callee_or, argument_at, literal_body, in_body, deferral, expression_marks, form_marks, expressions_marks, optional_marks, arguments_marks, items_marks, lefts_marks, names_type_marks, signature_marks, parameters_marks, fields_marks, statement_marks, statement_form_marks, statements_marks, optional_statement_marks, cases_marks, communications_marks, specs_marks};
+ghost use Rattle.meaning.specs.Mentions.{nowhere, part_of, named_or, new_literal_or, as_new_literal, callee_or, argument_use, argument_at, argument_or, is_none_left, parameter_type_or, literal_body, in_body, deferral, expression_marks, form_marks, expressions_marks, optional_marks, arguments_marks, items_marks, lefts_marks, names_type_marks, signature_marks, parameters_marks, fields_marks, statement_marks, statement_form_marks, statements_marks, optional_statement_marks, cases_marks, communications_marks, specs_marks};
 ghost use Rattle.mentions.specs.MarkViews.{Adds, named_view, row_view, place_view, call_view, use_view, role_view, standing_view, spot_view};
 ghost use Rattle.tree.specs.Syntax.{no_parameter, no_field, no_spec};
 ghost use Rattle.tree.specs.View.{identifier_syntax, expression_form, expression_syntax, expressions_syntax, optional_expression_syntax, signature_syntax, parameters_syntax, fields_syntax, statement_form, statement_syntax, statements_syntax, optional_statement_syntax, cases_syntax, communications_syntax, specs_syntax, parameter_and, field_and, spec_and, literal_syntax};
 
 use crate::mark::{
-    BodyPlace, Call, LiteralUse, Mark, Named, Place, Role, Row, RowForm, Spot, Standing,
+    BodyPlace, Call, CallPlace, LiteralUse, Mark, Named, Position, Role, Row, RowForm, Spot,
+    Standing,
 };
 use crate::named::{
     addressed, as_bare, as_bracketed, as_named, as_new_literal, as_pointer, embedded, select_from,
@@ -38,7 +39,7 @@ pub fn expression<'a>(
 #[cycle(marks)]
 fn part<'a>(marks: &mut Vec<Mark<'a>>, site: u32, inner: &'a Expr) -> Result<(), AllocError>
     ensures { OnOk result (Adds marks.old.items marks.new.items (expression_marks
-        (Rattle.meaning.specs.Mentions.part_of site) (expression_syntax inner.now))) }
+        (part_of site) (expression_syntax inner.now))) }
 {
     expression(marks, part_of(site), inner)
 }
@@ -49,27 +50,31 @@ fn named_or<'a>(
     marks: &mut Vec<Mark<'a>>,
     named: Option<Named<'a>>,
     role: Role<'a>,
-    literal: LiteralUse<'a>,
     site: u32,
     other: &'a Expr,
 ) -> Result<(), AllocError>
     ensures { OnOk result (Adds marks.old.items marks.new.items (named_or (option_map named_view named.entry) site
-        (role_view role.entry) (expression_marks record {
-          place = Rattle.meaning.specs.Mentions.nowhere;
-          literal = use_view literal.entry;
-          site = site;
-        } (expression_syntax other.now)))) }
+        (role_view role.entry) (expression_marks (part_of site) (expression_syntax other.now)))) }
+{
+    named_at(marks, named, role, part_of(site), other)
+}
+
+/// The marks of what is named, or else those of the expression, which stands at the spot.
+#[cycle(marks)]
+fn named_at<'a>(
+    marks: &mut Vec<Mark<'a>>,
+    named: Option<Named<'a>>,
+    role: Role<'a>,
+    spot: Spot<'a>,
+    other: &'a Expr,
+) -> Result<(), AllocError>
+    ensures { OnOk result (Adds marks.old.items marks.new.items (named_or (option_map named_view named.entry)
+        spot.entry.site (role_view role.entry) (expression_marks (spot_view spot.entry)
+        (expression_syntax other.now)))) }
 {
     match named {
-        Some(named) => mention(marks, site, role, named),
-        None => {
-            let spot = Spot {
-                place: Place::Nowhere,
-                literal,
-                site,
-            };
-            expression(marks, spot, other)
-        }
+        Some(named) => mention(marks, spot.site, role, named),
+        None => expression(marks, spot, other),
     }
 }
 
@@ -107,14 +112,7 @@ fn expression_form<'a>(
         ExprKind::Paren(operand) => part(marks, spot.site, operand),
         ExprKind::Selector(operand, member) => {
             let named = select_from(as_bare(operand), member);
-            named_or(
-                marks,
-                named,
-                Role::Elsewhere,
-                LiteralUse::Other,
-                spot.site,
-                operand,
-            )
+            named_or(marks, named, Role::Elsewhere, spot.site, operand)
         }
         ExprKind::Index(operand, index) => {
             part(marks, spot.site, operand)?;
@@ -207,21 +205,14 @@ fn unary<'a>(
     operand: &'a Expr,
 ) -> Result<(), AllocError>
     ensures { OnOk result (Adds marks.old.items marks.new.items
-        (Rattle.meaning.specs.Mentions.new_literal_or (place_view spot.entry.place) spot.entry.site
-        (Rattle.meaning.specs.Mentions.as_new_literal operator (expression_syntax operand.now))
-        (expression_marks (Rattle.meaning.specs.Mentions.part_of spot.entry.site) (expression_syntax operand.now)))) }
+        (new_literal_or (place_view spot.entry.place) spot.entry.site
+        (as_new_literal operator (expression_syntax operand.now))
+        (expression_marks (part_of spot.entry.site) (expression_syntax operand.now)))) }
 {
     match spot.place {
-        Place::OnlyValue(row) => {
+        CallPlace::OnlyValue(row) => {
             let named = as_new_literal(operator, operand);
-            named_or(
-                marks,
-                named,
-                Role::NewLiteral(row),
-                LiteralUse::Other,
-                spot.site,
-                operand,
-            )
+            named_or(marks, named, Role::NewLiteral(row), spot.site, operand)
         }
         _ => part(marks, spot.site, operand),
     }
@@ -238,21 +229,22 @@ fn callee_or<'a>(
 ) -> Result<(), AllocError>
     ensures { OnOk result (Adds marks.old.items marks.new.items (callee_or (option_map call_view call.entry) site
         (expression_syntax callee.now) (expression_marks record {
-          place = Rattle.meaning.specs.Mentions.nowhere;
+          place = nowhere;
           literal = use_view literal.entry;
           site = site;
         } (expression_syntax callee.now)))) }
 {
     match call {
         Some(call) => mention(marks, site, Role::Called(call), call.callee),
-        None => named_or(
-            marks,
-            as_bracketed(callee),
-            Role::CalledInBrackets,
-            literal,
-            site,
-            callee,
-        ),
+        None => {
+            let spot = Spot {
+                place: CallPlace::Nowhere,
+                literal,
+                site,
+            };
+            let named = as_bracketed(callee);
+            named_at(marks, named, Role::CalledInBrackets, spot, callee)
+        }
     }
 }
 
@@ -298,7 +290,11 @@ fn all_arguments<'a>(
         (arguments_marks (option_map call_view call.entry) site 0 (expressions_syntax list.now))) }
 {
     for (index, item) in list.iter().enumerate() {
-        argument(marks, call, site, index, is_last(index, list), item)?;
+        let position = Position {
+            index,
+            is_last: is_last(index, list),
+        };
+        argument(marks, call, site, position, item)?;
     }
     Ok(())
 }
@@ -306,41 +302,39 @@ fn all_arguments<'a>(
 /// Whether none is left behind the item of that number.
 fn is_last(index: usize, list: &[Expr]) -> bool
     requires { index < length list.now }
-    ensures { result ≡ Rattle.meaning.specs.Mentions.is_none_left (expressions_syntax (drop (index + 1) list.now)) }
+    ensures { result ≡ is_none_left (expressions_syntax (drop (index + 1) list.now)) }
 {
     index + 1 == list.len()
 }
 
-/// The argument of that number, and whether it is the last one; under `...` it is at no position.
+/// The argument at that position; under `...` it is at none.
 #[cycle(marks)]
 fn argument<'a>(
     marks: &mut Vec<Mark<'a>>,
     call: Option<Call<'a>>,
     site: u32,
-    index: usize,
-    is_last: bool,
+    position: Position,
     argument: &'a Expr,
 ) -> Result<(), AllocError>
     ensures { OnOk result (Adds marks.old.items marks.new.items
-        (argument_at (option_map call_view call.entry) site index
-        is_last (expression_syntax argument.now) (expression_marks record {
-          place = Rattle.meaning.specs.Mentions.nowhere;
-          literal = Rattle.meaning.specs.Mentions.argument_use
-              (option_map call_view call.entry);
+        (argument_at (option_map call_view call.entry) site position.index
+        position.is_last (expression_syntax argument.now) (expression_marks record {
+          place = nowhere;
+          literal = argument_use (option_map call_view call.entry);
           site = site;
         } (expression_syntax argument.now)))) }
 {
     let spot = Spot {
-        place: Place::Nowhere,
+        place: CallPlace::Nowhere,
         literal: argument_use(call),
         site,
     };
     match call {
         Some(call) => {
-            if is_last && call.has_ellipsis {
+            if position.is_last && call.has_ellipsis {
                 expression(marks, spot, argument)
             } else {
-                argument_of(marks, call, spot, index, argument)
+                argument_of(marks, call, spot, position.index, argument)
             }
         }
         None => expression(marks, spot, argument),
@@ -356,35 +350,18 @@ fn argument_of<'a>(
     index: usize,
     argument: &'a Expr,
 ) -> Result<(), AllocError>
-    ensures { OnOk result (Adds marks.old.items marks.new.items (Rattle.meaning.specs.Mentions.argument_or
-        (call_view call.entry) spot.entry.site index (expression_syntax argument.now) (expression_marks record {
-          place = Rattle.meaning.specs.Mentions.nowhere;
-          literal = use_view spot.entry.literal;
-          site = spot.entry.site;
-        } (expression_syntax argument.now)))) }
+    ensures { OnOk result (Adds marks.old.items marks.new.items (argument_or (call_view call.entry) spot.entry.site
+        index (expression_syntax argument.now) (expression_marks (spot_view spot.entry)
+        (expression_syntax argument.now)))) }
 {
     match &argument.kind {
         ExprKind::Unary(operator, operand) => {
             let role = Role::Argument(index, true, call);
-            named_or(
-                marks,
-                addressed(*operator, operand),
-                role,
-                spot.literal,
-                spot.site,
-                argument,
-            )
+            named_at(marks, addressed(*operator, operand), role, spot, argument)
         }
         _ => {
             let role = Role::Argument(index, false, call);
-            named_or(
-                marks,
-                as_named(argument),
-                role,
-                spot.literal,
-                spot.site,
-                argument,
-            )
+            named_at(marks, as_named(argument), role, spot, argument)
         }
     }
 }
@@ -395,7 +372,7 @@ fn items<'a>(marks: &mut Vec<Mark<'a>>, site: u32, list: &'a [Expr]) -> Result<(
     ensures { OnOk result (Adds marks.old.items marks.new.items (items_marks site 0 (expressions_syntax list.now))) }
 {
     for (index, item) in list.iter().enumerate() {
-        expression(marks, whole(Place::ReturnItem(index), site), item)?;
+        expression(marks, whole(CallPlace::ReturnItem(index), site), item)?;
     }
     Ok(())
 }
@@ -413,7 +390,7 @@ fn lefts<'a>(
 {
     for (index, item) in list.iter().enumerate() {
         let role = Role::Left(index, row);
-        named_or(marks, as_bare(item), role, LiteralUse::Other, site, item)?;
+        named_or(marks, as_bare(item), role, site, item)?;
     }
     Ok(())
 }
@@ -432,7 +409,7 @@ fn names_type<'a>(
     match present {
         Some(kind) => {
             let role = Role::NamesType(row);
-            named_or(marks, as_named(kind), role, LiteralUse::Other, site, kind)
+            named_or(marks, as_named(kind), role, site, kind)
         }
         None => Ok(()),
     }
@@ -515,19 +492,12 @@ fn parameter_type<'a>(
     kind: &'a Expr,
 ) -> Result<(), AllocError>
     ensures { OnOk result (Adds marks.old.items marks.new.items
-        (Rattle.meaning.specs.Mentions.parameter_type_or is_plain
-        (expression_syntax kind.now) site (expression_marks (Rattle.meaning.specs.Mentions.part_of site)
+        (parameter_type_or is_plain
+        (expression_syntax kind.now) site (expression_marks (part_of site)
         (expression_syntax kind.now)))) }
 {
     if is_plain {
-        named_or(
-            marks,
-            as_pointer(kind),
-            Role::ParameterPointer,
-            LiteralUse::Other,
-            site,
-            kind,
-        )
+        named_or(marks, as_pointer(kind), Role::ParameterPointer, site, kind)
     } else {
         part(marks, site, kind)
     }
@@ -585,7 +555,7 @@ fn statement_form<'a>(
         }
         StmtKind::Labeled(_, labeled) => statement(marks, standing, labeled),
         StmtKind::Expr(value) => {
-            let place = place_in(standing, Place::Statement);
+            let place = place_in(standing, CallPlace::Statement);
             expression(marks, whole(place, at), value)
         }
         StmtKind::Send(channel, value) => {
@@ -619,7 +589,7 @@ fn statement_form<'a>(
             left_names(marks, row, at, names)
         }
         StmtKind::Go(call) => part(marks, at, call),
-        StmtKind::Defer(call) => expression(marks, whole(Place::Deferred, at), call),
+        StmtKind::Defer(call) => expression(marks, whole(CallPlace::Deferred, at), call),
         StmtKind::Return(values) => {
             items(marks, at, values)?;
             marks.push(Mark::Returns(at, values))?;

@@ -10,7 +10,7 @@ use crate::first::keep_first_name;
 use crate::package_names::PackageNames;
 use indexmap::IndexMap;
 use std::alloc::{AllocError, Global};
-use tree::{File, ImportDecl, ImportSpec};
+use tree::{BLANK, File, ImportDecl, ImportSpec};
 
 /// What follows the last slash of a path.
 fn last_element(path: &str) -> &str
@@ -54,7 +54,7 @@ fn add_import<'a>(
         (string_bytes spec.now.path))) }
 {
     let name = import_name(packages, spec);
-    if name != "_" {
+    if name != BLANK {
         keep_first_name(imports, name, spec.path.as_str())?;
     }
     Ok(())

@@ -15,5 +15,6 @@ mod resolution;
 mod second;
 
 pub use decl::{Decl, NameFault};
+pub use package_block::{INIT, can_be_meant};
 pub use package_names::PackageNames;
 pub use resolution::{Names, resolve};

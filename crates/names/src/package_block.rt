@@ -10,7 +10,10 @@ ghost use Rattle.tree.specs.View.{identifier_syntax, spec_and, specs_syntax, fun
 use crate::first::keep_first_name;
 use indexmap::IndexMap;
 use std::alloc::{AllocError, Global};
-use tree::{File, Func, Identifier, Spec, TopLevelDecl};
+use tree::{BLANK, File, Func, Identifier, Spec, TopLevelDecl};
+
+/// The name of functions that run before `main`, and to which nothing can refer.
+pub const INIT: &str = "init";
 
 /// Adds a name, and whether it is that of a function. The blank identifier declares nothing.
 fn add_name<'a>(
@@ -21,7 +24,7 @@ fn add_name<'a>(
     ensures { OnOk result (Adds block.old block.new (is_function_in (declares_at_package_level is_function
         (identifier_syntax name.now).text))) }
 {
-    if name.text.as_str() != "_" {
+    if name.text.as_str() != BLANK {
         keep_first_name(block, name.text.as_str(), is_function)?;
     }
     Ok(())
@@ -65,7 +68,7 @@ pub fn can_be_meant(function: &Func) -> bool
     ensures { result ≡ can_be_meant (function_syntax function.now) }
 {
     let name = function.name.text.as_str();
-    function.receiver.is_none() && name != "_" && name != "init"
+    function.receiver.is_none() && name != BLANK && name != INIT
 }
 
 fn add_function<'a>(

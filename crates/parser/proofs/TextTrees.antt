@@ -1,4 +1,4 @@
--- What is read of a text's tokens is the text's tree, and where nothing is read it has none.
+-- What is read of a text's tokens is the text's tree and its only one, and where nothing is read it has none.
 use Rattle.std.proofs.Common.{◌≡◌, ◌≢◌, ℕ, List, Some, None, Ok, Err, refl, sym, ap, ◌∙◌}
 use Rattle.std.proofs.lemmas.Option.{none-some}
 use Rattle.lexer.specs.declared.token.Token.{Token}
@@ -12,6 +12,7 @@ use Rattle.meaning.specs.TreeOfText.{first_place, IsTreeOf}
 use Rattle.tree_reader.specs.Reader.{read_file}
 use Rattle.tree_reader.proofs.Sound.{file-sound}
 use Rattle.tree_reader.proofs.CompleteFile.{read_file-complete}
+use Rattle.tree_reader.proofs.OneTree.{one_tree}
 use Rattle.parser.specs.declared.fault.ParseFault.{ParseFault}
 use Rattle.parser.specs.declared.fault.ParseFault.TheVariants.{Unexpected, LeftOut, TooDeep, OutOfMemory}
 use Rattle.parser.specs.Faults.{IsNotRead, Refuses}
@@ -41,7 +42,14 @@ module _ (text : List ℕ) (tokens : List Token) (cut : IsTokens text tokens) wh
   refused OutOfMemory h other = absurd (other refl)
 
   pub parsed_tree : (file : File) (last : Cursor) → read_file text (first_place tokens) ≡ Some (file_syntax file, last) → IsParsed text (Ok file)
-  parsed_tree file last e = record { tree = tree_read (file_syntax file) last e; no_tree = tt; offset = tt }
+  parsed_tree file last e =
+      let tree = tree_read (file_syntax file) last e in
+      record {
+        tree = tree;
+        no_other_tree = λ other t. one_tree text other (file_syntax file) t tree;
+        no_tree = tt;
+        offset = tt;
+      }
 
   pub parsed_fault : (fault : ParseFault) → Refuses text fault (read_file text (first_place tokens)) → IsParsed text (Err fault)
-  parsed_fault fault h = record { tree = tt; no_tree = refused fault h.0; offset = h.1 }
+  parsed_fault fault h = record { tree = tt; no_other_tree = tt; no_tree = refused fault h.0; offset = h.1 }

@@ -1,20 +1,14 @@
 -- Where a function's name is followed by a square bracket, no function is read: type parameters are left out.
 use Rattle.std.proofs.Common.{◌≡◌, ℕ, true, List, [], ◌∷◌, Some, None, refl}
-use denote.Enum.Bare.{same_true}
-use Rattle.lexer.specs.contracts.token.TokenKind.{the_type}
 use Rattle.lexer.specs.Spelling.{same_kind}
 use Rattle.lexer.specs.declared.token.Token.{Token}
-use Rattle.lexer.specs.declared.token.TokenKind.{TokenKind}
 use Rattle.lexer.specs.declared.token.TokenKind.TheVariants.{LeftBracket}
 use Rattle.tree.specs.Syntax.{Identifier, Parameters}
 use Rattle.std.specs.Prelude.{Option}
 use Rattle.meaning.specs.Cursor.{Cursor}
 use Rattle.tree_reader.specs.Reader.{Readers, read_parameters, read_signature, read_receiver, read_function_declaration}
 use Rattle.tree_reader.specs.Reading.{stands, behind, take, read_identifier}
-
-is_kind : (kind wanted : TokenKind) → same_kind kind wanted ≡ true → kind ≡ wanted
-unfolding same_kind
-is_kind kind wanted e = same_true the_type tt kind wanted e
+use Rattle.tree_reader.proofs.Steps.{same_kind_is}
 
 module _ (text : List ℕ) (r : Readers) where
   bracket-first : (t : Token) (rest : List Token) (end : ℕ) → t.kind ≡ LeftBracket → read_signature text r (record { left = t ∷ rest; end = end }) ≡ None
@@ -24,7 +18,7 @@ module _ (text : List ℕ) (r : Readers) where
   bracket-from : (tokens : List Token) (end : ℕ) → stands LeftBracket (record { left = tokens; end = end }) ≡ true → read_signature text r (record { left = tokens; end = end }) ≡ None
   unfolding stands
   bracket-from [] end e = absurd cc
-  bracket-from (t ∷ rest) end e = bracket-first t rest end (is_kind t.kind LeftBracket e)
+  bracket-from (t ∷ rest) end e = bracket-first t rest end (same_kind_is t.kind LeftBracket e)
 
   pub no_signature : (place : Cursor) → stands LeftBracket place ≡ true → read_signature text r place ≡ None
   no_signature place e = bracket-from place.left place.end e

@@ -14,7 +14,7 @@ ghost use Rattle.parser.specs.Faults.{GivesOrRefuses};
 
 use crate::fault::{ParseFault, fault_in};
 use lexer::TokenKind;
-use parser_base::cursor::{Place, Read, Source};
+use parser_base::cursor::{Read, SourceTokens, TokenPlace};
 use parser_base::declarations::import;
 use parser_base::fault::{LeftOut, Stop};
 use parser_base::holding;
@@ -27,7 +27,7 @@ use tree::{Block, Expr, File, Func, Identifier, ImportDecl, Param, Stmt, TopLeve
 use tree_hold::{list, release};
 
 /// Whether no token is left.
-fn is_over(source: Source<'_>, place: Place) -> bool
+fn is_over(source: SourceTokens<'_>, place: TokenPlace) -> bool
     ensures { result ≡ is_over source.entry.text.now (cursor source.entry place) }
 {
     match source.tokens.get(place.at) {
@@ -41,7 +41,7 @@ fn is_over(source: Source<'_>, place: Place) -> bool
 /// # Errors
 ///
 /// Where another token stands than one can have there, and out of memory.
-fn imports(source: Source<'_>, place: Place) -> Read<Vec<ImportDecl>>
+fn imports(source: SourceTokens<'_>, place: TokenPlace) -> Read<Vec<ImportDecl>>
     ensures { Gives (seen source.entry (λ is. map import_syntax is.items)) result (read_imports source.entry.text.now
         (steps (cursor source.entry place)) (cursor source.entry place)) }
 {
@@ -65,10 +65,10 @@ fn imports(source: Source<'_>, place: Place) -> Read<Vec<ImportDecl>>
 ///
 /// Where another token stands, and out of memory.
 #[tactic(auto, unfolding(tree_reader::specs::Reader::read_receiver))]
-fn receiver<F: Fn(Wanted, Place) -> Read<Expr>>(
-    source: Source<'_>,
+fn receiver<F: Fn(Wanted, TokenPlace) -> Read<Expr>>(
+    source: SourceTokens<'_>,
     parts: &F,
-    place: Place,
+    place: TokenPlace,
 ) -> Read<Option<Vec<Param>>>
     requires expressions { ReadsExpressions source (F.pre parts.now) (F.post parts.now) }
     requires top { source.below ≡ MOST_DEPTH }
@@ -88,10 +88,10 @@ fn receiver<F: Fn(Wanted, Place) -> Read<Expr>>(
 ///
 /// Where another token stands, and out of memory.
 #[tactic(auto, unfolding(tree_reader::specs::Reader::read_body))]
-fn body<S: Fn(Place) -> Read<Stmt>>(
-    source: Source<'_>,
+fn body<S: Fn(TokenPlace) -> Read<Stmt>>(
+    source: SourceTokens<'_>,
     statements: &S,
-    place: Place,
+    place: TokenPlace,
 ) -> Read<Option<Block>>
     requires statements { ReadsStatements source (S.pre statements.now) (S.post statements.now) }
     requires top { source.below ≡ MOST_DEPTH }
@@ -111,11 +111,11 @@ fn body<S: Fn(Place) -> Read<Stmt>>(
 ///
 /// Where another token stands, and out of memory.
 #[tactic(auto, unfolding(tree_reader::specs::Reader::read_function_declaration))]
-fn function<F: Fn(Wanted, Place) -> Read<Expr>, S: Fn(Place) -> Read<Stmt>>(
-    source: Source<'_>,
+fn function<F: Fn(Wanted, TokenPlace) -> Read<Expr>, S: Fn(TokenPlace) -> Read<Stmt>>(
+    source: SourceTokens<'_>,
     parts: &F,
     statements: &S,
-    place: Place,
+    place: TokenPlace,
 ) -> Read<Func>
     requires expressions { ReadsExpressions source (F.pre parts.now) (F.post parts.now) }
     requires statements { ReadsStatements source (S.pre statements.now) (S.post statements.now) }
@@ -148,11 +148,11 @@ fn function<F: Fn(Wanted, Place) -> Read<Expr>, S: Fn(Place) -> Read<Stmt>>(
 ///
 /// Where another token stands, and out of memory.
 #[tactic(auto, unfolding(tree_reader::specs::Reader::read_top_level))]
-fn top_level<F: Fn(Wanted, Place) -> Read<Expr>, S: Fn(Place) -> Read<Stmt>>(
-    source: Source<'_>,
+fn top_level<F: Fn(Wanted, TokenPlace) -> Read<Expr>, S: Fn(TokenPlace) -> Read<Stmt>>(
+    source: SourceTokens<'_>,
     parts: &F,
     statements: &S,
-    place: Place,
+    place: TokenPlace,
 ) -> Read<TopLevelDecl>
     requires expressions { ReadsExpressions source (F.pre parts.now) (F.post parts.now) }
     requires statements { ReadsStatements source (S.pre statements.now) (S.post statements.now) }
@@ -179,11 +179,11 @@ fn top_level<F: Fn(Wanted, Place) -> Read<Expr>, S: Fn(Place) -> Read<Stmt>>(
 ///
 /// Where another token stands, and out of memory.
 #[tactic(auto, unfolding(crate::specs::FileParts::read_declared))]
-fn declared<F: Fn(Wanted, Place) -> Read<Expr>, S: Fn(Place) -> Read<Stmt>>(
-    source: Source<'_>,
+fn declared<F: Fn(Wanted, TokenPlace) -> Read<Expr>, S: Fn(TokenPlace) -> Read<Stmt>>(
+    source: SourceTokens<'_>,
     parts: &F,
     statements: &S,
-    place: Place,
+    place: TokenPlace,
 ) -> Read<TopLevelDecl>
     requires expressions { ReadsExpressions source (F.pre parts.now) (F.post parts.now) }
     requires statements { ReadsStatements source (S.pre statements.now) (S.post statements.now) }
@@ -201,12 +201,12 @@ fn declared<F: Fn(Wanted, Place) -> Read<Expr>, S: Fn(Place) -> Read<Stmt>>(
 /// # Errors
 ///
 /// Where another token stands, where a declaration is too deep, and out of memory.
-fn top_levels<F: Fn(Wanted, Place) -> Read<Expr>, S: Fn(Place) -> Read<Stmt>>(
-    source: Source<'_>,
+fn top_levels<F: Fn(Wanted, TokenPlace) -> Read<Expr>, S: Fn(TokenPlace) -> Read<Stmt>>(
+    source: SourceTokens<'_>,
     parts: &F,
     statements: &S,
-    place: Place,
-) -> Result<(Vec<TopLevelDecl>, Place), ParseFault>
+    place: TokenPlace,
+) -> Result<(Vec<TopLevelDecl>, TokenPlace), ParseFault>
     requires expressions { ReadsExpressions source (F.pre parts.now) (F.post parts.now) }
     requires statements { ReadsStatements source (S.pre statements.now) (S.post statements.now) }
     requires top { source.below ≡ MOST_DEPTH }
@@ -245,7 +245,7 @@ type Front = (Identifier, Vec<ImportDecl>);
 ///
 /// Where another token stands, and out of memory.
 #[tactic(auto, unfolding(crate::specs::FileParts::read_front))]
-fn front(source: Source<'_>, place: Place) -> Read<Front>
+fn front(source: SourceTokens<'_>, place: TokenPlace) -> Read<Front>
     ensures { Gives (seen source.entry (λ front. (identifier_syntax front.0, map import_syntax front.1.items))) result
         (read_front source.entry.text.now (cursor source.entry place)) }
 {
@@ -261,12 +261,12 @@ fn front(source: Source<'_>, place: Place) -> Read<Front>
 /// # Errors
 ///
 /// Where another token stands, where a declaration is too deep, and out of memory.
-pub fn file<F: Fn(Wanted, Place) -> Read<Expr>, S: Fn(Place) -> Read<Stmt>>(
-    source: Source<'_>,
+pub fn file<F: Fn(Wanted, TokenPlace) -> Read<Expr>, S: Fn(TokenPlace) -> Read<Stmt>>(
+    source: SourceTokens<'_>,
     parts: &F,
     statements: &S,
-    place: Place,
-) -> Result<(File, Place), ParseFault>
+    place: TokenPlace,
+) -> Result<(File, TokenPlace), ParseFault>
     requires expressions { ReadsExpressions source (F.pre parts.now) (F.post parts.now) }
     requires statements { ReadsStatements source (S.pre statements.now) (S.post statements.now) }
     requires top { source.below ≡ MOST_DEPTH }

@@ -7,7 +7,7 @@ ghost use Rattle.parser_base.specs.Gives.{Gives};
 ghost use Rattle.parser_base.specs.Parts.{read_wanted};
 ghost use Rattle.parser_base.specs.Places.{cursor, seen, parts_of};
 
-use parser_base::cursor::{Place, Read, Source};
+use parser_base::cursor::{Read, SourceTokens, TokenPlace};
 use parser_base::fault::Stop;
 use parser_base::parts::Wanted;
 use parser_expressions::expressions::{expression_of, type_of, value_of};
@@ -15,12 +15,12 @@ use parser_statements::statements::statement_of;
 use tree::{Expr, Stmt};
 
 /// The source of the parts of a node, which may be one less deep.
-fn one_less_deep(source: Source<'_>) -> Source<'_>
+fn one_less_deep(source: SourceTokens<'_>) -> SourceTokens<'_>
     ensures text { result.text.now ≡ source.entry.text.now }
     ensures tokens { result.tokens.now ≡ source.entry.tokens.now }
     ensures below { result.below ≡ source.entry.below - 1 }
 {
-    Source {
+    SourceTokens {
         alloc: source.alloc,
         text: source.text,
         tokens: source.tokens,
@@ -35,7 +35,7 @@ fn one_less_deep(source: Source<'_>) -> Source<'_>
 /// Where another token stands, where it is too deep, and out of memory.
 #[cycle(node)]
 #[tactic(auto, unfolding(tree_reader::specs::Reader::readers))]
-pub fn node(source: Source<'_>, wanted: Wanted, place: Place) -> Read<Expr>
+pub fn node(source: SourceTokens<'_>, wanted: Wanted, place: TokenPlace) -> Read<Expr>
     ensures { Gives (seen source.entry expression_syntax) result (read_wanted (parts_of source.entry) wanted (cursor
         source.entry place)) }
 {
@@ -43,11 +43,11 @@ pub fn node(source: Source<'_>, wanted: Wanted, place: Place) -> Read<Expr>
         return Err(Stop::TooDeep);
     }
     let inner = one_less_deep(source);
-    let parts = |wanted: Wanted, place: Place| -> Read<Expr>
+    let parts = |wanted: Wanted, place: TokenPlace| -> Read<Expr>
         ensures { Gives (seen inner.entry expression_syntax) result (read_wanted (parts_of inner.entry) wanted (cursor
             inner.entry place)) }
     { node(inner, wanted, place) };
-    let statements = |place: Place| -> Read<Stmt>
+    let statements = |place: TokenPlace| -> Read<Stmt>
         ensures { Gives (seen inner.entry statement_syntax) result ((parts_of inner.entry).read_statement (cursor
             inner.entry place)) }
     { statement_node(inner, place) };
@@ -67,7 +67,7 @@ pub fn node(source: Source<'_>, wanted: Wanted, place: Place) -> Read<Expr>
 /// Where another token stands, where it is too deep, and out of memory.
 #[cycle(node)]
 #[tactic(auto, unfolding(tree_reader::specs::Reader::readers))]
-pub fn statement_node(source: Source<'_>, place: Place) -> Read<Stmt>
+pub fn statement_node(source: SourceTokens<'_>, place: TokenPlace) -> Read<Stmt>
     ensures { Gives (seen source.entry statement_syntax) result ((parts_of source.entry).read_statement (cursor
         source.entry place)) }
 {
@@ -75,11 +75,11 @@ pub fn statement_node(source: Source<'_>, place: Place) -> Read<Stmt>
         return Err(Stop::TooDeep);
     }
     let inner = one_less_deep(source);
-    let parts = |wanted: Wanted, place: Place| -> Read<Expr>
+    let parts = |wanted: Wanted, place: TokenPlace| -> Read<Expr>
         ensures { Gives (seen inner.entry expression_syntax) result (read_wanted (parts_of inner.entry) wanted (cursor
             inner.entry place)) }
     { node(inner, wanted, place) };
-    let statements = |place: Place| -> Read<Stmt>
+    let statements = |place: TokenPlace| -> Read<Stmt>
         ensures { Gives (seen inner.entry statement_syntax) result ((parts_of inner.entry).read_statement (cursor
             inner.entry place)) }
     { statement_node(inner, place) };

@@ -8,7 +8,7 @@ use crate::files::file;
 use crate::node::{node, statement_node};
 use lexer::Token;
 use meaning::MOST_DEPTH;
-use parser_base::cursor::{Place, Source};
+use parser_base::cursor::{SourceTokens, TokenPlace};
 use parser_base::parts::Wanted;
 use std::alloc::Global;
 use tree::File;
@@ -23,15 +23,15 @@ pub fn parse(alloc: Global, text: &[u8], tokens: &[Token]) -> Result<File, Parse
     requires { IsTokens text.now tokens.now }
     ensures { IsParsed text.now result }
 {
-    let source = Source {
+    let source = SourceTokens {
         alloc,
         text,
         tokens,
         below: MOST_DEPTH,
     };
-    let parts = |wanted: Wanted, place: Place| node(source, wanted, place);
-    let statements = |place: Place| statement_node(source, place);
-    match file(source, &parts, &statements, Place { at: 0, end: 0 }) {
+    let parts = |wanted: Wanted, place: TokenPlace| node(source, wanted, place);
+    let statements = |place: TokenPlace| statement_node(source, place);
+    match file(source, &parts, &statements, TokenPlace { at: 0, end: 0 }) {
         Ok((tree, _)) => Ok(tree),
         Err(fault) => Err(fault),
     }

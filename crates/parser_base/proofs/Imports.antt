@@ -1,10 +1,7 @@
 -- Imports, and those that are not read.
 use Rattle.std.proofs.Common.{◌≡◌, ℕ, suc, ◌+◌, ◌-◌, ◌<◌, ◌≤◌, true, false, List, [], ◌∷◌, ◌++◌, map, Some, None, refl, sym, ap, ◌∙◌, arith}
-use denote.Enum.Bare.{same_true}
-use Rattle.lexer.specs.contracts.token.TokenKind.{the_type}
 use Rattle.lexer.specs.Spelling.{same_kind}
 use Rattle.lexer.specs.declared.token.Token.{Token}
-use Rattle.lexer.specs.declared.token.TokenKind.{TokenKind}
 use Rattle.lexer.specs.declared.token.TokenKind.TheVariants.{Dot, RightParenthesis}
 use Rattle.meaning.specs.Cursor.{Cursor}
 use Rattle.tree.specs.declared.file.ImportSpec.{ImportSpec as KeptImport}
@@ -12,14 +9,11 @@ use Rattle.tree.specs.Syntax.{ImportSpec}
 use Rattle.tree.specs.View.{import_spec_syntax}
 use Rattle.tree_reader.specs.Reader.{read_import_spec, read_import_specs}
 use Rattle.tree_reader.specs.Reading.{Read, stands, steps, take_semicolon, read_optional_identifier}
+use Rattle.tree_reader.proofs.Steps.{same_kind_is}
 use Rattle.parser_base.specs.declared.fault.Stop.{Stop}
 use Rattle.parser_base.specs.Gives.{Stops}
 use Rattle.parser_base.proofs.Faults.{fails_too}
 use Rattle.parser_base.proofs.Rounds.{after_front, after_front-nil, after_front-push, after_front-end, with_more}
-
-is_kind : (kind wanted : TokenKind) → same_kind kind wanted ≡ true → kind ≡ wanted
-unfolding same_kind
-is_kind kind wanted e = same_true the_type tt kind wanted e
 
 dot-first : (text : List ℕ) (t : Token) (rest : List Token) (end : ℕ) → t.kind ≡ Dot → read_import_spec text (record { left = t ∷ rest; end = end }) ≡ None
 unfolding read_import_spec read_optional_identifier stands same_kind
@@ -28,7 +22,7 @@ dot-first text t rest end e = rw e refl
 dot-from : (text : List ℕ) (tokens : List Token) (end : ℕ) → stands Dot (record { left = tokens; end = end }) ≡ true → read_import_spec text (record { left = tokens; end = end }) ≡ None
 unfolding stands
 dot-from text [] end e = absurd cc
-dot-from text (t ∷ rest) end e = dot-first text t rest end (is_kind t.kind Dot e)
+dot-from text (t ∷ rest) end e = dot-first text t rest end (same_kind_is t.kind Dot e)
 
 pub dot-import : (text : List ℕ) (place : Cursor) → stands Dot place ≡ true → read_import_spec text place ≡ None
 dot-import text place e = dot-from text place.left place.end e

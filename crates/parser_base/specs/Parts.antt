@@ -11,8 +11,8 @@ use Rattle.meaning.specs.Cursor.{Cursor}
 use Rattle.meaning.specs.WellFormed.{operator_level}
 use Rattle.tree_reader.specs.Reader.{Readers, Braced, of_next, binary_operator, is_guard, names_type}
 use Rattle.tree_reader.specs.Reading.{Read, stands}
-use Rattle.parser_base.specs.declared.cursor.Source.{Source}
-use Rattle.parser_base.specs.declared.cursor.Place.{Place}
+use Rattle.parser_base.specs.declared.cursor.SourceTokens.{SourceTokens}
+use Rattle.parser_base.specs.declared.cursor.TokenPlace.{TokenPlace}
 use Rattle.parser_base.specs.declared.fault.Stop.{Stop}
 use Rattle.parser_base.specs.declared.parts.Wanted.{Wanted}
 use Rattle.parser_base.specs.declared.parts.Wanted.TheVariants.{Expression as wanted_expression, TypeExpression, Element}
@@ -26,25 +26,25 @@ read_wanted r Element place = r.read_value place
 
 -- The parts of what is read from a source are read by a function that may be called so, and then returns so.
 pub record ReadsExpressions
-    (source : Source)
-    (pre : Wanted → Place → Type 0)
-    (post : Wanted → Place → Result (Expr × Place) Stop → Type 0)
+    (source : SourceTokens)
+    (pre : Wanted → TokenPlace → Type 0)
+    (post : Wanted → TokenPlace → Result (Expr × TokenPlace) Stop → Type 0)
     : Type 0 where
-  pub may_be_called : (wanted : Wanted) (place : Place) → pre wanted place
+  pub may_be_called : (wanted : Wanted) (place : TokenPlace) → pre wanted place
   pub gives : (wanted : Wanted)
-      (place : Place)
-      (result : Result (Expr × Place) Stop)
+      (place : TokenPlace)
+      (result : Result (Expr × TokenPlace) Stop)
       → post wanted place result
       → Gives (seen source expression_syntax) result (read_wanted (parts_of source) wanted (cursor source place))
 
 pub record ReadsStatements
-    (source : Source)
-    (pre : Place → Type 0)
-    (post : Place → Result (Stmt × Place) Stop → Type 0)
+    (source : SourceTokens)
+    (pre : TokenPlace → Type 0)
+    (post : TokenPlace → Result (Stmt × TokenPlace) Stop → Type 0)
     : Type 0 where
-  pub may_be_called : (place : Place) → pre place
-  pub gives : (place : Place)
-      (result : Result (Stmt × Place) Stop)
+  pub may_be_called : (place : TokenPlace) → pre place
+  pub gives : (place : TokenPlace)
+      (result : Result (Stmt × TokenPlace) Stop)
       → post place result
       → Gives (seen source statement_syntax) result ((parts_of source).read_statement (cursor source place))
 

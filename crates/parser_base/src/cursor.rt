@@ -16,7 +16,7 @@ use tree::{BasicLitKind, BinaryOperator, DeclKeyword, Span, UnaryOperator};
 /// A text, its tokens, how deep the parts of what is read of them may be, and what allocates the tree. The texts that
 /// the tree keeps of tokens are UTF-8.
 #[derive(Clone, Copy)]
-pub struct Source<'a> {
+pub struct SourceTokens<'a> {
     pub alloc: Global,
     pub text: &'a [u8],
     pub tokens: &'a [Token],
@@ -28,15 +28,15 @@ pub struct Source<'a> {
 /// A place among tokens: the index of the next one, and the offset in bytes of the end of the last one that was taken.
 /// A semicolon leaves that end as it was.
 #[derive(Clone, Copy)]
-pub struct Place {
+pub struct TokenPlace {
     pub at: usize,
     pub end: u32,
 }
 
 /// What is read, and the place after it.
-pub type Read<T> = Result<(T, Place), Stop>;
+pub type Read<T> = Result<(T, TokenPlace), Stop>;
 
-impl Source<'_> {
+impl SourceTokens<'_> {
     ghost use Rattle.std.specs.Prelude.{◌≡◌, length, suc};
     ghost use Rattle.lexer.specs.Spelling.{same_kind};
     ghost use Rattle.parser_base.specs.Gives.{Gives, IsNoMemory};
@@ -47,6 +47,7 @@ impl Source<'_> {
       of_next,
       is_string,
       is_end,
+      is_guard,
       ends_statements,
       follows_embedded,
       unary_operator,
@@ -68,7 +69,7 @@ impl Source<'_> {
     };
 
     /// The kind of the next token.
-    pub fn peek(self, place: Place) -> Option<TokenKind>
+    pub fn peek(self, place: TokenPlace) -> Option<TokenKind>
         ensures { result ≡ of_next (λ kind. Some kind) (cursor self.entry place) }
     {
         match self.tokens.get(place.at) {
@@ -79,7 +80,7 @@ impl Source<'_> {
 
     /// Whether a token of this kind stands next.
     #[tactic(auto, unfolding(tree_reader::specs::Reading::stands, lexer::specs::Spelling::same_kind))]
-    pub fn stands(self, place: Place, kind: TokenKind) -> bool
+    pub fn stands(self, place: TokenPlace, kind: TokenKind) -> bool
         ensures { result ≡ stands kind (cursor self.entry place) }
     {
         match self.tokens.get(place.at) {
@@ -89,11 +90,11 @@ impl Source<'_> {
     }
 
     /// The place after the next token.
-    pub fn behind(self, place: Place) -> Place
+    pub fn behind(self, place: TokenPlace) -> TokenPlace
         ensures { cursor self.entry result ≡ behind (cursor self.entry place) }
     {
         match self.tokens.get(place.at) {
-            Some(first) => Place {
+            Some(first) => TokenPlace {
                 at: place.at + 1,
                 end: first.end,
             },
@@ -107,7 +108,7 @@ impl Source<'_> {
     ///
     /// Where another token stands.
     #[tactic(auto, unfolding(tree_reader::specs::Reading::take))]
-    pub fn take(self, place: Place, kind: TokenKind) -> Result<Place, Stop>
+    pub fn take(self, place: TokenPlace, kind: TokenKind) -> Result<TokenPlace, Stop>
         ensures { Gives (cursor self.entry) result (take kind (cursor self.entry place)) }
     {
         if self.stands(place, kind) {
@@ -119,7 +120,7 @@ impl Source<'_> {
 
     /// The place after the next token, where it is of this kind.
     #[tactic(auto, unfolding(tree_reader::specs::Reading::past))]
-    pub fn past(self, place: Place, kind: TokenKind) -> Place
+    pub fn past(self, place: TokenPlace, kind: TokenKind) -> TokenPlace
         ensures { cursor self.entry result ≡ past kind (cursor self.entry place) }
     {
         if self.stands(place, kind) {
@@ -130,17 +131,17 @@ impl Source<'_> {
     }
 
     /// The place after the next token, a semicolon, which ends nothing.
-    pub fn behind_semicolon(self, place: Place) -> Place
+    pub fn behind_semicolon(self, place: TokenPlace) -> TokenPlace
         ensures { cursor self.entry result ≡ behind_semicolon (cursor self.entry place) }
     {
-        Place {
+        TokenPlace {
             at: self.behind(place).at,
             end: place.end,
         }
     }
 
     /// Whether a closing bracket or brace stands next.
-    pub fn closes(self, place: Place) -> bool
+    pub fn closes(self, place: TokenPlace) -> bool
         ensures { result ≡ is_next is_closing (cursor self.entry place) }
     {
         match self.tokens.get(place.at) {
@@ -150,7 +151,7 @@ impl Source<'_> {
     }
 
     /// Whether a type can begin with the next token.
-    pub fn begins_type(self, place: Place) -> bool
+    pub fn begins_type(self, place: TokenPlace) -> bool
         ensures { result ≡ is_next can_begin_type (cursor self.entry place) }
     {
         match self.tokens.get(place.at) {
@@ -160,7 +161,7 @@ impl Source<'_> {
     }
 
     /// Whether a string stands next.
-    pub fn has_string(self, place: Place) -> bool
+    pub fn has_string(self, place: TokenPlace) -> bool
         ensures { result ≡ is_next is_string (cursor self.entry place) }
     {
         match self.tokens.get(place.at) {
@@ -170,7 +171,7 @@ impl Source<'_> {
     }
 
     /// Whether a statement that could go on with an expression ends before the next token.
-    pub fn ends(self, place: Place) -> bool
+    pub fn ends(self, place: TokenPlace) -> bool
         ensures { result ≡ is_next is_end (cursor self.entry place) }
     {
         match self.tokens.get(place.at) {
@@ -180,7 +181,7 @@ impl Source<'_> {
     }
 
     /// Whether the statements of a block or a clause end before the next token.
-    pub fn ends_statements(self, place: Place) -> bool
+    pub fn ends_statements(self, place: TokenPlace) -> bool
         ensures { result ≡ is_next ends_statements (cursor self.entry place) }
     {
         match self.tokens.get(place.at) {
@@ -190,7 +191,7 @@ impl Source<'_> {
     }
 
     /// Whether the next token can follow the name of an embedded type.
-    pub fn follows_embedded(self, place: Place) -> bool
+    pub fn follows_embedded(self, place: TokenPlace) -> bool
         ensures { result ≡ is_next follows_embedded (cursor self.entry place) }
     {
         match self.tokens.get(place.at) {
@@ -200,7 +201,7 @@ impl Source<'_> {
     }
 
     /// The operator before an operand that stands next.
-    pub fn next_unary_operator(self, place: Place) -> Option<UnaryOperator>
+    pub fn next_unary_operator(self, place: TokenPlace) -> Option<UnaryOperator>
         ensures { result ≡ of_next unary_operator (cursor self.entry place) }
     {
         match self.tokens.get(place.at) {
@@ -210,7 +211,7 @@ impl Source<'_> {
     }
 
     /// The operator between two operands that stands next.
-    pub fn next_binary_operator(self, place: Place) -> Option<BinaryOperator>
+    pub fn next_binary_operator(self, place: TokenPlace) -> Option<BinaryOperator>
         ensures { result ≡ of_next binary_operator (cursor self.entry place) }
     {
         match self.tokens.get(place.at) {
@@ -220,7 +221,7 @@ impl Source<'_> {
     }
 
     /// The operator of an assignment such as `+=` that stands next.
-    pub fn next_assigning_operator(self, place: Place) -> Option<BinaryOperator>
+    pub fn next_assigning_operator(self, place: TokenPlace) -> Option<BinaryOperator>
         ensures { result ≡ of_next assigning_operator (cursor self.entry place) }
     {
         match self.tokens.get(place.at) {
@@ -230,7 +231,7 @@ impl Source<'_> {
     }
 
     /// The literal of one token that stands next.
-    pub fn next_literal_kind(self, place: Place) -> Option<BasicLitKind>
+    pub fn next_literal_kind(self, place: TokenPlace) -> Option<BasicLitKind>
         ensures { result ≡ of_next literal_kind (cursor self.entry place) }
     {
         match self.tokens.get(place.at) {
@@ -240,7 +241,7 @@ impl Source<'_> {
     }
 
     /// The word of a declaration that stands next.
-    pub fn next_declaration_keyword(self, place: Place) -> Option<DeclKeyword>
+    pub fn next_declaration_keyword(self, place: TokenPlace) -> Option<DeclKeyword>
         ensures { result ≡ of_next declaration_keyword (cursor self.entry place) }
     {
         match self.tokens.get(place.at) {
@@ -249,13 +250,22 @@ impl Source<'_> {
         }
     }
 
+    /// Whether at this dot a type switch asks for the type of what stands before it.
+    pub fn is_guard(self, place: TokenPlace) -> bool
+        ensures { result ≡ is_guard (cursor self.entry place) }
+    {
+        let inner = self.behind(place);
+        self.stands(inner, TokenKind::LeftParenthesis)
+            && self.stands(self.behind(inner), TokenKind::TypeKeyword)
+    }
+
     /// The place after a semicolon, which may be missing before a closing bracket or brace.
     ///
     /// # Errors
     ///
     /// Where another token stands.
     #[tactic(auto, unfolding(tree_reader::specs::Reading::take_semicolon))]
-    pub fn semicolon(self, place: Place) -> Result<Place, Stop>
+    pub fn semicolon(self, place: TokenPlace) -> Result<TokenPlace, Stop>
         ensures { Gives (cursor self.entry) result (take_semicolon (cursor self.entry place)) }
     {
         if self.stands(place, TokenKind::Semicolon) {
@@ -269,14 +279,14 @@ impl Source<'_> {
     }
 
     /// How many tokens are left, and one more.
-    pub fn steps(self, place: Place) -> usize
+    pub fn steps(self, place: TokenPlace) -> usize
         ensures { result ≡ steps (cursor self.entry place) }
     {
         self.tokens.len().saturating_sub(place.at) + 1
     }
 
     /// The place after all semicolons that stand next.
-    pub fn skip_semicolons(self, place: Place) -> Place
+    pub fn skip_semicolons(self, place: TokenPlace) -> TokenPlace
         ensures { cursor self.entry result ≡ skip_semicolons (cursor self.entry place) }
     {
         let mut after = place;
@@ -287,7 +297,7 @@ impl Source<'_> {
     }
 
     /// The offset at which the next token begins.
-    pub fn start(self, place: Place) -> u32
+    pub fn start(self, place: TokenPlace) -> u32
         ensures { result ≡ start_at (cursor self.entry place) }
     {
         match self.tokens.get(place.at) {
@@ -297,7 +307,7 @@ impl Source<'_> {
     }
 
     /// The bytes from the next token up to the end of the last one that was taken before `end`.
-    pub fn span_to(self, place: Place, end: Place) -> Span
+    pub fn span_to(self, place: TokenPlace, end: TokenPlace) -> Span
         ensures { result ≡ span_between (cursor self.entry place) (cursor self.entry end) }
     {
         Span {
@@ -309,7 +319,7 @@ impl Source<'_> {
     /// That the next token can't stand here, or is of a form that is left out. At the end of the tokens it is the
     /// text's end; a longer text than an offset can name has no tokens. Where the tokens go on as an expression that
     /// asks for a type as only a `switch` does, the word `type` is what can't stand here.
-    pub fn unexpected(self, place: Place) -> Stop
+    pub fn unexpected(self, place: TokenPlace) -> Stop
         ensures { IsNoMemory result }
     {
         let wrong = if self.asks_for_type(place) {
@@ -329,20 +339,16 @@ impl Source<'_> {
     }
 
     /// Whether `.(type` stands next, after what can be the end of an operand.
-    fn asks_for_type(self, place: Place) -> bool {
-        let inner = self.behind(place);
-        let before = Place {
+    fn asks_for_type(self, place: TokenPlace) -> bool {
+        let before = TokenPlace {
             at: place.at.saturating_sub(1),
             end: place.end,
         };
-        self.stands(place, TokenKind::Dot)
-            && self.stands(inner, TokenKind::LeftParenthesis)
-            && self.stands(self.behind(inner), TokenKind::TypeKeyword)
-            && self.ends_operand(before)
+        self.stands(place, TokenKind::Dot) && self.is_guard(place) && self.ends_operand(before)
     }
 
     /// Whether an operand can end with the next token.
-    fn ends_operand(self, place: Place) -> bool {
+    fn ends_operand(self, place: TokenPlace) -> bool {
         match self.peek(place) {
             Some(kind) => matches!(
                 kind,
@@ -360,7 +366,7 @@ impl Source<'_> {
     }
 
     /// The place of the first token from here on that begins at this offset or after it.
-    pub fn first_from(self, place: Place, offset: u32) -> Place {
+    pub fn first_from(self, place: TokenPlace, offset: u32) -> TokenPlace {
         let mut at = place.at;
         for _ in 0..self.tokens.len() {
             match self.tokens.get(at) {
@@ -368,6 +374,6 @@ impl Source<'_> {
                 _ => break,
             }
         }
-        Place { at, end: place.end }
+        TokenPlace { at, end: place.end }
     }
 }

@@ -8,7 +8,7 @@ ghost use Rattle.parser_base.specs.Places.{cursor, seen};
 ghost use Rattle.tree_reader.specs.Reader.{value_fits, read_import_spec, read_import_specs, read_import};
 ghost use Rattle.tree_reader.specs.Reading.{steps};
 
-use crate::cursor::{Place, Read, Source};
+use crate::cursor::{Read, SourceTokens, TokenPlace};
 use crate::fault::{LeftOut, Stop};
 use crate::names::{optional_identifier, quoted};
 use lexer::TokenKind;
@@ -37,7 +37,7 @@ pub fn value_fits(keyword: DeclKeyword, kind: &Option<Box<Expr>>, values: &[Expr
 ///
 /// Where it has a dot or no path, and out of memory.
 #[tactic(auto, unfolding(tree_reader::specs::Reader::read_import_spec))]
-pub fn import_spec(source: Source<'_>, place: Place) -> Read<ImportSpec>
+pub fn import_spec(source: SourceTokens<'_>, place: TokenPlace) -> Read<ImportSpec>
     ensures { Gives (seen source.entry import_spec_syntax) result (read_import_spec source.entry.text.now (cursor
         source.entry place)) }
 {
@@ -62,7 +62,7 @@ pub fn import_spec(source: Source<'_>, place: Place) -> Read<ImportSpec>
 }
 
 /// Imports up to a closing bracket, each with its semicolon, and the place after them.
-fn import_specs(source: Source<'_>, place: Place) -> Read<Vec<ImportSpec>>
+fn import_specs(source: SourceTokens<'_>, place: TokenPlace) -> Read<Vec<ImportSpec>>
     ensures { Gives (seen source.entry (λ specs. map import_spec_syntax specs.items)) result (read_import_specs
         source.entry.text.now (steps (cursor source.entry place)) (cursor source.entry place)) }
 {
@@ -86,7 +86,7 @@ fn import_specs(source: Source<'_>, place: Place) -> Read<Vec<ImportSpec>>
 ///
 /// Where another token stands than one can have there, and out of memory.
 #[tactic(auto, unfolding(tree_reader::specs::Reader::read_import))]
-pub fn import(source: Source<'_>, place: Place) -> Read<ImportDecl>
+pub fn import(source: SourceTokens<'_>, place: TokenPlace) -> Read<ImportDecl>
     ensures { Gives (seen source.entry import_syntax) result (read_import source.entry.text.now (cursor source.entry
         place)) }
 {

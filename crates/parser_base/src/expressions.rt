@@ -8,10 +8,10 @@ ghost use Rattle.tree.specs.View.{expression_syntax};
 ghost use Rattle.parser_base.specs.Gives.{Gives};
 ghost use Rattle.parser_base.specs.Parts.{goes_on, next_operator};
 ghost use Rattle.parser_base.specs.Places.{cursor, seen, parts_of};
-ghost use Rattle.tree_reader.specs.Reader.{is_guard, names_type, read_selector, read_named_type};
+ghost use Rattle.tree_reader.specs.Reader.{names_type, read_selector, read_named_type};
 ghost use Rattle.tree_reader.specs.Reading.{stands, behind, spanned, word_between};
 
-use crate::cursor::{Place, Read, Source};
+use crate::cursor::{Read, SourceTokens, TokenPlace};
 use crate::fault::Stop;
 use crate::kinds::operator_level;
 use crate::names::{identifier, word};
@@ -20,15 +20,6 @@ use lexer::TokenKind;
 use tree::{BinaryOperator, Expr, ExprKind};
 use tree_hold::{boxed, release};
 use tree_make as make;
-
-/// Whether at this dot a type switch asks for the type of what stands before it.
-pub fn is_guard(source: Source<'_>, place: Place) -> bool
-    ensures { result ≡ is_guard (cursor source.entry place) }
-{
-    let inner = source.behind(place);
-    source.stands(inner, TokenKind::LeftParenthesis)
-        && source.stands(source.behind(inner), TokenKind::TypeKeyword)
-}
 
 /// Whether it is `name` or `package.name`, which braces can make a composite literal.
 #[tactic(auto, unfolding(tree::specs::View::expression_form))]
@@ -43,11 +34,11 @@ pub fn names_type(operand: &Expr) -> bool
 }
 
 /// Whether a primary expression goes on after what was read of it.
-pub fn goes_on(source: Source<'_>, header: bool, operand: &Expr, place: Place) -> bool
+pub fn goes_on(source: SourceTokens<'_>, header: bool, operand: &Expr, place: TokenPlace) -> bool
     ensures { result ≡ goes_on header (expression_syntax operand.now) (cursor source.entry place) }
 {
     if source.stands(place, TokenKind::Dot) {
-        return !is_guard(source, place);
+        return !source.is_guard(place);
     }
     if source.stands(place, TokenKind::LeftBracket)
         || source.stands(place, TokenKind::LeftParenthesis)
@@ -58,7 +49,11 @@ pub fn goes_on(source: Source<'_>, header: bool, operand: &Expr, place: Place) -
 }
 
 /// The operator that stands next, of at least this level.
-pub fn next_operator(source: Source<'_>, least: u32, place: Place) -> Option<BinaryOperator>
+pub fn next_operator(
+    source: SourceTokens<'_>,
+    least: u32,
+    place: TokenPlace,
+) -> Option<BinaryOperator>
     ensures { result ≡ next_operator least (cursor source.entry place) }
 {
     match source.next_binary_operator(place) {
@@ -76,7 +71,7 @@ pub fn next_operator(source: Source<'_>, least: u32, place: Place) -> Option<Bin
 /// # Errors
 ///
 /// Out of memory.
-pub fn name(source: Source<'_>, place: Place) -> Read<Expr>
+pub fn name(source: SourceTokens<'_>, place: TokenPlace) -> Read<Expr>
     requires { stands identifier_kind (cursor source place) ≡ true }
     ensures { Gives (seen source.entry expression_syntax) result (Some (spanned (cursor source.entry place)
         (name_expression (word_between source.entry.text.now (cursor source.entry place) (behind (cursor source.entry
@@ -94,7 +89,12 @@ pub fn name(source: Source<'_>, place: Place) -> Read<Expr>
 ///
 /// Where no name stands, and out of memory.
 #[tactic(auto, unfolding(tree_reader::specs::Reader::read_selector))]
-pub fn selector(source: Source<'_>, from: Place, operand: Expr, place: Place) -> Read<Expr>
+pub fn selector(
+    source: SourceTokens<'_>,
+    from: TokenPlace,
+    operand: Expr,
+    place: TokenPlace,
+) -> Read<Expr>
     ensures { Gives (seen source.entry expression_syntax) result (read_selector source.entry.text.now (parts_of
         source.entry)
         source.entry.below (cursor source.entry from) (expression_syntax operand) (cursor source.entry place)) }
@@ -114,7 +114,7 @@ pub fn selector(source: Source<'_>, from: Place, operand: Expr, place: Place) ->
 ///
 /// Where no name stands after a dot, where its operand is too deep, and out of memory.
 #[tactic(auto, unfolding(tree_reader::specs::Reader::read_named_type))]
-pub fn named_type(source: Source<'_>, place: Place) -> Read<Expr>
+pub fn named_type(source: SourceTokens<'_>, place: TokenPlace) -> Read<Expr>
     requires { stands identifier_kind (cursor source place) ≡ true }
     ensures { Gives (seen source.entry expression_syntax) result (read_named_type source.entry.text.now (parts_of
         source.entry) source.entry.below (cursor source.entry place)) }

@@ -52,7 +52,13 @@ pub fn binary_operator(kind: TokenKind) -> Option<BinaryOperator>
     }
 }
 
-/// How tight an operator binds.
+/// The level of a unary expression, above those of all operators between two operands.
+pub const UNARY_LEVEL: u32 = 6;
+
+/// The level of a primary expression, above all others.
+pub const PRIMARY_LEVEL: u32 = 7;
+
+/// How tight an operator between two operands binds.
 pub fn operator_level(operator: BinaryOperator) -> u32
     ensures { result ≡ operator_level operator }
 {

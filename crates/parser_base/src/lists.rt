@@ -4,11 +4,11 @@ ghost use Rattle.std.specs.Prelude.{◌≡◌};
 ghost use Rattle.parser_base.specs.Places.{cursor, seen, parts_of};
 ghost use Rattle.tree_reader.specs.Reader.{read_tag};
 
-use crate::cursor::{Place, Source};
+use crate::cursor::{SourceTokens, TokenPlace};
 use tree::Span;
 
 /// A tag, if one stands here, and the place after it.
-pub fn tag(source: Source<'_>, place: Place) -> (Option<Span>, Place)
+pub fn tag(source: SourceTokens<'_>, place: TokenPlace) -> (Option<Span>, TokenPlace)
     ensures { seen source.entry (λ span. span) result ≡ read_tag source.entry.text.now (parts_of source.entry) (cursor
         source.entry
         place) }

@@ -10,7 +10,7 @@ ghost use Rattle.parser_base.specs.Places.{cursor, seen, parts_of};
 ghost use Rattle.tree_reader.specs.Reader.{is_string, read_type_name};
 ghost use Rattle.tree_reader.specs.Reading.{stands, behind, word_between, read_identifier, read_optional_identifier, read_identifiers};
 
-use crate::cursor::{Place, Read, Source};
+use crate::cursor::{Read, SourceTokens, TokenPlace};
 use lexer::TokenKind;
 use std::alloc::{AllocError, Global};
 use tree::{Identifier, TypeName};
@@ -40,7 +40,7 @@ fn text_between(alloc: Global, text: &[u8], start: usize, end: usize) -> Result<
 /// # Errors
 ///
 /// Out of memory.
-pub fn word(source: Source<'_>, place: Place) -> Result<String, AllocError>
+pub fn word(source: SourceTokens<'_>, place: TokenPlace) -> Result<String, AllocError>
     requires { stands identifier_kind (cursor source place) ≡ true }
     ensures { IfOk result (λ s. string_bytes s ≡ word_between source.entry.text.now (cursor source.entry place) (behind
         (cursor source.entry place))) }
@@ -55,7 +55,7 @@ pub fn word(source: Source<'_>, place: Place) -> Result<String, AllocError>
 /// # Errors
 ///
 /// Out of memory.
-pub fn quoted(source: Source<'_>, place: Place) -> Result<String, AllocError>
+pub fn quoted(source: SourceTokens<'_>, place: TokenPlace) -> Result<String, AllocError>
     requires { is_next is_string (cursor source place) ≡ true }
     ensures { IfOk result (λ s. string_bytes s ≡ slice_range source.entry.text.now (start_at (cursor source.entry
         place) + 1) ((behind (cursor source.entry place)).end - 1)) }
@@ -71,7 +71,7 @@ pub fn quoted(source: Source<'_>, place: Place) -> Result<String, AllocError>
 ///
 /// Where another token stands, and out of memory.
 #[tactic(auto, unfolding(tree_reader::specs::Reading::read_identifier, tree_reader::specs::Reading::take))]
-pub fn identifier(source: Source<'_>, place: Place) -> Read<Identifier>
+pub fn identifier(source: SourceTokens<'_>, place: TokenPlace) -> Read<Identifier>
     ensures { Gives (seen source.entry identifier_syntax) result (read_identifier source.entry.text.now (cursor
         source.entry place)) }
 {
@@ -90,7 +90,7 @@ pub fn identifier(source: Source<'_>, place: Place) -> Read<Identifier>
 ///
 /// Out of memory.
 #[tactic(auto, unfolding(tree_reader::specs::Reading::read_optional_identifier))]
-pub fn optional_identifier(source: Source<'_>, place: Place) -> Read<Option<Identifier>>
+pub fn optional_identifier(source: SourceTokens<'_>, place: TokenPlace) -> Read<Option<Identifier>>
     ensures { Gives (seen source.entry (option_map identifier_syntax)) result (read_optional_identifier
         source.entry.text.now (cursor source.entry place)) }
 {
@@ -106,7 +106,7 @@ pub fn optional_identifier(source: Source<'_>, place: Place) -> Read<Option<Iden
 /// # Errors
 ///
 /// Where another token stands, and out of memory.
-pub fn identifiers(source: Source<'_>, place: Place) -> Read<Vec<Identifier>>
+pub fn identifiers(source: SourceTokens<'_>, place: TokenPlace) -> Read<Vec<Identifier>>
     ensures { Gives (seen source.entry (λ ns. map identifier_syntax ns.items)) result (read_identifiers
         source.entry.text.now (cursor source.entry place)) }
 {
@@ -131,7 +131,7 @@ pub fn identifiers(source: Source<'_>, place: Place) -> Read<Vec<Identifier>>
 ///
 /// Where another token stands, and out of memory.
 #[tactic(auto, unfolding(tree_reader::specs::Reader::read_type_name))]
-pub fn type_name(source: Source<'_>, place: Place) -> Read<TypeName>
+pub fn type_name(source: SourceTokens<'_>, place: TokenPlace) -> Read<TypeName>
     ensures { Gives (seen source.entry type_name_syntax) result (read_type_name source.entry.text.now (parts_of
         source.entry)
         (cursor source.entry place)) }

@@ -8,7 +8,7 @@ ghost use Rattle.parser_base.specs.Gives.{Gives};
 ghost use Rattle.parser_base.specs.Parts.{ReadsExpressions, ReadsStatements};
 ghost use Rattle.parser_base.specs.Places.{cursor, seen, parts_of};
 
-use crate::cursor::{Place, Read, Source};
+use crate::cursor::{Read, SourceTokens, TokenPlace};
 use tree::{Expr, Stmt};
 
 /// An expression or a type that is to be read.
@@ -24,12 +24,12 @@ pub enum Wanted {
 }
 
 /// An expression of at least this level.
-pub fn expression<F: Fn(Wanted, Place) -> Read<Expr>>(
-    source: Source<'_>,
+pub fn expression<F: Fn(Wanted, TokenPlace) -> Read<Expr>>(
+    source: SourceTokens<'_>,
     parts: &F,
     header: bool,
     least: u32,
-    place: Place,
+    place: TokenPlace,
 ) -> Read<Expr>
     requires { ReadsExpressions source (F.pre parts.now) (F.post parts.now) }
     ensures { Gives (seen source.entry expression_syntax) result ((parts_of source.entry).read_expression header least
@@ -39,10 +39,10 @@ pub fn expression<F: Fn(Wanted, Place) -> Read<Expr>>(
 }
 
 /// A type.
-pub fn type_expression<F: Fn(Wanted, Place) -> Read<Expr>>(
-    source: Source<'_>,
+pub fn type_expression<F: Fn(Wanted, TokenPlace) -> Read<Expr>>(
+    source: SourceTokens<'_>,
     parts: &F,
-    place: Place,
+    place: TokenPlace,
 ) -> Read<Expr>
     requires { ReadsExpressions source (F.pre parts.now) (F.post parts.now) }
     ensures { Gives (seen source.entry expression_syntax) result ((parts_of source.entry).read_type (cursor
@@ -52,10 +52,10 @@ pub fn type_expression<F: Fn(Wanted, Place) -> Read<Expr>>(
 }
 
 /// An expression, or elements in braces.
-pub fn element_value<F: Fn(Wanted, Place) -> Read<Expr>>(
-    source: Source<'_>,
+pub fn element_value<F: Fn(Wanted, TokenPlace) -> Read<Expr>>(
+    source: SourceTokens<'_>,
     parts: &F,
-    place: Place,
+    place: TokenPlace,
 ) -> Read<Expr>
     requires { ReadsExpressions source (F.pre parts.now) (F.post parts.now) }
     ensures { Gives (seen source.entry expression_syntax) result ((parts_of source.entry).read_value (cursor
@@ -65,10 +65,10 @@ pub fn element_value<F: Fn(Wanted, Place) -> Read<Expr>>(
 }
 
 /// A statement.
-pub fn statement<S: Fn(Place) -> Read<Stmt>>(
-    source: Source<'_>,
+pub fn statement<S: Fn(TokenPlace) -> Read<Stmt>>(
+    source: SourceTokens<'_>,
     statements: &S,
-    place: Place,
+    place: TokenPlace,
 ) -> Read<Stmt>
     requires { ReadsStatements source (S.pre statements.now) (S.post statements.now) }
     ensures { Gives (seen source.entry statement_syntax) result ((parts_of source.entry).read_statement (cursor
@@ -78,14 +78,14 @@ pub fn statement<S: Fn(Place) -> Read<Stmt>>(
 }
 
 /// Whether an expression can be a part of what is read.
-pub fn fits(source: Source<'_>, expression: &Expr) -> bool
+pub fn fits(source: SourceTokens<'_>, expression: &Expr) -> bool
     ensures { result ≡ nat_le (expression_depth (expression_syntax expression.now)) source.entry.below }
 {
     expression.depth() <= source.below
 }
 
 /// Whether a statement can be a part of what is read.
-pub fn statement_fits(source: Source<'_>, statement: &Stmt) -> bool
+pub fn statement_fits(source: SourceTokens<'_>, statement: &Stmt) -> bool
     ensures { result ≡ nat_le (statement_depth (statement_syntax statement.now)) source.entry.below }
 {
     statement.depth() <= source.below

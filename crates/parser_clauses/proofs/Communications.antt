@@ -9,7 +9,8 @@ use Rattle.tree.specs.declared.span.Identifier.{Identifier as KeptIdentifier}
 use Rattle.tree.specs.declared.statement.StmtKind.{StmtKind, Expr as ExprStatement, Expr', Send, Send', Assign, Assign', Define, Define'}
 use Rattle.tree.specs.View.{statement_form, expressions_syntax}
 use Rattle.tree.proofs.Views.{statement_form-Assign, statement_form-Define}
-use Rattle.tree_reader.specs.Reader.{is_communication, is_one}
+use Rattle.meaning.specs.Mentions.{is_one}
+use Rattle.tree_reader.specs.Reader.{is_communication}
 
 pub waits-Expr : (k : StmtKind) (e : Expr) → k ≡ ExprStatement e → true ≡ is_communication (statement_form k)
 unfolding statement_form

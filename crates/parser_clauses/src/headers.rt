@@ -9,7 +9,7 @@ ghost use Rattle.tree_reader.specs.Reader.{read_header};
 
 use crate::simple::{as_part, simple};
 use lexer::TokenKind;
-use parser_base::cursor::{Place, Read, Source};
+use parser_base::cursor::{Read, SourceTokens, TokenPlace};
 use parser_base::parts::Wanted;
 use tree::{Expr, Stmt};
 
@@ -26,10 +26,10 @@ pub struct Header {
 ///
 /// Where another token stands, where it is too deep, and out of memory.
 #[tactic(auto, unfolding(tree_reader::specs::Reader::read_header))]
-pub fn read_header<F: Fn(Wanted, Place) -> Read<Expr>>(
-    source: Source<'_>,
+pub fn read_header<F: Fn(Wanted, TokenPlace) -> Read<Expr>>(
+    source: SourceTokens<'_>,
     parts: &F,
-    place: Place,
+    place: TokenPlace,
 ) -> Read<Header>
     requires { ReadsExpressions source (F.pre parts.now) (F.post parts.now) }
     ensures { Gives (seen source.entry header_syntax) result (read_header source.entry.text.now (parts_of source.entry)

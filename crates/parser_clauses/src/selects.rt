@@ -2,16 +2,17 @@
 
 ghost use Rattle.std.specs.Prelude.{◌≡◌};
 ghost use Rattle.tree.specs.View.{communication_clause_and, communications_syntax, optional_statement_syntax, statement_syntax};
+ghost use Rattle.meaning.specs.Grammar.{form_of};
 ghost use Rattle.parser_base.specs.Gives.{Gives};
 ghost use Rattle.parser_base.specs.Parts.{ReadsExpressions, ReadsStatements};
 ghost use Rattle.parser_base.specs.Places.{cursor, seen, parts_of};
 ghost use Rattle.parser_clauses.specs.Clauses.{read_communication_clause};
-ghost use Rattle.tree_reader.specs.Reader.{form_of_statement, is_communication, read_communication, read_communication_head, read_communications, read_select};
+ghost use Rattle.tree_reader.specs.Reader.{is_communication, read_communication, read_communication_head, read_communications, read_select};
 ghost use Rattle.tree_reader.specs.Reading.{steps};
 
 use crate::simple::{as_part, simple};
 use lexer::TokenKind;
-use parser_base::cursor::{Place, Read, Source};
+use parser_base::cursor::{Read, SourceTokens, TokenPlace};
 use parser_base::fault::Stop;
 use parser_base::holding;
 use parser_base::parts::Wanted;
@@ -22,7 +23,7 @@ use tree_make as make;
 
 /// Whether a clause of a `select` can wait for it.
 fn is_communication(statement: &Stmt) -> bool
-    ensures { result ≡ is_communication (form_of_statement (statement_syntax statement.now)) }
+    ensures { result ≡ is_communication (form_of (statement_syntax statement.now)) }
 {
     match &statement.kind {
         StmtKind::Expr(_) => true,
@@ -60,10 +61,10 @@ fn first_end(expressions: &[Expr]) -> u32 {
 ///
 /// Where another statement stands, where it is too deep, and out of memory.
 #[tactic(auto, unfolding(tree_reader::specs::Reader::read_communication))]
-fn communication<F: Fn(Wanted, Place) -> Read<Expr>>(
-    source: Source<'_>,
+fn communication<F: Fn(Wanted, TokenPlace) -> Read<Expr>>(
+    source: SourceTokens<'_>,
     parts: &F,
-    place: Place,
+    place: TokenPlace,
 ) -> Read<Option<Box<Stmt>>>
     requires { ReadsExpressions source (F.pre parts.now) (F.post parts.now) }
     ensures { Gives (seen source.entry optional_statement_syntax) result (read_communication source.entry.text.now
@@ -84,10 +85,10 @@ fn communication<F: Fn(Wanted, Place) -> Read<Expr>>(
 /// # Errors
 ///
 /// Where another token stands, where it is too deep, and out of memory.
-fn communication_head<F: Fn(Wanted, Place) -> Read<Expr>>(
-    source: Source<'_>,
+fn communication_head<F: Fn(Wanted, TokenPlace) -> Read<Expr>>(
+    source: SourceTokens<'_>,
     parts: &F,
-    place: Place,
+    place: TokenPlace,
 ) -> Read<Option<Box<Stmt>>>
     requires { ReadsExpressions source (F.pre parts.now) (F.post parts.now) }
     ensures { Gives (seen source.entry optional_statement_syntax) result (read_communication_head source.entry.text.now
@@ -105,11 +106,11 @@ fn communication_head<F: Fn(Wanted, Place) -> Read<Expr>>(
 /// # Errors
 ///
 /// Where another token stands, where it is too deep, and out of memory.
-fn communication_clause<F: Fn(Wanted, Place) -> Read<Expr>, S: Fn(Place) -> Read<Stmt>>(
-    source: Source<'_>,
+fn communication_clause<F: Fn(Wanted, TokenPlace) -> Read<Expr>, S: Fn(TokenPlace) -> Read<Stmt>>(
+    source: SourceTokens<'_>,
     parts: &F,
     statements: &S,
-    place: Place,
+    place: TokenPlace,
 ) -> Read<CommClause>
     requires expressions { ReadsExpressions source (F.pre parts.now) (F.post parts.now) }
     requires statements { ReadsStatements source (S.pre statements.now) (S.post statements.now) }
@@ -128,11 +129,11 @@ fn communication_clause<F: Fn(Wanted, Place) -> Read<Expr>, S: Fn(Place) -> Read
 /// # Errors
 ///
 /// Where another token stands, where it is too deep, and out of memory.
-fn communications<F: Fn(Wanted, Place) -> Read<Expr>, S: Fn(Place) -> Read<Stmt>>(
-    source: Source<'_>,
+fn communications<F: Fn(Wanted, TokenPlace) -> Read<Expr>, S: Fn(TokenPlace) -> Read<Stmt>>(
+    source: SourceTokens<'_>,
     parts: &F,
     statements: &S,
-    place: Place,
+    place: TokenPlace,
 ) -> Read<Vec<CommClause>>
     requires expressions { ReadsExpressions source (F.pre parts.now) (F.post parts.now) }
     requires statements { ReadsStatements source (S.pre statements.now) (S.post statements.now) }
@@ -161,11 +162,11 @@ fn communications<F: Fn(Wanted, Place) -> Read<Expr>, S: Fn(Place) -> Read<Stmt>
 ///
 /// Where another token stands, where it is too deep, and out of memory.
 #[tactic(auto, unfolding(tree_reader::specs::Reader::read_select))]
-pub fn select<F: Fn(Wanted, Place) -> Read<Expr>, S: Fn(Place) -> Read<Stmt>>(
-    source: Source<'_>,
+pub fn select<F: Fn(Wanted, TokenPlace) -> Read<Expr>, S: Fn(TokenPlace) -> Read<Stmt>>(
+    source: SourceTokens<'_>,
     parts: &F,
     statements: &S,
-    place: Place,
+    place: TokenPlace,
 ) -> Read<Stmt>
     requires expressions { ReadsExpressions source (F.pre parts.now) (F.post parts.now) }
     requires statements { ReadsStatements source (S.pre statements.now) (S.post statements.now) }

@@ -11,7 +11,7 @@ ghost use Rattle.tree_reader.specs.Reader.{as_identifier, as_identifiers, single
 ghost use Rattle.tree_reader.specs.Reading.{stands};
 
 use lexer::TokenKind;
-use parser_base::cursor::{Place, Read, Source};
+use parser_base::cursor::{Read, SourceTokens, TokenPlace};
 use parser_base::fault::Stop;
 use parser_base::holding;
 use parser_base::parts::{Wanted, expression, statement_fits};
@@ -25,7 +25,7 @@ use tree_make as make;
 /// # Errors
 ///
 /// Where it is another expression.
-fn name_of(source: Source<'_>, item: Expr, place: Place) -> Result<Identifier, Stop>
+fn name_of(source: SourceTokens<'_>, item: Expr, place: TokenPlace) -> Result<Identifier, Stop>
     ensures { Gives identifier_syntax result (as_identifier (expression_syntax item)) }
 {
     let Expr { kind, span } = item;
@@ -43,7 +43,11 @@ fn name_of(source: Source<'_>, item: Expr, place: Place) -> Result<Identifier, S
 /// # Errors
 ///
 /// Where one of them is another expression, and out of memory.
-pub fn names_of(source: Source<'_>, list: Vec<Expr>, place: Place) -> Result<Vec<Identifier>, Stop>
+pub fn names_of(
+    source: SourceTokens<'_>,
+    list: Vec<Expr>,
+    place: TokenPlace,
+) -> Result<Vec<Identifier>, Stop>
     ensures { Gives (λ ns. map identifier_syntax ns.items) result (as_identifiers (expressions_syntax list.items)) }
 {
     let mut left = list;
@@ -62,7 +66,7 @@ pub fn names_of(source: Source<'_>, list: Vec<Expr>, place: Place) -> Result<Vec
 /// # Errors
 ///
 /// Where there are none or more.
-pub fn single(source: Source<'_>, list: Vec<Expr>, place: Place) -> Result<Expr, Stop>
+pub fn single(source: SourceTokens<'_>, list: Vec<Expr>, place: TokenPlace) -> Result<Expr, Stop>
     ensures { Gives expression_syntax result (single (expressions_syntax list.items)) }
 {
     let mut left = list;
@@ -88,13 +92,13 @@ pub fn single(source: Source<'_>, list: Vec<Expr>, place: Place) -> Result<Expr,
 ///
 /// Where another token stands, and out of memory.
 #[tactic(auto, unfolding(tree_reader::specs::Reader::read_simple_after))]
-fn one_operand<F: Fn(Wanted, Place) -> Read<Expr>>(
-    source: Source<'_>,
+fn one_operand<F: Fn(Wanted, TokenPlace) -> Read<Expr>>(
+    source: SourceTokens<'_>,
     parts: &F,
     header: bool,
-    from: Place,
+    from: TokenPlace,
     left: Expr,
-    place: Place,
+    place: TokenPlace,
 ) -> Read<Stmt>
     requires expressions { ReadsExpressions source (F.pre parts.now) (F.post parts.now) }
     requires defines_none { stands define_token (cursor source place) ≡ false }
@@ -134,13 +138,13 @@ fn one_operand<F: Fn(Wanted, Place) -> Read<Expr>>(
 ///
 /// Where another token stands, and out of memory.
 #[tactic(auto, unfolding(tree_reader::specs::Reader::read_simple_after))]
-pub fn simple_after<F: Fn(Wanted, Place) -> Read<Expr>>(
-    source: Source<'_>,
+pub fn simple_after<F: Fn(Wanted, TokenPlace) -> Read<Expr>>(
+    source: SourceTokens<'_>,
     parts: &F,
     header: bool,
-    from: Place,
+    from: TokenPlace,
     left: Vec<Expr>,
-    place: Place,
+    place: TokenPlace,
 ) -> Read<Stmt>
     requires { ReadsExpressions source (F.pre parts.now) (F.post parts.now) }
     ensures { Gives (seen source.entry statement_syntax) result (read_simple_after source.entry.text.now (parts_of
@@ -169,11 +173,11 @@ pub fn simple_after<F: Fn(Wanted, Place) -> Read<Expr>>(
 ///
 /// Where another token stands, and out of memory.
 #[tactic(auto, unfolding(tree_reader::specs::Reader::read_simple))]
-pub fn simple<F: Fn(Wanted, Place) -> Read<Expr>>(
-    source: Source<'_>,
+pub fn simple<F: Fn(Wanted, TokenPlace) -> Read<Expr>>(
+    source: SourceTokens<'_>,
     parts: &F,
     header: bool,
-    place: Place,
+    place: TokenPlace,
 ) -> Read<Stmt>
     requires { ReadsExpressions source (F.pre parts.now) (F.post parts.now) }
     ensures { Gives (seen source.entry statement_syntax) result (read_simple source.entry.text.now (parts_of
@@ -188,7 +192,7 @@ pub fn simple<F: Fn(Wanted, Place) -> Read<Expr>>(
 /// # Errors
 ///
 /// Where it is too deep, and out of memory.
-pub fn as_part(source: Source<'_>, part: Stmt) -> Result<Option<Box<Stmt>>, Stop>
+pub fn as_part(source: SourceTokens<'_>, part: Stmt) -> Result<Option<Box<Stmt>>, Stop>
     ensures { Gives (optional_statement_syntax) result (as_part source.entry.text.now (parts_of source.entry)
         source.entry.below (statement_syntax part)) }
 {
@@ -205,7 +209,11 @@ pub fn as_part(source: Source<'_>, part: Stmt) -> Result<Option<Box<Stmt>>, Stop
 /// # Errors
 ///
 /// Where it is another statement.
-pub fn only_expression(source: Source<'_>, statement: Stmt, place: Place) -> Result<Expr, Stop>
+pub fn only_expression(
+    source: SourceTokens<'_>,
+    statement: Stmt,
+    place: TokenPlace,
+) -> Result<Expr, Stop>
     ensures { Gives (expression_syntax) result (statement_expression source.entry.text.now (parts_of source.entry)
         source.entry.below (statement_syntax statement)) }
 {

@@ -3,6 +3,7 @@
 ghost use Rattle.std.specs.Prelude.{◌≡◌, nat_le, option_map};
 ghost use Rattle.tree.specs.Syntax.{statement_node};
 ghost use Rattle.tree.specs.View.{case_clause_and, cases_syntax, expression_syntax, expressions_syntax, identifier_syntax, optional_statement_syntax, statement_syntax};
+ghost use Rattle.meaning.specs.Grammar.{form_of};
 ghost use Rattle.meaning.specs.WellFormed.{level, primary_level};
 ghost use Rattle.parser_base.specs.Gives.{Gives};
 ghost use Rattle.parser_base.specs.Parts.{ReadsExpressions, ReadsStatements};
@@ -10,13 +11,13 @@ ghost use Rattle.parser_base.specs.Places.{cursor, seen, parts_of};
 ghost use Rattle.parser_clauses.specs.Clauses.{read_braced_cases, read_case_clause};
 ghost use Rattle.parser_clauses.specs.Guards.{behind_type, guard_syntax, only, switch_form_of};
 ghost use Rattle.parser_clauses.specs.Headers.{header_syntax};
-ghost use Rattle.tree_reader.specs.Reader.{form_of_statement, primary_guard, read_case_head, read_cases, read_guard, read_switch, read_switch_guard, read_switch_header, type_guard};
+ghost use Rattle.tree_reader.specs.Reader.{primary_guard, read_case_head, read_cases, read_guard, read_switch, read_switch_guard, read_switch_header, type_guard};
 ghost use Rattle.tree_reader.specs.Reading.{steps};
 
 use crate::headers::{Header, read_header};
 use crate::simple::{only_expression, simple, single};
 use lexer::TokenKind;
-use parser_base::cursor::{Place, Read, Source};
+use parser_base::cursor::{Read, SourceTokens, TokenPlace};
 use parser_base::fault::Stop;
 use parser_base::holding;
 use parser_base::parts::Wanted;
@@ -69,10 +70,10 @@ fn only_name(names: Vec<Identifier>) -> Option<Identifier>
 ///
 /// Where the operand is no primary expression, and out of memory.
 fn primary_guard(
-    source: Source<'_>,
+    source: SourceTokens<'_>,
     name: Option<Identifier>,
     operand: Expr,
-    place: Place,
+    place: TokenPlace,
 ) -> Result<Guard, Stop>
     ensures { Gives guard_syntax result (primary_guard (option_map identifier_syntax name) (expression_syntax
         operand)) }
@@ -90,8 +91,8 @@ fn primary_guard(
 /// # Errors
 ///
 /// Where the statement has another form, and out of memory.
-fn type_guard(source: Source<'_>, statement: Stmt, place: Place) -> Result<Guard, Stop>
-    ensures { Gives guard_syntax result (type_guard (form_of_statement (statement_syntax statement))) }
+fn type_guard(source: SourceTokens<'_>, statement: Stmt, place: TokenPlace) -> Result<Guard, Stop>
+    ensures { Gives guard_syntax result (type_guard (form_of (statement_syntax statement))) }
 {
     let Stmt { kind, span } = statement;
     match kind {
@@ -118,7 +119,7 @@ fn type_guard(source: Source<'_>, statement: Stmt, place: Place) -> Result<Guard
 /// # Errors
 ///
 /// Where another token stands.
-fn behind_type(source: Source<'_>, place: Place) -> Result<Place, Stop>
+fn behind_type(source: SourceTokens<'_>, place: TokenPlace) -> Result<TokenPlace, Stop>
     ensures { Gives (cursor source.entry) result (behind_type (cursor source.entry place)) }
 {
     let word = source.take(place, TokenKind::LeftParenthesis)?;
@@ -132,7 +133,7 @@ fn behind_type(source: Source<'_>, place: Place) -> Result<Place, Stop>
 ///
 /// Where the statement has another form, where another token stands, and out of memory.
 #[tactic(auto, unfolding(tree_reader::specs::Reader::read_guard))]
-fn statement_guard(source: Source<'_>, statement: Stmt, place: Place) -> Read<Guard>
+fn statement_guard(source: SourceTokens<'_>, statement: Stmt, place: TokenPlace) -> Read<Guard>
     ensures { Gives (seen source.entry guard_syntax) result (read_guard source.entry.text.now (parts_of source.entry)
         source.entry.below (statement_syntax statement) (cursor source.entry place)) }
 {
@@ -158,11 +159,11 @@ fn statement_guard(source: Source<'_>, statement: Stmt, place: Place) -> Read<Gu
 ///
 /// Where another token stands, and out of memory.
 #[tactic(auto, unfolding(tree_reader::specs::Reader::read_switch_guard))]
-fn switch_guard<F: Fn(Wanted, Place) -> Read<Expr>>(
-    source: Source<'_>,
+fn switch_guard<F: Fn(Wanted, TokenPlace) -> Read<Expr>>(
+    source: SourceTokens<'_>,
     parts: &F,
     first: Option<Stmt>,
-    place: Place,
+    place: TokenPlace,
 ) -> Read<Guard>
     requires { ReadsExpressions source (F.pre parts.now) (F.post parts.now) }
     ensures { Gives (seen source.entry guard_syntax) result (read_switch_guard source.entry.text.now (parts_of
@@ -185,10 +186,10 @@ fn switch_guard<F: Fn(Wanted, Place) -> Read<Expr>>(
 /// # Errors
 ///
 /// Where another token stands, where it is too deep, and out of memory.
-fn switch_header<F: Fn(Wanted, Place) -> Read<Expr>>(
-    source: Source<'_>,
+fn switch_header<F: Fn(Wanted, TokenPlace) -> Read<Expr>>(
+    source: SourceTokens<'_>,
     parts: &F,
-    place: Place,
+    place: TokenPlace,
 ) -> Read<Header>
     requires { ReadsExpressions source (F.pre parts.now) (F.post parts.now) }
     ensures { Gives (seen source.entry header_syntax) result (read_switch_header source.entry.text.now (parts_of
@@ -210,10 +211,10 @@ fn switch_header<F: Fn(Wanted, Place) -> Read<Expr>>(
 /// # Errors
 ///
 /// Where another token stands, and out of memory.
-fn case_head<F: Fn(Wanted, Place) -> Read<Expr>>(
-    source: Source<'_>,
+fn case_head<F: Fn(Wanted, TokenPlace) -> Read<Expr>>(
+    source: SourceTokens<'_>,
     parts: &F,
-    place: Place,
+    place: TokenPlace,
 ) -> Read<Vec<Expr>>
     requires { ReadsExpressions source (F.pre parts.now) (F.post parts.now) }
     ensures { Gives (seen source.entry (λ es. expressions_syntax es.items)) result (read_case_head source.entry.text.now
@@ -231,11 +232,11 @@ fn case_head<F: Fn(Wanted, Place) -> Read<Expr>>(
 /// # Errors
 ///
 /// Where another token stands, and out of memory.
-fn case_clause<F: Fn(Wanted, Place) -> Read<Expr>, S: Fn(Place) -> Read<Stmt>>(
-    source: Source<'_>,
+fn case_clause<F: Fn(Wanted, TokenPlace) -> Read<Expr>, S: Fn(TokenPlace) -> Read<Stmt>>(
+    source: SourceTokens<'_>,
     parts: &F,
     statements: &S,
-    place: Place,
+    place: TokenPlace,
 ) -> Read<CaseClause>
     requires expressions { ReadsExpressions source (F.pre parts.now) (F.post parts.now) }
     requires statements { ReadsStatements source (S.pre statements.now) (S.post statements.now) }
@@ -254,11 +255,11 @@ fn case_clause<F: Fn(Wanted, Place) -> Read<Expr>, S: Fn(Place) -> Read<Stmt>>(
 /// # Errors
 ///
 /// Where another token stands, and out of memory.
-fn cases<F: Fn(Wanted, Place) -> Read<Expr>, S: Fn(Place) -> Read<Stmt>>(
-    source: Source<'_>,
+fn cases<F: Fn(Wanted, TokenPlace) -> Read<Expr>, S: Fn(TokenPlace) -> Read<Stmt>>(
+    source: SourceTokens<'_>,
     parts: &F,
     statements: &S,
-    place: Place,
+    place: TokenPlace,
 ) -> Read<Vec<CaseClause>>
     requires expressions { ReadsExpressions source (F.pre parts.now) (F.post parts.now) }
     requires statements { ReadsStatements source (S.pre statements.now) (S.post statements.now) }
@@ -285,11 +286,11 @@ fn cases<F: Fn(Wanted, Place) -> Read<Expr>, S: Fn(Place) -> Read<Stmt>>(
 /// # Errors
 ///
 /// Where another token stands, and out of memory.
-fn braced_cases<F: Fn(Wanted, Place) -> Read<Expr>, S: Fn(Place) -> Read<Stmt>>(
-    source: Source<'_>,
+fn braced_cases<F: Fn(Wanted, TokenPlace) -> Read<Expr>, S: Fn(TokenPlace) -> Read<Stmt>>(
+    source: SourceTokens<'_>,
     parts: &F,
     statements: &S,
-    place: Place,
+    place: TokenPlace,
 ) -> Read<Vec<CaseClause>>
     requires expressions { ReadsExpressions source (F.pre parts.now) (F.post parts.now) }
     requires statements { ReadsStatements source (S.pre statements.now) (S.post statements.now) }
@@ -329,11 +330,11 @@ fn switch_of(
 ///
 /// Where another token stands, where it is too deep, and out of memory.
 #[tactic(auto, unfolding(tree_reader::specs::Reader::read_switch))]
-pub fn switch<F: Fn(Wanted, Place) -> Read<Expr>, S: Fn(Place) -> Read<Stmt>>(
-    source: Source<'_>,
+pub fn switch<F: Fn(Wanted, TokenPlace) -> Read<Expr>, S: Fn(TokenPlace) -> Read<Stmt>>(
+    source: SourceTokens<'_>,
     parts: &F,
     statements: &S,
-    place: Place,
+    place: TokenPlace,
 ) -> Read<Stmt>
     requires expressions { ReadsExpressions source (F.pre parts.now) (F.post parts.now) }
     requires statements { ReadsStatements source (S.pre statements.now) (S.post statements.now) }

@@ -15,11 +15,11 @@ ghost use Rattle.tree_reader.specs.Reading.{behind, spanned, steps, take};
 
 use crate::primaries::primary;
 use lexer::TokenKind;
-use parser_base::cursor::{Place, Read, Source};
+use parser_base::cursor::{Read, SourceTokens, TokenPlace};
 use parser_base::expressions::{named_type, next_operator};
 use parser_base::fault::Stop;
 use parser_base::holding;
-use parser_base::kinds::operator_level;
+use parser_base::kinds::{PRIMARY_LEVEL, UNARY_LEVEL, operator_level};
 use parser_base::parts::{Wanted, expression, fits, type_expression};
 use parser_parts::lists::braced_elements;
 use parser_parts::signatures::signature;
@@ -28,25 +28,19 @@ use tree::{BinaryOperator, ChanDirection, Expr, Stmt};
 use tree_hold::{boxed, release};
 use tree_make as make;
 
-/// The level of a unary expression, above those of all operators between two operands.
-const UNARY_LEVEL: u32 = 6;
-
-/// The level of a primary expression.
-const PRIMARY_LEVEL: u32 = 7;
-
 /// An expression of at least this level.
 ///
 /// # Errors
 ///
 /// Where another token stands, where it is too deep, and out of memory.
 #[tactic(auto, unfolding(tree_reader::specs::Reader::read_expression_of))]
-pub fn expression_of<F: Fn(Wanted, Place) -> Read<Expr>, S: Fn(Place) -> Read<Stmt>>(
-    source: Source<'_>,
+pub fn expression_of<F: Fn(Wanted, TokenPlace) -> Read<Expr>, S: Fn(TokenPlace) -> Read<Stmt>>(
+    source: SourceTokens<'_>,
     parts: &F,
     statements: &S,
     header: bool,
     least: u32,
-    place: Place,
+    place: TokenPlace,
 ) -> Read<Expr>
     requires expressions { ReadsExpressions source (F.pre parts.now) (F.post parts.now) }
     requires statements { ReadsStatements source (S.pre statements.now) (S.post statements.now) }
@@ -69,12 +63,12 @@ pub fn expression_of<F: Fn(Wanted, Place) -> Read<Expr>, S: Fn(Place) -> Read<St
 ///
 /// Where another token stands, where it is too deep, and out of memory.
 #[tactic(auto, unfolding(tree_reader::specs::Reader::read_unary))]
-fn unary<F: Fn(Wanted, Place) -> Read<Expr>, S: Fn(Place) -> Read<Stmt>>(
-    source: Source<'_>,
+fn unary<F: Fn(Wanted, TokenPlace) -> Read<Expr>, S: Fn(TokenPlace) -> Read<Stmt>>(
+    source: SourceTokens<'_>,
     parts: &F,
     statements: &S,
     header: bool,
-    place: Place,
+    place: TokenPlace,
 ) -> Read<Expr>
     requires expressions { ReadsExpressions source (F.pre parts.now) (F.post parts.now) }
     requires statements { ReadsStatements source (S.pre statements.now) (S.post statements.now) }
@@ -114,14 +108,14 @@ fn unary<F: Fn(Wanted, Place) -> Read<Expr>, S: Fn(Place) -> Read<Stmt>>(
 /// # Errors
 ///
 /// Where another token stands, where it is too deep, and out of memory.
-fn operators<F: Fn(Wanted, Place) -> Read<Expr>>(
-    source: Source<'_>,
+fn operators<F: Fn(Wanted, TokenPlace) -> Read<Expr>>(
+    source: SourceTokens<'_>,
     parts: &F,
     header: bool,
     least: u32,
-    from: Place,
+    from: TokenPlace,
     left: Expr,
-    place: Place,
+    place: TokenPlace,
 ) -> Read<Expr>
     requires { ReadsExpressions source (F.pre parts.now) (F.post parts.now) }
     ensures { Gives (seen source.entry expression_syntax) result (read_operators source.entry.text.now (parts_of
@@ -152,14 +146,14 @@ fn operators<F: Fn(Wanted, Place) -> Read<Expr>>(
 /// # Errors
 ///
 /// Where another token stands, where it is too deep, and out of memory.
-fn binary<F: Fn(Wanted, Place) -> Read<Expr>>(
-    source: Source<'_>,
+fn binary<F: Fn(Wanted, TokenPlace) -> Read<Expr>>(
+    source: SourceTokens<'_>,
     parts: &F,
     header: bool,
     operator: BinaryOperator,
-    from: Place,
+    from: TokenPlace,
     left: Expr,
-    place: Place,
+    place: TokenPlace,
 ) -> Read<Expr>
     requires { ReadsExpressions source (F.pre parts.now) (F.post parts.now) }
     ensures { Gives (seen source.entry expression_syntax) result (option_and_then (λ (right : Expression × Cursor).
@@ -184,11 +178,11 @@ fn binary<F: Fn(Wanted, Place) -> Read<Expr>>(
 ///
 /// Where another token stands, where it is too deep, and out of memory.
 #[tactic(auto, unfolding(tree_reader::specs::Reader::read_value_of))]
-pub fn value_of<F: Fn(Wanted, Place) -> Read<Expr>, S: Fn(Place) -> Read<Stmt>>(
-    source: Source<'_>,
+pub fn value_of<F: Fn(Wanted, TokenPlace) -> Read<Expr>, S: Fn(TokenPlace) -> Read<Stmt>>(
+    source: SourceTokens<'_>,
     parts: &F,
     statements: &S,
-    place: Place,
+    place: TokenPlace,
 ) -> Read<Expr>
     requires expressions { ReadsExpressions source (F.pre parts.now) (F.post parts.now) }
     requires statements { ReadsStatements source (S.pre statements.now) (S.post statements.now) }
@@ -211,10 +205,10 @@ pub fn value_of<F: Fn(Wanted, Place) -> Read<Expr>, S: Fn(Place) -> Read<Stmt>>(
 ///
 /// Where another token stands, where it is too deep, and out of memory.
 #[tactic(auto, unfolding(tree_reader::specs::Reader::read_type_of))]
-pub fn type_of<F: Fn(Wanted, Place) -> Read<Expr>>(
-    source: Source<'_>,
+pub fn type_of<F: Fn(Wanted, TokenPlace) -> Read<Expr>>(
+    source: SourceTokens<'_>,
     parts: &F,
-    place: Place,
+    place: TokenPlace,
 ) -> Read<Expr>
     requires { ReadsExpressions source (F.pre parts.now) (F.post parts.now) }
     ensures { Gives (seen source.entry expression_syntax) result (read_type_of source.entry.text.now (parts_of
@@ -254,10 +248,10 @@ pub fn type_of<F: Fn(Wanted, Place) -> Read<Expr>>(
 /// # Errors
 ///
 /// Where another token stands, and out of memory.
-fn receiving_type<F: Fn(Wanted, Place) -> Read<Expr>>(
-    source: Source<'_>,
+fn receiving_type<F: Fn(Wanted, TokenPlace) -> Read<Expr>>(
+    source: SourceTokens<'_>,
     parts: &F,
-    place: Place,
+    place: TokenPlace,
 ) -> Read<Expr>
     requires { ReadsExpressions source (F.pre parts.now) (F.post parts.now) }
     ensures { Gives (seen source.entry expression_syntax) result (option_and_then (λ (word : Cursor). option_and_then
@@ -280,10 +274,10 @@ fn receiving_type<F: Fn(Wanted, Place) -> Read<Expr>>(
 /// # Errors
 ///
 /// Where another token stands, and out of memory.
-fn function_type<F: Fn(Wanted, Place) -> Read<Expr>>(
-    source: Source<'_>,
+fn function_type<F: Fn(Wanted, TokenPlace) -> Read<Expr>>(
+    source: SourceTokens<'_>,
     parts: &F,
-    place: Place,
+    place: TokenPlace,
 ) -> Read<Expr>
     requires { ReadsExpressions source (F.pre parts.now) (F.post parts.now) }
     ensures { Gives (seen source.entry expression_syntax) result (option_and_then (λ (signature : Signature × Cursor).

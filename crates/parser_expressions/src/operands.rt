@@ -8,7 +8,7 @@ ghost use Rattle.parser_base.specs.Places.{cursor, seen, parts_of};
 ghost use Rattle.tree_reader.specs.Reader.{read_function, read_typed, read_operand};
 
 use lexer::TokenKind;
-use parser_base::cursor::{Place, Read, Source};
+use parser_base::cursor::{Read, SourceTokens, TokenPlace};
 use parser_base::expressions::name;
 use parser_base::fault::Stop;
 use parser_base::holding;
@@ -27,11 +27,11 @@ use tree_make as make;
 ///
 /// Where another token stands, and out of memory.
 #[tactic(auto, unfolding(tree_reader::specs::Reader::read_function))]
-fn function<F: Fn(Wanted, Place) -> Read<Expr>, S: Fn(Place) -> Read<Stmt>>(
-    source: Source<'_>,
+fn function<F: Fn(Wanted, TokenPlace) -> Read<Expr>, S: Fn(TokenPlace) -> Read<Stmt>>(
+    source: SourceTokens<'_>,
     parts: &F,
     statements: &S,
-    place: Place,
+    place: TokenPlace,
 ) -> Read<Expr>
     requires expressions { ReadsExpressions source (F.pre parts.now) (F.post parts.now) }
     requires statements { ReadsStatements source (S.pre statements.now) (S.post statements.now) }
@@ -58,10 +58,10 @@ fn function<F: Fn(Wanted, Place) -> Read<Expr>, S: Fn(Place) -> Read<Stmt>>(
 ///
 /// Where another token stands, where the type is too deep, and out of memory.
 #[tactic(auto, unfolding(tree_reader::specs::Reader::read_typed))]
-fn typed<F: Fn(Wanted, Place) -> Read<Expr>>(
-    source: Source<'_>,
+fn typed<F: Fn(Wanted, TokenPlace) -> Read<Expr>>(
+    source: SourceTokens<'_>,
     parts: &F,
-    place: Place,
+    place: TokenPlace,
 ) -> Read<Expr>
     requires { ReadsExpressions source (F.pre parts.now) (F.post parts.now) }
     ensures { Gives (seen source.entry expression_syntax) result (read_typed source.entry.text.now (parts_of
@@ -90,11 +90,11 @@ fn typed<F: Fn(Wanted, Place) -> Read<Expr>>(
 ///
 /// Where another token stands, where it is too deep, and out of memory.
 #[tactic(auto, unfolding(tree_reader::specs::Reader::read_operand))]
-pub fn operand<F: Fn(Wanted, Place) -> Read<Expr>, S: Fn(Place) -> Read<Stmt>>(
-    source: Source<'_>,
+pub fn operand<F: Fn(Wanted, TokenPlace) -> Read<Expr>, S: Fn(TokenPlace) -> Read<Stmt>>(
+    source: SourceTokens<'_>,
     parts: &F,
     statements: &S,
-    place: Place,
+    place: TokenPlace,
 ) -> Read<Expr>
     requires expressions { ReadsExpressions source (F.pre parts.now) (F.post parts.now) }
     requires statements { ReadsStatements source (S.pre statements.now) (S.post statements.now) }

@@ -13,7 +13,7 @@ ghost use Rattle.tree_reader.specs.Reading.{Read as read_of, stands, behind, ste
 
 use crate::operands::operand;
 use lexer::TokenKind;
-use parser_base::cursor::{Place, Read, Source};
+use parser_base::cursor::{Read, SourceTokens, TokenPlace};
 use parser_base::expressions::{goes_on, selector};
 use parser_base::fault::Stop;
 use parser_base::holding;
@@ -29,12 +29,12 @@ use tree_make as make;
 ///
 /// Where another token stands, where it is too deep, and out of memory.
 #[tactic(auto, unfolding(tree_reader::specs::Reader::read_primary))]
-pub fn primary<F: Fn(Wanted, Place) -> Read<Expr>, S: Fn(Place) -> Read<Stmt>>(
-    source: Source<'_>,
+pub fn primary<F: Fn(Wanted, TokenPlace) -> Read<Expr>, S: Fn(TokenPlace) -> Read<Stmt>>(
+    source: SourceTokens<'_>,
     parts: &F,
     statements: &S,
     header: bool,
-    place: Place,
+    place: TokenPlace,
 ) -> Read<Expr>
     requires expressions { ReadsExpressions source (F.pre parts.now) (F.post parts.now) }
     requires statements { ReadsStatements source (S.pre statements.now) (S.post statements.now) }
@@ -50,13 +50,13 @@ pub fn primary<F: Fn(Wanted, Place) -> Read<Expr>, S: Fn(Place) -> Read<Stmt>>(
 /// # Errors
 ///
 /// Where another token stands, where it is too deep, and out of memory.
-fn suffixes<F: Fn(Wanted, Place) -> Read<Expr>>(
-    source: Source<'_>,
+fn suffixes<F: Fn(Wanted, TokenPlace) -> Read<Expr>>(
+    source: SourceTokens<'_>,
     parts: &F,
     header: bool,
-    from: Place,
+    from: TokenPlace,
     operand: Expr,
-    place: Place,
+    place: TokenPlace,
 ) -> Read<Expr>
     requires { ReadsExpressions source (F.pre parts.now) (F.post parts.now) }
     ensures { Gives (seen source.entry expression_syntax) result (read_suffixes source.entry.text.now (parts_of
@@ -86,12 +86,12 @@ fn suffixes<F: Fn(Wanted, Place) -> Read<Expr>>(
 /// # Errors
 ///
 /// Where another token stands, and out of memory.
-fn suffix<F: Fn(Wanted, Place) -> Read<Expr>>(
-    source: Source<'_>,
+fn suffix<F: Fn(Wanted, TokenPlace) -> Read<Expr>>(
+    source: SourceTokens<'_>,
     parts: &F,
-    from: Place,
+    from: TokenPlace,
     operand: Expr,
-    place: Place,
+    place: TokenPlace,
 ) -> Read<Expr>
     requires parts { ReadsExpressions source (F.pre parts.now) (F.post parts.now) }
     requires goes_on { goes_on false (expression_syntax operand) (cursor source place) ≡ true }
@@ -120,12 +120,12 @@ fn suffix<F: Fn(Wanted, Place) -> Read<Expr>>(
 ///
 /// Where another token stands, and out of memory.
 #[tactic(auto, unfolding(tree_reader::specs::Reader::read_assertion))]
-fn assertion<F: Fn(Wanted, Place) -> Read<Expr>>(
-    source: Source<'_>,
+fn assertion<F: Fn(Wanted, TokenPlace) -> Read<Expr>>(
+    source: SourceTokens<'_>,
     parts: &F,
-    from: Place,
+    from: TokenPlace,
     operand: Expr,
-    place: Place,
+    place: TokenPlace,
 ) -> Read<Expr>
     requires { ReadsExpressions source (F.pre parts.now) (F.post parts.now) }
     ensures { Gives (seen source.entry expression_syntax) result (read_assertion source.entry.text.now (parts_of
@@ -150,12 +150,12 @@ fn assertion<F: Fn(Wanted, Place) -> Read<Expr>>(
 ///
 /// Where another token stands, and out of memory.
 #[tactic(auto, unfolding(tree_reader::specs::Reader::read_call))]
-fn call<F: Fn(Wanted, Place) -> Read<Expr>>(
-    source: Source<'_>,
+fn call<F: Fn(Wanted, TokenPlace) -> Read<Expr>>(
+    source: SourceTokens<'_>,
     parts: &F,
-    from: Place,
+    from: TokenPlace,
     operand: Expr,
-    place: Place,
+    place: TokenPlace,
 ) -> Read<Expr>
     requires { ReadsExpressions source (F.pre parts.now) (F.post parts.now) }
     ensures { Gives (seen source.entry expression_syntax) result (read_call source.entry.text.now (parts_of
@@ -181,12 +181,12 @@ fn call<F: Fn(Wanted, Place) -> Read<Expr>>(
 ///
 /// Where another token stands, and out of memory.
 #[tactic(auto, unfolding(tree_reader::specs::Reader::read_composite))]
-fn composite<F: Fn(Wanted, Place) -> Read<Expr>>(
-    source: Source<'_>,
+fn composite<F: Fn(Wanted, TokenPlace) -> Read<Expr>>(
+    source: SourceTokens<'_>,
     parts: &F,
-    from: Place,
+    from: TokenPlace,
     operand: Expr,
-    place: Place,
+    place: TokenPlace,
 ) -> Read<Expr>
     requires { ReadsExpressions source (F.pre parts.now) (F.post parts.now) }
     ensures { Gives (seen source.entry expression_syntax) result (read_composite source.entry.text.now (parts_of
@@ -207,12 +207,12 @@ fn composite<F: Fn(Wanted, Place) -> Read<Expr>>(
 ///
 /// Where another token stands, and out of memory.
 #[tactic(auto, unfolding(tree_reader::specs::Reader::read_index))]
-fn index<F: Fn(Wanted, Place) -> Read<Expr>>(
-    source: Source<'_>,
+fn index<F: Fn(Wanted, TokenPlace) -> Read<Expr>>(
+    source: SourceTokens<'_>,
     parts: &F,
-    from: Place,
+    from: TokenPlace,
     operand: Expr,
-    place: Place,
+    place: TokenPlace,
 ) -> Read<Expr>
     requires { ReadsExpressions source (F.pre parts.now) (F.post parts.now) }
     ensures { Gives (seen source.entry expression_syntax) result (read_index source.entry.text.now (parts_of
@@ -249,13 +249,13 @@ fn index<F: Fn(Wanted, Place) -> Read<Expr>>(
 ///
 /// Where another token stands, and out of memory.
 #[tactic(auto, unfolding(tree_reader::specs::Reader::read_slice))]
-fn slice<F: Fn(Wanted, Place) -> Read<Expr>>(
-    source: Source<'_>,
+fn slice<F: Fn(Wanted, TokenPlace) -> Read<Expr>>(
+    source: SourceTokens<'_>,
     parts: &F,
-    from: Place,
+    from: TokenPlace,
     operand: Expr,
     low: Option<Box<Expr>>,
-    place: Place,
+    place: TokenPlace,
 ) -> Read<Expr>
     requires { ReadsExpressions source (F.pre parts.now) (F.post parts.now) }
     ensures { Gives (seen source.entry expression_syntax) result (read_slice source.entry.text.now (parts_of
@@ -286,10 +286,10 @@ fn slice<F: Fn(Wanted, Place) -> Read<Expr>>(
 /// # Errors
 ///
 /// Where another token stands, and out of memory.
-fn second_bound<F: Fn(Wanted, Place) -> Read<Expr>>(
-    source: Source<'_>,
+fn second_bound<F: Fn(Wanted, TokenPlace) -> Read<Expr>>(
+    source: SourceTokens<'_>,
     parts: &F,
-    place: Place,
+    place: TokenPlace,
 ) -> Read<Option<Box<Expr>>>
     requires { ReadsExpressions source (F.pre parts.now) (F.post parts.now) }
     ensures { Gives (seen source.entry optional_expression_syntax) result (if stands Colon (cursor source.entry place)
@@ -307,10 +307,10 @@ fn second_bound<F: Fn(Wanted, Place) -> Read<Expr>>(
 /// # Errors
 ///
 /// Where another token stands, and out of memory.
-fn third_bound<F: Fn(Wanted, Place) -> Read<Expr>>(
-    source: Source<'_>,
+fn third_bound<F: Fn(Wanted, TokenPlace) -> Read<Expr>>(
+    source: SourceTokens<'_>,
     parts: &F,
-    place: Place,
+    place: TokenPlace,
 ) -> Read<Option<Box<Expr>>>
     requires { ReadsExpressions source (F.pre parts.now) (F.post parts.now) }
     ensures { Gives (seen source.entry optional_expression_syntax) result (if stands Colon (cursor source.entry place)

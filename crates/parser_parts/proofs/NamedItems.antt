@@ -17,10 +17,8 @@ use Rattle.meaning.specs.WellFormed.{has_named_item}
 use Rattle.tree_reader.specs.Reader.{form_identifier, as_identifier, is_no_item, name_alone, with_names}
 use Rattle.tree_reader.specs.Reading.{only_where}
 use Rattle.parser_base.proofs.Growing.{prepend}
+use Rattle.parser_base.proofs.Nodes.{IsNoName}
 use Rattle.parser_parts.proofs.ParameterLists.{all_parameters}
-
-abbrev IsNoName : ExprKind → Type 0
-IsNoName k = (s : String Global) → k ≡ Name s → ⊥
 
 no_identifier : (span : Span) (k : ExprKind) → IsNoName k → form_identifier span (expression_form k) ≡ None
 unfolding expression_form

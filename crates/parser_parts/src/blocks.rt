@@ -9,7 +9,7 @@ ghost use Rattle.tree_reader.specs.Reader.{read_statements, read_block};
 ghost use Rattle.tree_reader.specs.Reading.{steps};
 
 use lexer::TokenKind;
-use parser_base::cursor::{Place, Read, Source};
+use parser_base::cursor::{Read, SourceTokens, TokenPlace};
 use parser_base::holding;
 use parser_base::parts::statement;
 use tree::{Block, Stmt};
@@ -21,10 +21,10 @@ use tree_make as make;
 /// # Errors
 ///
 /// Where another token stands, and out of memory.
-pub fn statement_list<S: Fn(Place) -> Read<Stmt>>(
-    source: Source<'_>,
+pub fn statement_list<S: Fn(TokenPlace) -> Read<Stmt>>(
+    source: SourceTokens<'_>,
     statements: &S,
-    place: Place,
+    place: TokenPlace,
 ) -> Read<Vec<Stmt>>
     requires { ReadsStatements source (S.pre statements.now) (S.post statements.now) }
     ensures { Gives (seen source.entry (λ ss. statements_syntax ss.items)) result (read_statements
@@ -51,10 +51,10 @@ pub fn statement_list<S: Fn(Place) -> Read<Stmt>>(
 ///
 /// Where another token stands, and out of memory.
 #[tactic(auto, unfolding(tree_reader::specs::Reader::read_block))]
-pub fn block<S: Fn(Place) -> Read<Stmt>>(
-    source: Source<'_>,
+pub fn block<S: Fn(TokenPlace) -> Read<Stmt>>(
+    source: SourceTokens<'_>,
     statements: &S,
-    place: Place,
+    place: TokenPlace,
 ) -> Read<Block>
     requires { ReadsStatements source (S.pre statements.now) (S.post statements.now) }
     ensures { Gives (seen source.entry braced) result (read_block source.entry.text.now (parts_of source.entry) (cursor

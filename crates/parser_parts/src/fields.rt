@@ -13,7 +13,7 @@ ghost use Rattle.meaning.specs.Grammar.{of_struct, of_interface};
 
 use crate::signatures::signature;
 use lexer::TokenKind;
-use parser_base::cursor::{Place, Read, Source};
+use parser_base::cursor::{Read, SourceTokens, TokenPlace};
 use parser_base::holding;
 use parser_base::lists::tag;
 use parser_base::names::{identifier, identifiers, type_name};
@@ -23,7 +23,7 @@ use tree_hold::{list, release};
 use tree_make as make;
 
 /// Whether a line of a struct type embeds a type.
-fn is_embedded(source: Source<'_>, place: Place) -> bool
+fn is_embedded(source: SourceTokens<'_>, place: TokenPlace) -> bool
     ensures { result ≡ stands Star (cursor source.entry place) || (stands identifier_kind (cursor source.entry place)
         && is_next follows_embedded (behind (cursor source.entry place))) }
 {
@@ -34,10 +34,10 @@ fn is_embedded(source: Source<'_>, place: Place) -> bool
 
 /// A line of a struct type.
 #[tactic(auto, unfolding(tree_reader::specs::Reader::read_struct_field))]
-fn struct_field<F: Fn(Wanted, Place) -> Read<Expr>>(
-    source: Source<'_>,
+fn struct_field<F: Fn(Wanted, TokenPlace) -> Read<Expr>>(
+    source: SourceTokens<'_>,
     parts: &F,
-    place: Place,
+    place: TokenPlace,
 ) -> Read<Field>
     requires { ReadsExpressions source (F.pre parts.now) (F.post parts.now) }
     ensures { Gives (seen source.entry field_and) result (read_struct_field source.entry.text.now (parts_of
@@ -59,10 +59,10 @@ fn struct_field<F: Fn(Wanted, Place) -> Read<Expr>>(
 
 /// A line of an interface type.
 #[tactic(auto, unfolding(tree_reader::specs::Reader::read_interface_field))]
-fn interface_field<F: Fn(Wanted, Place) -> Read<Expr>>(
-    source: Source<'_>,
+fn interface_field<F: Fn(Wanted, TokenPlace) -> Read<Expr>>(
+    source: SourceTokens<'_>,
     parts: &F,
-    place: Place,
+    place: TokenPlace,
 ) -> Read<Field>
     requires { ReadsExpressions source (F.pre parts.now) (F.post parts.now) }
     ensures { Gives (seen source.entry field_and) result (read_interface_field source.entry.text.now (parts_of
@@ -84,11 +84,11 @@ fn interface_field<F: Fn(Wanted, Place) -> Read<Expr>>(
 }
 
 /// A line of a struct type, or of an interface type.
-fn field<F: Fn(Wanted, Place) -> Read<Expr>>(
-    source: Source<'_>,
+fn field<F: Fn(Wanted, TokenPlace) -> Read<Expr>>(
+    source: SourceTokens<'_>,
     parts: &F,
     is_struct: bool,
-    place: Place,
+    place: TokenPlace,
 ) -> Read<Field>
     requires { ReadsExpressions source (F.pre parts.now) (F.post parts.now) }
     ensures { Gives (seen source.entry field_and) result (read_field source.entry.text.now (parts_of source.entry) (if
@@ -103,11 +103,11 @@ fn field<F: Fn(Wanted, Place) -> Read<Expr>>(
 
 /// Lines of a struct type, or of an interface type, each with its semicolon, up to a closing brace, and the place
 /// before it.
-fn fields<F: Fn(Wanted, Place) -> Read<Expr>>(
-    source: Source<'_>,
+fn fields<F: Fn(Wanted, TokenPlace) -> Read<Expr>>(
+    source: SourceTokens<'_>,
     parts: &F,
     is_struct: bool,
-    place: Place,
+    place: TokenPlace,
 ) -> Read<Vec<Field>>
     requires { ReadsExpressions source (F.pre parts.now) (F.post parts.now) }
     ensures { Gives (seen source.entry (λ fs. fields_syntax fs.items)) result (read_fields source.entry.text.now
@@ -130,11 +130,11 @@ fn fields<F: Fn(Wanted, Place) -> Read<Expr>>(
 
 /// Lines of a struct type, or of an interface type, in braces.
 #[tactic(auto, unfolding(tree_reader::specs::Reader::read_braced_fields))]
-fn braced_fields<F: Fn(Wanted, Place) -> Read<Expr>>(
-    source: Source<'_>,
+fn braced_fields<F: Fn(Wanted, TokenPlace) -> Read<Expr>>(
+    source: SourceTokens<'_>,
     parts: &F,
     is_struct: bool,
-    place: Place,
+    place: TokenPlace,
 ) -> Read<Vec<Field>>
     requires { ReadsExpressions source (F.pre parts.now) (F.post parts.now) }
     ensures { Gives (seen source.entry (λ fs. fields_syntax fs.items)) result (read_braced_fields source.entry.text.now
@@ -151,10 +151,10 @@ fn braced_fields<F: Fn(Wanted, Place) -> Read<Expr>>(
 /// # Errors
 ///
 /// Where another token stands, and out of memory.
-pub fn struct_fields<F: Fn(Wanted, Place) -> Read<Expr>>(
-    source: Source<'_>,
+pub fn struct_fields<F: Fn(Wanted, TokenPlace) -> Read<Expr>>(
+    source: SourceTokens<'_>,
     parts: &F,
-    place: Place,
+    place: TokenPlace,
 ) -> Read<Vec<Field>>
     requires { ReadsExpressions source (F.pre parts.now) (F.post parts.now) }
     ensures { Gives (seen source.entry (λ fs. fields_syntax fs.items)) result (read_braced_fields source.entry.text.now
@@ -168,10 +168,10 @@ pub fn struct_fields<F: Fn(Wanted, Place) -> Read<Expr>>(
 /// # Errors
 ///
 /// Where another token stands, and out of memory.
-pub fn interface_fields<F: Fn(Wanted, Place) -> Read<Expr>>(
-    source: Source<'_>,
+pub fn interface_fields<F: Fn(Wanted, TokenPlace) -> Read<Expr>>(
+    source: SourceTokens<'_>,
     parts: &F,
-    place: Place,
+    place: TokenPlace,
 ) -> Read<Vec<Field>>
     requires { ReadsExpressions source (F.pre parts.now) (F.post parts.now) }
     ensures { Gives (seen source.entry (λ fs. fields_syntax fs.items)) result (read_braced_fields source.entry.text.now

@@ -9,7 +9,7 @@ ghost use Rattle.tree_reader.specs.Reader.{read_expressions, read_element, read_
 ghost use Rattle.tree_reader.specs.Reading.{steps};
 
 use lexer::TokenKind;
-use parser_base::cursor::{Place, Read, Source};
+use parser_base::cursor::{Read, SourceTokens, TokenPlace};
 use parser_base::holding;
 use parser_base::parts::{Wanted, element_value, expression};
 use tree::Expr;
@@ -22,11 +22,11 @@ use tree_make as make;
 ///
 /// Where another token stands, and out of memory.
 #[tactic(auto, unfolding(tree_reader::specs::Reader::read_expressions))]
-pub fn expressions<F: Fn(Wanted, Place) -> Read<Expr>>(
-    source: Source<'_>,
+pub fn expressions<F: Fn(Wanted, TokenPlace) -> Read<Expr>>(
+    source: SourceTokens<'_>,
     parts: &F,
     header: bool,
-    place: Place,
+    place: TokenPlace,
 ) -> Read<Vec<Expr>>
     requires { ReadsExpressions source (F.pre parts.now) (F.post parts.now) }
     ensures { Gives (seen source.entry (λ es. expressions_syntax es.items)) result (read_expressions
@@ -50,10 +50,10 @@ pub fn expressions<F: Fn(Wanted, Place) -> Read<Expr>>(
 
 /// `key: value`, or `value`, among the elements of a composite literal.
 #[tactic(auto, unfolding(tree_reader::specs::Reader::read_element))]
-fn element<F: Fn(Wanted, Place) -> Read<Expr>>(
-    source: Source<'_>,
+fn element<F: Fn(Wanted, TokenPlace) -> Read<Expr>>(
+    source: SourceTokens<'_>,
     parts: &F,
-    place: Place,
+    place: TokenPlace,
 ) -> Read<Expr>
     requires { ReadsExpressions source (F.pre parts.now) (F.post parts.now) }
     ensures { Gives (seen source.entry expression_syntax) result (read_element source.entry.text.now (parts_of
@@ -78,12 +78,12 @@ fn element<F: Fn(Wanted, Place) -> Read<Expr>>(
 ///
 /// Where another token stands, and out of memory.
 #[tactic(auto, unfolding(tree_reader::specs::Reader::read_expression_unless))]
-pub fn expression_unless<F: Fn(Wanted, Place) -> Read<Expr>>(
-    source: Source<'_>,
+pub fn expression_unless<F: Fn(Wanted, TokenPlace) -> Read<Expr>>(
+    source: SourceTokens<'_>,
     parts: &F,
     kind: TokenKind,
     header: bool,
-    place: Place,
+    place: TokenPlace,
 ) -> Read<Option<Box<Expr>>>
     requires { ReadsExpressions source (F.pre parts.now) (F.post parts.now) }
     ensures { Gives (seen source.entry optional_expression_syntax) result (read_expression_unless source.entry.text.now
@@ -98,10 +98,10 @@ pub fn expression_unless<F: Fn(Wanted, Place) -> Read<Expr>>(
 }
 
 /// Elements up to a closing brace, and the place before it.
-fn elements<F: Fn(Wanted, Place) -> Read<Expr>>(
-    source: Source<'_>,
+fn elements<F: Fn(Wanted, TokenPlace) -> Read<Expr>>(
+    source: SourceTokens<'_>,
     parts: &F,
-    place: Place,
+    place: TokenPlace,
 ) -> Read<Vec<Expr>>
     requires { ReadsExpressions source (F.pre parts.now) (F.post parts.now) }
     ensures { Gives (seen source.entry (λ es. expressions_syntax es.items)) result (read_elements source.entry.text.now
@@ -130,10 +130,10 @@ fn elements<F: Fn(Wanted, Place) -> Read<Expr>>(
 ///
 /// Where another token stands, and out of memory.
 #[tactic(auto, unfolding(tree_reader::specs::Reader::read_braced_elements))]
-pub fn braced_elements<F: Fn(Wanted, Place) -> Read<Expr>>(
-    source: Source<'_>,
+pub fn braced_elements<F: Fn(Wanted, TokenPlace) -> Read<Expr>>(
+    source: SourceTokens<'_>,
     parts: &F,
-    place: Place,
+    place: TokenPlace,
 ) -> Read<Vec<Expr>>
     requires { ReadsExpressions source (F.pre parts.now) (F.post parts.now) }
     ensures { Gives (seen source.entry (λ es. expressions_syntax es.items)) result (read_braced_elements
@@ -150,10 +150,10 @@ pub fn braced_elements<F: Fn(Wanted, Place) -> Read<Expr>>(
 /// # Errors
 ///
 /// Where another token stands, and out of memory.
-pub fn arguments<F: Fn(Wanted, Place) -> Read<Expr>>(
-    source: Source<'_>,
+pub fn arguments<F: Fn(Wanted, TokenPlace) -> Read<Expr>>(
+    source: SourceTokens<'_>,
     parts: &F,
-    place: Place,
+    place: TokenPlace,
 ) -> Read<(Vec<Expr>, bool)>
     requires { ReadsExpressions source (F.pre parts.now) (F.post parts.now) }
     ensures { Gives (seen source.entry (λ es. (expressions_syntax es.0.items, es.1))) result (read_arguments

@@ -11,7 +11,7 @@ ghost use Rattle.tree_reader.specs.Reader.{as_identifier, is_no_item, name_alone
 ghost use Rattle.tree_reader.specs.Reading.{steps};
 
 use lexer::TokenKind;
-use parser_base::cursor::{Place, Read, Source};
+use parser_base::cursor::{Read, SourceTokens, TokenPlace};
 use parser_base::fault::Stop;
 use parser_base::holding;
 use parser_base::names::identifier;
@@ -22,10 +22,10 @@ use tree_make as make;
 
 /// An item of a list of parameters.
 #[tactic(auto, unfolding(tree_reader::specs::Reader::read_item))]
-fn item<F: Fn(Wanted, Place) -> Read<Expr>>(
-    source: Source<'_>,
+fn item<F: Fn(Wanted, TokenPlace) -> Read<Expr>>(
+    source: SourceTokens<'_>,
     parts: &F,
-    place: Place,
+    place: TokenPlace,
 ) -> Read<Param>
     requires { ReadsExpressions source (F.pre parts.now) (F.post parts.now) }
     ensures { Gives (seen source.entry parameter_and) result (read_item source.entry.text.now (parts_of source.entry)
@@ -46,10 +46,10 @@ fn item<F: Fn(Wanted, Place) -> Read<Expr>>(
 }
 
 /// Items up to a closing bracket, and the place after them.
-fn items<F: Fn(Wanted, Place) -> Read<Expr>>(
-    source: Source<'_>,
+fn items<F: Fn(Wanted, TokenPlace) -> Read<Expr>>(
+    source: SourceTokens<'_>,
     parts: &F,
-    place: Place,
+    place: TokenPlace,
 ) -> Read<Vec<Param>>
     requires { ReadsExpressions source (F.pre parts.now) (F.post parts.now) }
     ensures { Gives (seen source.entry (λ ps. parameters_syntax ps.items)) result (read_items
@@ -123,9 +123,9 @@ fn with_name(param: Param, is_last: bool) -> Option<Param>
 
 /// The items of a list that has an item with both name and type, before this place.
 fn all_with_names(
-    source: Source<'_>,
+    source: SourceTokens<'_>,
     mut params: Vec<Param>,
-    place: Place,
+    place: TokenPlace,
 ) -> Result<Vec<Param>, Stop>
     ensures { Gives (λ ps. parameters_syntax ps.items) result (with_names (parameters_syntax params.items)) }
 {
@@ -150,7 +150,11 @@ fn all_with_names(
 
 /// The items of a list, of which a type that is one name is a name alone if some item has both name and type. The list
 /// ends at this place.
-fn settled(source: Source<'_>, params: Vec<Param>, place: Place) -> Result<Vec<Param>, Stop>
+fn settled(
+    source: SourceTokens<'_>,
+    params: Vec<Param>,
+    place: TokenPlace,
+) -> Result<Vec<Param>, Stop>
     ensures { Gives (λ ps. parameters_syntax ps.items) result (settled (parameters_syntax params.items)) }
 {
     if !has_named(&params) {
@@ -165,10 +169,10 @@ fn settled(source: Source<'_>, params: Vec<Param>, place: Place) -> Result<Vec<P
 ///
 /// Where another token stands, and out of memory.
 #[tactic(auto, unfolding(tree_reader::specs::Reader::read_parameters))]
-pub fn parameters<F: Fn(Wanted, Place) -> Read<Expr>>(
-    source: Source<'_>,
+pub fn parameters<F: Fn(Wanted, TokenPlace) -> Read<Expr>>(
+    source: SourceTokens<'_>,
     parts: &F,
-    place: Place,
+    place: TokenPlace,
 ) -> Read<Vec<Param>>
     requires { ReadsExpressions source (F.pre parts.now) (F.post parts.now) }
     ensures { Gives (seen source.entry (λ ps. parameters_syntax ps.items)) result (read_parameters
@@ -187,10 +191,10 @@ pub fn parameters<F: Fn(Wanted, Place) -> Read<Expr>>(
 ///
 /// Where another token stands, and out of memory.
 #[tactic(auto, unfolding(tree_reader::specs::Reader::read_signature))]
-pub fn signature<F: Fn(Wanted, Place) -> Read<Expr>>(
-    source: Source<'_>,
+pub fn signature<F: Fn(Wanted, TokenPlace) -> Read<Expr>>(
+    source: SourceTokens<'_>,
     parts: &F,
-    place: Place,
+    place: TokenPlace,
 ) -> Read<Signature>
     requires { ReadsExpressions source (F.pre parts.now) (F.post parts.now) }
     ensures { Gives (seen source.entry signature_syntax) result (read_signature source.entry.text.now (parts_of

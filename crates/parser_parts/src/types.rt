@@ -9,7 +9,7 @@ ghost use Rattle.tree_reader.specs.Reader.{read_bracket_type, read_map_type, rea
 
 use crate::fields::{interface_fields, struct_fields};
 use lexer::TokenKind;
-use parser_base::cursor::{Place, Read, Source};
+use parser_base::cursor::{Read, SourceTokens, TokenPlace};
 use parser_base::holding;
 use parser_base::parts::{Wanted, expression, type_expression};
 use tree::{ChanDirection, Expr};
@@ -22,10 +22,10 @@ use tree_make as make;
 ///
 /// Where another token stands, and out of memory.
 #[tactic(auto, unfolding(tree_reader::specs::Reader::read_bracket_type))]
-pub fn bracket_type<F: Fn(Wanted, Place) -> Read<Expr>>(
-    source: Source<'_>,
+pub fn bracket_type<F: Fn(Wanted, TokenPlace) -> Read<Expr>>(
+    source: SourceTokens<'_>,
     parts: &F,
-    place: Place,
+    place: TokenPlace,
 ) -> Read<Expr>
     requires { ReadsExpressions source (F.pre parts.now) (F.post parts.now) }
     ensures { Gives (seen source.entry expression_syntax) result (read_bracket_type source.entry.text.now (parts_of
@@ -66,10 +66,10 @@ pub fn bracket_type<F: Fn(Wanted, Place) -> Read<Expr>>(
 ///
 /// Where another token stands, and out of memory.
 #[tactic(auto, unfolding(tree_reader::specs::Reader::read_map_type))]
-fn map_type<F: Fn(Wanted, Place) -> Read<Expr>>(
-    source: Source<'_>,
+fn map_type<F: Fn(Wanted, TokenPlace) -> Read<Expr>>(
+    source: SourceTokens<'_>,
     parts: &F,
-    place: Place,
+    place: TokenPlace,
 ) -> Read<Expr>
     requires { ReadsExpressions source (F.pre parts.now) (F.post parts.now) }
     ensures { Gives (seen source.entry expression_syntax) result (read_map_type source.entry.text.now (parts_of
@@ -93,10 +93,10 @@ fn map_type<F: Fn(Wanted, Place) -> Read<Expr>>(
 ///
 /// Where another token stands, and out of memory.
 #[tactic(auto, unfolding(tree_reader::specs::Reader::read_channel_type))]
-fn channel_type<F: Fn(Wanted, Place) -> Read<Expr>>(
-    source: Source<'_>,
+fn channel_type<F: Fn(Wanted, TokenPlace) -> Read<Expr>>(
+    source: SourceTokens<'_>,
     parts: &F,
-    place: Place,
+    place: TokenPlace,
 ) -> Read<Expr>
     requires { ReadsExpressions source (F.pre parts.now) (F.post parts.now) }
     ensures { Gives (seen source.entry expression_syntax) result (read_channel_type source.entry.text.now (parts_of
@@ -127,10 +127,10 @@ fn channel_type<F: Fn(Wanted, Place) -> Read<Expr>>(
 ///
 /// Where another token stands, and out of memory.
 #[tactic(auto, unfolding(tree_reader::specs::Reader::read_literal_type))]
-pub fn literal_type<F: Fn(Wanted, Place) -> Read<Expr>>(
-    source: Source<'_>,
+pub fn literal_type<F: Fn(Wanted, TokenPlace) -> Read<Expr>>(
+    source: SourceTokens<'_>,
     parts: &F,
-    place: Place,
+    place: TokenPlace,
 ) -> Read<Expr>
     requires { ReadsExpressions source (F.pre parts.now) (F.post parts.now) }
     ensures { Gives (seen source.entry expression_syntax) result (read_literal_type source.entry.text.now (parts_of

@@ -8,7 +8,7 @@ ghost use Rattle.parser_base.specs.Places.{cursor, seen, parts_of};
 ghost use Rattle.tree_reader.specs.Reader.{read_condition, read_else, read_if};
 
 use lexer::TokenKind;
-use parser_base::cursor::{Place, Read, Source};
+use parser_base::cursor::{Read, SourceTokens, TokenPlace};
 use parser_base::fault::Stop;
 use parser_base::holding;
 use parser_base::parts::{Wanted, expression, statement};
@@ -25,11 +25,11 @@ use tree_make as make;
 ///
 /// Where it is another statement, where another token stands, and out of memory.
 #[tactic(auto, unfolding(tree_reader::specs::Reader::read_condition))]
-fn condition<F: Fn(Wanted, Place) -> Read<Expr>>(
-    source: Source<'_>,
+fn condition<F: Fn(Wanted, TokenPlace) -> Read<Expr>>(
+    source: SourceTokens<'_>,
     parts: &F,
     first: Option<Stmt>,
-    place: Place,
+    place: TokenPlace,
 ) -> Read<Expr>
     requires { ReadsExpressions source (F.pre parts.now) (F.post parts.now) }
     ensures { Gives (seen source.entry expression_syntax) result (read_condition source.entry.text.now (parts_of
@@ -50,10 +50,10 @@ fn condition<F: Fn(Wanted, Place) -> Read<Expr>>(
 ///
 /// Where another token stands, and out of memory.
 #[tactic(auto, unfolding(tree_reader::specs::Reader::read_else))]
-fn otherwise<S: Fn(Place) -> Read<Stmt>>(
-    source: Source<'_>,
+fn otherwise<S: Fn(TokenPlace) -> Read<Stmt>>(
+    source: SourceTokens<'_>,
     statements: &S,
-    place: Place,
+    place: TokenPlace,
 ) -> Read<Option<Box<Stmt>>>
     requires { ReadsStatements source (S.pre statements.now) (S.post statements.now) }
     ensures { Gives (seen source.entry optional_statement_syntax) result (read_else source.entry.text.now (parts_of
@@ -80,11 +80,11 @@ fn otherwise<S: Fn(Place) -> Read<Stmt>>(
 ///
 /// Where another token stands, where it is too deep, and out of memory.
 #[tactic(auto, unfolding(tree_reader::specs::Reader::read_if))]
-pub fn choice<F: Fn(Wanted, Place) -> Read<Expr>, S: Fn(Place) -> Read<Stmt>>(
-    source: Source<'_>,
+pub fn choice<F: Fn(Wanted, TokenPlace) -> Read<Expr>, S: Fn(TokenPlace) -> Read<Stmt>>(
+    source: SourceTokens<'_>,
     parts: &F,
     statements: &S,
-    place: Place,
+    place: TokenPlace,
 ) -> Read<Stmt>
     requires expressions { ReadsExpressions source (F.pre parts.now) (F.post parts.now) }
     requires statements { ReadsStatements source (S.pre statements.now) (S.post statements.now) }

@@ -13,7 +13,7 @@ ghost use Rattle.tree_reader.specs.Reader.{read_expressions, read_value_spec, re
 ghost use Rattle.tree_reader.specs.Reading.{stands, behind, steps};
 
 use lexer::TokenKind;
-use parser_base::cursor::{Place, Read, Source};
+use parser_base::cursor::{Read, SourceTokens, TokenPlace};
 use parser_base::declarations::value_fits;
 use parser_base::fault::Stop;
 use parser_base::holding;
@@ -25,10 +25,10 @@ use tree_hold::{boxed, list, release};
 use tree_make as make;
 
 /// The type of constants or variables, if one stands here, and the place after it.
-fn value_type<F: Fn(Wanted, Place) -> Read<Expr>>(
-    source: Source<'_>,
+fn value_type<F: Fn(Wanted, TokenPlace) -> Read<Expr>>(
+    source: SourceTokens<'_>,
     parts: &F,
-    place: Place,
+    place: TokenPlace,
 ) -> Read<Option<Box<Expr>>>
     requires { ReadsExpressions source (F.pre parts.now) (F.post parts.now) }
     ensures { Gives (seen source.entry optional_expression_syntax) result (if is_next can_begin_type (cursor
@@ -46,10 +46,10 @@ fn value_type<F: Fn(Wanted, Place) -> Read<Expr>>(
 }
 
 /// The values of constants or variables, if they stand here, and the place after them.
-fn values<F: Fn(Wanted, Place) -> Read<Expr>>(
-    source: Source<'_>,
+fn values<F: Fn(Wanted, TokenPlace) -> Read<Expr>>(
+    source: SourceTokens<'_>,
     parts: &F,
-    place: Place,
+    place: TokenPlace,
 ) -> Read<Vec<Expr>>
     requires { ReadsExpressions source (F.pre parts.now) (F.post parts.now) }
     ensures { Gives (seen source.entry (λ es. expressions_syntax es.items)) result (if stands Assign (cursor
@@ -64,11 +64,11 @@ fn values<F: Fn(Wanted, Place) -> Read<Expr>>(
 
 /// What one line declares of constants or variables, and the place after it.
 #[tactic(auto, unfolding(tree_reader::specs::Reader::read_value_spec))]
-fn value_spec<F: Fn(Wanted, Place) -> Read<Expr>>(
-    source: Source<'_>,
+fn value_spec<F: Fn(Wanted, TokenPlace) -> Read<Expr>>(
+    source: SourceTokens<'_>,
     parts: &F,
     keyword: DeclKeyword,
-    place: Place,
+    place: TokenPlace,
 ) -> Read<Spec>
     requires { ReadsExpressions source (F.pre parts.now) (F.post parts.now) }
     ensures { Gives (seen source.entry spec_and) result (read_value_spec source.entry.text.now (parts_of source.entry)
@@ -94,10 +94,10 @@ fn value_spec<F: Fn(Wanted, Place) -> Read<Expr>>(
 
 /// What one line declares of types, and the place after it.
 #[tactic(auto, unfolding(tree_reader::specs::Reader::read_type_spec))]
-fn type_spec<F: Fn(Wanted, Place) -> Read<Expr>>(
-    source: Source<'_>,
+fn type_spec<F: Fn(Wanted, TokenPlace) -> Read<Expr>>(
+    source: SourceTokens<'_>,
     parts: &F,
-    place: Place,
+    place: TokenPlace,
 ) -> Read<Spec>
     requires { ReadsExpressions source (F.pre parts.now) (F.post parts.now) }
     ensures { Gives (seen source.entry spec_and) result (read_type_spec source.entry.text.now (parts_of source.entry)
@@ -112,11 +112,11 @@ fn type_spec<F: Fn(Wanted, Place) -> Read<Expr>>(
 }
 
 /// What one line declares, and the place after it.
-fn spec<F: Fn(Wanted, Place) -> Read<Expr>>(
-    source: Source<'_>,
+fn spec<F: Fn(Wanted, TokenPlace) -> Read<Expr>>(
+    source: SourceTokens<'_>,
     parts: &F,
     keyword: DeclKeyword,
-    place: Place,
+    place: TokenPlace,
 ) -> Read<Spec>
     requires { ReadsExpressions source (F.pre parts.now) (F.post parts.now) }
     ensures { Gives (seen source.entry spec_and) result (read_spec source.entry.text.now (parts_of source.entry)
@@ -130,11 +130,11 @@ fn spec<F: Fn(Wanted, Place) -> Read<Expr>>(
 }
 
 /// Lines up to a closing bracket, each with its semicolon, and the place after them.
-fn specs<F: Fn(Wanted, Place) -> Read<Expr>>(
-    source: Source<'_>,
+fn specs<F: Fn(Wanted, TokenPlace) -> Read<Expr>>(
+    source: SourceTokens<'_>,
     parts: &F,
     keyword: DeclKeyword,
-    place: Place,
+    place: TokenPlace,
 ) -> Read<Vec<Spec>>
     requires { ReadsExpressions source (F.pre parts.now) (F.post parts.now) }
     ensures { Gives (seen source.entry (λ specs. specs_syntax specs.items)) result (read_specs
@@ -162,11 +162,11 @@ fn specs<F: Fn(Wanted, Place) -> Read<Expr>>(
 ///
 /// Where another token stands, and out of memory.
 #[tactic(auto, unfolding(tree_reader::specs::Reader::read_declaration))]
-pub fn declaration<F: Fn(Wanted, Place) -> Read<Expr>>(
-    source: Source<'_>,
+pub fn declaration<F: Fn(Wanted, TokenPlace) -> Read<Expr>>(
+    source: SourceTokens<'_>,
     parts: &F,
     keyword: DeclKeyword,
-    place: Place,
+    place: TokenPlace,
 ) -> Read<Decl>
     requires { ReadsExpressions source (F.pre parts.now) (F.post parts.now) }
     ensures { Gives (seen source.entry declaration_syntax) result (read_declaration source.entry.text.now (parts_of

@@ -11,7 +11,7 @@ ghost use Rattle.tree_reader.specs.Reader.{read_loop, read_post, read_clauses, r
 ghost use Rattle.tree_reader.specs.Reading.{stands, behind};
 
 use lexer::TokenKind;
-use parser_base::cursor::{Place, Read, Source};
+use parser_base::cursor::{Read, SourceTokens, TokenPlace};
 use parser_base::fault::Stop;
 use parser_base::holding;
 use parser_base::parts::{Wanted, expression};
@@ -32,12 +32,12 @@ struct LoopHead {
 
 /// The block of a loop that began at `from` with this head.
 #[tactic(auto, unfolding(tree_reader::specs::Reader::read_loop))]
-fn loop_of<S: Fn(Place) -> Read<Stmt>>(
-    source: Source<'_>,
+fn loop_of<S: Fn(TokenPlace) -> Read<Stmt>>(
+    source: SourceTokens<'_>,
     statements: &S,
-    from: Place,
+    from: TokenPlace,
     head: LoopHead,
-    place: Place,
+    place: TokenPlace,
 ) -> Read<Stmt>
     requires { ReadsStatements source (S.pre statements.now) (S.post statements.now) }
     ensures { Gives (seen source.entry statement_syntax) result (read_loop source.entry.text.now (parts_of source.entry)
@@ -63,13 +63,13 @@ fn loop_of<S: Fn(Place) -> Read<Stmt>>(
 
 /// `range operand` and the block of a loop that began at `from` and assigns to these expressions.
 #[tactic(auto, unfolding(tree_reader::specs::Reader::read_range, tree_reader::specs::Reader::read_loop))]
-fn assigned_range<F: Fn(Wanted, Place) -> Read<Expr>, S: Fn(Place) -> Read<Stmt>>(
-    source: Source<'_>,
+fn assigned_range<F: Fn(Wanted, TokenPlace) -> Read<Expr>, S: Fn(TokenPlace) -> Read<Stmt>>(
+    source: SourceTokens<'_>,
     parts: &F,
     statements: &S,
-    from: Place,
+    from: TokenPlace,
     left: Vec<Expr>,
-    place: Place,
+    place: TokenPlace,
 ) -> Read<Stmt>
     requires expressions { ReadsExpressions source (F.pre parts.now) (F.post parts.now) }
     requires statements { ReadsStatements source (S.pre statements.now) (S.post statements.now) }
@@ -88,13 +88,13 @@ fn assigned_range<F: Fn(Wanted, Place) -> Read<Expr>, S: Fn(Place) -> Read<Stmt>
 
 /// `range operand` and the block of a loop that began at `from` and defines these names.
 #[tactic(auto, unfolding(tree_reader::specs::Reader::read_range, tree_reader::specs::Reader::read_loop))]
-fn defined_range<F: Fn(Wanted, Place) -> Read<Expr>, S: Fn(Place) -> Read<Stmt>>(
-    source: Source<'_>,
+fn defined_range<F: Fn(Wanted, TokenPlace) -> Read<Expr>, S: Fn(TokenPlace) -> Read<Stmt>>(
+    source: SourceTokens<'_>,
     parts: &F,
     statements: &S,
-    from: Place,
+    from: TokenPlace,
     names: Vec<Identifier>,
-    place: Place,
+    place: TokenPlace,
 ) -> Read<Stmt>
     requires expressions { ReadsExpressions source (F.pre parts.now) (F.post parts.now) }
     requires statements { ReadsStatements source (S.pre statements.now) (S.post statements.now) }
@@ -113,10 +113,10 @@ fn defined_range<F: Fn(Wanted, Place) -> Read<Expr>, S: Fn(Place) -> Read<Stmt>>
 }
 
 /// The statement after a loop's second semicolon, or none before its block.
-fn read_post<F: Fn(Wanted, Place) -> Read<Expr>>(
-    source: Source<'_>,
+fn read_post<F: Fn(Wanted, TokenPlace) -> Read<Expr>>(
+    source: SourceTokens<'_>,
     parts: &F,
-    place: Place,
+    place: TokenPlace,
 ) -> Read<Option<Box<Stmt>>>
     requires { ReadsExpressions source (F.pre parts.now) (F.post parts.now) }
     ensures { Gives (seen source.entry optional_statement_syntax) result (read_post source.entry.text.now (parts_of
@@ -132,13 +132,13 @@ fn read_post<F: Fn(Wanted, Place) -> Read<Expr>>(
 
 /// `condition; post` and the block, after the first semicolon of a loop that began at `from`.
 #[tactic(auto, unfolding(tree_reader::specs::Reader::read_clauses))]
-fn clauses<F: Fn(Wanted, Place) -> Read<Expr>, S: Fn(Place) -> Read<Stmt>>(
-    source: Source<'_>,
+fn clauses<F: Fn(Wanted, TokenPlace) -> Read<Expr>, S: Fn(TokenPlace) -> Read<Stmt>>(
+    source: SourceTokens<'_>,
     parts: &F,
     statements: &S,
-    from: Place,
+    from: TokenPlace,
     init: Option<Box<Stmt>>,
-    place: Place,
+    place: TokenPlace,
 ) -> Read<Stmt>
     requires expressions { ReadsExpressions source (F.pre parts.now) (F.post parts.now) }
     requires statements { ReadsStatements source (S.pre statements.now) (S.post statements.now) }
@@ -162,7 +162,7 @@ fn clauses<F: Fn(Wanted, Place) -> Read<Expr>, S: Fn(Place) -> Read<Stmt>>(
 }
 
 /// Whether a token of this kind and `range` stand next.
-fn has_range(source: Source<'_>, kind: TokenKind, place: Place) -> bool
+fn has_range(source: SourceTokens<'_>, kind: TokenKind, place: TokenPlace) -> bool
     ensures { result ≡ (stands kind (cursor source.entry place) && stands RangeKeyword (behind (cursor source.entry
         place))) }
 {
@@ -171,14 +171,14 @@ fn has_range(source: Source<'_>, kind: TokenKind, place: Place) -> bool
 
 /// A loop that began at `from` and whose header begins at `start` with these expressions.
 #[tactic(auto, unfolding(tree_reader::specs::Reader::read_for_after))]
-fn loop_after<F: Fn(Wanted, Place) -> Read<Expr>, S: Fn(Place) -> Read<Stmt>>(
-    source: Source<'_>,
+fn loop_after<F: Fn(Wanted, TokenPlace) -> Read<Expr>, S: Fn(TokenPlace) -> Read<Stmt>>(
+    source: SourceTokens<'_>,
     parts: &F,
     statements: &S,
-    from: Place,
-    start: Place,
+    from: TokenPlace,
+    start: TokenPlace,
     left: Vec<Expr>,
-    place: Place,
+    place: TokenPlace,
 ) -> Read<Stmt>
     requires expressions { ReadsExpressions source (F.pre parts.now) (F.post parts.now) }
     requires statements { ReadsStatements source (S.pre statements.now) (S.post statements.now) }
@@ -222,11 +222,11 @@ fn loop_after<F: Fn(Wanted, Place) -> Read<Expr>, S: Fn(Place) -> Read<Stmt>>(
 ///
 /// Where another token stands, where it is too deep, and out of memory.
 #[tactic(auto, unfolding(tree_reader::specs::Reader::read_for))]
-pub fn repetition<F: Fn(Wanted, Place) -> Read<Expr>, S: Fn(Place) -> Read<Stmt>>(
-    source: Source<'_>,
+pub fn repetition<F: Fn(Wanted, TokenPlace) -> Read<Expr>, S: Fn(TokenPlace) -> Read<Stmt>>(
+    source: SourceTokens<'_>,
     parts: &F,
     statements: &S,
-    place: Place,
+    place: TokenPlace,
 ) -> Read<Stmt>
     requires expressions { ReadsExpressions source (F.pre parts.now) (F.post parts.now) }
     requires statements { ReadsStatements source (S.pre statements.now) (S.post statements.now) }

@@ -14,8 +14,9 @@ use crate::branches::choice;
 use crate::declarations::declaration;
 use crate::loops::repetition;
 use lexer::TokenKind;
-use parser_base::cursor::{Place, Read, Source};
+use parser_base::cursor::{Read, SourceTokens, TokenPlace};
 use parser_base::fault::Stop;
+use parser_base::kinds::PRIMARY_LEVEL;
 use parser_base::names::{identifier, optional_identifier};
 use parser_base::parts::{Wanted, expression, statement};
 use parser_clauses::selects::select;
@@ -26,9 +27,6 @@ use parser_parts::lists::expressions;
 use tree::{Expr, ExprKind, Span, Stmt};
 use tree_hold::{boxed, release};
 use tree_make as make;
-
-/// The level of primary expressions.
-const PRIMARY_LEVEL: u32 = 7;
 
 /// What a statement is that begins with a token, but for declarations.
 #[derive(Clone, Copy)]
@@ -68,7 +66,7 @@ fn start_of(kind: TokenKind) -> Start
 }
 
 /// What a statement is that begins with the next token.
-fn next_start(source: Source<'_>, place: Place) -> Start
+fn next_start(source: SourceTokens<'_>, place: TokenPlace) -> Start
     ensures { result ≡ next_start (cursor source.entry place) }
 {
     match source.tokens.get(place.at) {
@@ -78,10 +76,10 @@ fn next_start(source: Source<'_>, place: Place) -> Start
 }
 
 /// The statement after a label, which may be empty.
-fn after_label<S: Fn(Place) -> Read<Stmt>>(
-    source: Source<'_>,
+fn after_label<S: Fn(TokenPlace) -> Read<Stmt>>(
+    source: SourceTokens<'_>,
     statements: &S,
-    place: Place,
+    place: TokenPlace,
 ) -> Read<Stmt>
     requires { ReadsStatements source (S.pre statements.now) (S.post statements.now) }
     ensures { Gives (seen source.entry statement_syntax) result (read_after_label source.entry.text.now (parts_of
@@ -102,10 +100,10 @@ fn after_label<S: Fn(Place) -> Read<Stmt>>(
 
 /// A label and its statement.
 #[tactic(auto, unfolding(tree_reader::specs::Reader::read_labeled))]
-fn labeled<S: Fn(Place) -> Read<Stmt>>(
-    source: Source<'_>,
+fn labeled<S: Fn(TokenPlace) -> Read<Stmt>>(
+    source: SourceTokens<'_>,
     statements: &S,
-    place: Place,
+    place: TokenPlace,
 ) -> Read<Stmt>
     requires { ReadsStatements source (S.pre statements.now) (S.post statements.now) }
     ensures { Gives (seen source.entry statement_syntax) result (read_labeled source.entry.text.now (parts_of
@@ -121,11 +119,11 @@ fn labeled<S: Fn(Place) -> Read<Stmt>>(
 }
 
 /// A statement that begins with a name.
-fn named<F: Fn(Wanted, Place) -> Read<Expr>, S: Fn(Place) -> Read<Stmt>>(
-    source: Source<'_>,
+fn named<F: Fn(Wanted, TokenPlace) -> Read<Expr>, S: Fn(TokenPlace) -> Read<Stmt>>(
+    source: SourceTokens<'_>,
     parts: &F,
     statements: &S,
-    place: Place,
+    place: TokenPlace,
 ) -> Read<Stmt>
     requires expressions { ReadsExpressions source (F.pre parts.now) (F.post parts.now) }
     requires statements { ReadsStatements source (S.pre statements.now) (S.post statements.now) }
@@ -149,11 +147,11 @@ fn is_call(operand: &Expr) -> bool
 
 /// The call that `go` and `defer` take, after the word.
 #[tactic(auto, unfolding(tree_reader::specs::Reader::read_started))]
-fn started<F: Fn(Wanted, Place) -> Read<Expr>>(
-    source: Source<'_>,
+fn started<F: Fn(Wanted, TokenPlace) -> Read<Expr>>(
+    source: SourceTokens<'_>,
     parts: &F,
     is_deferred: bool,
-    place: Place,
+    place: TokenPlace,
 ) -> Read<Stmt>
     requires { ReadsExpressions source (F.pre parts.now) (F.post parts.now) }
     ensures { Gives (seen source.entry statement_syntax) result (read_started source.entry.text.now (parts_of
@@ -178,10 +176,10 @@ fn started<F: Fn(Wanted, Place) -> Read<Expr>>(
 
 /// `return`.
 #[tactic(auto, unfolding(tree_reader::specs::Reader::read_return))]
-fn leave<F: Fn(Wanted, Place) -> Read<Expr>>(
-    source: Source<'_>,
+fn leave<F: Fn(Wanted, TokenPlace) -> Read<Expr>>(
+    source: SourceTokens<'_>,
     parts: &F,
-    place: Place,
+    place: TokenPlace,
 ) -> Read<Stmt>
     requires { ReadsExpressions source (F.pre parts.now) (F.post parts.now) }
     ensures { Gives (seen source.entry statement_syntax) result (read_return source.entry.text.now (parts_of
@@ -204,7 +202,7 @@ fn leave<F: Fn(Wanted, Place) -> Read<Expr>>(
 
 /// `break` or `continue`, perhaps with a label.
 #[tactic(auto, unfolding(tree_reader::specs::Reader::read_branch))]
-fn branch(source: Source<'_>, is_break: bool, place: Place) -> Read<Stmt>
+fn branch(source: SourceTokens<'_>, is_break: bool, place: TokenPlace) -> Read<Stmt>
     ensures { Gives (seen source.entry statement_syntax) result (read_branch source.entry.text.now (parts_of
         source.entry) source.entry.below (if is_break then break_statement else continue_statement) (cursor
         source.entry place)) }
@@ -219,10 +217,10 @@ fn branch(source: Source<'_>, is_break: bool, place: Place) -> Read<Stmt>
 
 /// A block as a statement.
 #[tactic(auto, unfolding(tree_reader::specs::Reader::read_block_statement))]
-fn braced<S: Fn(Place) -> Read<Stmt>>(
-    source: Source<'_>,
+fn braced<S: Fn(TokenPlace) -> Read<Stmt>>(
+    source: SourceTokens<'_>,
     statements: &S,
-    place: Place,
+    place: TokenPlace,
 ) -> Read<Stmt>
     requires { ReadsStatements source (S.pre statements.now) (S.post statements.now) }
     ensures { Gives (seen source.entry statement_syntax) result (read_block_statement source.entry.text.now (parts_of
@@ -236,12 +234,12 @@ fn braced<S: Fn(Place) -> Read<Stmt>>(
 }
 
 /// A statement that begins so.
-fn begun<F: Fn(Wanted, Place) -> Read<Expr>, S: Fn(Place) -> Read<Stmt>>(
-    source: Source<'_>,
+fn begun<F: Fn(Wanted, TokenPlace) -> Read<Expr>, S: Fn(TokenPlace) -> Read<Stmt>>(
+    source: SourceTokens<'_>,
     parts: &F,
     statements: &S,
     start: Start,
-    place: Place,
+    place: TokenPlace,
 ) -> Read<Stmt>
     requires expressions { ReadsExpressions source (F.pre parts.now) (F.post parts.now) }
     requires statements { ReadsStatements source (S.pre statements.now) (S.post statements.now) }
@@ -270,11 +268,11 @@ fn begun<F: Fn(Wanted, Place) -> Read<Expr>, S: Fn(Place) -> Read<Stmt>>(
 ///
 /// Where another token stands, where it is too deep, and out of memory.
 #[tactic(auto, using(crate::proofs::Begins::by_start), unfolding(tree_reader::specs::Reader::read_statement_of))]
-pub fn statement_of<F: Fn(Wanted, Place) -> Read<Expr>, S: Fn(Place) -> Read<Stmt>>(
-    source: Source<'_>,
+pub fn statement_of<F: Fn(Wanted, TokenPlace) -> Read<Expr>, S: Fn(TokenPlace) -> Read<Stmt>>(
+    source: SourceTokens<'_>,
     parts: &F,
     statements: &S,
-    place: Place,
+    place: TokenPlace,
 ) -> Read<Stmt>
     requires expressions { ReadsExpressions source (F.pre parts.now) (F.post parts.now) }
     requires statements { ReadsStatements source (S.pre statements.now) (S.post statements.now) }

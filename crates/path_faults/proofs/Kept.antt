@@ -13,9 +13,9 @@ use Rattle.meaning.specs.Uses.{VariableAt, Handed, Event, other, obtain, clear, 
 use Rattle.meaning.specs.BodyEvents.{Variable}
 use Rattle.meaning.specs.Classes.{CancelClass, unset, opened, safe, pending, GroupClass, unmade, in_state, awaited}
 use Rattle.flow.specs.GraphOfCode.{nodes}
-use Rattle.package_meaning.specs.PathFaults.{PathCode, overwritten, not_called, group_is_live, group_overwritten, left_to_live_group, PathFault, Paths, makes_it, is_declared, is_lost, is_handed, cancel_class, group_class, BindsCancel, obtains, clears, ComesToReturn, OwesCall, LeavesLive, IsLeft, IsPathFault, loses_cancel, loses_group, returns_live, returns_open, returns_pending, KeepsCall}
-use Rattle.package_meaning.specs.Credits.{is_safe, is_live, is_settled, Settles}
-use Rattle.body_graphs.specs.Classified.{Classifies}
+use Rattle.meaning_packages.specs.PathFaults.{PathCode, overwritten, not_called, group_is_live, group_overwritten, left_to_live_group, PathFault, Paths, makes_it, is_declared, is_lost, is_handed, cancel_class, group_class, BindsCancel, obtains, clears, ComesToReturn, OwesCall, LeavesLive, IsLeft, IsPathFault, loses_cancel, loses_group, returns_live, returns_open, returns_pending, KeepsCall}
+use Rattle.meaning_packages.specs.Credits.{is_safe, is_live, is_settled, Settles}
+use Rattle.bodies.specs.Classified.{Classifies}
 use Rattle.path_faults.specs.FoundFaults as found
 use Rattle.path_faults.specs.FoundFaults.{each_from, any_from, fault_if, Cancels, Groups, is_live_group, may_be_lost, binding_faults, making_faults, is_same_place, is_live_at, is_live_there, is_left_to, owes_call, open_faults, left_faults, live_faults, return_faults, event_faults, faults_of_nodes, is_return, is_uncalled, breaks_call, is_unsettled, breaks_settling}
 use Rattle.path_faults.proofs.Places.{place_of, contains_at, any_witness, any_holds, passes_at, any_at, given_at, gives_at}
@@ -125,7 +125,7 @@ return_of (pass u f k) e = absurd (false≢true e)
 return_of (defer_pass u f k) e = absurd (false≢true e)
 return_of (lend g f k) e = absurd (false≢true e)
 return_of (start g l) e = absurd (false≢true e)
-return_of (try g) e = absurd (false≢true e)
+return_of (try g literal) e = absurd (false≢true e)
 return_of (wait g) e = absurd (false≢true e)
 return_of (defer_wait g) e = absurd (false≢true e)
 return_of (make u s) e = absurd (false≢true e)
@@ -423,7 +423,7 @@ module _ (b : Paths) (cancels : Cancels) (groups : Groups) (pending_groups : Lis
   node_found n o here f (defer_pass u c k) is h = absurd (contains_nil f h)
   node_found n o here f (lend g c k) is h = absurd (contains_nil f h)
   node_found n o here f (start g l) is h = absurd (contains_nil f h)
-  node_found n o here f (try g) is h = absurd (contains_nil f h)
+  node_found n o here f (try g literal) is h = absurd (contains_nil f h)
   node_found n o here f (wait g) is h = absurd (contains_nil f h)
   node_found n o here f (defer_wait g) is h = absurd (contains_nil f h)
   node_found n o here f (defer_literal l) is h = absurd (contains_nil f h)

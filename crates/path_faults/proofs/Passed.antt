@@ -7,9 +7,9 @@ use Rattle.meaning.specs.Uses.{VariableAt, Event, other, obtain, clear, call, de
 use Rattle.meaning.specs.BodyEvents.{Variable}
 use Rattle.meaning.specs.Classes.{Promises}
 use Rattle.events.specs.declared.told.SiteEvent.{SiteEvent}
-use Rattle.events.specs.EventViews.{events_of_site}
-use Rattle.allowed.specs.UseViews.{event_view}
-use Rattle.package_meaning.specs.PathFaults.{passed_on, PathFault, Paths, PassesOn, passes, defers, IsPassFault, passes_on}
+use Rattle.events.specs.ToldViews.{events_of_site}
+use Rattle.tracked.specs.EventViews.{event_view}
+use Rattle.meaning_packages.specs.PathFaults.{passed_on, PathFault, Paths, PassesOn, passes, defers, IsPassFault, passes_on}
 use Rattle.path_faults.specs.FoundFaults.{passed_faults, passed_unless, passing_faults, found_pass_faults}
 use Rattle.path_faults.proofs.Places.{place_of, contains_at}
 use Rattle.path_faults.proofs.Kept.{same_number, is_same, cancel_kind, is_cancel_kind, fault_at, gives_fault}
@@ -110,7 +110,7 @@ module _ (vs : List Variable) (p : Promises) where
   passing (defer_call u) f h = absurd (contains_nil f h)
   passing (lend g c k) f h = absurd (contains_nil f h)
   passing (start g l) f h = absurd (contains_nil f h)
-  passing (try g) f h = absurd (contains_nil f h)
+  passing (try g literal) f h = absurd (contains_nil f h)
   passing (wait g) f h = absurd (contains_nil f h)
   passing (defer_wait g) f h = absurd (contains_nil f h)
   passing (make u s) f h = absurd (contains_nil f h)

@@ -3,8 +3,8 @@ use Rattle.std.proofs.Common.{◌≡◌, ℕ, ◌<◌, ◌≤◌, List, length, 
 use Rattle.std.specs.Prelude.{slice_get}
 use Rattle.std.proofs.lemmas.Option.{slice_get-map, slice_get_read, slice_get_past, none-some, same_Some}
 use Rattle.facts.specs.FactViews.{kind_view}
-use Rattle.variables.specs.declared.variable.Variable.{Variable as KeptVariable}
-use Rattle.variables.specs.VariableViews.{variable_view}
+use Rattle.events.specs.declared.variable.Variable.{Variable as KeptVariable}
+use Rattle.events.specs.VariableViews.{variable_view}
 use Rattle.meaning.specs.BodyEvents.{Variable}
 
 module _ (kept : List KeptVariable) (i : ℕ) where

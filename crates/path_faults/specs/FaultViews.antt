@@ -3,7 +3,7 @@ use Rattle.std.specs.Prelude.{◌≡◌, List, ◌++◌, map}
 use Rattle.path_faults.specs.declared.fault.PathCode.{PathCode as KeptCode}
 use Rattle.path_faults.specs.declared.fault.PathCode.TheVariants.{Overwritten, NotCalled, GroupIsLive, GroupOverwritten, LeftToLiveGroup, PassedOn}
 use Rattle.path_faults.specs.declared.fault.PathFault.{PathFault as KeptFault}
-use Rattle.package_meaning.specs.PathFaults.{PathCode, overwritten, not_called, group_is_live, group_overwritten, left_to_live_group, passed_on, PathFault}
+use Rattle.meaning_packages.specs.PathFaults.{PathCode, overwritten, not_called, group_is_live, group_overwritten, left_to_live_group, passed_on, PathFault}
 
 abbrev pub code_view : KeptCode → PathCode
 code_view Overwritten = overwritten

@@ -9,7 +9,7 @@ use Rattle.meaning.specs.Tracked.{live}
 use Rattle.meaning.specs.Uses.{VariableAt, Handed, Event, obtain, clear, pass, defer_pass, make, return_event, is_cancel, is_group}
 use Rattle.meaning.specs.BodyEvents.{Variable}
 use Rattle.meaning.specs.Classes.{Promises, CancelClass, unset, opened, pending, GroupClass, in_state}
-use Rattle.package_meaning.specs.PathFaults.{PathCode, overwritten, not_called, group_is_live, group_overwritten, left_to_live_group, passed_on, PathFault, is_declared, makes_it, is_handed}
+use Rattle.meaning_packages.specs.PathFaults.{PathCode, overwritten, not_called, group_is_live, group_overwritten, left_to_live_group, passed_on, PathFault, is_declared, makes_it, is_handed}
 
 -- what each element of a list gives, with its place, where the first has the place n
 abbrev pub each_from : {A B : Type 0} → (ℕ → A → List B) → ℕ → List A → List B

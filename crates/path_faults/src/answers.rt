@@ -2,48 +2,48 @@
 
 ghost use Rattle.std.specs.Prelude.{◌≡◌, ◌≤◌, ◌↔◌, IsTrue, Some, IfOk, length, map, slice_get};
 ghost use Rattle.std.specs.List.{list_any};
-ghost use Rattle.allowed.specs.UseViews.{event_view};
-ghost use Rattle.body_graphs.specs.Classified.{Classifies};
-ghost use Rattle.body_graphs.specs.NodeEvents.{node_event_view, events_graph, IsGraphOf};
+ghost use Rattle.tracked.specs.EventViews.{event_view};
+ghost use Rattle.bodies.specs.Classified.{Classifies};
+ghost use Rattle.bodies.specs.NodeEvents.{node_event_view, events_graph, IsGraphOf};
 ghost use Rattle.facts.specs.FactViews.{kind_view};
 ghost use Rattle.meaning.specs.BodyEvents.{Variable as MeantVariable};
 ghost use Rattle.meaning.specs.Classes.{pending};
 ghost use Rattle.meaning.specs.FunctionFacts.{cancel};
-ghost use Rattle.package_meaning.specs.Credits.{Settles};
-ghost use Rattle.package_meaning.specs.PathFaults.{Paths, KeepsCall};
+ghost use Rattle.meaning_packages.specs.Credits.{Settles};
+ghost use Rattle.meaning_packages.specs.PathFaults.{Paths, KeepsCall};
 ghost use Rattle.path_faults.specs.FoundFaults.{is_return, is_uncalled, breaks_call, is_unsettled, breaks_settling};
 ghost use Rattle.path_faults.specs.LiveViews.{has_live};
-ghost use Rattle.variables.specs.VariableViews.{variable_view};
+ghost use Rattle.events.specs.VariableViews.{variable_view};
 
+use crate::at_node::AtNode;
 use crate::live::{LiveGroups, live_groups};
 use crate::returns::is_left_to;
-use allowed::Event;
-use body_graphs::NodeEvent;
+use bodies::NodeEvent;
+use events::Variable;
 use facts::VariableKind;
 use flow::{Graph, NodePlace};
-use rows::GroupState;
 use states::{Arrivals, CancelClass, GroupClass};
 use std::alloc::{AllocError, Global};
-use variables::Variable;
+use tracked::{Event, GroupState};
 
 fn does_return(event: &Event<'_>) -> bool
     ensures { result ≡ is_return (event_view event.now) }
 {
     match event {
-        Event::Return(_) => true,
-        Event::Obtain(_, _, _, _)
-        | Event::Clear(_)
-        | Event::Call(_)
-        | Event::DeferCall(_)
-        | Event::Pass(_, _, _)
-        | Event::DeferPass(_, _, _)
-        | Event::Lend(_, _, _)
-        | Event::Start(_, _)
-        | Event::Try(_)
-        | Event::Wait(_)
-        | Event::DeferWait(_)
-        | Event::Make(_, _)
-        | Event::DeferLiteral(_) => false,
+        Event::Return { .. } => true,
+        Event::Obtain { .. }
+        | Event::Clear { .. }
+        | Event::Call { .. }
+        | Event::DeferCall { .. }
+        | Event::Pass { .. }
+        | Event::DeferPass { .. }
+        | Event::Lend { .. }
+        | Event::Start { .. }
+        | Event::Try { .. }
+        | Event::Wait { .. }
+        | Event::DeferWait { .. }
+        | Event::Make { .. }
+        | Event::DeferLiteral { .. } => false,
     }
 }
 
@@ -59,18 +59,14 @@ fn is_return(event: NodeEvent<'_, '_>) -> bool
 }
 
 /// Whether the cancel variable at that place in the list may be open at the node, or left there to a live group.
-fn is_uncalled<A: Arrivals>(
-    variables: &[Variable<'_>],
-    arrivals: &A,
-    live: &LiveGroups,
-    node: NodePlace,
-    variable: usize,
-) -> bool
-    ensures { result ≡ is_uncalled (map variable_view variables.now) (A.cancels arrivals.now variable node.node)
-        (has_live live.now node.at node.order) }
+fn is_uncalled<A: Arrivals>(at: &AtNode<'_, '_, A>, variable: usize) -> bool
+    ensures { result ≡ is_uncalled (map variable_view at.now.variables.now)
+        (A.cancels at.now.arrivals.now variable at.now.node.node)
+        (has_live at.now.live.now at.now.node.at at.now.node.order) }
 {
-    arrivals.has_cancel(variable, node.node, CancelClass::Opened)
-        || is_left_to(variables, arrivals, live, node, variable)
+    at.arrivals
+        .has_cancel(variable, at.node.node, CancelClass::Opened)
+        || is_left_to(at, variable)
 }
 
 /// Whether the cancel variable at that place in the list may be uncalled at some return.
@@ -86,12 +82,17 @@ fn breaks_call<'a, A: Arrivals>(
 {
     for (number, node) in graph.nodes.iter().enumerate() {
         let occurrence = node.occurrence;
-        let place = NodePlace {
-            at: occurrence.at,
-            order: occurrence.order,
-            node: number,
+        let at = AtNode {
+            variables: &*variables,
+            arrivals: &*arrivals,
+            live: &*live,
+            node: NodePlace {
+                at: occurrence.at,
+                order: occurrence.order,
+                node: number,
+            },
         };
-        if is_return(occurrence.event) && is_uncalled(variables, arrivals, live, place, variable) {
+        if is_return(occurrence.event) && is_uncalled(&at, variable) {
             return true;
         }
     }

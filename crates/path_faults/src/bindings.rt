@@ -1,32 +1,30 @@
 //! Faults where a variable is bound or made again.
 
 ghost use Rattle.std.specs.Prelude.{◌≡◌, OnOk, map};
-ghost use Rattle.allowed.specs.UseViews.{variable_view as variable_at_view};
+ghost use Rattle.tracked.specs.EventViews.{variable_view as variable_at_view};
 ghost use Rattle.path_faults.specs.FaultViews.{AddsFaults};
 ghost use Rattle.path_faults.specs.FoundFaults.{binding_faults, making_faults};
-ghost use Rattle.variables.specs.VariableViews.{variable_view};
+ghost use Rattle.events.specs.VariableViews.{variable_view};
 
+use crate::at_node::AtNode;
 use crate::fault::{PathCode, PathFault, add_if};
 use crate::losses::{loses_cancel, loses_group};
-use allowed::VariableAt;
 use states::Arrivals;
 use std::alloc::AllocError;
-use variables::Variable;
+use tracked::VariableAt;
 
 /// Adds the faults of a node that binds a cancel variable.
 pub fn add_binding<'a, A: Arrivals>(
-    variables: &[Variable<'a>],
-    arrivals: &A,
-    node: usize,
+    at: &AtNode<'_, 'a, A>,
     bound: VariableAt,
     faults: &mut Vec<PathFault<'a>>,
 ) -> Result<(), AllocError>
     ensures { OnOk result (AddsFaults faults.old.items faults.new.items (binding_faults
-        (map variable_view variables.now) (A.cancels arrivals.now) (A.pending_groups arrivals.now) node
-        (variable_at_view bound))) }
+        (map variable_view at.now.variables.now) (A.cancels at.now.arrivals.now)
+        (A.pending_groups at.now.arrivals.now) at.now.node.node (variable_at_view bound))) }
 {
-    for (place, variable) in variables.iter().enumerate() {
-        let is_lost = loses_cancel(variables, arrivals, node, bound.number, place, *variable);
+    for (place, variable) in at.variables.iter().enumerate() {
+        let is_lost = loses_cancel(at, bound.number, place, *variable);
         add_if(
             is_lost,
             bound.at,
@@ -40,18 +38,16 @@ pub fn add_binding<'a, A: Arrivals>(
 
 /// Adds the faults of a node that makes a group.
 pub fn add_making<'a, A: Arrivals>(
-    variables: &[Variable<'a>],
-    arrivals: &A,
-    node: usize,
+    at: &AtNode<'_, 'a, A>,
     made: VariableAt,
     faults: &mut Vec<PathFault<'a>>,
 ) -> Result<(), AllocError>
     ensures { OnOk result (AddsFaults faults.old.items faults.new.items (making_faults
-        (map variable_view variables.now) (A.groups arrivals.now) node
+        (map variable_view at.now.variables.now) (A.groups at.now.arrivals.now) at.now.node.node
         (variable_at_view made))) }
 {
-    for (place, variable) in variables.iter().enumerate() {
-        let is_lost = loses_group(arrivals, node, made.number, place, *variable);
+    for (place, variable) in at.variables.iter().enumerate() {
+        let is_lost = loses_group(at, made.number, place, *variable);
         add_if(
             is_lost,
             made.at,

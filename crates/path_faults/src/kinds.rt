@@ -1,33 +1,13 @@
 //! Tests of variables.
 
-ghost use Rattle.std.specs.Prelude.{◌≡◌, Some, map};
-ghost use Rattle.allowed.specs.UseViews.{handed_view};
-ghost use Rattle.meaning.specs.Uses.{is_cancel, is_group};
-ghost use Rattle.package_meaning.specs.PathFaults.{is_declared, is_handed, makes_it};
+ghost use Rattle.std.specs.Prelude.{◌≡◌, map};
+ghost use Rattle.tracked.specs.EventViews.{handed_view};
+ghost use Rattle.meaning_packages.specs.PathFaults.{is_declared, is_handed, makes_it};
 ghost use Rattle.path_faults.specs.FoundFaults.{owes_call};
-ghost use Rattle.variables.specs.VariableViews.{variable_role_view, variable_view};
+ghost use Rattle.events.specs.VariableViews.{variable_role_view, variable_view};
 
-use allowed::Handed;
-use facts::VariableKind;
-use variables::{Variable, VariableRole};
-
-pub fn is_cancel(variable: Variable<'_>) -> bool
-    ensures { result ≡ is_cancel (Some (variable_view variable.entry).kind) }
-{
-    match variable.kind {
-        VariableKind::Cancel => true,
-        VariableKind::Group => false,
-    }
-}
-
-pub fn is_group(variable: Variable<'_>) -> bool
-    ensures { result ≡ is_group (Some (variable_view variable.entry).kind) }
-{
-    match variable.kind {
-        VariableKind::Cancel => false,
-        VariableKind::Group => true,
-    }
-}
+use events::{Variable, VariableRole};
+use tracked::Handed;
 
 /// Whether the body itself declares it, and not as a parameter.
 pub fn is_declared(role: VariableRole) -> bool
@@ -44,7 +24,7 @@ pub fn makes_it(variables: &[Variable<'_>], group: u32) -> bool
     ensures { result ≡ makes_it (map variable_view variables.now) group }
 {
     for variable in variables {
-        if variable.number == group && is_group(*variable) && is_declared(variable.role) {
+        if variable.number == group && variable.kind.is_group() && is_declared(variable.role) {
             return true;
         }
     }
@@ -67,5 +47,5 @@ fn is_handed(number: u32, handed: &[Handed]) -> bool
 pub fn owes_call(variable: Variable<'_>, handed: &[Handed]) -> bool
     ensures { result ≡ owes_call (variable_view variable.entry) (map handed_view handed.now) }
 {
-    is_cancel(variable) && is_declared(variable.role) && !is_handed(variable.number, handed)
+    variable.kind.is_cancel() && is_declared(variable.role) && !is_handed(variable.number, handed)
 }

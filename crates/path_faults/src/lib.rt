@@ -1,8 +1,9 @@
 //! What the paths and the passes of a body come to: its faults, and whether a variable is called or settled at each
-//! return. The rules are those of `package_meaning/specs/PathFaults.antt`.
+//! return. The rules are those of `meaning_packages/specs/PathFaults.antt`.
 #![tactic(auto)]
 
 mod answers;
+mod at_node;
 mod bindings;
 mod fault;
 mod kinds;

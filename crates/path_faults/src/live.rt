@@ -1,18 +1,18 @@
 //! Groups that may be live at nodes.
 
 ghost use Rattle.std.specs.Prelude.{◌≡◌, ◌&&◌, ℕ, IfOk, OnOk, map};
-ghost use Rattle.body_graphs.specs.NodeEvents.{events_graph};
+ghost use Rattle.bodies.specs.NodeEvents.{events_graph};
 ghost use Rattle.path_faults.specs.FoundFaults.{is_same_place, is_live_at, is_live_there};
 ghost use Rattle.path_faults.specs.LiveViews.{has_live, AddsLive};
-ghost use Rattle.variables.specs.VariableViews.{variable_view};
+ghost use Rattle.events.specs.VariableViews.{variable_view};
 
 use crate::losses::is_live_group;
-use body_graphs::NodeEvent;
-use flow::Graph;
+use bodies::NodeEvent;
+use events::Variable;
+use flow::{Graph, NodePlace};
 use indexmap::IndexSet;
 use states::Arrivals;
 use std::alloc::{AllocError, Global};
-use variables::Variable;
 
 /// A group by its place in the list of variables, with the byte offset of a node and its order there.
 #[derive(Clone, Copy, PartialEq, Eq, Hash)]
@@ -54,22 +54,19 @@ impl LiveGroups {
         Ok(())
     }
 
-    /// Adds the groups that may be live where the node comes next, which stands at that byte offset and has that order
-    /// there.
+    /// Adds the groups that may be live where the node comes next.
     fn add_node<A: Arrivals>(
         &mut self,
         variables: &[Variable<'_>],
         arrivals: &A,
-        node: usize,
-        at: u32,
-        order: usize,
+        node: NodePlace,
     ) -> Result<(), AllocError>
         ensures { OnOk result (AddsLive self.old self.new (is_live_at (map variable_view variables.now)
-            (A.groups arrivals.now) node at order)) }
+            (A.groups arrivals.now) node.node node.at node.order)) }
     {
         for (place, variable) in variables.iter().enumerate() {
-            let is_live = is_live_group(arrivals, node, place, *variable);
-            self.add_if(is_live, at, order, place)?;
+            let is_live = is_live_group(arrivals, node.node, place, *variable);
+            self.add_if(is_live, node.at, node.order, place)?;
         }
         Ok(())
     }
@@ -94,8 +91,13 @@ pub fn live_groups<A: Arrivals>(
         places: IndexSet::new(alloc),
     };
     for (number, node) in graph.nodes.iter().enumerate() {
-        let place = node.occurrence;
-        live.add_node(variables, arrivals, number, place.at, place.order)?;
+        let occurrence = node.occurrence;
+        let place = NodePlace {
+            at: occurrence.at,
+            order: occurrence.order,
+            node: number,
+        };
+        live.add_node(variables, arrivals, place)?;
     }
     Ok(live)
 }

@@ -2,12 +2,13 @@
 
 ghost use Rattle.std.specs.Prelude.{◌≡◌, map};
 ghost use Rattle.path_faults.specs.FoundFaults.{is_left_outside, may_be_lost, loses_cancel, loses_group, is_live_group};
-ghost use Rattle.variables.specs.VariableViews.{variable_view};
+ghost use Rattle.events.specs.VariableViews.{variable_view};
 
-use crate::kinds::{is_cancel, is_group, makes_it};
-use rows::GroupState;
+use crate::at_node::AtNode;
+use crate::kinds::makes_it;
+use events::Variable;
 use states::{Arrivals, CancelClass, GroupClass};
-use variables::Variable;
+use tracked::GroupState;
 
 /// Whether the cancel variable may be pending in a group that the body does not make, where the node comes next.
 fn is_left_outside<A: Arrivals>(
@@ -46,19 +47,17 @@ fn may_be_lost<A: Arrivals>(
 /// Whether the variable at that place in the list is a cancel variable of that number, and may lose at the node what
 /// it holds.
 pub fn loses_cancel<'a, A: Arrivals>(
-    variables: &[Variable<'a>],
-    arrivals: &A,
-    node: usize,
+    at: &AtNode<'_, 'a, A>,
     number: u32,
     place: usize,
     variable: Variable<'a>,
 ) -> bool
-    ensures { result ≡ loses_cancel (map variable_view variables.now) (A.cancels arrivals.now)
-        (A.pending_groups arrivals.now) node number place (variable_view variable.entry) }
+    ensures { result ≡ loses_cancel (map variable_view at.now.variables.now) (A.cancels at.now.arrivals.now)
+        (A.pending_groups at.now.arrivals.now) at.now.node.node number place (variable_view variable.entry) }
 {
-    is_cancel(variable)
+    variable.kind.is_cancel()
         && variable.number == number
-        && may_be_lost(variables, arrivals, place, node)
+        && may_be_lost(at.variables, at.arrivals, place, at.node.node)
 }
 
 /// Whether the variable at that place in the list is a group that may be live where the node comes next.
@@ -70,19 +69,20 @@ pub fn is_live_group<A: Arrivals>(
 ) -> bool
     ensures { result ≡ is_live_group (variable_view variable.entry) (A.groups arrivals.now place node) }
 {
-    is_group(variable) && arrivals.has_group(place, node, GroupClass::InState(GroupState::Live))
+    variable.kind.is_group()
+        && arrivals.has_group(place, node, GroupClass::InState(GroupState::Live))
 }
 
 /// Whether the variable at that place in the list is a group of that number that may be live where the node comes
 /// next.
-pub fn loses_group<A: Arrivals>(
-    arrivals: &A,
-    node: usize,
+pub fn loses_group<'a, A: Arrivals>(
+    at: &AtNode<'_, 'a, A>,
     number: u32,
     place: usize,
-    variable: Variable<'_>,
+    variable: Variable<'a>,
 ) -> bool
-    ensures { result ≡ loses_group (A.groups arrivals.now) node number place (variable_view variable.entry) }
+    ensures { result ≡ loses_group (A.groups at.now.arrivals.now) at.now.node.node number place
+        (variable_view variable.entry) }
 {
-    variable.number == number && is_live_group(arrivals, node, place, variable)
+    variable.number == number && is_live_group(at.arrivals, at.node.node, place, variable)
 }

@@ -1,22 +1,20 @@
 //! The faults of a body's passes.
 
 ghost use Rattle.std.specs.Prelude.{◌≡◌, ◌↔◌, Contains, IfOk, OnOk, map};
-ghost use Rattle.allowed.specs.UseViews.{event_view, variable_view as variable_at_view};
-ghost use Rattle.events.specs.EventViews.{TellsFile};
+ghost use Rattle.tracked.specs.EventViews.{event_view, variable_view as variable_at_view};
+ghost use Rattle.events.specs.ToldViews.{TellsFile};
 ghost use Rattle.meaning.specs.BodyEvents.{events_at};
 ghost use Rattle.meaning.specs.Uses.{Seen};
-ghost use Rattle.package_meaning.specs.PathFaults.{Paths, PathFault as MeantFault, IsPassFault};
+ghost use Rattle.meaning_packages.specs.PathFaults.{Paths, PathFault as MeantFault, IsPassFault};
 ghost use Rattle.path_faults.specs.FaultViews.{fault_view, AddsFaults};
 ghost use Rattle.path_faults.specs.FoundFaults.{passed_faults, passed_unless, passing_faults};
-ghost use Rattle.variables.specs.VariableViews.{variable_view};
+ghost use Rattle.events.specs.VariableViews.{variable_view};
 
 use crate::fault::{PathCode, PathFault, add_if};
-use crate::kinds::is_cancel;
-use allowed::{Event, VariableAt};
-use events::Told;
+use events::{Told, Variable};
 use states::Promises;
 use std::alloc::{AllocError, Global};
-use variables::Variable;
+use tracked::{Event, VariableAt};
 
 /// Adds the faults of a variable that is passed.
 fn add_passed<'a>(
@@ -28,7 +26,7 @@ fn add_passed<'a>(
         (map variable_view variables.now) (variable_at_view passed))) }
 {
     for variable in variables {
-        let is_it = is_cancel(*variable) && variable.number == passed.number;
+        let is_it = variable.kind.is_cancel() && variable.number == passed.number;
         add_if(is_it, passed.at, PathCode::PassedOn, variable.name, faults)?;
     }
     Ok(())
@@ -61,7 +59,16 @@ fn add_passing<'a, P: Promises>(
         (map variable_view variables.now) (P.promises promises.now) (event_view event.now))) }
 {
     match event {
-        Event::Pass(passed, callee, position) | Event::DeferPass(passed, callee, position) => {
+        Event::Pass {
+            variable: passed,
+            callee,
+            position,
+        }
+        | Event::DeferPass {
+            variable: passed,
+            callee,
+            position,
+        } => {
             add_unless(
                 promises.calls(*callee, *position),
                 variables,
@@ -69,18 +76,18 @@ fn add_passing<'a, P: Promises>(
                 faults,
             )
         }
-        Event::Obtain(_, _, _, _)
-        | Event::Clear(_)
-        | Event::Call(_)
-        | Event::DeferCall(_)
-        | Event::Lend(_, _, _)
-        | Event::Start(_, _)
-        | Event::Try(_)
-        | Event::Wait(_)
-        | Event::DeferWait(_)
-        | Event::Make(_, _)
-        | Event::DeferLiteral(_)
-        | Event::Return(_) => Ok(()),
+        Event::Obtain { .. }
+        | Event::Clear { .. }
+        | Event::Call { .. }
+        | Event::DeferCall { .. }
+        | Event::Lend { .. }
+        | Event::Start { .. }
+        | Event::Try { .. }
+        | Event::Wait { .. }
+        | Event::DeferWait { .. }
+        | Event::Make { .. }
+        | Event::DeferLiteral { .. }
+        | Event::Return { .. } => Ok(()),
     }
 }
 

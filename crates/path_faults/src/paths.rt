@@ -1,77 +1,76 @@
 //! The faults of a body's paths.
 
 ghost use Rattle.std.specs.Prelude.{◌≡◌, ◌↔◌, Contains, IfOk, OnOk, map};
-ghost use Rattle.allowed.specs.UseViews.{event_view};
-ghost use Rattle.body_graphs.specs.Classified.{Classifies};
-ghost use Rattle.body_graphs.specs.NodeEvents.{node_event_view, events_graph, IsGraphOf};
-ghost use Rattle.package_meaning.specs.PathFaults.{Paths, PathFault as MeantFault, IsPathFault};
+ghost use Rattle.tracked.specs.EventViews.{event_view};
+ghost use Rattle.bodies.specs.Classified.{Classifies};
+ghost use Rattle.bodies.specs.NodeEvents.{node_event_view, events_graph, IsGraphOf};
+ghost use Rattle.meaning_packages.specs.PathFaults.{Paths, PathFault as MeantFault, IsPathFault};
 ghost use Rattle.path_faults.specs.FaultViews.{fault_view, AddsFaults};
 ghost use Rattle.path_faults.specs.FoundFaults.{event_faults, faults_of_nodes};
 ghost use Rattle.path_faults.specs.LiveViews.{has_live};
-ghost use Rattle.variables.specs.VariableViews.{variable_view};
+ghost use Rattle.events.specs.VariableViews.{variable_view};
 
+use crate::at_node::AtNode;
 use crate::bindings::{add_binding, add_making};
 use crate::fault::PathFault;
 use crate::live::{LiveGroups, live_groups};
 use crate::returns::add_return;
-use allowed::Event;
-use body_graphs::NodeEvent;
+use bodies::NodeEvent;
+use events::Variable;
 use flow::{Graph, NodePlace};
 use states::Arrivals;
 use std::alloc::{AllocError, Global};
-use variables::Variable;
+use tracked::Event;
 
 /// Adds the faults of a node that does this.
 fn add_event<'a, A: Arrivals>(
-    variables: &[Variable<'a>],
-    arrivals: &A,
-    live: &LiveGroups,
-    node: NodePlace,
+    at: &AtNode<'_, 'a, A>,
     event: &Event<'_>,
     faults: &mut Vec<PathFault<'a>>,
 ) -> Result<(), AllocError>
     ensures { OnOk result (AddsFaults faults.old.items faults.new.items (event_faults
-        (map variable_view variables.now) (A.cancels arrivals.now) (A.groups arrivals.now)
-        (A.pending_groups arrivals.now) (has_live live.now node.at node.order) node.node node.at
+        (map variable_view at.now.variables.now) (A.cancels at.now.arrivals.now) (A.groups at.now.arrivals.now)
+        (A.pending_groups at.now.arrivals.now) (has_live at.now.live.now at.now.node.at at.now.node.order)
+        at.now.node.node at.now.node.at
         (event_view event.now))) }
 {
     match event {
-        Event::Obtain(bound, _, _, _) | Event::Clear(bound) => {
-            add_binding(variables, arrivals, node.node, *bound, faults)
+        Event::Obtain {
+            variable: bound,
+            ..
         }
-        Event::Make(made, _) => add_making(variables, arrivals, node.node, *made, faults),
-        Event::Return(handed) => add_return(variables, arrivals, live, node, handed, faults),
-        Event::Call(_)
-        | Event::DeferCall(_)
-        | Event::Pass(_, _, _)
-        | Event::DeferPass(_, _, _)
-        | Event::Lend(_, _, _)
-        | Event::Start(_, _)
-        | Event::Try(_)
-        | Event::Wait(_)
-        | Event::DeferWait(_)
-        | Event::DeferLiteral(_) => Ok(()),
+        | Event::Clear { variable: bound } => { add_binding(at, *bound, faults) }
+        Event::Make { variable: made, .. } => add_making(at, *made, faults),
+        Event::Return { handed } => add_return(at, handed, faults),
+        Event::Call { .. }
+        | Event::DeferCall { .. }
+        | Event::Pass { .. }
+        | Event::DeferPass { .. }
+        | Event::Lend { .. }
+        | Event::Start { .. }
+        | Event::Try { .. }
+        | Event::Wait { .. }
+        | Event::DeferWait { .. }
+        | Event::DeferLiteral { .. } => Ok(()),
     }
 }
 
 /// Adds the faults of a node.
 fn add_node<'a, A: Arrivals>(
-    variables: &[Variable<'a>],
-    arrivals: &A,
-    live: &LiveGroups,
-    node: NodePlace,
+    at: &AtNode<'_, 'a, A>,
     event: NodeEvent<'_, '_>,
     faults: &mut Vec<PathFault<'a>>,
 ) -> Result<(), AllocError>
     ensures { OnOk result (AddsFaults faults.old.items faults.new.items (event_faults
-        (map variable_view variables.now) (A.cancels arrivals.now) (A.groups arrivals.now)
-        (A.pending_groups arrivals.now) (has_live live.now node.at node.order) node.node node.at
+        (map variable_view at.now.variables.now) (A.cancels at.now.arrivals.now) (A.groups at.now.arrivals.now)
+        (A.pending_groups at.now.arrivals.now) (has_live at.now.live.now at.now.node.at at.now.node.order)
+        at.now.node.node at.now.node.at
         (node_event_view event.entry))) }
 {
     match event {
         NodeEvent::Other => Ok(()),
-        NodeEvent::FallsOff => add_return(variables, arrivals, live, node, &[], faults),
-        NodeEvent::Does(event) => add_event(variables, arrivals, live, node, event, faults),
+        NodeEvent::FallsOff => add_return(at, &[], faults),
+        NodeEvent::Does(event) => add_event(at, event, faults),
     }
 }
 
@@ -89,12 +88,17 @@ fn add_nodes<'a, A: Arrivals>(
 {
     for (number, node) in graph.nodes.iter().enumerate() {
         let occurrence = node.occurrence;
-        let place = NodePlace {
-            at: occurrence.at,
-            order: occurrence.order,
-            node: number,
+        let at = AtNode {
+            variables: &*variables,
+            arrivals: &*arrivals,
+            live: &*live,
+            node: NodePlace {
+                at: occurrence.at,
+                order: occurrence.order,
+                node: number,
+            },
         };
-        add_node(variables, arrivals, live, place, occurrence.event, faults)?;
+        add_node(&at, occurrence.event, faults)?;
     }
     Ok(())
 }

@@ -1,37 +1,33 @@
 //! Faults at a return.
 
 ghost use Rattle.std.specs.Prelude.{◌≡◌, OnOk, map};
-ghost use Rattle.allowed.specs.UseViews.{handed_view};
+ghost use Rattle.tracked.specs.EventViews.{handed_view};
 ghost use Rattle.path_faults.specs.FaultViews.{AddsFaults};
 ghost use Rattle.path_faults.specs.FoundFaults.{is_left_to, returns_open, open_faults, returns_left, left_faults, returns_live, live_faults, return_faults};
 ghost use Rattle.path_faults.specs.LiveViews.{has_live};
-ghost use Rattle.variables.specs.VariableViews.{variable_view};
+ghost use Rattle.events.specs.VariableViews.{variable_view};
 
+use crate::at_node::AtNode;
 use crate::fault::{PathCode, PathFault, add_if};
-use crate::kinds::{is_declared, is_group, owes_call};
-use crate::live::LiveGroups;
+use crate::kinds::{is_declared, owes_call};
 use crate::losses::is_live_group;
-use allowed::Handed;
-use flow::NodePlace;
+use events::Variable;
 use states::{Arrivals, CancelClass};
 use std::alloc::AllocError;
-use variables::Variable;
+use tracked::Handed;
 
 /// Whether the cancel variable at that place in the list may be pending at the node in a group that may be live there.
-pub fn is_left_to<A: Arrivals>(
-    variables: &[Variable<'_>],
-    arrivals: &A,
-    live: &LiveGroups,
-    node: NodePlace,
-    place: usize,
-) -> bool
-    ensures { result ≡ is_left_to (map variable_view variables.now) (A.cancels arrivals.now place node.node)
-        (has_live live.now node.at node.order) }
+pub fn is_left_to<A: Arrivals>(at: &AtNode<'_, '_, A>, place: usize) -> bool
+    ensures { result ≡ is_left_to (map variable_view at.now.variables.now)
+        (A.cancels at.now.arrivals.now place at.now.node.node)
+        (has_live at.now.live.now at.now.node.at at.now.node.order) }
 {
-    for (group_place, group) in variables.iter().enumerate() {
-        if is_group(*group)
-            && arrivals.has_cancel(place, node.node, CancelClass::Pending(group.number))
-            && live.has(node.at, node.order, group_place)
+    for (group_place, group) in at.variables.iter().enumerate() {
+        if group.kind.is_group()
+            && at
+                .arrivals
+                .has_cancel(place, at.node.node, CancelClass::Pending(group.number))
+            && at.live.has(at.node.at, at.node.order, group_place)
         {
             return true;
         }
@@ -40,32 +36,39 @@ pub fn is_left_to<A: Arrivals>(
 }
 
 /// Whether the variable at that place in the list is a cancel variable that is owed at a return, and may be open there.
-fn returns_open<A: Arrivals>(
-    arrivals: &A,
-    node: usize,
+fn returns_open<'a, A: Arrivals>(
+    at: &AtNode<'_, 'a, A>,
     handed: &[Handed],
     place: usize,
-    variable: Variable<'_>,
+    variable: Variable<'a>,
 ) -> bool
-    ensures { result ≡ returns_open (A.cancels arrivals.now) node (map handed_view handed.now) place
+    ensures { result ≡ returns_open (A.cancels at.now.arrivals.now) at.now.node.node (map handed_view handed.now) place
         (variable_view variable.entry) }
 {
-    owes_call(variable, handed) && arrivals.has_cancel(place, node, CancelClass::Opened)
+    owes_call(variable, handed)
+        && at
+            .arrivals
+            .has_cancel(place, at.node.node, CancelClass::Opened)
 }
 
 fn add_open<'a, A: Arrivals>(
-    variables: &[Variable<'a>],
-    arrivals: &A,
-    node: NodePlace,
+    at: &AtNode<'_, 'a, A>,
     handed: &[Handed],
     faults: &mut Vec<PathFault<'a>>,
 ) -> Result<(), AllocError>
     ensures { OnOk result (AddsFaults faults.old.items faults.new.items (open_faults
-        (map variable_view variables.now) (A.cancels arrivals.now) node.node node.at (map handed_view handed.now))) }
+        (map variable_view at.now.variables.now) (A.cancels at.now.arrivals.now) at.now.node.node at.now.node.at
+        (map handed_view handed.now))) }
 {
-    for (place, variable) in variables.iter().enumerate() {
-        let is_open = returns_open(arrivals, node.node, handed, place, *variable);
-        add_if(is_open, node.at, PathCode::NotCalled, variable.name, faults)?;
+    for (place, variable) in at.variables.iter().enumerate() {
+        let is_open = returns_open(at, handed, place, *variable);
+        add_if(
+            is_open,
+            at.node.at,
+            PathCode::NotCalled,
+            variable.name,
+            faults,
+        )?;
     }
     Ok(())
 }
@@ -73,38 +76,33 @@ fn add_open<'a, A: Arrivals>(
 /// Whether the variable at that place in the list is a cancel variable that is owed at a return, and may be left there
 /// to a live group.
 fn returns_left<'a, A: Arrivals>(
-    variables: &[Variable<'a>],
-    arrivals: &A,
-    live: &LiveGroups,
-    node: NodePlace,
+    at: &AtNode<'_, 'a, A>,
     handed: &[Handed],
     place: usize,
     variable: Variable<'a>,
 ) -> bool
-    ensures { result ≡ returns_left (map variable_view variables.now) (A.cancels arrivals.now)
-        (has_live live.now node.at node.order) node.node (map handed_view handed.now) place
+    ensures { result ≡ returns_left (map variable_view at.now.variables.now) (A.cancels at.now.arrivals.now)
+        (has_live at.now.live.now at.now.node.at at.now.node.order) at.now.node.node (map handed_view handed.now) place
         (variable_view variable.entry) }
 {
-    owes_call(variable, handed) && is_left_to(variables, arrivals, live, node, place)
+    owes_call(variable, handed) && is_left_to(at, place)
 }
 
 fn add_left<'a, A: Arrivals>(
-    variables: &[Variable<'a>],
-    arrivals: &A,
-    live: &LiveGroups,
-    node: NodePlace,
+    at: &AtNode<'_, 'a, A>,
     handed: &[Handed],
     faults: &mut Vec<PathFault<'a>>,
 ) -> Result<(), AllocError>
     ensures { OnOk result (AddsFaults faults.old.items faults.new.items (left_faults
-        (map variable_view variables.now) (A.cancels arrivals.now) (has_live live.now node.at node.order) node.node
-        node.at (map handed_view handed.now))) }
+        (map variable_view at.now.variables.now) (A.cancels at.now.arrivals.now)
+        (has_live at.now.live.now at.now.node.at at.now.node.order) at.now.node.node at.now.node.at
+        (map handed_view handed.now))) }
 {
-    for (place, variable) in variables.iter().enumerate() {
-        let is_left = returns_left(variables, arrivals, live, node, handed, place, *variable);
+    for (place, variable) in at.variables.iter().enumerate() {
+        let is_left = returns_left(at, handed, place, *variable);
         add_if(
             is_left,
-            node.at,
+            at.node.at,
             PathCode::LeftToLiveGroup,
             variable.name,
             faults,
@@ -126,19 +124,17 @@ fn returns_live<A: Arrivals>(
 }
 
 fn add_live<'a, A: Arrivals>(
-    variables: &[Variable<'a>],
-    arrivals: &A,
-    node: NodePlace,
+    at: &AtNode<'_, 'a, A>,
     faults: &mut Vec<PathFault<'a>>,
 ) -> Result<(), AllocError>
     ensures { OnOk result (AddsFaults faults.old.items faults.new.items (live_faults
-        (map variable_view variables.now) (A.groups arrivals.now) node.node node.at)) }
+        (map variable_view at.now.variables.now) (A.groups at.now.arrivals.now) at.now.node.node at.now.node.at)) }
 {
-    for (place, variable) in variables.iter().enumerate() {
-        let is_live = returns_live(arrivals, node.node, place, *variable);
+    for (place, variable) in at.variables.iter().enumerate() {
+        let is_live = returns_live(at.arrivals, at.node.node, place, *variable);
         add_if(
             is_live,
-            node.at,
+            at.node.at,
             PathCode::GroupIsLive,
             variable.name,
             faults,
@@ -149,18 +145,16 @@ fn add_live<'a, A: Arrivals>(
 
 /// Adds the faults of a return that hands these on.
 pub fn add_return<'a, A: Arrivals>(
-    variables: &[Variable<'a>],
-    arrivals: &A,
-    live: &LiveGroups,
-    node: NodePlace,
+    at: &AtNode<'_, 'a, A>,
     handed: &[Handed],
     faults: &mut Vec<PathFault<'a>>,
 ) -> Result<(), AllocError>
     ensures { OnOk result (AddsFaults faults.old.items faults.new.items (return_faults
-        (map variable_view variables.now) (A.cancels arrivals.now) (A.groups arrivals.now)
-        (has_live live.now node.at node.order) node.node node.at (map handed_view handed.now))) }
+        (map variable_view at.now.variables.now) (A.cancels at.now.arrivals.now) (A.groups at.now.arrivals.now)
+        (has_live at.now.live.now at.now.node.at at.now.node.order) at.now.node.node at.now.node.at
+        (map handed_view handed.now))) }
 {
-    add_open(variables, arrivals, node, handed, faults)?;
-    add_left(variables, arrivals, live, node, handed, faults)?;
-    add_live(variables, arrivals, node, faults)
+    add_open(at, handed, faults)?;
+    add_left(at, handed, faults)?;
+    add_live(at, faults)
 }

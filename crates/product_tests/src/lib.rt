@@ -1,5 +1,5 @@
 //! Tests of the program's outside: its words, folders of real files, several packages, what the system refuses, and its
-//! writers.
+//! writers. And of tables as texts.
 #![tactic(auto)]
 
 #[cfg(test)]
@@ -10,6 +10,8 @@ mod real_folders;
 mod refusals;
 #[cfg(test)]
 mod runs;
+#[cfg(test)]
+mod table_texts;
 #[cfg(test)]
 mod words;
 #[cfg(test)]

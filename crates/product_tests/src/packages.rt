@@ -15,9 +15,9 @@ const FOLDERS: &[(&str, Option<&str>)] = &[
 ];
 
 /// Words, the status, the report and the lines on standard error. A `DIR` stands for the folder of all folders.
-type Row = (&'static [&'static str], u8, &'static str, &'static str);
+type Case = (&'static [&'static str], u8, &'static str, &'static str);
 
-const ROWS: &[Row] = &[
+const ROWS: &[Case] = &[
     // The report is in the order of the paths, whatever that of the words.
     (
         &["check", "z=DIR/good", "a=DIR/good"],

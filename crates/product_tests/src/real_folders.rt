@@ -45,14 +45,14 @@ const EMPTY: Entry = Entry::Text("");
 
 /// What stands in a folder, and what the program answers: its status, its report and its fault, where a
 /// `DIR` stands for the folder.
-type Row = (
+type Case = (
     &'static [(&'static str, Entry)],
     u8,
     &'static str,
     &'static str,
 );
 
-const ROWS: &[Row] = &[
+const ROWS: &[Case] = &[
     (&[], 0, "yes a\n", "ctxvet: note: no Go files in DIR\n"),
     // No Go file of the package: a test, other names, and a folder.
     (

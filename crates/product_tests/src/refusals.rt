@@ -98,7 +98,7 @@ impl<R> Files for Fake<R> {
 
 /// The names in a folder (`None`: it can't be listed), the kind of all other answers, and what the program
 /// then writes.
-type Row = (
+type Case = (
     Option<&'static [u8]>,
     ErrorKind,
     u8,
@@ -106,7 +106,7 @@ type Row = (
     &'static str,
 );
 
-const ROWS: &[Row] = &[
+const ROWS: &[Case] = &[
     (
         None,
         ErrorKind::OutOfMemory,

@@ -4,9 +4,9 @@ use crate::runs::run_words;
 use std::test::Fail;
 
 /// Words, the status, and pieces of what is written on the two streams; the other stream gets nothing.
-type Row = (&'static [&'static str], u8, &'static str, &'static str);
+type Case = (&'static [&'static str], u8, &'static str, &'static str);
 
-const ROWS: &[Row] = &[
+const ROWS: &[Case] = &[
     (&["--help"], 0, "Usage: ctxvet ", ""),
     (&["-h"], 0, "Exit status:", ""),
     (&["help"], 0, "ctxvet check example.org/pool=./pool", ""),

@@ -16,10 +16,10 @@ use Rattle.report.specs.contracts.diagnostics.DiagnosticOrd.TheImpl as diagnosti
 use Rattle.report.specs.contracts.diagnostics.DiagnosticPartialEq.TheImpl as diagnostic_eq
 use Rattle.std.specs.Cmp.{IsTotalOrder, IsEquivalence, then_total, on_total, nat_cmp_total, unsigned_ties, both_tied, eq_by_cmp_equiv}
 use Rattle.std.proofs.Common.{true}
-use Rattle.report.specs.declared.codes.Code.{Code}
+use Rattle.report.specs.declared.codes.DiagnosticCode.{DiagnosticCode}
 use Rattle.report.specs.declared.codes.TextFault.TheVariants.{NotUtf8, Nul, UnclosedString, UnclosedComment, UnclosedRune, UnknownCharacter, TooLong}
 use Rattle.report.specs.declared.codes.TreeFault.TheVariants.{UnexpectedToken, TypeParameters, Goto, Fallthrough, DotImport, Recover, TooDeep}
-use Rattle.report.specs.declared.codes.Code.TheVariants.{Unreadable, LeftOut, Discarded, Overwritten, NotCalled, CancelMisused, GroupIsLive, GroupOverwritten, GroupMisused, LeftToLiveGroup, BoundAgain, TooMany, ImportIsNotYes, ImportHasNoRank, TwoFunctions, NoCertificate}
+use Rattle.report.specs.declared.codes.DiagnosticCode.TheVariants.{Unreadable, LeftOut, Discarded, Overwritten, NotCalled, CancelMisused, GroupIsLive, GroupOverwritten, GroupMisused, LeftToLiveGroup, BoundAgain, TooMany, ImportIsNotYes, ImportHasNoRank, TwoFunctions, NoCertificate}
 use Rattle.report.specs.declared.diagnostics.Diagnostic.{Diagnostic}
 use Rattle.report.specs.Codes.{code_rank}
 use Rattle.report.specs.Entries.{Entry, entry_of, TextPrecedes, Precedes, earlier_file, earlier_offset, earlier_code, earlier_name}
@@ -42,7 +42,7 @@ diagnostic_equiv : IsEquivalence (diagnostic_eq.ghosts).eq
 diagnostic_equiv = subst IsEquivalence (λ i a b. sym (ties a b) i) (eq_by_cmp_equiv diagnostic_total)
 
 -- the code of a rank, so that no two codes have one rank
-abbrev code_at : ℕ → Code
+abbrev code_at : ℕ → DiagnosticCode
 code_at n =
     if n == 0 then Unreadable NotUtf8
     else if n == 1 then Unreadable Nul
@@ -73,14 +73,14 @@ code_at n =
     else if n == 26 then TwoFunctions
     else NoCertificate
 
-ranked_back : (x : Code) → code_at (code_rank x) ≡ x
+ranked_back : (x : DiagnosticCode) → code_at (code_rank x) ≡ x
 ranked_back (Unreadable NotUtf8) = refl
 ranked_back (Unreadable _) = refl
 ranked_back (LeftOut UnexpectedToken) = refl
 ranked_back (LeftOut _) = refl
 ranked_back _ = refl
 
-rank_same : (x y : Code) → code_rank x ≡ code_rank y → x ≡ y
+rank_same : (x y : DiagnosticCode) → code_rank x ≡ code_rank y → x ≡ y
 rank_same x y e = sym (ranked_back x) ∙ ap code_at e ∙ ranked_back y
 
 tied_entries : (a b : Diagnostic) → (diagnostic_eq.ghosts).eq a b ≡ true → entry_of a ≡ entry_of b

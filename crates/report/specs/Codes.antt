@@ -1,14 +1,14 @@
 -- The codes of diagnostics: their order, and what the report prints of them.
 use Rattle.std.specs.Prelude.{ℕ, List, codes}
-use Rattle.report.specs.declared.codes.Code.{Code}
-use Rattle.report.specs.declared.codes.Code.TheVariants.{Unreadable, LeftOut, Discarded, Overwritten, NotCalled, CancelMisused, GroupIsLive, GroupOverwritten, GroupMisused, LeftToLiveGroup, BoundAgain, TooMany, ImportIsNotYes, ImportHasNoRank, TwoFunctions, NoCertificate}
+use Rattle.report.specs.declared.codes.DiagnosticCode.{DiagnosticCode}
+use Rattle.report.specs.declared.codes.DiagnosticCode.TheVariants.{Unreadable, LeftOut, Discarded, Overwritten, NotCalled, CancelMisused, GroupIsLive, GroupOverwritten, GroupMisused, LeftToLiveGroup, BoundAgain, TooMany, ImportIsNotYes, ImportHasNoRank, TwoFunctions, NoCertificate}
 use Rattle.report.specs.declared.codes.TextFault.{TextFault}
 use Rattle.report.specs.declared.codes.TextFault.TheVariants.{NotUtf8, Nul, UnclosedString, UnclosedComment, UnclosedRune, UnknownCharacter, TooLong}
 use Rattle.report.specs.declared.codes.TreeFault.{TreeFault}
 use Rattle.report.specs.declared.codes.TreeFault.TheVariants.{UnexpectedToken, TypeParameters, Goto, Fallthrough, DotImport, Recover, TooDeep}
 
 -- a code's place in the order of the codes, which is the order of the diagnostics at one place
-abbrev pub code_rank : Code → ℕ
+abbrev pub code_rank : DiagnosticCode → ℕ
 code_rank (Unreadable NotUtf8) = 0
 code_rank (Unreadable Nul) = 1
 code_rank (Unreadable UnclosedString) = 2
@@ -39,7 +39,7 @@ code_rank TwoFunctions = 26
 code_rank NoCertificate = 27
 
 -- the number of a code, as the report prints it
-abbrev pub code_number : Code → List ℕ
+abbrev pub code_number : DiagnosticCode → List ℕ
 code_number (Unreadable why) = codes "LC01"
 code_number (LeftOut why) = codes "LC02"
 code_number Discarded = codes "LC03"
@@ -78,7 +78,7 @@ tree_fault_text Recover = codes "left out: recover"
 tree_fault_text TooDeep = codes "deeper than 200"
 
 -- what a code says
-abbrev pub code_text : Code → List ℕ
+abbrev pub code_text : DiagnosticCode → List ℕ
 code_text (Unreadable why) = text_fault_text why
 code_text (LeftOut why) = tree_fault_text why
 code_text Discarded = codes "cancel function discarded"

@@ -1,6 +1,6 @@
 -- What diagnostics say, wherever their names are kept, and the order in which a report has them.
 use Rattle.std.specs.Prelude.{◌≡◌, ℕ, ◌<◌, ◌⊎◌, List, [], ◌∷◌}
-use Rattle.report.specs.declared.codes.Code.{Code}
+use Rattle.report.specs.declared.codes.DiagnosticCode.{DiagnosticCode}
 use Rattle.report.specs.declared.diagnostics.Diagnostic.{Diagnostic}
 use Rattle.report.specs.Codes.{code_rank}
 
@@ -8,7 +8,7 @@ use Rattle.report.specs.Codes.{code_rank}
 pub record Entry : Type 0 where
   pub file : ℕ
   pub offset : ℕ
-  pub code : Code
+  pub code : DiagnosticCode
   pub name : List ℕ
 
 abbrev pub entry_of : Diagnostic → Entry

@@ -9,7 +9,8 @@ ghost use Rattle.report.specs.Codes.{code_rank, code_number, code_text, text_fau
 
 use std::cmp::Ordering;
 
-/// Why a file has no tokens.
+/// Why a file has no tokens, as a diagnostic tells it. `lexer::LexFault` is another type, since it has the offset,
+/// which a diagnostic has in a field of its own for all codes, and refused memory, of which no report tells.
 #[derive(Clone, Copy, Debug, PartialEq, Eq)]
 pub enum TextFault {
     NotUtf8,
@@ -39,7 +40,8 @@ impl TextFault {
     }
 }
 
-/// Why a file has no tree, or is left out.
+/// Why a file has no tree, or is left out, as a diagnostic tells it. `parser::ParseFault` is another type, since it has
+/// the offset and refused memory, and no use of `recover`, which only the meaning of names shows.
 #[derive(Clone, Copy, Debug, PartialEq, Eq)]
 pub enum TreeFault {
     UnexpectedToken,
@@ -72,7 +74,7 @@ impl TreeFault {
 
 /// What a diagnostic says. Codes are ordered by their ranks.
 #[derive(Clone, Copy, Debug)]
-pub enum Code {
+pub enum DiagnosticCode {
     /// LC01: the file has no tokens.
     Unreadable(TextFault),
     /// LC02: the file has no tree, or is left out.
@@ -107,40 +109,40 @@ pub enum Code {
     NoCertificate,
 }
 
-impl Code {
+impl DiagnosticCode {
     /// The place of the code in the order of codes, from 0.
     pub fn rank(self) -> u8
         ensures { result ≡ code_rank self }
     {
         match self {
-            Code::Unreadable(TextFault::NotUtf8) => 0,
-            Code::Unreadable(TextFault::Nul) => 1,
-            Code::Unreadable(TextFault::UnclosedString) => 2,
-            Code::Unreadable(TextFault::UnclosedComment) => 3,
-            Code::Unreadable(TextFault::UnclosedRune) => 4,
-            Code::Unreadable(TextFault::UnknownCharacter) => 5,
-            Code::Unreadable(TextFault::TooLong) => 6,
-            Code::LeftOut(TreeFault::UnexpectedToken) => 7,
-            Code::LeftOut(TreeFault::TypeParameters) => 8,
-            Code::LeftOut(TreeFault::Goto) => 9,
-            Code::LeftOut(TreeFault::Fallthrough) => 10,
-            Code::LeftOut(TreeFault::DotImport) => 11,
-            Code::LeftOut(TreeFault::Recover) => 12,
-            Code::LeftOut(TreeFault::TooDeep) => 13,
-            Code::Discarded => 14,
-            Code::Overwritten => 15,
-            Code::NotCalled => 16,
-            Code::CancelMisused => 17,
-            Code::GroupIsLive => 18,
-            Code::GroupOverwritten => 19,
-            Code::GroupMisused => 20,
-            Code::LeftToLiveGroup => 21,
-            Code::BoundAgain => 22,
-            Code::TooMany => 23,
-            Code::ImportIsNotYes => 24,
-            Code::ImportHasNoRank => 25,
-            Code::TwoFunctions => 26,
-            Code::NoCertificate => 27,
+            DiagnosticCode::Unreadable(TextFault::NotUtf8) => 0,
+            DiagnosticCode::Unreadable(TextFault::Nul) => 1,
+            DiagnosticCode::Unreadable(TextFault::UnclosedString) => 2,
+            DiagnosticCode::Unreadable(TextFault::UnclosedComment) => 3,
+            DiagnosticCode::Unreadable(TextFault::UnclosedRune) => 4,
+            DiagnosticCode::Unreadable(TextFault::UnknownCharacter) => 5,
+            DiagnosticCode::Unreadable(TextFault::TooLong) => 6,
+            DiagnosticCode::LeftOut(TreeFault::UnexpectedToken) => 7,
+            DiagnosticCode::LeftOut(TreeFault::TypeParameters) => 8,
+            DiagnosticCode::LeftOut(TreeFault::Goto) => 9,
+            DiagnosticCode::LeftOut(TreeFault::Fallthrough) => 10,
+            DiagnosticCode::LeftOut(TreeFault::DotImport) => 11,
+            DiagnosticCode::LeftOut(TreeFault::Recover) => 12,
+            DiagnosticCode::LeftOut(TreeFault::TooDeep) => 13,
+            DiagnosticCode::Discarded => 14,
+            DiagnosticCode::Overwritten => 15,
+            DiagnosticCode::NotCalled => 16,
+            DiagnosticCode::CancelMisused => 17,
+            DiagnosticCode::GroupIsLive => 18,
+            DiagnosticCode::GroupOverwritten => 19,
+            DiagnosticCode::GroupMisused => 20,
+            DiagnosticCode::LeftToLiveGroup => 21,
+            DiagnosticCode::BoundAgain => 22,
+            DiagnosticCode::TooMany => 23,
+            DiagnosticCode::ImportIsNotYes => 24,
+            DiagnosticCode::ImportHasNoRank => 25,
+            DiagnosticCode::TwoFunctions => 26,
+            DiagnosticCode::NoCertificate => 27,
         }
     }
 
@@ -149,22 +151,22 @@ impl Code {
         ensures { result.now ≡ code_number self }
     {
         match self {
-            Code::Unreadable(_) => "LC01",
-            Code::LeftOut(_) => "LC02",
-            Code::Discarded => "LC03",
-            Code::Overwritten => "LC04",
-            Code::NotCalled => "LC05",
-            Code::CancelMisused => "LC06",
-            Code::GroupIsLive => "LC07",
-            Code::GroupOverwritten => "LC08",
-            Code::GroupMisused => "LC09",
-            Code::LeftToLiveGroup => "LC10",
-            Code::BoundAgain => "LC11",
-            Code::TooMany => "LC12",
-            Code::ImportIsNotYes => "LC13",
-            Code::ImportHasNoRank => "LC14",
-            Code::TwoFunctions => "LC15",
-            Code::NoCertificate => "LC16",
+            DiagnosticCode::Unreadable(_) => "LC01",
+            DiagnosticCode::LeftOut(_) => "LC02",
+            DiagnosticCode::Discarded => "LC03",
+            DiagnosticCode::Overwritten => "LC04",
+            DiagnosticCode::NotCalled => "LC05",
+            DiagnosticCode::CancelMisused => "LC06",
+            DiagnosticCode::GroupIsLive => "LC07",
+            DiagnosticCode::GroupOverwritten => "LC08",
+            DiagnosticCode::GroupMisused => "LC09",
+            DiagnosticCode::LeftToLiveGroup => "LC10",
+            DiagnosticCode::BoundAgain => "LC11",
+            DiagnosticCode::TooMany => "LC12",
+            DiagnosticCode::ImportIsNotYes => "LC13",
+            DiagnosticCode::ImportHasNoRank => "LC14",
+            DiagnosticCode::TwoFunctions => "LC15",
+            DiagnosticCode::NoCertificate => "LC16",
         }
     }
 
@@ -173,52 +175,52 @@ impl Code {
         ensures { result.now ≡ code_text self }
     {
         match self {
-            Code::Unreadable(why) => why.text(),
-            Code::LeftOut(why) => why.text(),
-            Code::Discarded => "cancel function discarded",
-            Code::Overwritten => "overwritten before it is called",
-            Code::NotCalled => "may not have been called at this return",
-            Code::CancelMisused => "cancel function used in another way",
-            Code::GroupIsLive => "group may be live at this return",
-            Code::GroupOverwritten => "overwritten before Wait",
-            Code::GroupMisused => "group used in another way",
-            Code::LeftToLiveGroup => "left to a group that may be live at this return",
-            Code::BoundAgain => "named result or captured variable bound again",
-            Code::TooMany => "too many tracked variables",
-            Code::ImportIsNotYes => "import is not yes",
-            Code::ImportHasNoRank => "import has no rank",
-            Code::TwoFunctions => "two functions of one name",
-            Code::NoCertificate => "certificate missing or not holding",
+            DiagnosticCode::Unreadable(why) => why.text(),
+            DiagnosticCode::LeftOut(why) => why.text(),
+            DiagnosticCode::Discarded => "cancel function discarded",
+            DiagnosticCode::Overwritten => "overwritten before it is called",
+            DiagnosticCode::NotCalled => "may not have been called at this return",
+            DiagnosticCode::CancelMisused => "cancel function used in another way",
+            DiagnosticCode::GroupIsLive => "group may be live at this return",
+            DiagnosticCode::GroupOverwritten => "overwritten before Wait",
+            DiagnosticCode::GroupMisused => "group used in another way",
+            DiagnosticCode::LeftToLiveGroup => "left to a group that may be live at this return",
+            DiagnosticCode::BoundAgain => "named result or captured variable bound again",
+            DiagnosticCode::TooMany => "too many tracked variables",
+            DiagnosticCode::ImportIsNotYes => "import is not yes",
+            DiagnosticCode::ImportHasNoRank => "import has no rank",
+            DiagnosticCode::TwoFunctions => "two functions of one name",
+            DiagnosticCode::NoCertificate => "certificate missing or not holding",
         }
     }
 }
 
-impl PartialEq for Code {
+impl PartialEq for DiagnosticCode {
     ghost eq = { on code_rank nat_eq };
 
     ghost laws = { Prim.search (comparing, rules) };
 
-    fn eq(&self, other: &Code) -> bool {
+    fn eq(&self, other: &DiagnosticCode) -> bool {
         self.rank() == other.rank()
     }
 }
 
-impl Eq for Code {
+impl Eq for DiagnosticCode {
     ghost laws = { Prim.search (comparing, rules) };
 }
 
-impl PartialOrd for Code {
+impl PartialOrd for DiagnosticCode {
     ghost partial_cmp = { as_partial_cmp (on code_rank nat_cmp) };
 
     ghost laws = { partial_order_from_own_ties (Prim.search (comparing, rules))
         (λ x y. unsigned_ties (code_rank x) (code_rank y)) };
 
-    fn partial_cmp(&self, other: &Code) -> Option<Ordering> {
+    fn partial_cmp(&self, other: &DiagnosticCode) -> Option<Ordering> {
         Some(self.cmp(other))
     }
 }
 
-impl Ord for Code {
+impl Ord for DiagnosticCode {
     ghost cmp = { on code_rank nat_cmp };
 
     ghost total = { Prim.search (comparing, rules) };
@@ -227,7 +229,7 @@ impl Ord for Code {
 
     ghost matches_eq = { λ x y. unsigned_ties (code_rank x) (code_rank y) };
 
-    fn cmp(&self, other: &Code) -> Ordering {
+    fn cmp(&self, other: &DiagnosticCode) -> Ordering {
         self.rank().cmp(&other.rank())
     }
 }

@@ -4,7 +4,7 @@ ghost use Rattle.std.specs.Prelude.{◌≡◌, ◌↔◌, [], map, Contains, IsT
 ghost use Rattle.std.specs.List.{AllPairs};
 ghost use Rattle.report.specs.Entries.{Entry, entry_of, Precedes};
 
-use crate::codes::Code;
+use crate::codes::DiagnosticCode;
 use lexer::Source;
 
 /// One finding: the number of its file from 0, the byte offset in it, what it says, and of which name (`-` where it
@@ -13,7 +13,7 @@ use lexer::Source;
 pub struct Diagnostic<'a> {
     pub file: usize,
     pub offset: u32,
-    pub code: Code,
+    pub code: DiagnosticCode,
     pub name: &'a str,
 }
 

@@ -8,7 +8,7 @@ mod pieces;
 mod sinks;
 mod written;
 
-pub use codes::{Code, TextFault, TreeFault};
+pub use codes::{DiagnosticCode, TextFault, TreeFault};
 pub use diagnostics::{Diagnostic, PackageReport, in_order};
 pub use sinks::{PutFault, Sink, WriteFault};
 pub use written::write_text;

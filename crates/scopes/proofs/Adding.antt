@@ -153,7 +153,7 @@ outer_specs_more (Type' n alias p t t_span span) ss =
 
 abbrev pub case_names : Option Identifier → CaseClause → List Naming
 case_names guard c =
-    guard_declared guard (out-CaseClause c).span
+    guard_declared guard (out-CaseClause c).span (expressions_syntax (out-CaseClause c).expressions.items)
     ++ (expressions_names (expressions_syntax (out-CaseClause c).expressions.items)
     ++ statements_names (out-CaseClause c).span (statements_syntax (out-CaseClause c).statements.items))
 
@@ -162,24 +162,28 @@ pub cases_more : (guard : Option Identifier) (c : CaseClause) (cs : CaseClauses)
 unfolding cases_names
 cases_more guard c cs =
     ap (cases_names guard) (case_clause_and-out c cs)
-    ∙ three_joined (guard_declared guard (out-CaseClause c).span)
+    ∙ three_joined (guard_declared guard (out-CaseClause c).span (expressions_syntax (out-CaseClause c).expressions.items))
     (expressions_names (expressions_syntax (out-CaseClause c).expressions.items))
     (statements_names (out-CaseClause c).span (statements_syntax (out-CaseClause c).statements.items))
     (cases_names guard cs)
 
 -- a clause, whose lists the code reads as slices
-pub adds_case : (guard : Option Identifier) (clause : CaseClause) (a b c d : List KeptNaming) (es : List Expr) (ss : List Stmt)
-    → Adds a b (guard_declared guard (out-CaseClause clause).span)
+pub adds_case : (guard : Option Identifier) (clause : CaseClause) (a b c d : List KeptNaming) (ts es : List Expr) (ss : List Stmt)
+    → ts ≡ (out-CaseClause clause).expressions.items
+    → Adds a b (guard_declared guard (out-CaseClause clause).span (expressions_syntax ts))
     → es ≡ (out-CaseClause clause).expressions.items
     → Adds b c (expressions_names (expressions_syntax es))
     → ss ≡ (out-CaseClause clause).statements.items
     → Adds c d (statements_names (out-CaseClause clause).span (statements_syntax ss))
     → Adds a d (case_names guard clause)
-adds_case guard clause a b c d es ss first same second equal third =
+adds_case guard clause a b c d ts es ss types first same second equal third =
     let o = out-CaseClause clause in
+    let declared = guard_declared guard o.span (expressions_syntax o.expressions.items) in
     let listed = expressions_names (expressions_syntax o.expressions.items) in
     let body = statements_names o.span (statements_syntax o.statements.items) in
-    adds_then a b d (guard_declared guard o.span) (listed ++ body) first
+    adds_then a b d declared (listed ++ body)
+    (adds_same a b (guard_declared guard o.span (expressions_syntax ts)) declared
+    (ap (λ l. guard_declared guard o.span (expressions_syntax l)) types) first)
     (adds_then b c d listed body
     (adds_same b c (expressions_names (expressions_syntax es)) listed (ap (λ l. expressions_names (expressions_syntax l)) same) second)
     (adds_same c d (statements_names o.span (statements_syntax ss)) body (ap (λ l. statements_names o.span (statements_syntax l)) equal) third))

@@ -1,19 +1,16 @@
 //! What a function declares, name by name. The blank identifier declares nothing.
 
-ghost use Rattle.std.specs.Prelude.{true, OnOk, map, option_map};
-ghost use Rattle.meaning.specs.Scopes.{declared, declared_names, parameters_declared, signature_declared, type_declared, guard_declared, receiver_declared};
+ghost use Rattle.std.specs.Prelude.{◌≡◌, true, OnOk, map, option_map};
+ghost use Rattle.meaning.specs.Scopes.{declared, declared_names, parameter_name, parameters_declared, signature_declared, type_declared, guard_declared, end_of_last, receiver_declared};
 ghost use Rattle.scopes.specs.Views.{local_view, Adds};
-ghost use Rattle.tree.specs.View.{identifier_syntax, parameters_syntax, signature_syntax};
+ghost use Rattle.tree.specs.View.{expressions_syntax, identifier_syntax, parameters_syntax, signature_syntax};
 ghost use Rattle.tree.specs.declared.expression.Literal.{out-Literal};
 ghost use Rattle.tree.specs.declared.operator.DeclKeyword.TheVariants.{Var};
 ghost use Rattle.tree.specs.declared.statement.Block.{out-Block};
 
-use crate::naming::{Local, Naming};
+use crate::naming::{Local, Naming, Scope};
 use std::alloc::AllocError;
-use tree::{DeclKeyword, Identifier, Literal, Param, Signature, Span};
-
-/// A name that declares nothing (the Go specification, "Blank identifier").
-const BLANK: &str = "_";
+use tree::{BLANK, DeclKeyword, Expr, Identifier, Literal, Param, Signature, Span};
 
 /// Adds the declaration, but for one of the blank identifier.
 pub fn declare<'a>(namings: &mut Vec<Naming<'a>>, local: Local<'a>) -> Result<(), AllocError>
@@ -25,25 +22,24 @@ pub fn declare<'a>(namings: &mut Vec<Naming<'a>>, local: Local<'a>) -> Result<()
     Ok(())
 }
 
-/// Adds the declarations of names that are declared together, with the offset at which their scope begins.
+/// Adds the declarations of names that are declared together, with their scope.
 pub fn declare_names<'a>(
     namings: &mut Vec<Naming<'a>>,
     kind: DeclKeyword,
-    block: Span,
-    from: u32,
+    scope: Scope,
     is_short: bool,
     names: &'a [Identifier],
 ) -> Result<(), AllocError>
-    ensures { OnOk result (Adds namings.old.items namings.new.items (declared_names kind block from is_short
-        (map identifier_syntax names.now))) }
+    ensures { OnOk result (Adds namings.old.items namings.new.items (declared_names kind scope.block scope.from
+        is_short (map identifier_syntax names.now))) }
 {
     for name in names {
         let local = Local {
             name: name.text.as_str(),
             number: name.span.start,
             kind,
-            block,
-            from,
+            block: scope.block,
+            from: scope.from,
             is_short,
         };
         declare(namings, local)?;
@@ -62,7 +58,11 @@ pub fn declare_short<'a>(
     ensures { OnOk result (Adds namings.old.items namings.new.items (declared_names Var block before.end true
         (map identifier_syntax names.now))) }
 {
-    declare_names(namings, DeclKeyword::Var, block, before.end, true, names)
+    let scope = Scope {
+        block,
+        from: before.end,
+    };
+    declare_names(namings, DeclKeyword::Var, scope, true, names)
 }
 
 /// Adds a parameter or a result, whose scope is the whole block of its function.
@@ -71,8 +71,8 @@ fn declare_parameter<'a>(
     block: Span,
     name: &'a Identifier,
 ) -> Result<(), AllocError>
-    ensures { OnOk result (Adds namings.old.items namings.new.items (Rattle.meaning.specs.Scopes.parameter_name
-        block (identifier_syntax name.now))) }
+    ensures { OnOk result (Adds namings.old.items namings.new.items (parameter_name block
+        (identifier_syntax name.now))) }
 {
     let local = Local {
         name: name.text.as_str(),
@@ -163,14 +163,25 @@ pub fn declare_type<'a>(
     declare(namings, local)
 }
 
-/// Adds the name of a type switch, if it has one, as each clause declares it anew.
+/// Where the last of these types ends, or else the offset.
+fn end_of_last(end: u32, types: &[Expr]) -> u32
+    ensures { result ≡ end_of_last end (expressions_syntax types.now) }
+{
+    match types.last() {
+        Some(last) => last.span.end,
+        None => end,
+    }
+}
+
+/// Adds the name of a type switch, if it has one, as each clause declares it anew, after its list of types.
 pub fn declare_guard<'a>(
     namings: &mut Vec<Naming<'a>>,
     guard: Option<&'a Identifier>,
     clause: Span,
+    types: &[Expr],
 ) -> Result<(), AllocError>
     ensures { OnOk result (Adds namings.old.items namings.new.items (guard_declared (option_map
-        (λ n. identifier_syntax n.now) guard.entry) clause)) }
+        (λ n. identifier_syntax n.now) guard.entry) clause (expressions_syntax types.now))) }
 {
     match guard {
         Some(name) => {
@@ -179,7 +190,7 @@ pub fn declare_guard<'a>(
                 number: clause.start,
                 kind: DeclKeyword::Var,
                 block: clause,
-                from: clause.start,
+                from: end_of_last(clause.start, types),
                 is_short: false,
             };
             declare(namings, local)

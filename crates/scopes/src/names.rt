@@ -8,7 +8,7 @@ ghost use Rattle.tree.specs.declared.statement.CommClause.{out-CommClause};
 ghost use Rattle.tree.specs.View.{identifier_syntax, type_name_syntax, expression_form, expression_syntax, expressions_syntax, optional_expression_syntax, signature_syntax, parameters_syntax, fields_syntax, statement_form, statement_syntax, statements_syntax, optional_statement_syntax, cases_syntax, communications_syntax, specs_syntax, parameter_and, field_and, spec_and};
 
 use crate::declared::{declare_guard, declare_literal, declare_names, declare_short, declare_type};
-use crate::naming::Naming;
+use crate::naming::{Naming, Scope};
 use std::alloc::AllocError;
 use tree::{
     CaseClause, CommClause, DeclKeyword, Expr, ExprKind, Field, Identifier, Param, Signature, Span,
@@ -364,7 +364,7 @@ fn cases<'a>(
         (λ n. identifier_syntax n.now) guard.entry) (cases_syntax clauses.now))) }
 {
     for clause in clauses {
-        declare_guard(namings, guard, clause.span)?;
+        declare_guard(namings, guard, clause.span, &clause.expressions)?;
         expressions(namings, &clause.expressions)?;
         statements(namings, clause.span, &clause.statements)?;
     }
@@ -426,7 +426,11 @@ fn spec<'a>(
         Spec::Value(names, kind, values, span) => {
             optional(namings, kind)?;
             expressions(namings, values)?;
-            declare_names(namings, keyword, block, span.end, false, names)
+            let scope = Scope {
+                block,
+                from: span.end,
+            };
+            declare_names(namings, keyword, scope, false, names)
         }
         Spec::Type(name, _, kind, _) => {
             declare_type(namings, block, name)?;

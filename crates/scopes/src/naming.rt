@@ -2,6 +2,15 @@
 
 use tree::{DeclKeyword, Span};
 
+/// Where a name that a function declares can be meant: in the rest of a block.
+#[derive(Clone, Copy)]
+pub struct Scope {
+    /// The bytes of the block.
+    pub block: Span,
+    /// The offset at which the scope begins.
+    pub from: u32,
+}
+
 /// A name that a function declares.
 #[derive(Clone, Copy)]
 pub struct Local<'a> {

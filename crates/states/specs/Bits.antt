@@ -1,8 +1,9 @@
--- Numbers for what is known of a variable. Of a cancel variable 0 is unset, 1 open, 2 safe, and 3 + k pending in the
--- k-th of some groups, counted from 0. Of a group 0 is unmade, 1 idle, 2 live, and 3 awaited. Numbers have 64 bits:
--- where 3 + k has more, what is pending in the k-th group has no number.
+-- Numbers for what is known of a variable. Of a cancel variable 0 is unset, 1 open, 2 safe, and FIRST_PENDING + k
+-- pending in the k-th of some groups, counted from 0. Of a group 0 is unmade, 1 idle, 2 live, and 3 awaited. Numbers
+-- have 64 bits: where FIRST_PENDING + k has more, what is pending in the k-th group has no number.
 use Rattle.std.specs.Prelude.{ℕ, zero, suc, ◌≡◌, ◌≤◌, ◌==◌, if◌then◌else◌, List, [], ◌∷◌, Option, Some, None, option_map, nat_eq, slice_get}
 use Rattle.std.specs.List.{IsDistinct}
+use Rattle.states.specs.declared.bits.TheConstants.{FIRST_PENDING}
 use Rattle.meaning.specs.Tracked.{idle, live}
 use Rattle.meaning.specs.Classes.{CancelClass, unset, opened, safe, pending, GroupClass, unmade, in_state, awaited}
 
@@ -19,7 +20,7 @@ abbrev pub cancel_bit : List ℕ → CancelClass → Option ℕ
 cancel_bit groups unset = Some 0
 cancel_bit groups opened = Some 1
 cancel_bit groups safe = Some 2
-cancel_bit groups (pending g) = bit_from 3 g groups
+cancel_bit groups (pending g) = bit_from FIRST_PENDING g groups
 
 abbrev pub cancel_class : List ℕ → ℕ → Option CancelClass
 cancel_class groups zero = Some unset

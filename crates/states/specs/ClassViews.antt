@@ -3,7 +3,7 @@ use Rattle.states.specs.declared.cancels.CancelClass.{CancelClass as KeptCancel}
 use Rattle.states.specs.declared.cancels.CancelClass.TheVariants.{Unset, Opened, Safe, Pending}
 use Rattle.states.specs.declared.groups.GroupClass.{GroupClass as KeptGroup}
 use Rattle.states.specs.declared.groups.GroupClass.TheVariants.{Unmade, InState, Awaited}
-use Rattle.rows.specs.RowViews.{state_view}
+use Rattle.tracked.specs.RowViews.{state_view}
 use Rattle.meaning.specs.Classes.{CancelClass, unset, opened, safe, pending, GroupClass, unmade, in_state, awaited}
 
 abbrev pub cancel_class_view : KeptCancel → CancelClass

@@ -1,18 +1,26 @@
 //! Numbers for what is known of a variable.
 
 ghost use Rattle.std.specs.Prelude.{◌≡◌, ℕ, List, option_map};
+ghost use Rattle.states.specs.declared.bits.TheConstants.{FIRST_PENDING};
 ghost use Rattle.states.specs.Bits.{cancel_bit, cancel_class, group_bit, group_class, bit_from, AreInverseBits, AreInverseGroupBits};
 ghost use Rattle.states.specs.ClassViews.{cancel_class_view, group_class_view};
 
 use crate::cancels::CancelClass;
 use crate::groups::GroupClass;
-use rows::GroupState;
+use tracked::GroupState;
 
-/// The number of the first of these groups that is that one, where the first of all has the number 3.
+/// The number of what is pending in the first of some groups: below it stand the classes of a cancel variable that is
+/// pending in none.
+pub const FIRST_PENDING: usize = 3;
+
+/// How many classes a group has.
+pub const GROUP_CLASSES: usize = 4;
+
+/// The number of the first of these groups that is that one, where the first of all has the number `FIRST_PENDING`.
 fn pending_bit(group: u32, groups: &[u32]) -> Option<usize>
-    ensures { result ≡ bit_from 3 group groups.now }
+    ensures { result ≡ bit_from FIRST_PENDING group groups.now }
 {
-    let mut bit: usize = 3;
+    let mut bit: usize = FIRST_PENDING;
     for other in groups {
         if group == *other {
             return Some(bit);
@@ -25,8 +33,9 @@ fn pending_bit(group: u32, groups: &[u32]) -> Option<usize>
     None
 }
 
-/// The number of what is known of a cancel variable: 0 unset, 1 open, 2 safe, and 3 + k pending in the k-th of these
-/// groups, counted from 0. There is none where the group is not among these, or where 3 + k is no `usize`.
+/// The number of what is known of a cancel variable: 0 unset, 1 open, 2 safe, and `FIRST_PENDING` + k pending in the
+/// k-th of these groups, counted from 0. There is none where the group is not among these, or where that is no
+/// `usize`.
 pub fn cancel_bit(class: CancelClass, groups: &[u32]) -> Option<usize>
     ensures { result ≡ cancel_bit groups.now (cancel_class_view class) }
 {
@@ -46,7 +55,7 @@ pub fn cancel_class(bit: usize, groups: &[u32]) -> Option<CancelClass>
         0 => Some(CancelClass::Unset),
         1 => Some(CancelClass::Opened),
         2 => Some(CancelClass::Safe),
-        _ => match groups.get(bit - 3) {
+        _ => match groups.get(bit - FIRST_PENDING) {
             Some(group) => Some(CancelClass::Pending(*group)),
             None => None,
         },

@@ -1,15 +1,15 @@
 //! What is known of a cancel variable.
 
 ghost use Rattle.std.specs.Prelude.{◌≡◌};
-ghost use Rattle.allowed.specs.UseViews.{event_view};
+ghost use Rattle.tracked.specs.EventViews.{event_view};
 ghost use Rattle.meaning.specs.Classes.{change_cancel, entry_cancel, left_to, ended, started};
 ghost use Rattle.states.specs.ClassViews.{cancel_class_view};
-ghost use Rattle.variables.specs.VariableViews.{variable_role_view};
+ghost use Rattle.events.specs.VariableViews.{variable_role_view};
 
 use crate::changed::changed_if;
 use crate::promises::Promises;
-use allowed::Event;
-use variables::VariableRole;
+use events::VariableRole;
+use tracked::Event;
 
 /// What is known of a cancel variable.
 #[derive(Clone, Copy)]
@@ -95,31 +95,41 @@ pub fn change_cancel<P: Promises>(
         (cancel_class_view class) }
 {
     match event {
-        Event::Obtain(obtained, _, _, _) => {
-            changed_if(obtained.number == variable, CancelClass::Opened, class)
-        }
-        Event::Clear(cleared) => {
+        Event::Obtain {
+            variable: obtained,
+            ..
+        } => { changed_if(obtained.number == variable, CancelClass::Opened, class) }
+        Event::Clear { variable: cleared } => {
             changed_if(cleared.number == variable, CancelClass::Unset, class)
         }
-        Event::Call(called) | Event::DeferCall(called) => {
+        Event::Call { variable: called } | Event::DeferCall { variable: called } => {
             changed_if(*called == variable, CancelClass::Safe, class)
         }
-        Event::Pass(passed, callee, position) | Event::DeferPass(passed, callee, position) =>
-            changed_if(
-                passed.number == variable && promises.calls(*callee, *position),
-                CancelClass::Safe,
-                class,
-            ),
-        Event::Start(group, literal) => started(promises, variable, *group, *literal, class),
-        Event::Wait(group) => ended(*group, class),
-        Event::Make(made, _) => ended(made.number, class),
-        Event::DeferLiteral(literal) => {
+        Event::Pass {
+            variable: passed,
+            callee,
+            position,
+        }
+        | Event::DeferPass {
+            variable: passed,
+            callee,
+            position,
+        } => changed_if(
+            passed.number == variable && promises.calls(*callee, *position),
+            CancelClass::Safe,
+            class,
+        ),
+        Event::Start { group, literal } => started(promises, variable, *group, *literal, class),
+        Event::Wait { group } => ended(*group, class),
+        Event::Make { variable: made, .. } => ended(made.number, class),
+        Event::DeferLiteral { literal } => {
             changed_if(
                 promises.credits(*literal, variable),
                 CancelClass::Safe,
                 class,
             )
         }
-        Event::Lend(_, _, _) | Event::Try(_) | Event::DeferWait(_) | Event::Return(_) => class,
+        Event::Lend { .. } | Event::Try { .. } | Event::DeferWait { .. } | Event::Return { .. } =>
+            class,
     }
 }

@@ -1,16 +1,15 @@
 //! What is known of a group.
 
 ghost use Rattle.std.specs.Prelude.{◌≡◌};
-ghost use Rattle.allowed.specs.UseViews.{event_view};
+ghost use Rattle.tracked.specs.EventViews.{event_view};
 ghost use Rattle.meaning.specs.Classes.{change_group, entry_group, at_work, at_rest};
 ghost use Rattle.states.specs.ClassViews.{group_class_view};
-ghost use Rattle.variables.specs.VariableViews.{variable_role_view};
+ghost use Rattle.events.specs.VariableViews.{variable_role_view};
 
 use crate::changed::changed_if;
 use crate::promises::Promises;
-use allowed::Event;
-use rows::GroupState;
-use variables::VariableRole;
+use events::VariableRole;
+use tracked::{Event, GroupState};
 
 /// What is known of a group variable.
 #[derive(Clone, Copy)]
@@ -65,27 +64,28 @@ pub fn change_group<P: Promises>(
         (group_class_view class) }
 {
     match event {
-        Event::Lend(group, _, _) | Event::Start(group, _) | Event::Try(group) => {
+        Event::Lend { group, .. } | Event::Start { group, .. } | Event::Try { group, .. } => {
             changed_if(*group == variable, at_work(class), class)
         }
-        Event::Wait(group) => changed_if(*group == variable, at_rest(class), class),
-        Event::DeferWait(group) => changed_if(*group == variable, GroupClass::Awaited, class),
-        Event::Make(made, state) => {
-            changed_if(made.number == variable, GroupClass::InState(*state), class)
-        }
-        Event::DeferLiteral(literal) => {
+        Event::Wait { group } => changed_if(*group == variable, at_rest(class), class),
+        Event::DeferWait { group } => changed_if(*group == variable, GroupClass::Awaited, class),
+        Event::Make {
+            variable: made,
+            state,
+        } => { changed_if(made.number == variable, GroupClass::InState(*state), class) }
+        Event::DeferLiteral { literal } => {
             changed_if(
                 promises.credits(*literal, variable),
                 GroupClass::Awaited,
                 class,
             )
         }
-        Event::Obtain(_, _, _, _)
-        | Event::Clear(_)
-        | Event::Call(_)
-        | Event::DeferCall(_)
-        | Event::Pass(_, _, _)
-        | Event::DeferPass(_, _, _)
-        | Event::Return(_) => class,
+        Event::Obtain { .. }
+        | Event::Clear { .. }
+        | Event::Call { .. }
+        | Event::DeferCall { .. }
+        | Event::Pass { .. }
+        | Event::DeferPass { .. }
+        | Event::Return { .. } => class,
     }
 }

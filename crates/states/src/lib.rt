@@ -11,8 +11,8 @@ mod promises;
 
 pub use arrivals::Arrivals;
 pub use bits::{
-    cancel_bit, cancel_bits_are_inverse, cancel_class, group_bit, group_bits_are_inverse,
-    group_class,
+    FIRST_PENDING, GROUP_CLASSES, cancel_bit, cancel_bits_are_inverse, cancel_class, group_bit,
+    group_bits_are_inverse, group_class,
 };
 pub use cancels::{CancelClass, change_cancel, entry_cancel};
 pub use groups::{GroupClass, change_group, entry_group};

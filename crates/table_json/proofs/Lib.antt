@@ -2,4 +2,5 @@ mod Arranged
 mod Readings
 mod TableLaws
 mod ValueParts
+mod WrittenInOrder
 mod Writing

@@ -2,5 +2,6 @@
 pub mod Tables
 pub mod TableValues
 pub mod TableTexts
+pub mod WrittenTables
 -- What serves the proofs.
 pub mod Parts

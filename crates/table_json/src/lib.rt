@@ -1,7 +1,9 @@
 //! Tables of facts as JSON: the text of a table, and the table of a text. What a table says is in `specs/Tables.antt`,
 //! which values are those of a table in `specs/TableValues.antt`, and which texts, and why a text is none, in
-//! `specs/TableTexts.antt`.
+//! `specs/TableTexts.antt`; what is written of a table in `specs/WrittenTables.antt`.
 #![tactic(auto)]
+
+ghost use Rattle.table_json.specs.WrittenTables.{TablesInOrderAreWritten};
 
 mod fault;
 mod order;
@@ -14,3 +16,8 @@ pub use fault::TableFault;
 pub use read::from_json;
 pub use table::{Function, Parameter, Table};
 pub use written::to_json;
+
+/// A table that is in order, and tells something of each of its functions, is written as it stands.
+pub fn tables_in_order_are_written_as_they_stand()
+    ensures { TablesInOrderAreWritten }
+{}

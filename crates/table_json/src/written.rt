@@ -1,17 +1,104 @@
 //! The text of a table.
 
-ghost use Rattle.std.specs.Prelude.{◌≡◌, IfOk, map, string_bytes};
-ghost use Rattle.std.specs.List.{AllByRecursion};
+ghost use Rattle.std.specs.Prelude.{◌≡◌, IfOk, OnOk, map, string_bytes};
+ghost use Rattle.std.specs.List.{AllByRecursion, AllZip, filter};
+ghost use Rattle.std.specs.Ordering.{nat_cmp};
 ghost use Rattle.serde_json.specs.View.{view};
-ghost use Rattle.serde_json.specs.Written.{compact_text};
 ghost use Rattle.table_json.specs.Parts.{HasFits};
-ghost use Rattle.table_json.specs.Tables.{entry_of, entries_of, itself, position_of, IsInOrder};
-ghost use Rattle.table_json.specs.TableTexts.{IsTableText};
+ghost use Rattle.table_json.specs.Tables.{Entry, by_bytes, entry_of, entries_of, itself, name_of, position_of};
 ghost use Rattle.table_json.specs.TableValues.{function_value, parameter_value, table_value, whole, AllFit, Fits};
+ghost use Rattle.table_json.specs.WrittenTables.{is_told, AreWritten, IsOrdered, IsWrittenAs, IsWrittenText};
 
 use crate::table::{Function, Parameter, Table, VERSION};
 use serde_json::{Value, json};
 use std::alloc::{AllocError, Global};
+
+// What is written
+
+/// Whether anything is told of the function but its name.
+fn is_told(function: &Function) -> bool
+    ensures { result ≡ is_told (entry_of function.now) }
+{
+    !(function.gives.is_empty() && function.params.is_empty())
+}
+
+/// The functions of which anything is told.
+fn told(alloc: Global, functions: &[Function]) -> Result<Vec<&Function>, AllocError>
+    ensures { IfOk result (λ told. map (λ f. entry_of f.now) told.items
+        ≡ filter is_told (map entry_of functions.now)) }
+{
+    let mut told = Vec::new(alloc);
+    for function in functions {
+        if is_told(function) {
+            told.push(function)?;
+        }
+    }
+    Ok(told)
+}
+
+/// The same, in the order of their names.
+fn told_in_order(alloc: Global, functions: &[Function]) -> Result<Vec<&Function>, AllocError>
+    ensures { IfOk result (λ told. IsOrdered by_bytes name_of (filter is_told (map entry_of functions.now))
+        (map (λ f. entry_of f.now) told.items)) }
+{
+    let mut told = told(alloc, functions)?;
+    told.sort_unstable_by(|first, second| first.name.cmp(&second.name));
+    Ok(told)
+}
+
+/// Positions in their order.
+fn positions_written(alloc: Global, positions: &[u32]) -> Result<Vec<u32>, AllocError>
+    ensures { IfOk result (λ written. IsOrdered nat_cmp itself positions.now written.items) }
+{
+    let mut written = Vec::from_slice(alloc, positions)?;
+    written.sort_unstable();
+    Ok(written)
+}
+
+/// Parameters in the order of their positions.
+fn parameters_written(alloc: Global, parameters: &[Parameter]) -> Result<Vec<Parameter>, AllocError>
+    ensures { IfOk result (λ written. IsOrdered nat_cmp position_of parameters.now written.items) }
+{
+    let mut written = Vec::from_slice(alloc, parameters)?;
+    written.sort_unstable_by_key(|parameter| parameter.position());
+    Ok(written)
+}
+
+/// A function with its positions in their order.
+fn function_written(alloc: Global, function: &Function) -> Result<Function, AllocError>
+    ensures { IfOk result (λ written. IsWrittenAs (entry_of function.now) (entry_of written)) }
+{
+    let gives = positions_written(alloc, &function.gives)?;
+    let params = parameters_written(alloc, &function.params)?;
+    Ok(Function {
+        name: String::from_str(alloc, function.name.as_str())?,
+        gives,
+        params,
+    })
+}
+
+fn functions_written(alloc: Global, functions: &[&Function]) -> Result<Vec<Function>, AllocError>
+    ensures { IfOk result (λ written. AllZip IsWrittenAs (map (λ f. entry_of f.now) functions.now)
+        (map entry_of written.items)) }
+{
+    let mut written = Vec::new(alloc);
+    for function in functions {
+        written.push(function_written(alloc, *function)?)?;
+    }
+    Ok(written)
+}
+
+/// What is written of a table.
+fn written(alloc: Global, table: &Table) -> Result<Table, AllocError>
+    ensures { IfOk result (λ written. AreWritten (entries_of table.now) (entries_of written)) }
+{
+    let told = told_in_order(alloc, &table.functions)?;
+    Ok(Table {
+        functions: functions_written(alloc, &told)?,
+    })
+}
+
+// As JSON
 
 fn position_values(alloc: Global, positions: &[u32]) -> Result<Vec<Value>, AllocError>
     ensures values { IfOk result (λ values. map view values.items ≡ map whole positions.now) }
@@ -77,17 +164,16 @@ fn table_value(alloc: Global, table: &Table) -> Result<Value, AllocError>
     json!(in alloc; {"functions": functions, "version": VERSION})
 }
 
-/// The text of a table: compact JSON with its keys in the order of their bytes. Functions and positions are written in
-/// the order in which they stand, also a function without positions: whoever makes a table puts it in order and leaves
-/// such functions out. The text of a table in order reads back as that table.
+/// The text of a table: compact JSON with its keys in the order of their bytes. Functions without positions are left
+/// out, the others stand in the order of their names, and each has its positions in their order, however the table
+/// stands. The text of a table in order reads back as that table.
 ///
 /// # Errors
 ///
 /// Memory was refused.
 pub fn to_json(alloc: Global, table: &Table) -> Result<String, AllocError>
-    ensures text { IfOk result (λ text. string_bytes text ≡ compact_text (table_value (entries_of table.now))) }
-    ensures reads_back { IfOk result
-        (λ text. IsInOrder (entries_of table.now) → IsTableText (string_bytes text) (entries_of table.now)) }
+    ensures { IfOk result (λ text. IsWrittenText (entries_of table.now) (string_bytes text)) }
 {
-    table_value(alloc, table)?.to_string(alloc)
+    let written = written(alloc, table)?;
+    table_value(alloc, &written)?.to_string(alloc)
 }

@@ -14,5 +14,5 @@ pub use declaration::{Decl, Spec};
 pub use expression::{Expr, ExprKind, Field, Literal, Param, Signature};
 pub use file::{File, Func, ImportDecl, ImportSpec, TopLevelDecl};
 pub use operator::{BasicLitKind, BinaryOperator, ChanDirection, DeclKeyword, UnaryOperator};
-pub use span::{Identifier, Span, TypeName};
+pub use span::{BLANK, Identifier, Span, TypeName};
 pub use statement::{Block, CaseClause, CommClause, Stmt, StmtKind};

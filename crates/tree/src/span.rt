@@ -7,6 +7,9 @@ pub struct Span {
     pub end: u32,
 }
 
+/// A name that declares nothing (the Go specification, "Blank identifier").
+pub const BLANK: &str = "_";
+
 /// A name as it is written in one place (the Go specification, "Identifiers").
 #[derive(Drop)]
 pub struct Identifier {

@@ -75,7 +75,7 @@ looser : (least most : ℕ) (o : Option BinaryOperator) → least ≤ most → I
 looser least most None h l = tt
 looser least most (Some op) h l = omega arith
 
-always_looser : (least : ℕ) (o : Option BinaryOperator) → 6 ≤ least → IsLooser least o
+always_looser : (least : ℕ) (o : Option BinaryOperator) → unary_level ≤ least → IsLooser least o
 always_looser least None h = tt
 always_looser least (Some op) h = omega (arith, operator_low op)
 

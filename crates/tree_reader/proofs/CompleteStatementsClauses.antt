@@ -10,9 +10,10 @@ use Rattle.tree.specs.Syntax.{Identifier, Expression, Expressions, no_expression
 use Rattle.tree.specs.Depth.{expression_depth, expressions_depth, optional_depth, statement_depth, below_statement, optional_statement_depth, cases_depth, communications_depth}
 use Rattle.meaning.specs.Cursor.{Cursor, ◌⨾◌, TakesToken, token, is_next, is_closing, start_at}
 use Rattle.meaning.specs.WellFormed.{level, primary_level, IsPrimary, FitsHeader, InitFitsHeader, IsOne, IsCommunication}
+use Rattle.meaning.specs.Mentions.{is_one}
 use Rattle.meaning.specs.Grammar.{as_expression, in_braces, in_parentheses, initial, case_head, communication_head, guard_name, CommunicationFits, SpellsExpression, SpellsExpressions, SpellsMore, SpellsOptional, SpellsStatement, SpellsStatementForm, SpellsOptionalStatement, SpellsCases, SpellsCommunications}
 use Rattle.tree_reader.specs.Reading.{stands, steps, take, span_between}
-use Rattle.tree_reader.specs.Reader.{Readers, Guard, of_value, of_type, type_guard, is_one, is_communication, binary_operator, ends_statements, read_statements, read_simple, read_case_head, read_cases, read_communication, read_communication_head, read_communications, read_guard, read_switch_header, read_switch_guard, switch_form, read_switch, read_select}
+use Rattle.tree_reader.specs.Reader.{Readers, Guard, of_value, of_type, type_guard, is_communication, binary_operator, ends_statements, read_statements, read_simple, read_case_head, read_cases, read_communication, read_communication_head, read_communications, read_guard, read_switch_header, read_switch_guard, switch_form, read_switch, read_select}
 use Rattle.tree_reader.specs.Claims.{IsLooser, AreComplete}
 use Rattle.tree_reader.proofs.Taken.{step, when_true, when_false, only_true, behind_gives, next_gives, of_next_gives, stands_gives, stands_other, stands_not, take_gives, next_implied, span_is}
 use Rattle.tree_reader.proofs.Lengths.{expressions_longest, statements_longest, optional_statement_longest}

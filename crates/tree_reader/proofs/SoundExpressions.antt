@@ -107,7 +107,7 @@ module _ (text : List ℕ) (r : Readers) (below : ℕ) (sound : AreSound text be
   -- what was read at some level
   record ReadsAt (header : Bool) (least : ℕ) (from : Cursor) (x : Expression × Cursor) : Type 0 where
     spelled : SpellsExpression text as_expression x.0 from x.1
-    tight : least ≤ 7 → least ≤ level x.0
+    tight : least ≤ primary_level → least ≤ level x.0
     stands_in : StandsIn header x.0
     shallow : expression_depth x.0 ≤ suc below
     loose : IsLooser least (of_next binary_operator x.1)
@@ -235,7 +235,7 @@ module _ (text : List ℕ) (r : Readers) (below : ℕ) (sound : AreSound text be
   pub read_expression_of-sound : (header : Bool) (least : ℕ) (from to : Cursor) (e : Expression)
       → read_expression_of text r below header least from ≡ Some (e, to)
       → SpellsExpression text as_expression e from to
-      × (least ≤ 7 → least ≤ level e) × StandsIn header e × (expression_depth e ≤ suc below)
+      × (least ≤ primary_level → least ≤ level e) × StandsIn header e × (expression_depth e ≤ suc below)
       × IsLooser least (of_next binary_operator to)
   read_expression_of-sound header least from to e read =
       let h = read_at-sound header least from (e, to) read in

@@ -11,9 +11,10 @@ use Rattle.tree.specs.Syntax.{Identifier, Expression, expression_node, Expressio
 use Rattle.tree.specs.Depth.{expression_depth, expressions_depth, optional_depth, statement_depth, below_statement, optional_statement_depth, cases_depth, communications_depth}
 use Rattle.meaning.specs.Cursor.{Cursor, ◌⨾◌, token, identifier}
 use Rattle.meaning.specs.WellFormed.{operator_level, form_level, level, primary_level, IsPrimary, FitsHeader, OptionalFitsHeader, IsOne, IsCommunication}
+use Rattle.meaning.specs.Mentions.{is_one}
 use Rattle.meaning.specs.Grammar.{as_expression, in_parentheses, in_braces, guard_name, case_head, communication_head, form_of, CommunicationFits, SpellsExpression, SpellsExpressions, SpellsMore, SpellsOptional, SpellsOptionalStatement, SpellsStatement, SpellsStatementForm, SpellsCases, SpellsCommunications}
 use Rattle.tree_reader.specs.Reading.{stands, behind, take, steps, spanned_statement}
-use Rattle.tree_reader.specs.Reader.{Readers, Header, Guard, of_value, of_type, primary_guard, type_guard, form_of_statement, is_one, is_communication, as_part, statement_expression, read_statements, read_simple, read_case_head, read_cases, read_communication, read_communication_head, read_communications, read_guard, read_switch_guard, switch_form, read_switch_header, read_switch, read_select}
+use Rattle.tree_reader.specs.Reader.{Readers, Header, Guard, of_value, of_type, primary_guard, type_guard, is_communication, as_part, statement_expression, read_statements, read_simple, read_case_head, read_cases, read_communication, read_communication_head, read_communications, read_guard, read_switch_guard, switch_form, read_switch_header, read_switch, read_select}
 use Rattle.tree_reader.specs.Claims.{AreSound}
 use Rattle.tree_reader.proofs.Steps.{given, two_ways, only_where_some, stands-sound, take-sound}
 use Rattle.tree_reader.proofs.SoundLists.{read_expressions-sound}
@@ -46,15 +47,15 @@ IsReadGuard text below from (of_value tag) to = IsTag text below from tag to
 IsReadGuard text below from (of_type n e) to =
     (dot : Cursor) × IsNamedOperand text below from n e dot × (token Dot ⨾ in_parentheses (token TypeKeyword)) dot to
 
-operator_level-most : (op : BinaryOperator) → operator_level op ≤ 7
+operator_level-most : (op : BinaryOperator) → operator_level op ≤ primary_level
 operator_level-most LogicalOr = omega arith
 operator_level-most op = omega arith
 
-form_level-most : (form : ExpressionForm) → form_level form ≤ 7
+form_level-most : (form : ExpressionForm) → form_level form ≤ primary_level
 form_level-most (binary_expression op l r) = operator_level-most op
 form_level-most form = omega arith
 
-level-most : (e : Expression) → level e ≤ 7
+level-most : (e : Expression) → level e ≤ primary_level
 level-most (expression_node form span) = form_level-most form
 
 primary_guard-sound : (text : List ℕ) (below : ℕ) (from to : Cursor) (n : Option Identifier) (e : Expression)
@@ -101,7 +102,7 @@ is_communication-sound (assignment ls rs) t = is_one-sound rs t
 is_communication-sound (define_statement ns rs) t = is_one-sound rs t
 is_communication-sound form t = absurd (false≢true t)
 
-communication-of : (s : Statement) → is_communication (form_of_statement s) ≡ true → IsCommunication (form_of s)
+communication-of : (s : Statement) → is_communication (form_of s) ≡ true → IsCommunication (form_of s)
 communication-of (statement_node form span) t = is_communication-sound form t
 
 module _ (text : List ℕ) (r : Readers) (below : ℕ) (sound : AreSound text below r) where
@@ -172,7 +173,7 @@ module _ (text : List ℕ) (r : Readers) (below : ℕ) (sound : AreSound text be
       option_and_then_some _ (as_part text r below s.0) x s-then λ part part-read part-then.
       let h = read_simple-sound text r below sound false word s s-read in
       let p = as_part-sound text r below s.0 part part-read in
-      let c = only_where_some (is_communication (form_of_statement s.0)) _ x part-then in
+      let c = only_where_some (is_communication (form_of s.0)) _ x part-then in
       given (ReadsCommunication from) _ x c.1
       (subst (λ (part : OptionalStatement). ReadsCommunication from (part, s.1)) p.0
       (communication-of s.0 c.0, (word, k, h.read.spelled), p.1))
@@ -249,7 +250,7 @@ module _ (text : List ℕ) (r : Readers) (below : ℕ) (sound : AreSound text be
   ReadsGuard from x = IsReadGuard text below from x.0 x.1
 
   guard-of : (s : Statement) (g : Guard) (from to : Cursor)
-      → IsReadSimple text (suc below) true from s to → type_guard (form_of_statement s) ≡ Some g
+      → IsReadSimple text (suc below) true from s to → type_guard (form_of s) ≡ Some g
       → IsTypeGuard text below from g to
   guard-of (statement_node form span) g from to h t = type_guard-sound text below from to form span g h t
 
@@ -265,7 +266,7 @@ module _ (text : List ℕ) (r : Readers) (below : ℕ) (sound : AreSound text be
   read_guard-sound s from place x h e =
       elim (two_ways (stands Dot place) _ _ (Some x) e) [
         | inl c ↦ (
-            option_and_then_some _ (type_guard (form_of_statement s)) x c.1 λ guard guard-read guard-then.
+            option_and_then_some _ (type_guard (form_of s)) x c.1 λ guard guard-read guard-then.
             option_and_then_some _ (take LeftParenthesis (behind place)) x guard-then λ inner inner-read inner-then.
             option_and_then_some _ (take TypeKeyword inner) x inner-then λ word word-read word-then.
             option_and_then_some _ (take RightParenthesis word) x word-then λ end end-read end-then.

@@ -6,7 +6,7 @@ use Rattle.tree.specs.declared.operator.BinaryOperator.{BinaryOperator}
 use Rattle.tree.specs.Syntax.{Expression, Statement, SourceFile}
 use Rattle.tree.specs.Depth.{expression_depth, statement_depth, file_depth}
 use Rattle.meaning.specs.Cursor.{Cursor, is_next}
-use Rattle.meaning.specs.WellFormed.{operator_level, level, has_bare_literal, IsElse, IsKept}
+use Rattle.meaning.specs.WellFormed.{operator_level, level, primary_level, has_bare_literal, IsElse, IsKept}
 use Rattle.meaning.specs.Grammar.{as_type, as_expression, as_value, form_of, SpellsExpression, SpellsStatement, SpellsFile}
 use Rattle.meaning.specs.TreeOfText.{IsTreeOf}
 use Rattle.meaning.specs.declared.TheConstants.{MOST_DEPTH}
@@ -39,7 +39,7 @@ module _ (text : List ℕ) where
     pub expression : (header : Bool) (least : ℕ) (from to : Cursor) (e : Expression)
         → r.read_expression header least from ≡ Some (e, to)
         → SpellsExpression text as_expression e from to
-        × (least ≤ 7 → least ≤ level e) × StandsIn header e × (expression_depth e ≤ n)
+        × (least ≤ primary_level → least ≤ level e) × StandsIn header e × (expression_depth e ≤ n)
         × IsLooser least (of_next binary_operator to)
     pub type : (from to : Cursor) (t : Expression)
         → r.read_type from ≡ Some (t, to)

@@ -20,7 +20,8 @@ use Rattle.tree.specs.Depth.{expression_depth, statement_depth}
 use Rattle.meaning.specs.Cursor.{Cursor, is_next, start_at}
 use Rattle.meaning.specs.OperatorTokens.{can_begin_type}
 use Rattle.meaning.specs.WellFormed.{operator_level, level, primary_level, unary_level, is_name, is_call, has_named_item}
-use Rattle.meaning.specs.Grammar.{Owner, of_struct, of_interface}
+use Rattle.meaning.specs.Grammar.{Owner, of_struct, of_interface, form_of}
+use Rattle.meaning.specs.Mentions.{is_one}
 use Rattle.meaning.specs.declared.TheConstants.{MOST_DEPTH}
 use Rattle.tree_reader.specs.Reading.{Read, ◌>>=◌, only_where, stands, behind, take, past, take_semicolon, behind_semicolon, skip_semicolons, steps, span_between, spanned, spanned_statement, word_between, read_identifier, read_optional_identifier, read_identifiers}
 
@@ -192,10 +193,6 @@ value_fits Var (present_expression t) es = true
 value_fits type_keyword t es = false
 
 -- what a clause of a `select` can wait for
-abbrev pub is_one : Expressions → Bool
-is_one (expression_and e no_expression) = true
-is_one es = false
-
 abbrev pub is_communication : StatementForm → Bool
 is_communication (send_statement c v) = true
 is_communication (expression_statement e) = true
@@ -788,9 +785,6 @@ type_guard (expression_statement e) = primary_guard None e
 type_guard (define_statement (n ∷ []) (expression_and e no_expression)) = primary_guard (Some n) e
 type_guard form = None
 
-abbrev pub form_of_statement : Statement → StatementForm
-form_of_statement (statement_node form span) = form
-
 -- How a statement is read whose parts may be `below` deep.
 module _ (text : List ℕ) (r : Readers) (below : ℕ) where
   unfoldable pub read_header : Cursor → Read Header
@@ -926,7 +920,7 @@ module _ (text : List ℕ) (r : Readers) (below : ℕ) where
   read_communication place = do
     s ← read_simple text r below false place
     part ← as_part text r below s.0
-    only_where (is_communication (form_of_statement s.0)) (Some (part, s.1))
+    only_where (is_communication (form_of s.0)) (Some (part, s.1))
 
   abbrev pub read_communication_head : Cursor → Read OptionalStatement
   read_communication_head place =
@@ -953,7 +947,7 @@ module _ (text : List ℕ) (r : Readers) (below : ℕ) where
   unfoldable pub read_guard : Statement → Cursor → Read Guard
   read_guard s place =
       if stands Dot place then (do
-        guard ← type_guard (form_of_statement s)
+        guard ← type_guard (form_of s)
         inner ← take LeftParenthesis (behind place)
         word ← take TypeKeyword inner
         end ← take RightParenthesis word

@@ -9,7 +9,7 @@ use Rattle.mentions.specs.MarkViews.{body_view, mark_view, marks_view}
 use Rattle.meaning.specs.Mentions.{BodyPlace, Mark, mentions, defers_literal, returns, opens, closes}
 use Rattle.meaning.specs.Tracked.{placed}
 use Rattle.meaning.specs.Uses.{Seen, is_outside, names_tracked, names_tracked_outside}
-use Rattle.locals.specs.LocalViews.{bodies_at}
+use Rattle.tracked.specs.LocalViews.{bodies_at}
 
 module _ (s : Seen) where
   ends_nothing : (b rest : Bool) → rest ≡ ((b && false) || rest)

@@ -5,10 +5,10 @@ use Rattle.uses.specs.declared.faults.UseCode.TheVariants.{RecoverUsed, CancelDi
 use Rattle.uses.specs.declared.faults.UseFault.{UseFault as KeptFault}
 use Rattle.uses.specs.declared.bindings.Binding.{Binding as KeptBinding}
 use Rattle.uses.specs.declared.bindings.Binding.TheVariants.{Obtained, Cleared, Made}
-use Rattle.allowed.specs.declared.event.Event.{Event as KeptEvent}
-use Rattle.allowed.specs.UseViews.{event_view}
-use Rattle.locals.specs.LocalViews.{Entry, kind_of_entry, tracked_kind_of_entry}
-use Rattle.rows.specs.RowViews.{state_view}
+use Rattle.tracked.specs.declared.event.Event.{Event as KeptEvent}
+use Rattle.tracked.specs.EventViews.{event_view}
+use Rattle.tracked.specs.LocalViews.{Entry, kind_of_entry, tracked_kind_of_entry}
+use Rattle.tracked.specs.RowViews.{state_view}
 use Rattle.meaning.specs.FunctionFacts.{VariableKind}
 use Rattle.meaning.specs.Mentions.{Row, BodyPlace, Role, elsewhere, called, called_in_brackets, argument, returned, left, names_type, new_literal, parameter_pointer, Mention}
 use Rattle.meaning.specs.Tracked.{Known, declared_by, LocalRole, parameter, receiver, variadic, result, in_block}

@@ -3,19 +3,18 @@
 ghost use Rattle.std.specs.Prelude.{◌≡◌, IfOk, option_map, length, Some};
 ghost use Rattle.std.specs.List.{list_all, list_any};
 ghost use Rattle.facts.specs.FactViews.{kind_view};
-ghost use Rattle.locals.specs.LocalViews.{seen_view, Sees};
+ghost use Rattle.tracked.specs.LocalViews.{seen_view, Sees};
 ghost use Rattle.meaning.specs.Tracked.{lefts_of, left_local};
 ghost use Rattle.meaning.specs.Uses.{is_second_free, made_binding, binding_at, makes_group, is_cancel, is_group, kind_at, row_binds, is_group_or_none, are_groups, is_made};
 ghost use Rattle.mentions.specs.MarkViews.{form_view, row_view};
-ghost use Rattle.rows.specs.RowViews.{state_view};
+ghost use Rattle.tracked.specs.RowViews.{state_view};
 ghost use Rattle.uses.specs.OutcomeViews.{binding_view};
 
 use crate::tracked_names::has_tracked;
 use facts::VariableKind;
-use locals::Seen;
 use mentions::{Row, RowForm};
-use rows::{GroupState, count, local_at, row_clears, row_giving, row_makes, row_obtains};
 use std::alloc::{AllocError, Global};
+use tracked::{GroupState, Seen, count, local_at, row_clears, row_giving, row_makes, row_obtains};
 
 /// How a row binds a left side.
 #[derive(Clone, Copy)]
@@ -30,8 +29,8 @@ fn is_cancel(kind: Option<VariableKind>) -> bool
     ensures { result ≡ is_cancel (option_map kind_view kind) }
 {
     match kind {
-        Some(VariableKind::Cancel) => true,
-        _ => false,
+        Some(kind) => kind.is_cancel(),
+        None => false,
     }
 }
 
@@ -39,15 +38,14 @@ fn is_group(kind: Option<VariableKind>) -> bool
     ensures { result ≡ is_group (option_map kind_view kind) }
 {
     match kind {
-        Some(VariableKind::Group) => true,
-        _ => false,
+        Some(kind) => kind.is_group(),
+        None => false,
     }
 }
 
 fn kind_at(seen: &Seen<'_, '_>, row: Row<'_>, index: usize) -> Option<VariableKind>
     requires { Sees seen.now }
-    ensures { option_map kind_view result ≡ kind_at (seen_view seen.now)
-        (row_view row.entry) index }
+    ensures { option_map kind_view result ≡ kind_at (seen_view seen.now) (row_view row.entry) index }
 {
     seen.kind_of(local_at(seen.known, row, index))
 }
@@ -55,8 +53,8 @@ fn kind_at(seen: &Seen<'_, '_>, row: Row<'_>, index: usize) -> Option<VariableKi
 /// Whether cancel variables stand on each of these left sides.
 fn are_cancels(seen: &Seen<'_, '_>, row: Row<'_>, positions: &[usize]) -> bool
     requires { Sees seen.now }
-    ensures { result ≡ list_all (λ k. is_cancel (kind_at
-        (seen_view seen.now) (row_view row.entry) k)) positions.now }
+    ensures { result ≡ list_all (λ k. is_cancel (kind_at (seen_view seen.now) (row_view row.entry) k))
+        positions.now }
 {
     for position in positions {
         if !is_cancel(kind_at(seen, row, *position)) {
@@ -110,8 +108,7 @@ fn is_group_or_none(seen: &Seen<'_, '_>, number: Option<u32>) -> bool
 fn are_all_groups(seen: &Seen<'_, '_>, row: Row<'_>) -> bool
     requires { Sees seen.now }
     ensures { result ≡ list_all (λ l. is_group_or_none (seen_view seen.now)
-        (left_local (seen_view seen.now).known (Some l)))
-        (lefts_of (form_view row.entry.form)) }
+        (left_local (seen_view seen.now).known (Some l))) (lefts_of (form_view row.entry.form)) }
 {
     for index in 0..count(row.form) {
         if !is_group_or_none(seen, local_at(seen.known, row, index)) {
@@ -124,8 +121,7 @@ fn are_all_groups(seen: &Seen<'_, '_>, row: Row<'_>) -> bool
 /// All names of `var g, h errgroup.Group` are groups; of another row the first name is.
 fn are_groups(seen: &Seen<'_, '_>, row: Row<'_>) -> bool
     requires { Sees seen.now }
-    ensures { result ≡ are_groups (seen_view seen.now) (row_view row.entry)
-        (form_view row.entry.form) }
+    ensures { result ≡ are_groups (seen_view seen.now) (row_view row.entry) (form_view row.entry.form) }
 {
     match row.form {
         RowForm::Declares(_, _, _) => are_all_groups(seen, row),

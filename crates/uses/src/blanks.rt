@@ -5,7 +5,7 @@ ghost use Rattle.mentions.specs.MarkViews.{row_view};
 ghost use Rattle.meaning.specs.Uses.{has_blank};
 
 use mentions::Row;
-use rows::is_blank_at;
+use tracked::is_blank_at;
 
 /// Whether `_` stands on one of these left sides.
 pub fn has_blank(row: Row<'_>, positions: &[usize]) -> bool

@@ -6,10 +6,10 @@ ghost use Rattle.facts.specs.FactViews.{kind_view};
 ghost use Rattle.mentions.specs.MarkViews.{named_view};
 ghost use Rattle.uses.specs.OutcomeViews.{code_view, AddsFaults};
 
-use allowed::last_name;
 use facts::VariableKind;
 use mentions::Named;
 use std::alloc::AllocError;
+use tracked::last_name;
 
 /// What is wrong with a use.
 #[derive(Clone, Copy)]

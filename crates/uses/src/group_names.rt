@@ -1,7 +1,7 @@
 //! Mentions of the package `errgroup`.
 
 ghost use Rattle.std.specs.Prelude.{◌≡◌, IfOk, OnOk, codes};
-ghost use Rattle.locals.specs.LocalViews.{seen_view, Sees};
+ghost use Rattle.tracked.specs.LocalViews.{seen_view, Sees};
 ghost use Rattle.meaning.specs.Uses.{is_making_place, is_made_or_parameter, errgroup_faults};
 ghost use Rattle.mentions.specs.MarkViews.{named_view, place_view, role_view, mention_view};
 ghost use Rattle.uses.specs.OutcomeViews.{AddsFaults};
@@ -10,10 +10,9 @@ ghost use Rattle.meaning.specs.FunctionFacts.{is_selected};
 use crate::bindings::makes_group;
 use crate::faults::{UseCode, UseFault, add_last};
 use facts::{ERRGROUP, is_import};
-use locals::Seen;
-use mentions::{Mention, Named, Place, Role};
-use rows::{is_of_universe, meaning};
+use mentions::{CallPlace, Mention, Named, Role};
 use std::alloc::{AllocError, Global};
+use tracked::{Seen, is_of_universe, meaning};
 
 fn is_selected(name: &str, named: Named<'_>) -> bool
     ensures { result ≡ is_selected name.now (named_view named.entry).selected }
@@ -24,12 +23,16 @@ fn is_selected(name: &str, named: Named<'_>) -> bool
     }
 }
 
-fn is_making_place(alloc: Global, seen: &Seen<'_, '_>, place: Place<'_>) -> Result<bool, AllocError>
+fn is_making_place(
+    alloc: Global,
+    seen: &Seen<'_, '_>,
+    place: CallPlace<'_>,
+) -> Result<bool, AllocError>
     requires { Sees seen.now }
     ensures { IfOk result (λ makes. makes ≡ is_making_place (seen_view seen.now) (place_view place.entry)) }
 {
     match place {
-        Place::OnlyValue(row) => makes_group(alloc, seen, row),
+        CallPlace::OnlyValue(row) => makes_group(alloc, seen, row),
         _ => Ok(false),
     }
 }

@@ -2,6 +2,7 @@
 //! `meaning/specs/Uses.antt`.
 #![tactic(auto)]
 
+mod at;
 mod bindings;
 mod blanks;
 mod faults;

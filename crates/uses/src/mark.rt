@@ -1,52 +1,51 @@
 //! What a mark gives.
 
 ghost use Rattle.std.specs.Prelude.{◌≡◌, option_map, OnOk, IfOk, map, ◌∷◌, [], ◌++◌};
-ghost use Rattle.allowed.specs.UseViews.{handed_view};
+ghost use Rattle.tracked.specs.EventViews.{handed_view};
 ghost use Rattle.facts.specs.FactViews.{kind_view, item_view};
-ghost use Rattle.locals.specs.LocalViews.{seen_view, Sees};
+ghost use Rattle.tracked.specs.LocalViews.{seen_view, Sees};
 ghost use Rattle.meaning.specs.BodyEvents.{mark_faults, mark_events, item_variable, handed_there, handed_item, handed_on};
 ghost use Rattle.meaning.specs.Tracked.{result_locals, body_locals};
 ghost use Rattle.meaning.specs.Uses.{mention_faults, variable_outcome, result_faults};
 ghost use Rattle.meaning.specs.Mentions.{as_bare};
 ghost use Rattle.mentions.specs.MarkViews.{body_view, mention_view, mark_view};
-ghost use Rattle.rows.specs.RowViews.{known_view};
+ghost use Rattle.tracked.specs.RowViews.{known_view};
 ghost use Rattle.tree.specs.View.{expression_syntax, expressions_syntax};
 ghost use Rattle.uses.specs.OutcomeViews.{AddsFaults, Gives};
 
+use crate::at::At;
 use crate::faults::{UseCode, UseFault, add_fault};
 use crate::givings::add_giving;
 use crate::group_names::add_errgroup;
 use crate::outcomes::variable_outcome;
 use crate::special::{add_cause, add_recover};
 use crate::tracked_names::tracked_as;
-use allowed::{Event, Handed, body_gives};
+use allowed_uses::body_gives;
 use facts::{Item, VariableKind, item_kind, parameter_items};
-use locals::Seen;
-use mentions::{BodyPlace, Mark, Mention, as_bare};
-use rows::{Known, is_in, local_meant};
+use mentions::{BodyPlace, Mark, as_bare};
 use std::alloc::{AllocError, Global};
-use tree::Expr;
+use tracked::{Event, Handed, Known, Seen, is_in, local_meant};
+use tree::{BLANK, Expr};
 
 /// What a mention gives: faults, and at most one event.
 fn mention_outcome<'a>(
     alloc: Global,
-    seen: &Seen<'_, 'a>,
-    bodies: &[BodyPlace<'a>],
-    mention: Mention<'a>,
+    at: At<'_, 'a>,
     faults: &mut Vec<UseFault<'a>>,
 ) -> Result<Option<Event<'a>>, AllocError>
-    requires { Sees seen.now }
+    requires { Sees at.seen.now }
     ensures { IfOk result (λ event. Gives faults.old.items faults.new.items event record {
-      faults = mention_faults (seen_view seen.now) (map body_view bodies.now) (mention_view mention.entry);
-      events = (variable_outcome (seen_view seen.now) (map body_view bodies.now)
-          (mention_view mention.entry)).events;
+      faults = mention_faults (seen_view at.entry.seen.now) (map body_view at.entry.bodies.now)
+          (mention_view at.entry.mention);
+      events = (variable_outcome (seen_view at.entry.seen.now) (map body_view at.entry.bodies.now)
+          (mention_view at.entry.mention)).events;
     }) }
 {
-    let event = variable_outcome(alloc, seen, bodies, mention, faults)?;
-    add_giving(alloc, seen, bodies, mention, faults)?;
-    add_errgroup(alloc, seen, mention, faults)?;
-    add_cause(seen.known, mention, faults)?;
-    add_recover(seen.known, mention, faults)?;
+    let event = variable_outcome(alloc, at, faults)?;
+    add_giving(alloc, at, faults)?;
+    add_errgroup(alloc, at.seen, at.mention, faults)?;
+    add_cause(at.seen.known, at.mention, faults)?;
+    add_recover(at.seen.known, at.mention, faults)?;
     Ok(event)
 }
 
@@ -62,7 +61,7 @@ fn add_result<'a>(
 {
     match (item.name, item_kind(known.names, known.file, item)) {
         (Some(name), Some(VariableKind::Cancel)) => {
-            if name.text.as_str() == "_" {
+            if name.text.as_str() == BLANK {
                 return Ok(());
             }
             add_fault(
@@ -189,12 +188,19 @@ pub fn mark_outcome<'a>(
     }) }
 {
     match mark {
-        Mark::Mentions(mention) => mention_outcome(alloc, seen, bodies, mention, faults),
-        Mark::DefersLiteral(_, at) => Ok(Some(Event::DeferLiteral(at))),
+        Mark::Mentions(mention) => {
+            let at = At {
+                seen: &*seen,
+                bodies,
+                mention,
+            };
+            mention_outcome(alloc, at, faults)
+        }
+        Mark::DefersLiteral(_, at) => Ok(Some(Event::DeferLiteral { literal: at })),
         Mark::Returns(_, values) => {
             let gives = body_gives(alloc, seen.known, bodies)?;
             let handed = handed_on(alloc, seen, &gives, values)?;
-            Ok(Some(Event::Return(handed)))
+            Ok(Some(Event::Return { handed }))
         }
         Mark::Opens(body) => {
             add_body(alloc, seen.known, body, faults)?;

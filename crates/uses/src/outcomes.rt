@@ -1,29 +1,39 @@
 //! What mentions of tracked variables give: faults, and at most one event.
 
 ghost use Rattle.std.specs.Prelude.{◌≡◌, OnOk, IfOk, map, option_map, ◌++◌};
-ghost use Rattle.allowed.specs.UseViews.{event_view, use_view, callee_view};
+ghost use Rattle.tracked.specs.EventViews.{event_view, callee_view};
+ghost use Rattle.allowed_uses.specs.UseViews.{use_view};
 ghost use Rattle.facts.specs.FactViews.{kind_view};
-ghost use Rattle.locals.specs.LocalViews.{local_view, local_role_view, entry_view, seen_view, Sees, tracked_kind_of_entry, kind_of_entry};
+ghost use Rattle.tracked.specs.LocalViews.{local_view, local_role_view, entry_view, seen_view, Sees, tracked_kind_of_entry, kind_of_entry};
 ghost use Rattle.meaning.specs.Uses.{first_faults, only_faults, binding_event, called_in, fault_at, otherwise, use_outcome, binding_at, variable_outcome};
 ghost use Rattle.mentions.specs.MarkViews.{standing_view, row_view, body_view, role_view, mention_view};
-ghost use Rattle.rows.specs.RowViews.{known_view};
+ghost use Rattle.tracked.specs.RowViews.{known_view};
 ghost use Rattle.uses.specs.OutcomeViews.{binding_view, AddsFaults, Gives, again_of, binding_outcome_of, mention_outcome_of, row_outcome_of, role_outcome_of};
 ghost use Rattle.meaning.specs.Tracked.{only_call};
 
+use crate::at::At;
 use crate::bindings::{Binding, binding_at};
 use crate::faults::{UseCode, UseFault, add_fault, otherwise};
-use crate::variables::{kind_use, variable_at};
-use allowed::{Callee, Event, Use, callee_of};
+use crate::variables::kind_use;
+use allowed_uses::{LocalMention, Use, variable_at};
 use facts::VariableKind;
-use locals::{Entry, Local, LocalRole, Seen, declared_by, kind, tracked_kind, variable_of};
-use mentions::{BodyPlace, Mention, Role, Row, Standing, is_body};
-use rows::{Known, only_call};
+use mentions::{Mention, Role, Row, Standing, is_body};
 use std::alloc::{AllocError, Global};
+use tracked::{
+    Callee, Entry, Event, Known, Local, LocalRole, callee_of, declared_by, kind, only_call,
+    tracked_kind, variable_of,
+};
+
+/// A local that was found, at a mention of it.
+#[derive(Clone, Copy)]
+struct Found<'s, 'a> {
+    at: At<'s, 'a>,
+    entry: Entry<'a>,
+}
 
 /// The function that is called as the only value of the row.
 fn called_in<'a>(known: Known<'_, 'a>, row: Row<'a>) -> Callee<'a>
-    ensures { callee_view result ≡ called_in
-        (known_view known.entry) (only_call (row_view row.entry)
+    ensures { callee_view result ≡ called_in (known_view known.entry) (only_call (row_view row.entry)
         (row_view row.entry).values) }
 {
     match only_call(row) {
@@ -48,14 +58,14 @@ fn binding_event<'a>(
 {
     let variable = variable_at(local, mention);
     match binding {
-        Binding::Obtained(index) => Event::Obtain(
+        Binding::Obtained(index) => Event::Obtain {
             variable,
-            called_in(known, row),
-            index,
-            declared_by(known, mention).is_some(),
-        ),
-        Binding::Cleared => Event::Clear(variable),
-        Binding::Made(state) => Event::Make(variable, state),
+            source: called_in(known, row),
+            result: index,
+            is_declared: declared_by(known, mention).is_some(),
+        },
+        Binding::Cleared => Event::Clear { variable },
+        Binding::Made(state) => Event::Make { variable, state },
     }
 }
 
@@ -99,43 +109,42 @@ fn add_first<'a>(
 
 /// A binding of a variable of that kind.
 fn binding_outcome<'a>(
-    known: Known<'_, 'a>,
-    entry: Entry<'a>,
+    found: Found<'_, 'a>,
     kind: VariableKind,
-    bodies: &[BodyPlace<'a>],
-    mention: Mention<'a>,
     row: Row<'a>,
     binding: Binding,
     faults: &mut Vec<UseFault<'a>>,
 ) -> Result<Option<Event<'a>>, AllocError>
     ensures { IfOk result (λ event. Gives faults.old.items faults.new.items event (binding_outcome_of
-        (known_view known.entry) (entry_view entry.entry) (kind_view kind) (map body_view bodies.now)
-        (mention_view mention.entry) (row_view row.entry) (binding_event (known_view known.entry)
-        (local_view entry.entry.local) (mention_view mention.entry) (row_view row.entry) (binding_view binding))
-        (local_role_view entry.entry.local.role))) }
+        (seen_view found.entry.at.seen.now).known (entry_view found.entry.entry) (kind_view kind)
+        (map body_view found.entry.at.bodies.now) (mention_view found.entry.at.mention) (row_view row.entry)
+        (binding_event (seen_view found.entry.at.seen.now).known (local_view found.entry.entry.local)
+        (mention_view found.entry.at.mention) (row_view row.entry) (binding_view binding))
+        (local_role_view found.entry.entry.local.role))) }
 {
-    let local = entry.local;
-    let at = mention.named.at;
+    let local = found.entry.local;
+    let mention = found.at.mention;
+    let known = found.at.seen.known;
     match local.role {
         LocalRole::Result => {
-            add_fault(faults, at, UseCode::BoundAgain, local.name)?;
+            add_fault(faults, mention.named.at, UseCode::BoundAgain, local.name)?;
             Ok(None)
         }
         LocalRole::Variadic => {
-            add_fault(faults, at, otherwise(kind), local.name)?;
+            add_fault(faults, mention.named.at, otherwise(kind), local.name)?;
             Ok(None)
         }
         LocalRole::InBlock => {
             add_first(row.standing, kind, local, mention, faults)?;
-            add_again(known, entry, mention, faults)?;
-            if is_body(local.body, bodies) {
+            add_again(known, found.entry, mention, faults)?;
+            if is_body(local.body, found.at.bodies) {
                 Ok(Some(binding_event(known, local, mention, row, binding)))
             } else {
                 Ok(None)
             }
         }
-        LocalRole::Parameter(_) => parameter_bound(known, entry, kind, mention, faults),
-        LocalRole::Receiver => parameter_bound(known, entry, kind, mention, faults),
+        LocalRole::Parameter(_) => parameter_bound(known, found.entry, kind, mention, faults),
+        LocalRole::Receiver => parameter_bound(known, found.entry, kind, mention, faults),
     }
 }
 
@@ -156,6 +165,7 @@ fn parameter_bound<'a>(
     Ok(None)
 }
 
+/// A use that binds nothing: a fault where it is not allowed, else what it does.
 fn use_outcome<'a>(
     kind: VariableKind,
     local: Local<'a>,
@@ -163,9 +173,8 @@ fn use_outcome<'a>(
     allowed: Use<'a>,
     faults: &mut Vec<UseFault<'a>>,
 ) -> Result<Option<Event<'a>>, AllocError>
-    ensures { IfOk result (λ event. Gives faults.old.items faults.new.items event
-        (use_outcome (kind_view kind) (local_view local.entry) (mention_view mention.entry)
-        (use_view allowed.entry))) }
+    ensures { IfOk result (λ event. Gives faults.old.items faults.new.items event (use_outcome (kind_view kind)
+        (local_view local.entry) (mention_view mention.entry) (use_view allowed.entry))) }
 {
     match allowed {
         Use::NotAllowed => {
@@ -180,22 +189,26 @@ fn use_outcome<'a>(
 /// A mention that binds nothing, of what may be tracked as that kind.
 fn mention_outcome<'a>(
     alloc: Global,
-    seen: &Seen<'_, 'a>,
-    entry: Entry<'a>,
-    bodies: &[BodyPlace<'a>],
-    mention: Mention<'a>,
+    found: Found<'_, 'a>,
     faults: &mut Vec<UseFault<'a>>,
 ) -> Result<Option<Event<'a>>, AllocError>
-    requires { Sees seen.now }
+    requires { Sees found.at.seen.now }
     ensures { IfOk result (λ event. Gives faults.old.items faults.new.items event (mention_outcome_of
-        (seen_view seen.now) (entry_view entry.entry)
-        (tracked_kind_of_entry (entry_view entry.entry)) (map body_view bodies.now)
-        (mention_view mention.entry))) }
+        (seen_view found.entry.at.seen.now) (entry_view found.entry.entry)
+        (tracked_kind_of_entry (entry_view found.entry.entry)) (map body_view found.entry.at.bodies.now)
+        (mention_view found.entry.at.mention))) }
 {
-    match tracked_kind(entry) {
+    let local = found.entry.local;
+    let mention = found.at.mention;
+    match tracked_kind(found.entry) {
         Some(kind) => {
-            let allowed = kind_use(alloc, seen, entry.local, kind, bodies, mention)?;
-            use_outcome(kind, entry.local, mention, allowed, faults)
+            let here = LocalMention {
+                local,
+                bodies: found.at.bodies,
+                mention,
+            };
+            let allowed = kind_use(alloc, found.at.seen, here, kind)?;
+            use_outcome(kind, local, mention, allowed, faults)
         }
         None => Ok(None),
     }
@@ -204,53 +217,44 @@ fn mention_outcome<'a>(
 /// A left side.
 fn left_outcome<'a>(
     alloc: Global,
-    seen: &Seen<'_, 'a>,
-    entry: Entry<'a>,
-    bodies: &[BodyPlace<'a>],
-    mention: Mention<'a>,
+    found: Found<'_, 'a>,
     index: usize,
     row: Row<'a>,
     faults: &mut Vec<UseFault<'a>>,
 ) -> Result<Option<Event<'a>>, AllocError>
-    requires { Sees seen.now }
-    ensures { IfOk result (λ event. Gives faults.old.items faults.new.items event (row_outcome_of (seen_view seen.now)
-        (entry_view entry.entry) (kind_of_entry (entry_view entry.entry))
-        (map body_view bodies.now) (mention_view mention.entry) (row_view row.entry)
-        (binding_at (seen_view seen.now) (row_view row.entry) index))) }
+    requires { Sees found.at.seen.now }
+    ensures { IfOk result (λ event. Gives faults.old.items faults.new.items event (row_outcome_of
+        (seen_view found.entry.at.seen.now) (entry_view found.entry.entry)
+        (kind_of_entry (entry_view found.entry.entry)) (map body_view found.entry.at.bodies.now)
+        (mention_view found.entry.at.mention) (row_view row.entry)
+        (binding_at (seen_view found.entry.at.seen.now) (row_view row.entry) index))) }
 {
-    let kind = match kind(entry) {
+    let kind = match kind(found.entry) {
         Some(kind) => kind,
         None => return Ok(None),
     };
-    let binding = binding_at(alloc, seen, row, index)?;
+    let binding = binding_at(alloc, found.at.seen, row, index)?;
     match binding {
-        Some(binding) => {
-            binding_outcome(
-                seen.known, entry, kind, bodies, mention, row, binding, faults,
-            )
-        }
-        None => mention_outcome(alloc, seen, entry, bodies, mention, faults),
+        Some(binding) => binding_outcome(found, kind, row, binding, faults),
+        None => mention_outcome(alloc, found, faults),
     }
 }
 
+/// A mention of a local that was found.
 fn entry_outcome<'a>(
     alloc: Global,
-    seen: &Seen<'_, 'a>,
-    entry: Entry<'a>,
-    bodies: &[BodyPlace<'a>],
-    mention: Mention<'a>,
+    found: Found<'_, 'a>,
     faults: &mut Vec<UseFault<'a>>,
 ) -> Result<Option<Event<'a>>, AllocError>
-    requires { Sees seen.now }
+    requires { Sees found.at.seen.now }
     ensures { IfOk result (λ event. Gives faults.old.items faults.new.items event (role_outcome_of
-        (seen_view seen.now) (entry_view entry.entry) (map body_view bodies.now) (mention_view mention.entry)
-        (role_view mention.entry.role))) }
+        (seen_view found.entry.at.seen.now) (entry_view found.entry.entry)
+        (map body_view found.entry.at.bodies.now) (mention_view found.entry.at.mention)
+        (role_view found.entry.at.mention.role))) }
 {
-    match mention.role {
-        Role::Left(index, row) => {
-            left_outcome(alloc, seen, entry, bodies, mention, index, row, faults)
-        }
-        _ => mention_outcome(alloc, seen, entry, bodies, mention, faults),
+    match found.at.mention.role {
+        Role::Left(index, row) => left_outcome(alloc, found, index, row, faults),
+        _ => mention_outcome(alloc, found, faults),
     }
 }
 
@@ -261,18 +265,15 @@ fn entry_outcome<'a>(
 /// Memory was refused.
 pub fn variable_outcome<'a>(
     alloc: Global,
-    seen: &Seen<'_, 'a>,
-    bodies: &[BodyPlace<'a>],
-    mention: Mention<'a>,
+    at: At<'_, 'a>,
     faults: &mut Vec<UseFault<'a>>,
 ) -> Result<Option<Event<'a>>, AllocError>
-    requires { Sees seen.now }
-    ensures { IfOk result (λ event. Gives faults.old.items faults.new.items event
-        (variable_outcome (seen_view seen.now) (map body_view bodies.now)
-        (mention_view mention.entry))) }
+    requires { Sees at.seen.now }
+    ensures { IfOk result (λ event. Gives faults.old.items faults.new.items event (variable_outcome
+        (seen_view at.entry.seen.now) (map body_view at.entry.bodies.now) (mention_view at.entry.mention))) }
 {
-    match seen.entry(variable_of(seen.known, mention)) {
-        Some(entry) => entry_outcome(alloc, seen, entry, bodies, mention, faults),
+    match at.seen.entry(variable_of(at.seen.known, at.mention)) {
+        Some(entry) => entry_outcome(alloc, Found { at, entry }, faults),
         None => Ok(None),
     }
 }

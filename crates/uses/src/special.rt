@@ -3,7 +3,7 @@
 ghost use Rattle.std.specs.Prelude.{◌≡◌, OnOk, option_map};
 ghost use Rattle.meaning.specs.Uses.{is_cause, cause_faults, recover_faults};
 ghost use Rattle.mentions.specs.MarkViews.{named_view, mention_view};
-ghost use Rattle.rows.specs.RowViews.{known_view};
+ghost use Rattle.tracked.specs.RowViews.{known_view};
 ghost use Rattle.uses.specs.OutcomeViews.{AddsFaults};
 ghost use Rattle.meaning.specs.Tracked.{is_universe};
 ghost use Rattle.names.specs.Answers.{decl_view};
@@ -12,8 +12,8 @@ use crate::faults::{UseCode, UseFault, add_fault, add_last};
 use facts::CONTEXT;
 use mentions::{Mention, Named};
 use names::Decl;
-use rows::{Known, is_named, meaning};
 use std::alloc::AllocError;
+use tracked::{Known, is_named, meaning};
 
 fn is_cause(known: Known<'_, '_>, named: Named<'_>) -> bool
     ensures { result ≡ is_cause (known_view known.entry) (named_view named.entry) }
@@ -40,8 +40,7 @@ pub fn add_cause<'a>(
 }
 
 fn is_universe(meaning: Option<Decl<'_>>) -> bool
-    ensures { result ≡ is_universe (option_map
-        decl_view meaning.entry) }
+    ensures { result ≡ is_universe (option_map decl_view meaning.entry) }
 {
     match meaning {
         Some(Decl::Universe) => true,

@@ -1,7 +1,7 @@
 //! Whether an expression names a tracked variable.
 
 ghost use Rattle.std.specs.Prelude.{◌≡◌, ◌&&◌, IfOk, map, option_map, []};
-ghost use Rattle.locals.specs.LocalViews.{seen_view, Sees};
+ghost use Rattle.tracked.specs.LocalViews.{seen_view, Sees};
 ghost use Rattle.mentions.specs.MarkViews.{body_view, mark_view, marks_view};
 ghost use Rattle.facts.specs.FactViews.{kind_view};
 ghost use Rattle.meaning.specs.Uses.{tracked_kind, found, has_tracked, has_tracked_outside, names_tracked, names_tracked_outside, is_outside, is_free};
@@ -9,11 +9,11 @@ ghost use Rattle.tree.specs.View.{expression_syntax};
 ghost use Rattle.std.specs.List.{list_any};
 ghost use Rattle.meaning.specs.Tracked.{placed};
 
-use allowed::literal_at;
+use allowed_uses::literal_at;
 use facts::VariableKind;
-use locals::{Seen, enter, tracked_kind, variable_of};
 use mentions::{BodyPlace, Mark, expression_marks};
 use std::alloc::{AllocError, Global};
+use tracked::{Seen, enter, tracked_kind, variable_of};
 use tree::Expr;
 
 fn names_tracked(seen: &Seen<'_, '_>, mark: Mark<'_>) -> bool
@@ -39,8 +39,7 @@ pub fn tracked_as(seen: &Seen<'_, '_>, number: Option<u32>) -> Option<VariableKi
 
 fn any_tracked(seen: &Seen<'_, '_>, marks: &[Mark<'_>]) -> bool
     requires { Sees seen.now }
-    ensures { result ≡ list_any (names_tracked (seen_view seen.now))
-        (marks_view marks.now) }
+    ensures { result ≡ list_any (names_tracked (seen_view seen.now)) (marks_view marks.now) }
 {
     for mark in marks {
         if names_tracked(seen, *mark) {
@@ -81,10 +80,8 @@ fn is_outside(bodies: &[BodyPlace<'_>]) -> bool
 /// Whether one is named among the marks outside all bodies that open there.
 fn any_outside(alloc: Global, seen: &Seen<'_, '_>, marks: &[Mark<'_>]) -> Result<bool, AllocError>
     requires { Sees seen.now }
-    ensures { IfOk result (λ has. has ≡ list_any
-        (names_tracked_outside (seen_view seen.now))
-        (placed []
-        (marks_view marks.now))) }
+    ensures { IfOk result (λ has. has ≡ list_any (names_tracked_outside (seen_view seen.now))
+        (placed [] (marks_view marks.now))) }
 {
     let mut bodies: Vec<BodyPlace<'_>> = Vec::new(alloc);
     for mark in marks {

@@ -1,51 +1,39 @@
 //! Mentions of variables that bind nothing.
 
-ghost use Rattle.std.specs.Prelude.{◌≡◌, IfOk, map, option_map, ◌&&◌, []};
-ghost use Rattle.allowed.specs.UseViews.{variable_view, use_view};
+ghost use Rattle.std.specs.Prelude.{◌≡◌, IfOk, map, ◌&&◌, []};
+ghost use Rattle.allowed_uses.specs.UseViews.{use_view};
 ghost use Rattle.facts.specs.FactViews.{kind_view};
-ghost use Rattle.locals.specs.LocalViews.{local_view, seen_view, Sees};
+ghost use Rattle.tracked.specs.LocalViews.{local_view, seen_view, Sees};
 ghost use Rattle.mentions.specs.MarkViews.{body_view, call_view, role_view, mention_view};
-ghost use Rattle.rows.specs.RowViews.{known_view};
-ghost use Rattle.meaning.specs.Uses.{variable_at, allowed_if, is_own, body_gives, cancel_use, group_called, group_use, kind_use};
+ghost use Rattle.tracked.specs.RowViews.{known_view};
+ghost use Rattle.meaning.specs.Uses.{allowed_if, is_own, body_gives, cancel_use, group_called, group_use, kind_use};
 ghost use Rattle.meaning.specs.Tracked.{is_in};
 
 use crate::tracked_names::is_free;
-use allowed::{
-    Use, VariableAt, body_gives, cancel_called, cancel_passed, group_awaited, group_lent,
+use allowed_uses::{
+    LocalMention, Use, body_gives, cancel_called, cancel_passed, group_awaited, group_lent,
     group_limited, group_started, group_tried, only_argument,
 };
 use facts::VariableKind;
-use locals::{Local, Seen};
-use mentions::{BodyPlace, Call, Mention, Role, is_body};
-use rows::{Known, is_in};
+use mentions::{Call, Role, is_body};
 use std::alloc::{AllocError, Global};
-
-/// The variable, where the mention stands.
-pub fn variable_at(local: Local<'_>, mention: Mention<'_>) -> VariableAt
-    ensures { variable_view result ≡ variable_at (local_view local.entry) (mention_view mention.entry) }
-{
-    VariableAt {
-        number: local.number,
-        at: mention.named.at,
-    }
-}
+use tracked::{Known, Seen, is_in};
 
 /// An item of a return list at the position of a result of type `context.CancelFunc`, which the return hands on.
 fn cancel_returned<'a>(
     alloc: Global,
     known: Known<'_, 'a>,
-    local: Local<'a>,
-    bodies: &[BodyPlace<'a>],
+    here: LocalMention<'_, 'a>,
     item: usize,
 ) -> Result<Use<'a>, AllocError>
     ensures { IfOk result (λ allowed. use_view allowed ≡ allowed_if
-        (is_own (local_view local.entry) (map body_view bodies.now)
-        && is_in item (body_gives (known_view known.entry) (map body_view bodies.now))) []) }
+        (is_own (local_view here.entry.local) (map body_view here.entry.bodies.now)
+        && is_in item (body_gives (known_view known.entry) (map body_view here.entry.bodies.now))) []) }
 {
-    if !is_body(local.body, bodies) {
+    if !is_body(here.local.body, here.bodies) {
         return Ok(Use::NotAllowed);
     }
-    let gives = body_gives(alloc, known, bodies)?;
+    let gives = body_gives(alloc, known, here.bodies)?;
     if is_in(item, &gives) {
         Ok(Use::Silent)
     } else {
@@ -57,26 +45,23 @@ fn cancel_returned<'a>(
 fn cancel_use<'a>(
     alloc: Global,
     known: Known<'_, 'a>,
-    local: Local<'a>,
-    bodies: &[BodyPlace<'a>],
-    mention: Mention<'a>,
+    here: LocalMention<'_, 'a>,
 ) -> Result<Use<'a>, AllocError>
-    ensures { IfOk result (λ allowed. use_view allowed ≡ cancel_use
-        (known_view known.entry) (local_view local.entry) (map body_view bodies.now) (mention_view mention.entry)
-        (role_view mention.entry.role)) }
+    ensures { IfOk result (λ allowed. use_view allowed ≡ cancel_use (known_view known.entry)
+        (local_view here.entry.local) (map body_view here.entry.bodies.now) (mention_view here.entry.mention)
+        (role_view here.entry.mention.role)) }
 {
-    let selected = mention.named.selected;
-    match mention.role {
-        Role::Called(call) => Ok(cancel_called(local.number, selected, call)),
+    let local = here.local;
+    match here.mention.role {
+        Role::Called(call) => Ok(cancel_called(local.number, here.mention.named.selected, call)),
         Role::Argument(position, has_address, call) => {
-            if is_body(local.body, bodies) {
-                let variable = variable_at(local, mention);
-                Ok(cancel_passed(known, variable, selected, position, has_address, call))
+            if is_body(local.body, here.bodies) {
+                Ok(cancel_passed(known, here, position, has_address, call))
             } else {
                 Ok(Use::NotAllowed)
             }
         }
-        Role::Returned(item) => cancel_returned(alloc, known, local, bodies, item),
+        Role::Returned(item) => cancel_returned(alloc, known, here, item),
         Role::Elsewhere => Ok(Use::NotAllowed),
         Role::CalledInBrackets => Ok(Use::NotAllowed),
         _ => Ok(Use::NotAllowed),
@@ -87,33 +72,31 @@ fn cancel_use<'a>(
 fn group_called<'a>(
     alloc: Global,
     seen: &Seen<'_, 'a>,
-    local: Local<'a>,
-    bodies: &[BodyPlace<'a>],
-    selected: Option<&str>,
+    here: LocalMention<'_, 'a>,
     call: Call<'a>,
 ) -> Result<Use<'a>, AllocError>
     requires { Sees seen.now }
-    ensures { IfOk result (λ allowed. use_view allowed ≡ group_called
-        (seen_view seen.now) (local_view local.entry) (map body_view bodies.now)
-        (option_map (λ m. m.now) selected.entry) (call_view call.entry)) }
+    ensures { IfOk result (λ allowed. use_view allowed ≡ group_called (seen_view seen.now)
+        (local_view here.entry.local) (map body_view here.entry.bodies.now)
+        (mention_view here.entry.mention).named.selected (call_view call.entry)) }
 {
-    let method = match selected {
+    let method = match here.mention.named.selected {
         Some(method) => method,
         None => return Ok(Use::NotAllowed),
     };
     if method == "Go" {
-        let free = is_free(alloc, seen, only_argument(call))?;
-        return Ok(group_started(seen.known, local.number, local.body, bodies, call, free));
+        let is_free = is_free(alloc, seen, only_argument(call))?;
+        return Ok(group_started(seen.known, here, call, is_free));
     }
     if method == "TryGo" {
-        let free = is_free(alloc, seen, only_argument(call))?;
-        return Ok(group_tried(seen.known, local.number, local.body, bodies, call, free));
+        let is_free = is_free(alloc, seen, only_argument(call))?;
+        return Ok(group_tried(seen.known, here, call, is_free));
     }
     if method == "Wait" {
-        return Ok(group_awaited(local.number, local.body, bodies, call));
+        return Ok(group_awaited(here, call));
     }
     if method == "SetLimit" {
-        return Ok(group_limited(local.body, bodies, call));
+        return Ok(group_limited(here, call));
     }
     Ok(Use::NotAllowed)
 }
@@ -122,27 +105,16 @@ fn group_called<'a>(
 fn group_use<'a>(
     alloc: Global,
     seen: &Seen<'_, 'a>,
-    local: Local<'a>,
-    bodies: &[BodyPlace<'a>],
-    mention: Mention<'a>,
+    here: LocalMention<'_, 'a>,
 ) -> Result<Use<'a>, AllocError>
     requires { Sees seen.now }
-    ensures { IfOk result (λ allowed. use_view allowed ≡ group_use
-        (seen_view seen.now) (local_view local.entry) (map body_view bodies.now) (mention_view mention.entry)
-        (role_view mention.entry.role)) }
+    ensures { IfOk result (λ allowed. use_view allowed ≡ group_use (seen_view seen.now)
+        (local_view here.entry.local) (map body_view here.entry.bodies.now) (mention_view here.entry.mention)
+        (role_view here.entry.mention.role)) }
 {
-    let selected = mention.named.selected;
-    match mention.role {
-        Role::Called(call) => group_called(alloc, seen, local, bodies, selected, call),
-        Role::Argument(position, _, call) => Ok(group_lent(
-            seen.known,
-            local.number,
-            local.body,
-            bodies,
-            selected,
-            position,
-            call,
-        )),
+    match here.mention.role {
+        Role::Called(call) => group_called(alloc, seen, here, call),
+        Role::Argument(position, _, call) => Ok(group_lent(seen.known, here, position, call)),
         _ => Ok(Use::NotAllowed),
     }
 }
@@ -155,17 +127,16 @@ fn group_use<'a>(
 pub fn kind_use<'a>(
     alloc: Global,
     seen: &Seen<'_, 'a>,
-    local: Local<'a>,
+    here: LocalMention<'_, 'a>,
     kind: VariableKind,
-    bodies: &[BodyPlace<'a>],
-    mention: Mention<'a>,
 ) -> Result<Use<'a>, AllocError>
     requires { Sees seen.now }
     ensures { IfOk result (λ allowed. use_view allowed ≡ kind_use (seen_view seen.now)
-        (local_view local.entry) (kind_view kind) (map body_view bodies.now) (mention_view mention.entry)) }
+        (local_view here.entry.local) (kind_view kind) (map body_view here.entry.bodies.now)
+        (mention_view here.entry.mention)) }
 {
     match kind {
-        VariableKind::Cancel => cancel_use(alloc, seen.known, local, bodies, mention),
-        VariableKind::Group => group_use(alloc, seen, local, bodies, mention),
+        VariableKind::Cancel => cancel_use(alloc, seen.known, here),
+        VariableKind::Group => group_use(alloc, seen, here),
     }
 }

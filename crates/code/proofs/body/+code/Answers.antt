@@ -105,35 +105,37 @@ pub form-returns-in-For : goal.form-returns-in-For
 unfolding form_code
 form-returns-in-For g t c =
     rw (c.in-For.is, statement_form-For, block_statements-out, ← c.deref-in-For.ensures.value)
-    (may_end_too c.first_and_turns.result _ _ _ _ _ c.is_present.result _ c.is_present.ensures
-    (c.first_and_turns.ensures _ _ _ _ c.optional-in-For.ensures c.site-in-For.ensures c.statements-in-For.ensures
-    c.optional-in-For-2.ensures))
+    (may_end_too c.then.result _ _ _ _ _ c.is_present.result _ c.is_present.ensures
+    (c.then.ensures _ _ c.optional-in-For.ensures (c.turns.ensures _ _ c.site-in-For.ensures
+    (c.one_turn.ensures _ _ c.statements-in-For.ensures c.optional-in-For-2.ensures))))
 
 pub form-returns-in-RangeAssign : goal.form-returns-in-RangeAssign
 unfolding form_code
 form-returns-in-RangeAssign g t c =
     rw (c.in-RangeAssign.is, statement_form-RangeAssign, block_statements-out, ← c.deref-in-RangeAssign.ensures.value)
-    (c.turns.ensures _ _ skip c.site-in-RangeAssign.ensures c.statements-in-RangeAssign.ensures code_view-Skip)
+    (c.turns-in-RangeAssign.ensures _ _ c.site-in-RangeAssign.ensures
+    (c.one_turn-in-RangeAssign.ensures _ skip c.statements-in-RangeAssign.ensures code_view-Skip))
 
 pub form-returns-in-RangeDefine : goal.form-returns-in-RangeDefine
 unfolding form_code
 form-returns-in-RangeDefine g t c =
     rw (c.in-RangeDefine.is, statement_form-RangeDefine, block_statements-out, ← c.deref-in-RangeDefine.ensures.value)
-    (c.turns-in-RangeDefine.ensures _ _ skip c.site-in-RangeDefine.ensures c.statements-in-RangeDefine.ensures
-    code_view-Skip)
+    (c.turns-in-RangeDefine.ensures _ _ c.site-in-RangeDefine.ensures
+    (c.one_turn-in-RangeDefine.ensures _ skip c.statements-in-RangeDefine.ensures code_view-Skip))
 
 pub form-returns-in-Switch : goal.form-returns-in-Switch
 unfolding form_code
 form-returns-in-Switch g t c =
     rw (c.in-Switch.is, statement_form-Switch, ← c.deref-list.ensures.value)
-    (c.one_clause.ensures _ _ _ c.optional-in-Switch.ensures c.site-in-Switch.ensures c.cases.ensures)
+    (c.then-in-Switch.ensures _ _ c.optional-in-Switch.ensures
+    (c.one_clause.ensures _ _ c.site-in-Switch.ensures c.cases.ensures))
 
 pub form-returns-in-TypeSwitch : goal.form-returns-in-TypeSwitch
 unfolding form_code
 form-returns-in-TypeSwitch g t c =
     rw (c.in-TypeSwitch.is, statement_form-TypeSwitch, ← c.deref-list-in-TypeSwitch.ensures.value)
-    (c.one_clause-in-TypeSwitch.ensures _ _ _ c.optional-in-TypeSwitch.ensures c.site-in-TypeSwitch.ensures
-    c.cases-in-TypeSwitch.ensures)
+    (c.then-in-TypeSwitch.ensures _ _ c.optional-in-TypeSwitch.ensures
+    (c.one_clause-in-TypeSwitch.ensures _ _ c.site-in-TypeSwitch.ensures c.cases-in-TypeSwitch.ensures))
 
 pub form-returns-in-Select : goal.form-returns-in-Select
 unfolding form_code

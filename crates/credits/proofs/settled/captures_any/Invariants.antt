@@ -1,6 +1,6 @@
 use Rattle.std.proofs.Common.{◌≡◌, drop, map}
-use Rattle.variables.specs.VariableViews.{variable_view}
-use Rattle.credits.specs.CreditsFound.{captures_any}
+use Rattle.events.specs.VariableViews.{variable_view}
+use Rattle.credits.specs.SettledVariables.{captures_any}
 use Rattle.credits.proofs.settled.captures_any.Given as goal
 
 -- whether one that is left is captured, is whether one is

@@ -1,10 +1,10 @@
 use Rattle.std.proofs.Common.{◌≡◌, ℕ, true, map}
 use Rattle.std.specs.Prelude.{◌↔◌}
-use Rattle.package_meaning.specs.PathFaults.{Paths}
-use Rattle.variables.specs.VariableViews.{variable_view}
+use Rattle.meaning_packages.specs.PathFaults.{Paths}
+use Rattle.events.specs.VariableViews.{variable_view}
 use Rattle.credits.specs.BodyPaths.{TellsPaths}
 use Rattle.credits.specs.CreditViews.{is_among}
-use Rattle.credits.specs.CreditsFound.{SettlesBefore}
+use Rattle.credits.specs.SettledVariables.{SettlesBefore}
 use Rattle.credits.proofs.settled.settled_captured.Given as goal
 
 -- the numbers so far are those of the variables before the place

@@ -1,6 +1,6 @@
 use Rattle.std.proofs.Common.{sym, ◌∙◌}
 use Rattle.std.proofs.lemmas.Bool.{false≢true}
-use Rattle.variables.specs.VariableViews.{variable_view}
+use Rattle.events.specs.VariableViews.{variable_view}
 use Rattle.credits.proofs.SettledPlaces.{view_there, view_past, nothing_there, not_captured, not_settled, is_settled}
 use Rattle.credits.proofs.settled.settled_number.Goals as goal
 use Rattle.credits.proofs.settled.settled_number.Goals.{else-is_captured-via-then-is_captured+else-settles, else-is_captured-via-else-is_captured}

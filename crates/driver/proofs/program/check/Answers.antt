@@ -1,7 +1,9 @@
-use Rattle.std.proofs.Common.{subst}
+use Rattle.std.proofs.Common.{◌≡◌, subst}
 use Rattle.command_line.specs.Words.{texts_of}
 use Rattle.driver.specs.Faults.{IsCheckFault}
+use Rattle.folders.specs.declared.fault.Fault.TheVariants.{CannotWrite}
 use Rattle.driver.specs.Packages.{AreGiven, AreRead}
+use Rattle.driver.specs.WrittenReport.{BeginsReport}
 use Rattle.driver.proofs.ReadGiven.{handed_on, of_judging, of_reading}
 use Rattle.driver.proofs.program.check.Goals as goal
 
@@ -25,3 +27,19 @@ returns-in_err-status-clause-fault g c =
     } in
     handed_on c.from_residual-in_err-status.result fault (IsCheckFault words) c.from_residual-in_err-status.ensures.1
     (of_judging words given fault are c.in_err-status.ensures.fault)
+
+pub returns-in_err-status-clause-begun : goal.returns-in_err-status-clause-begun
+returns-in_err-status-clause-begun g c =
+    let words = texts_of c.args.words.now in
+    let given = c.in_ok-given.given.items in
+    let old = g.W.Write.contents c.args.out.now in
+    let new = g.W.Write.contents c.report.new.out in
+    let are : AreGiven words given
+    = record {
+      packages = c.in_ok-packages.packages.items;
+      are_named = c.in_ok-packages.ensures.named;
+      are_read = subst (λ packages. AreRead packages given) c.deref.ensures.value c.in_ok-given.ensures.read;
+    } in
+    handed_on c.from_residual-in_err-status.result c.in_err-status.field-0.0 (λ f. f ≡ CannotWrite → BeginsReport words old new)
+    c.from_residual-in_err-status.ensures.1
+    (λ e. record { given = given; are_given = are; told = c.in_err-status.ensures.begun e })

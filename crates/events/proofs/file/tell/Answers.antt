@@ -1,5 +1,5 @@
 use Rattle.std.proofs.Common.{[], map, ap}
-use Rattle.locals.specs.LocalViews.{seen_view}
+use Rattle.tracked.specs.LocalViews.{seen_view}
 use Rattle.meaning.specs.Tracked.{placed}
 use Rattle.mentions.specs.MarkViews.{body_view, marks_view}
 use Rattle.events.proofs.MarksTold.{tells_next, tells_last}
@@ -17,3 +17,4 @@ returns c =
     tells_last (seen_view c.args.seen.now) c.deref-mark-items.result.now c.loop-mark.mark-index c.loop-mark-test.false
     (map body_view c.loop-mark.bodies.items) (placed [] (marks_view c.deref-mark-items.result.now))
     (ap (λ ms. placed [] (marks_view ms)) c.deref-mark-items.ensures.value) c.loop-mark.told c.loop-mark.invariant
+    c.order_by_place.new.bodies c.in_ok-order_by_place.ensures

@@ -1,5 +1,5 @@
 use Rattle.std.proofs.Common.{[], drop, map}
-use Rattle.locals.specs.LocalViews.{seen_view}
+use Rattle.tracked.specs.LocalViews.{seen_view}
 use Rattle.meaning.specs.Tracked.{placed}
 use Rattle.mentions.specs.MarkViews.{body_view, marks_view}
 use Rattle.events.proofs.MarksTold.{TellsSoFar}

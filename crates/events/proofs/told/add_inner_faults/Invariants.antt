@@ -1,6 +1,6 @@
 use Rattle.std.proofs.Common.{◌≡◌, ℕ, ◌++◌, drop, map, nat_eq}
 use Rattle.uses.specs.OutcomeViews.{fault_view}
-use Rattle.events.specs.EventViews.{faults_at, if_there}
+use Rattle.events.specs.ToldViews.{faults_at, if_there}
 use Rattle.events.proofs.told.add_inner_faults.Given as goal
 
 -- what was added, with what is left, is the whole

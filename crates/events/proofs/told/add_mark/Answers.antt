@@ -1,11 +1,11 @@
 use Rattle.std.proofs.Common.{◌≡◌, ◌&&◌, ◌++◌, map, ap, ◌∙◌}
 use Rattle.facts.proofs.FactParts.{on_ok}
-use Rattle.locals.specs.LocalViews.{seen_view}
+use Rattle.tracked.specs.LocalViews.{seen_view}
 use Rattle.mentions.specs.MarkViews.{body_view, mark_view}
-use Rattle.meaning.specs.BodyEvents.{mark_faults, mark_events, is_site}
+use Rattle.meaning.specs.BodyEvents.{mark_faults, is_site}
 use Rattle.meaning.specs.Uses.{is_body, is_outside}
 use Rattle.uses.specs.OutcomeViews.{fault_view}
-use Rattle.events.specs.EventViews.{faults_at, events_in, if_there, AddsMark}
+use Rattle.events.specs.ToldViews.{faults_at, events_in, if_there}
 use Rattle.events.proofs.told.add_mark.Goals as goal
 
 pub returns : goal.returns

@@ -1,8 +1,6 @@
 use Rattle.std.proofs.Common.{nat_eq}
-use Rattle.std.specs.Prelude.{◌==◌}
-use Rattle.events.specs.EventViews.{has_panic}
 use Rattle.lists.specs.ListViews.{items_at}
-use Rattle.events.proofs.Grown.{site_there, site_missing}
+use Rattle.events.proofs.Grown.{site_there}
 use Rattle.events.proofs.told.add_site.Goals as goal
 
 pub returns-in_ok-add : goal.returns-in_ok-add

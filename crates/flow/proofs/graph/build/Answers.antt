@@ -5,8 +5,8 @@ use Rattle.flow.proofs.graph.build.Goals as goal
 
 pub returns-clause-graph : goal.returns-clause-graph
 returns-clause-graph g c =
-    whole_graph (code_view c.args.code.now) _ _ _ c.link.new.nodes c.in_ok-starts.starts c.new.ensures.items
-    c.new-nodes.ensures.items
+    whole_graph (code_view c.args.code.now) _ _ _ c.link.new.graph.nodes c.in_ok-starts.starts c.new-2.ensures.items
+    c.new.ensures.items
     (all_taken (turn_sizes (code_view c.args.code.now)) c.new-counted.result.items c.count.new.sizes.items _ _
     c.new-counted.ensures.items c.in_ok-count.ensures.are_turns c.deref.ensures.value c.in_ok-starts.ensures)
 

@@ -11,28 +11,28 @@ use Rattle.flow.proofs.link.+link.Goals as goal
 pub link-returns-in-Skip : goal.link-returns-in-Skip
 link-returns-in-Skip g t c =
     rw (c.in-Skip.is, code_view-Skip)
-    (if_ok c.copied.result (λ v h. takes_none _ (adds_none _ _ c.args.exits.now c.args.nodes.now v refl refl h)) c.copied.ensures)
+    (if_ok c.copied.result (λ v h. takes_none _ (adds_none _ _ c.args.graph.now.exits c.args.graph.now.nodes v refl refl h)) c.copied.ensures)
 
 pub link-returns-in-Does : goal.link-returns-in-Does
 link-returns-in-Does g t c =
     rw (c.in-Does.is, code_view-Does)
-    (if_ok c.add.result (λ v h. takes_none _ (adds_one _ _ c.args.exits.now c.args.nodes.now c.add.new.nodes v h)) c.add.ensures)
+    (if_ok c.add.result (λ v h. takes_none _ (adds_one _ _ c.args.graph.now.exits c.args.graph.now.nodes c.add.new.nodes v h)) c.add.ensures)
 
 pub link-returns-in-Leave : goal.link-returns-in-Leave
 link-returns-in-Leave g t c =
     rw (c.in-Leave.is, code_view-Leave)
     (if_ok c.copied-in-Leave.result
-    (λ v h. takes_none _ (adds_none _ _ c.args.exits.now c.args.nodes.now v refl refl (h ∙ c.at.ensures))) c.copied-in-Leave.ensures)
+    (λ v h. takes_none _ (adds_none _ _ c.args.graph.now.exits c.args.graph.now.nodes v refl refl (h ∙ c.at.ensures))) c.copied-in-Leave.ensures)
 
 pub link-returns-in_ok-later-in-Then : goal.link-returns-in_ok-later-in-Then
 link-returns-in_ok-later-in-Then g t c =
     rw (c.in-Then.is, code_view-Then, ← c.deref.ensures, ← c.deref-in-Then.ensures)
     (if_ok c.link-in-Then.result
-    (λ v h. takes_both _ _ _ c.link.new.sizes.left.now c.link-in-Then.new.sizes.left.now
-    (λ of_b of_a. adds_then _ _ _ c.args.exits.now c.link.new.exits c.link-in-Then.new.exits c.args.nodes.now
-    c.link.new.nodes c.link-in-Then.new.nodes c.in_ok-later-in-Then.later v of_b
-    (subst (λ z. Adds (code_view c.deref-in-Then.result.now) z c.link.new.exits c.link-in-Then.new.exits
-    c.link.new.nodes c.link-in-Then.new.nodes v) c.deref-in-Then-2.ensures.value of_a))
+    (λ v h. takes_both _ _ _ c.link.new.graph.sizes.left.now c.link-in-Then.new.graph.sizes.left.now
+    (λ of_b of_a. adds_then _ _ _ c.args.graph.now.exits c.link.new.graph.exits c.link-in-Then.new.graph.exits c.args.graph.now.nodes
+    c.link.new.graph.nodes c.link-in-Then.new.graph.nodes c.in_ok-later-in-Then.later v of_b
+    (subst (λ z. Adds (code_view c.deref-in-Then.result.now) z c.link.new.graph.exits c.link-in-Then.new.graph.exits
+    c.link.new.graph.nodes c.link-in-Then.new.graph.nodes v) c.deref-in-Then-2.ensures.value of_a))
     c.in_ok-later-in-Then.ensures h)
     c.link-in-Then.ensures)
 
@@ -47,19 +47,19 @@ link-returns-in-Choice g t c =
 pub link-returns-in_ok-link-in-Repeats : goal.link-returns-in_ok-link-in-Repeats
 link-returns-in_ok-link-in-Repeats g t c =
     rw (c.in-Repeats.is, code_view-Repeats, ← c.deref-in-Repeats.ensures)
-    (takes_turn _ _ c.args.exits.now c.firsts_of_turn.new.exits c.link-in-Repeats.new.exits c.args.nodes.now
-    c.link-in-Repeats.new.nodes c.in_ok-first-in-Repeats.first c.in_ok-link-in-Repeats.field-0
-    c.args.sizes.now.left.now c.firsts_of_turn.new.sizes.left.now c.link-in-Repeats.new.sizes.left.now
-    (subst (λ z. FirstsOfTurn z (code_view c.deref-in-Repeats.result.now) c.args.exits.now
-    c.firsts_of_turn.new.exits c.args.sizes.now.left.now c.firsts_of_turn.new.sizes.left.now
-    c.in_ok-first-in-Repeats.first) (c.len.ensures ∙ c.args.nodes.now.ok.0) c.in_ok-first-in-Repeats.ensures)
+    (takes_turn _ _ c.args.graph.now.exits c.firsts_of_turn.new.exits c.link-in-Repeats.new.graph.exits c.args.graph.now.nodes
+    c.link-in-Repeats.new.graph.nodes c.in_ok-first-in-Repeats.first c.in_ok-link-in-Repeats.field-0
+    c.args.graph.now.sizes.left.now c.firsts_of_turn.new.sizes.left.now c.link-in-Repeats.new.graph.sizes.left.now
+    (subst (λ z. FirstsOfTurn z (code_view c.deref-in-Repeats.result.now) c.args.graph.now.exits
+    c.firsts_of_turn.new.exits c.args.graph.now.sizes.left.now c.firsts_of_turn.new.sizes.left.now
+    c.in_ok-first-in-Repeats.first) (c.len.ensures ∙ c.args.graph.now.nodes.ok.0) c.in_ok-first-in-Repeats.ensures)
     (subst (λ z. Takes (turn_sizes (code_view c.deref-in-Repeats.result.now)) c.firsts_of_turn.new.sizes.left.now
-    c.link-in-Repeats.new.sizes.left.now (Adds (code_view c.deref-in-Repeats.result.now) z
-    c.firsts_of_turn.new.exits c.link-in-Repeats.new.exits c.args.nodes.now c.link-in-Repeats.new.nodes
+    c.link-in-Repeats.new.graph.sizes.left.now (Adds (code_view c.deref-in-Repeats.result.now) z
+    c.firsts_of_turn.new.exits c.link-in-Repeats.new.graph.exits c.args.graph.now.nodes c.link-in-Repeats.new.graph.nodes
     c.in_ok-link-in-Repeats.field-0)) c.deref-in-Repeats-3.ensures.value
     (subst (λ z. Takes (turn_sizes (code_view z)) c.firsts_of_turn.new.sizes.left.now
-    c.link-in-Repeats.new.sizes.left.now (Adds (code_view z) c.deref-in-Repeats-3.result.now
-    c.firsts_of_turn.new.exits c.link-in-Repeats.new.exits c.args.nodes.now c.link-in-Repeats.new.nodes
+    c.link-in-Repeats.new.graph.sizes.left.now (Adds (code_view z) c.deref-in-Repeats-3.result.now
+    c.firsts_of_turn.new.exits c.link-in-Repeats.new.graph.exits c.args.graph.now.nodes c.link-in-Repeats.new.graph.nodes
     c.in_ok-link-in-Repeats.field-0))
     (c.deref-in-Repeats-2.ensures ∙ sym c.deref-in-Repeats.ensures) c.in_ok-link-in-Repeats.ensures)))
 
@@ -67,8 +67,8 @@ pub link-returns-in_ok-first-in-UpTo : goal.link-returns-in_ok-first-in-UpTo
 link-returns-in_ok-first-in-UpTo g t c =
     rw (c.in-UpTo.is, code_view-UpTo, ← c.deref-in-UpTo.ensures)
     (takes_on _ _ _
-    (λ of_a. adds_inside _ _ _ c.args.exits.now c.enter.new.self c.link-in-UpTo.new.exits c.leave.new.self
-    c.args.nodes.now c.link-in-UpTo.new.nodes _ c.in_ok-enter-in-UpTo.ensures of_a c.leave.ensures)
+    (λ of_a. adds_inside _ _ _ c.args.graph.now.exits c.enter.new.self c.link-in-UpTo.new.graph.exits c.leave.new.self
+    c.args.graph.now.nodes c.link-in-UpTo.new.graph.nodes _ c.in_ok-enter-in-UpTo.ensures of_a c.leave.ensures)
     c.in_ok-first-in-UpTo.ensures)
 
 pub link_choice-loop-code-init : goal.link_choice-loop-code-init
@@ -76,10 +76,10 @@ link_choice-loop-code-init g t c = taken_so_far-none _ _ (ways_added-none _ _ _ 
 
 pub link_choice-loop-code-preserved : goal.link_choice-loop-code-preserved
 link_choice-loop-code-preserved g t c =
-    taken_so_far-next _ c.args.codes.now c.loop-code.code-index c.code-item.result _ c.loop-code.sizes.left.now
-    c.link.new.sizes.left.now c.loop-code-test.true c.code-item.is
-    (λ so_far of_c. ways_added-next c.args.codes.now c.loop-code.code-index c.code-item.result _ _ c.args.exits.now
-    c.loop-code.exits c.link.new.exits c.args.nodes.now c.loop-code.nodes c.link.new.nodes c.loop-code.first
+    taken_so_far-next _ c.args.codes.now c.loop-code.code-index c.code-item.result _ c.loop-code.graph.sizes.left.now
+    c.link.new.graph.sizes.left.now c.loop-code-test.true c.code-item.is
+    (λ so_far of_c. ways_added-next c.args.codes.now c.loop-code.code-index c.code-item.result _ _ c.args.graph.now.exits
+    c.loop-code.graph.exits c.link.new.graph.exits c.args.graph.now.nodes c.loop-code.graph.nodes c.link.new.graph.nodes c.loop-code.first
     c.in_ok-own.own c.in_ok-first.first c.loop-code-test.true c.code-item.is so_far of_c
     (c.in_ok-first.ensures ∙ ap (λ z. c.in_ok-own.own.items ++ z) c.deref.ensures.value))
     c.loop-code.invariant c.in_ok-own.ensures
@@ -95,13 +95,13 @@ link_sequence-loop-code-init g t c = taken_so_far-none _ _ (added_so_far-none _ 
 
 pub link_sequence-loop-code-preserved : goal.link_sequence-loop-code-preserved
 link_sequence-loop-code-preserved g t c =
-    taken_so_far-next _ c.args.codes.now c.loop-code.code-index c.code-item.result _ c.loop-code.sizes.left.now
-    c.link.new.sizes.left.now c.loop-code-test.true c.code-item.is
-    (λ so_far of_c. added_so_far-next c.args.codes.now c.loop-code.code-index c.code-item.result _ _ c.args.exits.now
-    c.loop-code.exits c.link.new.exits c.args.nodes.now c.loop-code.nodes c.link.new.nodes c.loop-code.first
+    taken_so_far-next _ c.args.codes.now c.loop-code.code-index c.code-item.result _ c.loop-code.graph.sizes.left.now
+    c.link.new.graph.sizes.left.now c.loop-code-test.true c.code-item.is
+    (λ so_far of_c. added_so_far-next c.args.codes.now c.loop-code.code-index c.code-item.result _ _ c.args.graph.now.exits
+    c.loop-code.graph.exits c.link.new.graph.exits c.args.graph.now.nodes c.loop-code.graph.nodes c.link.new.graph.nodes c.loop-code.first
     c.in_ok-first-2.first c.loop-code-test.true c.code-item.is so_far
-    (subst (λ z. Adds (code_view c.code-item.result) z c.loop-code.exits c.link.new.exits c.loop-code.nodes
-    c.link.new.nodes c.in_ok-first-2.first) c.deref.ensures.value of_c))
+    (subst (λ z. Adds (code_view c.code-item.result) z c.loop-code.graph.exits c.link.new.graph.exits c.loop-code.graph.nodes
+    c.link.new.graph.nodes c.in_ok-first-2.first) c.deref.ensures.value of_c))
     c.loop-code.invariant c.in_ok-first-2.ensures
 
 pub link_sequence-returns : goal.link_sequence-returns

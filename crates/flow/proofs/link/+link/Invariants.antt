@@ -6,14 +6,14 @@ use Rattle.flow.proofs.link.+link.Given as goal
 
 abbrev pub invariant-link_choice-loop-code : goal.invariant-link_choice-loop-code
 invariant-link_choice-loop-code g l =
-    TakenSoFar (map code_view l.codes) (map code_view (drop l.code-index l.codes)) l.initial.sizes.left.now
-    l.sizes.left.now
-    (WaysAdded (map code_view (drop l.code-index l.codes)) (one_of (map code_view l.codes) None) l.next l.initial.exits
-    l.exits l.initial.nodes l.nodes l.first)
+    TakenSoFar (map code_view l.codes) (map code_view (drop l.code-index l.codes)) l.initial.graph.sizes.left.now
+    l.graph.sizes.left.now
+    (WaysAdded (map code_view (drop l.code-index l.codes)) (one_of (map code_view l.codes) None) l.next l.initial.graph.exits
+    l.graph.exits l.initial.graph.nodes l.graph.nodes l.first)
 
 abbrev pub invariant-link_sequence-loop-code : goal.invariant-link_sequence-loop-code
 invariant-link_sequence-loop-code g l =
-    TakenSoFar (map code_view l.codes) (map code_view (drop l.code-index l.codes)) l.initial.sizes.left.now
-    l.sizes.left.now
+    TakenSoFar (map code_view l.codes) (map code_view (drop l.code-index l.codes)) l.initial.graph.sizes.left.now
+    l.graph.sizes.left.now
     (AddedSoFar (map code_view (drop l.code-index l.codes)) (backward (map code_view l.codes) skip) l.next
-    l.initial.exits l.exits l.initial.nodes l.nodes l.first)
+    l.initial.graph.exits l.graph.exits l.initial.graph.nodes l.graph.nodes l.first)

@@ -1,5 +1,5 @@
 use Rattle.std.proofs.Common.{IfOk, subst}
-use Rattle.board.specs.Reports.{TellsReport}
+use Rattle.all_packages.specs.Reports.{TellsReport}
 use Rattle.judge.proofs.reports.report_loaded.Goals as goal
 
 pub returns : goal.returns

@@ -2,9 +2,10 @@ use Rattle.std.proofs.Common.{◌≡◌, ◌+◌, ◌≤◌, length, map, subst,
 use Rattle.std.proofs.lemmas.List.{length-map}
 use Rattle.maker.proofs.Answered.{FindsFirst, classified}
 use Rattle.maker.proofs.solution.solve.Goals as goal
+use Rattle.maker.specs.Flags.{group_numbers}
 use Rattle.states.proofs.ClassNumbers.{cancel_inverse, group_inverse}
 use Rattle.states.specs.Bits.{most}
-use Rattle.variables.specs.VariableViews.{variable_view}
+use Rattle.events.specs.VariableViews.{variable_view}
 
 pub returns : goal.returns
 returns g c =
@@ -21,7 +22,7 @@ returns g c =
       c.loop-variable-test.false,
     ) in
     λ code is_graph.
-    classified promises groups c.args.graph.now code is_graph c.in_ok-groups.ensures fits
+    classified promises groups c.args.graph.now code is_graph (group_numbers views) c.in_ok-groups.ensures fits
     (cancel_inverse groups) group_inverse views c.loop-variable.reached.items
     (subst (λ k. FindsFirst promises groups c.args.graph.now views c.loop-variable.reached.items k) all
     c.loop-variable.invariant)

@@ -1,5 +1,5 @@
 use Rattle.std.proofs.Common.{map}
-use Rattle.variables.specs.VariableViews.{variable_view}
+use Rattle.events.specs.VariableViews.{variable_view}
 use Rattle.maker.proofs.Answered.{FindsFirst}
 use Rattle.maker.proofs.solution.solve.Given as goal
 

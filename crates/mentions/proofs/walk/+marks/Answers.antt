@@ -4,11 +4,11 @@ use Rattle.tree.specs.declared.span.Identifier.{Identifier}
 use Rattle.tree.specs.View.{identifier_syntax, expression_syntax, expressions_syntax, parameters_syntax, fields_syntax, statements_syntax, cases_syntax, communications_syntax, specs_syntax}
 use Rattle.tree.proofs.Depths.{drop_item, drop_past}
 use Rattle.tree.proofs.Views.{expression_form-Name, expression_form-BasicLit, expression_form-FuncLit, expression_form-CompositeLit, expression_form-LiteralValue, expression_form-KeyValue, expression_form-Paren, expression_form-Selector, expression_form-Index, expression_form-Slice, expression_form-TypeAssert, expression_form-Call, expression_form-Star, expression_form-Unary, expression_form-Binary, expression_form-ArrayType, expression_form-EllipsisArrayType, expression_form-SliceType, expression_form-MapType, expression_form-ChanType, expression_form-FuncType, expression_form-StructType, expression_form-InterfaceType, statement_form-Empty, statement_form-Decl, statement_form-Labeled, statement_form-Expr, statement_form-Send, statement_form-Increment, statement_form-Decrement, statement_form-Assign, statement_form-AssignOp, statement_form-Define, statement_form-Go, statement_form-Defer, statement_form-Return, statement_form-Break, statement_form-Continue, statement_form-Block, statement_form-If, statement_form-For, statement_form-RangeAssign, statement_form-RangeDefine, statement_form-Switch, statement_form-TypeSwitch, statement_form-Select, block_statements-out, parameter_and-Named, parameter_and-Unnamed, parameter_and-NameAlone, field_and-Named, field_and-Embedded, field_and-Method, spec_and-Value, spec_and-Type}
-use Rattle.mentions.specs.MarkViews.{named_view, place_view, call_view, row_view, spot_view, standing_view, use_view}
+use Rattle.mentions.specs.MarkViews.{named_view, place_view, call_view, role_view, row_view, spot_view, standing_view, use_view}
 use Rattle.meaning.specs.Mentions.{bare, addressed, as_bare, as_statement, argument, argument_at, argument_or, argument_use, callee_use, deferral, deferred, left, named_or, names_type, place_in, return_item, as_named, select_from, call_of, mention, elsewhere, part_of, whole, expression_marks, form_marks, expressions_marks, optional_marks, arguments_marks, items_marks, lefts_marks, names_type_marks, signature_marks, parameters_marks, fields_marks, statement_marks, statement_form_marks, statements_marks, optional_statement_marks, cases_marks, communications_marks, specs_marks}
 use Rattle.mentions.proofs.Adding.{adds_nothing, adds_same, adds_pushed, adds_next, adds_all, then_adds, same_adds, three_adds, four_adds, alone_adds, then_alone_adds}
 use Rattle.mentions.proofs.WalkLists.{adds_case, adds_communication, adds_body, parameters_more, fields_more, specs_more, cases_more, communications_more, literal_marks, guard_same}
-use Rattle.mentions.proofs.WalkSteps.{at_spot, all_at_spot, adds_at_spot, named_adds, call_adds, assignment_adds, definition_adds, spec_adds, return_adds, no_operator, operator_argument, argument_first, item_first, left_first, used_at, alone_adds_argument}
+use Rattle.mentions.proofs.WalkSteps.{at_spot, all_at_spot, adds_at_spot, named_at_spot, named_adds, call_adds, assignment_adds, definition_adds, spec_adds, return_adds, no_operator, operator_argument, argument_first, item_first, left_first, used_at, alone_adds_argument}
 use Rattle.mentions.proofs.walk.+marks.Goals as goal
 
 pub expression_form-returns-in-Name : goal.expression_form-returns-in-Name
@@ -342,12 +342,18 @@ pub part-returns : goal.part-returns
 part-returns t c =
     rw (← c.part_of.ensures) c.expression.ensures
 
-pub named_or-returns-in-Some : goal.named_or-returns-in-Some
-named_or-returns-in-Some t c =
+pub named_or-returns : goal.named_or-returns
+named_or-returns t c =
+    named_at_spot c.named_at.result c.args.marks.now.items c.named_at.new.marks.items (option_map named_view c.args.named)
+    (role_view c.args.role) (spot_view c.part_of.result) (part_of c.args.site) (expression_syntax c.args.other.now)
+    c.part_of.ensures c.named_at.ensures
+
+pub named_at-returns-in-Some : goal.named_at-returns-in-Some
+named_at-returns-in-Some t c =
     rw c.in-Some.is c.mention.ensures
 
-pub named_or-returns-in-None : goal.named_or-returns-in-None
-named_or-returns-in-None t c =
+pub named_at-returns-in-None : goal.named_at-returns-in-None
+named_at-returns-in-None t c =
     rw c.in-None.is c.expression.ensures
 
 pub function_literal-returns-in_ok-push-in-DeferredCall : goal.function_literal-returns-in_ok-push-in-DeferredCall
@@ -387,7 +393,7 @@ callee_or-returns-in-Some t c =
 
 pub callee_or-returns-in-None : goal.callee_or-returns-in-None
 callee_or-returns-in-None t c =
-    rw c.in-None.is (named_adds _ _ _ _ _ _ _ _ _ c.as_bracketed.ensures refl c.named_or.ensures)
+    rw c.in-None.is (named_adds _ _ _ _ _ _ _ _ _ c.as_bracketed-named.ensures refl c.named_at.ensures)
 
 pub optional-returns-in-Some : goal.optional-returns-in-Some
 unfolding optional_marks
@@ -631,21 +637,21 @@ argument-returns-in-None t c =
 
 pub argument_of-returns-in-Unary : goal.argument_of-returns-in-Unary
 argument_of-returns-in-Unary t c =
-    let marks = expression_marks (used_at (use_view c.args.spot.literal) c.args.spot.site) (expression_syntax c.args.argument.now) in
-    same_adds c.named_or.result c.args.marks.now.items c.named_or.new.marks.items
+    let marks = expression_marks (spot_view c.args.spot) (expression_syntax c.args.argument.now) in
+    same_adds c.named_at.result c.args.marks.now.items c.named_at.new.marks.items
     (named_or (option_map named_view c.addressed.result) c.args.spot.site (argument c.args.index true (call_view c.args.call)) marks)
     (argument_or (call_view c.args.call) c.args.spot.site c.args.index (expression_syntax c.args.argument.now) marks)
     (operator_argument c.args.argument.now.kind c.in-Unary.operator c.in-Unary.operand c.args.argument.now.span (call_view c.args.call)
     c.args.spot.site c.args.index (option_map named_view c.addressed.result) marks c.in-Unary.is
     (c.addressed.ensures ∙ ap (λ (e : Expr). addressed c.in-Unary.operator (expression_syntax e)) c.deref.ensures))
-    c.named_or.ensures
+    c.named_at.ensures
 
 pub argument_of-returns-in_default : goal.argument_of-returns-in_default
 argument_of-returns-in_default t c =
-    let marks = expression_marks (used_at (use_view c.args.spot.literal) c.args.spot.site) (expression_syntax c.args.argument.now) in
-    same_adds c.named_or-in_default.result c.args.marks.now.items c.named_or-in_default.new.marks.items
+    let marks = expression_marks (spot_view c.args.spot) (expression_syntax c.args.argument.now) in
+    same_adds c.named_at-in_default.result c.args.marks.now.items c.named_at-in_default.new.marks.items
     (named_or (option_map named_view c.as_named.result) c.args.spot.site (argument c.args.index false (call_view c.args.call)) marks)
     (argument_or (call_view c.args.call) c.args.spot.site c.args.index (expression_syntax c.args.argument.now) marks)
     (ap (λ n. named_or n c.args.spot.site (argument c.args.index false (call_view c.args.call)) marks) c.as_named.ensures
     ∙ no_operator c.args.argument.now.kind c.args.argument.now.span (call_view c.args.call) c.args.spot.site c.args.index marks c.in_default.not-Unary)
-    c.named_or-in_default.ensures
+    c.named_at-in_default.ensures

@@ -1,9 +1,9 @@
 use Rattle.std.proofs.Common.{◌≡◌, ◌&&◌, ℕ, Bool, drop, map}
-use Rattle.body_graphs.specs.NodeEvents.{node_event_view, changed}
+use Rattle.bodies.specs.NodeEvents.{node_event_view, changed}
 use Rattle.flow.specs.GraphViews.{occurrences_of}
 use Rattle.meaning.specs.Code.{Occurrence}
 use Rattle.meaning.specs.Uses.{Event}
-use Rattle.variables.specs.VariableViews.{variable_view}
+use Rattle.events.specs.VariableViews.{variable_view}
 use Rattle.path_faults.specs.FoundFaults.{any_from, is_return, is_uncalled}
 use Rattle.path_faults.specs.LiveViews.{has_live}
 use Rattle.path_faults.proofs.answers.breaks_call.Given as goal

@@ -1,5 +1,5 @@
 use Rattle.std.proofs.Common.{◌≡◌, ◌&&◌, ℕ, Bool, drop, map}
-use Rattle.body_graphs.specs.NodeEvents.{node_event_view, changed}
+use Rattle.bodies.specs.NodeEvents.{node_event_view, changed}
 use Rattle.facts.specs.FactViews.{kind_view}
 use Rattle.flow.specs.GraphViews.{occurrences_of}
 use Rattle.meaning.specs.Code.{Occurrence}

@@ -1,6 +1,6 @@
 use Rattle.std.proofs.Common.{map, ap}
-use Rattle.body_graphs.specs.NodeEvents.{events_graph}
-use Rattle.variables.specs.VariableViews.{variable_view}
+use Rattle.bodies.specs.NodeEvents.{events_graph}
+use Rattle.events.specs.VariableViews.{variable_view}
 use Rattle.path_faults.specs.LiveViews.{has_live}
 use Rattle.path_faults.proofs.Kept.{keeps_are}
 use Rattle.path_faults.proofs.answers.keeps_call.Goals as goal

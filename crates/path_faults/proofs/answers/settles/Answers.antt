@@ -1,7 +1,7 @@
 use Rattle.std.proofs.Common.{map, ap}
-use Rattle.body_graphs.specs.NodeEvents.{events_graph}
+use Rattle.bodies.specs.NodeEvents.{events_graph}
 use Rattle.facts.specs.FactViews.{kind_view}
-use Rattle.variables.specs.VariableViews.{variable_view}
+use Rattle.events.specs.VariableViews.{variable_view}
 use Rattle.path_faults.proofs.Kept.{settles_are}
 use Rattle.path_faults.proofs.VariableAtPlace.{kind_there, none_there}
 use Rattle.path_faults.proofs.answers.settles.Goals as goal

@@ -1,6 +1,6 @@
 use Rattle.std.proofs.Common.{◌≡◌, drop, map}
-use Rattle.allowed.specs.UseViews.{handed_view}
-use Rattle.package_meaning.specs.PathFaults.{is_handed}
+use Rattle.tracked.specs.EventViews.{handed_view}
+use Rattle.meaning_packages.specs.PathFaults.{is_handed}
 use Rattle.path_faults.proofs.kinds.is_handed.Given as goal
 
 -- the test of those that are left is that of all

@@ -1,6 +1,6 @@
 use Rattle.std.proofs.Common.{◌≡◌, drop, map}
-use Rattle.package_meaning.specs.PathFaults.{makes_it}
-use Rattle.variables.specs.VariableViews.{variable_view}
+use Rattle.meaning_packages.specs.PathFaults.{makes_it}
+use Rattle.events.specs.VariableViews.{variable_view}
 use Rattle.path_faults.proofs.kinds.makes_it.Given as goal
 
 -- the test of those that are left is that of all

@@ -1,7 +1,7 @@
 use Rattle.std.proofs.Common.{◌≡◌, ◌||◌, ℕ, drop, map}
-use Rattle.body_graphs.specs.NodeEvents.{node_event_view, changed}
+use Rattle.bodies.specs.NodeEvents.{node_event_view, changed}
 use Rattle.flow.specs.GraphViews.{occurrences_of}
-use Rattle.variables.specs.VariableViews.{variable_view}
+use Rattle.events.specs.VariableViews.{variable_view}
 use Rattle.path_faults.specs.FoundFaults.{any_from, is_live_at, is_live_there}
 use Rattle.path_faults.specs.LiveViews.{has_live}
 use Rattle.path_faults.proofs.live.live_groups.Given as goal

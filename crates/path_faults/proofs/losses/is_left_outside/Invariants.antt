@@ -1,5 +1,5 @@
 use Rattle.std.proofs.Common.{◌≡◌, drop, map}
-use Rattle.variables.specs.VariableViews.{variable_view}
+use Rattle.events.specs.VariableViews.{variable_view}
 use Rattle.path_faults.specs.FoundFaults.{is_left_outside}
 use Rattle.path_faults.proofs.losses.is_left_outside.Given as goal
 

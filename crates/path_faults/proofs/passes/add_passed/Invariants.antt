@@ -1,6 +1,6 @@
 use Rattle.std.proofs.Common.{◌≡◌, ◌++◌, drop, map}
-use Rattle.package_meaning.specs.PathFaults.{passed_on}
-use Rattle.variables.specs.VariableViews.{variable_view}
+use Rattle.meaning_packages.specs.PathFaults.{passed_on}
+use Rattle.events.specs.VariableViews.{variable_view}
 use Rattle.path_faults.specs.FaultViews.{fault_view}
 use Rattle.path_faults.specs.FoundFaults.{each_from, fault_of, is_passed}
 use Rattle.path_faults.proofs.passes.add_passed.Given as goal

@@ -1,8 +1,8 @@
 use Rattle.std.proofs.Common.{map, ap, sym, ◌∙◌}
 use Rattle.std.proofs.lemmas.List.{at_drop_all}
 use Rattle.events.proofs.Grown.{grown}
-use Rattle.events.specs.EventViews.{events_of_site}
-use Rattle.variables.specs.VariableViews.{variable_view}
+use Rattle.events.specs.ToldViews.{events_of_site}
+use Rattle.events.specs.VariableViews.{variable_view}
 use Rattle.path_faults.specs.FaultViews.{fault_view}
 use Rattle.path_faults.specs.FoundFaults.{found_pass_faults}
 use Rattle.path_faults.proofs.Passed.{views, passes_are}

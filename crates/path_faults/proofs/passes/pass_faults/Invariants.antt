@@ -1,5 +1,5 @@
 use Rattle.std.proofs.Common.{◌≡◌, ◌++◌, drop, map}
-use Rattle.variables.specs.VariableViews.{variable_view}
+use Rattle.events.specs.VariableViews.{variable_view}
 use Rattle.path_faults.specs.FaultViews.{fault_view}
 use Rattle.path_faults.specs.FoundFaults.{found_pass_faults}
 use Rattle.path_faults.proofs.Passed.{views}

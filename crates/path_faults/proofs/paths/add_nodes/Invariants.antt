@@ -1,10 +1,10 @@
 use Rattle.std.proofs.Common.{◌≡◌, ◌++◌, ℕ, List, drop, map}
-use Rattle.body_graphs.specs.NodeEvents.{node_event_view, changed}
+use Rattle.bodies.specs.NodeEvents.{node_event_view, changed}
 use Rattle.flow.specs.GraphViews.{occurrences_of}
 use Rattle.meaning.specs.Code.{Occurrence}
 use Rattle.meaning.specs.Uses.{Event}
-use Rattle.package_meaning.specs.PathFaults.{PathFault}
-use Rattle.variables.specs.VariableViews.{variable_view}
+use Rattle.meaning_packages.specs.PathFaults.{PathFault}
+use Rattle.events.specs.VariableViews.{variable_view}
 use Rattle.path_faults.specs.FaultViews.{fault_view}
 use Rattle.path_faults.specs.FoundFaults.{each_from, event_faults}
 use Rattle.path_faults.specs.LiveViews.{has_live}

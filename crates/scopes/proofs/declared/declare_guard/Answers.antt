@@ -1,12 +1,21 @@
-use Rattle.std.proofs.Common.{ℕ, List, Some, ap}
-use Rattle.meaning.specs.Scopes.{guard_declared}
+use Rattle.std.proofs.Common.{false}
+use Rattle.meaning.specs.Scopes.{declared}
+use Rattle.tree.specs.declared.operator.DeclKeyword.TheVariants.{Var}
 use Rattle.scopes.proofs.Adding.{same_adds}
 use Rattle.scopes.proofs.declared.declare_guard.Goals as goal
 
+-- the code's name and place are the definition's
 pub returns-in-Some : goal.returns-in-Some
 returns-in-Some c =
-    let span = c.in-Some.name.now.span in
     rw c.in-Some.is
     (same_adds _ _ _ _ _
-    (ap (λ (n : List ℕ). guard_declared (Some (record { text = n; span = span })) c.args.clause) c.as_str.ensures.value)
+    (λ i. declared
+    record {
+      name = c.as_str.ensures.value i;
+      number = c.args.clause.start;
+      kind = Var;
+      block = c.args.clause;
+      from = c.end_of_last.ensures i;
+      is_short = false;
+    })
     c.declare.ensures)

@@ -7,5 +7,5 @@ use Rattle.scopes.proofs.declared.declare_names.Given as goal
 -- what was added with what the other names add is the whole
 abbrev pub invariant-loop-name : goal.invariant-loop-name
 invariant-loop-name l =
-    namings_view l.namings.items ++ declared_names l.kind l.block l.from l.is_short (map identifier_syntax (drop l.name-index l.names))
-    ≡ namings_view l.initial.namings.items ++ declared_names l.kind l.block l.from l.is_short (map identifier_syntax l.names)
+    namings_view l.namings.items ++ declared_names l.kind l.scope.block l.scope.from l.is_short (map identifier_syntax (drop l.name-index l.names))
+    ≡ namings_view l.initial.namings.items ++ declared_names l.kind l.scope.block l.scope.from l.is_short (map identifier_syntax l.names)

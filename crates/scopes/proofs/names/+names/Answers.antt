@@ -468,8 +468,8 @@ cases-loop-clause-preserved t c =
     let guard = option_map (λ (n : Bor Identifier). identifier_syntax n.now) c.args.guard in
     let items = drop_item c.args.clauses.now c.loop-clause.clause-index c.clause-item.result c.loop-clause-test.true c.clause-item.is in
     adds_next _ _ _ _ _ _ c.loop-clause.invariant (ap (λ l. cases_names guard (cases_syntax l)) items ∙ cases_more guard c.clause-item.result _)
-    (adds_case guard c.clause-item.result _ _ _ _ _ _ c.in_ok-declare_guard.ensures c.deref.ensures.value
-    c.in_ok-expressions.ensures c.deref-in-loop-clause.ensures.value c.in_ok-statements.ensures)
+    (adds_case guard c.clause-item.result _ _ _ _ _ _ _ c.deref.ensures.value c.in_ok-declare_guard.ensures
+    c.deref-in-loop-clause.ensures.value c.in_ok-expressions.ensures c.deref-in-loop-clause-2.ensures.value c.in_ok-statements.ensures)
 
 pub cases-returns : goal.cases-returns
 unfolding cases_names

@@ -1,5 +1,5 @@
 use Rattle.std.proofs.Common.{arith, ap, ◌∙◌}
-use Rattle.locals.specs.LocalViews.{seen_view}
+use Rattle.tracked.specs.LocalViews.{seen_view}
 use Rattle.meaning.specs.Tracked.{lefts_of, left_local}
 use Rattle.meaning.specs.Uses.{is_group_or_none}
 use Rattle.mentions.specs.MarkViews.{form_view}

@@ -1,6 +1,6 @@
 use Rattle.std.proofs.Common.{◌≡◌, drop, Some}
 use Rattle.std.specs.List.{list_all}
-use Rattle.locals.specs.LocalViews.{seen_view}
+use Rattle.tracked.specs.LocalViews.{seen_view}
 use Rattle.meaning.specs.Tracked.{lefts_of, left_local}
 use Rattle.meaning.specs.Uses.{is_group_or_none}
 use Rattle.mentions.specs.MarkViews.{form_view}

@@ -1,6 +1,6 @@
 use Rattle.std.proofs.Common.{◌≡◌, drop}
 use Rattle.std.specs.List.{list_all}
-use Rattle.locals.specs.LocalViews.{seen_view}
+use Rattle.tracked.specs.LocalViews.{seen_view}
 use Rattle.meaning.specs.Uses.{is_cancel, kind_at}
 use Rattle.mentions.specs.MarkViews.{row_view}
 use Rattle.uses.proofs.bindings.are_cancels.Given as goal

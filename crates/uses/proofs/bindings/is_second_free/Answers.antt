@@ -1,5 +1,5 @@
 use Rattle.std.proofs.Common.{not, sym, ap}
-use Rattle.locals.specs.LocalViews.{seen_view}
+use Rattle.tracked.specs.LocalViews.{seen_view}
 use Rattle.meaning.specs.Uses.{has_tracked_in}
 use Rattle.uses.proofs.LeftSides.{second_missing}
 use Rattle.uses.proofs.bindings.is_second_free.Goals as goal

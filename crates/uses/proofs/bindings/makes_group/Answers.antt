@@ -1,5 +1,5 @@
 use Rattle.std.proofs.Common.{arith, ap, ◌∙◌}
-use Rattle.locals.specs.LocalViews.{seen_view}
+use Rattle.tracked.specs.LocalViews.{seen_view}
 use Rattle.meaning.specs.Uses.{is_made, binding_at}
 use Rattle.mentions.specs.MarkViews.{row_view}
 use Rattle.uses.proofs.LeftSides.{below_fails}

@@ -1,6 +1,6 @@
 use Rattle.std.proofs.Common.{◌≡◌}
 use Rattle.std.specs.List.{list_any}
-use Rattle.locals.specs.LocalViews.{seen_view}
+use Rattle.tracked.specs.LocalViews.{seen_view}
 use Rattle.meaning.specs.Uses.{is_made, binding_at, below, makes_group}
 use Rattle.mentions.specs.MarkViews.{row_view}
 use Rattle.uses.proofs.bindings.makes_group.Given as goal

@@ -1,6 +1,6 @@
 use Rattle.std.proofs.Common.{◌≡◌, ◌++◌, drop, map}
-use Rattle.allowed.specs.UseViews.{handed_view}
-use Rattle.locals.specs.LocalViews.{seen_view}
+use Rattle.tracked.specs.EventViews.{handed_view}
+use Rattle.tracked.specs.LocalViews.{seen_view}
 use Rattle.meaning.specs.BodyEvents.{handed_on}
 use Rattle.tree.specs.View.{expressions_syntax}
 use Rattle.uses.proofs.mark.handed_on.Given as goal

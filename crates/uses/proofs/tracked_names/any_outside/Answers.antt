@@ -1,4 +1,4 @@
-use Rattle.locals.specs.LocalViews.{seen_view}
+use Rattle.tracked.specs.LocalViews.{seen_view}
 use Rattle.uses.proofs.TrackedOutside.{one_found, none_found, none_left}
 use Rattle.uses.proofs.tracked_names.any_outside.Goals as goal
 

@@ -1,6 +1,6 @@
 use Rattle.std.proofs.Common.{◌≡◌, drop, map, []}
 use Rattle.std.specs.List.{list_any}
-use Rattle.locals.specs.LocalViews.{seen_view}
+use Rattle.tracked.specs.LocalViews.{seen_view}
 use Rattle.meaning.specs.Tracked.{placed}
 use Rattle.meaning.specs.Uses.{names_tracked_outside}
 use Rattle.mentions.specs.MarkViews.{body_view, marks_view}

@@ -1,6 +1,6 @@
 use Rattle.std.proofs.Common.{◌≡◌, drop}
 use Rattle.std.specs.List.{list_any}
-use Rattle.locals.specs.LocalViews.{seen_view}
+use Rattle.tracked.specs.LocalViews.{seen_view}
 use Rattle.meaning.specs.Uses.{names_tracked}
 use Rattle.mentions.specs.MarkViews.{marks_view}
 use Rattle.uses.proofs.tracked_names.any_tracked.Given as goal

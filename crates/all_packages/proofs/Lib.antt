@@ -1,0 +1,14 @@
+mod AllPackages
+mod AllReports
+mod FoundPackages
+mod ImportedTables
+mod JudgedFiles
+mod KeptNext
+mod KnownImports
+mod NextPackage
+mod PackageNames
+mod PathsInOrder
+mod PlainNames
+mod PlainTables
+mod Verdicts
+mod WholeOnly

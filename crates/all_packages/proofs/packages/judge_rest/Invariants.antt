@@ -1,0 +1,15 @@
+use Rattle.std.proofs.Common.{ℕ, List, Option}
+use Rattle.imports.specs.Ranks.{IsOrder}
+use Rattle.whole_packages.specs.LoadedViews.{HaveDistinctPaths}
+use Rattle.meaning_reports.specs.Loaded.{LoadedPackage, import_list}
+use Rattle.all_packages.specs.Progress.{judged_in, marks_in, AreRankedJudged, TellsGiven}
+use Rattle.all_packages.proofs.AllPackages.{GoThrough}
+use Rattle.all_packages.proofs.packages.judge_rest.Given as goal
+
+-- all before that place are judged, and all with a rank
+abbrev pub invariant-loop-place : goal.invariant-loop-place
+invariant-loop-place l =
+    (ps : List LoadedPackage) → TellsGiven ps l.given → HaveDistinctPaths ps
+    → (rank : ℕ → Option ℕ) (ranked : List ℕ) → IsOrder (import_list ps) rank ranked
+    → AreRankedJudged ps l.given.packages.now ranked (judged_in l.initial.progress) (marks_in l.initial.progress)
+    → GoThrough ps l.given.packages.now ranked l.place (judged_in l.progress) (marks_in l.progress)

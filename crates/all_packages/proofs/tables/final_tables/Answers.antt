@@ -1,0 +1,12 @@
+use Rattle.std.proofs.Common.{subst}
+use Rattle.std.proofs.lemmas.Result.{IfOk-weaker}
+use Rattle.all_packages.specs.Tables.{AreTablesFrom}
+use Rattle.all_packages.proofs.PlainTables.{plain_so}
+use Rattle.all_packages.proofs.tables.final_tables.Goals as goal
+
+pub returns : goal.returns
+returns c =
+    IfOk-weaker c.tables_of.result _ _
+    (λ tables told. plain_so c.args.packages.now c.in_ok-judged.judged.items tables.items c.in_ok-judged.ensures
+    (subst (λ js. AreTablesFrom c.args.packages.now 0 js tables.items) c.deref.ensures.value told))
+    c.tables_of.ensures

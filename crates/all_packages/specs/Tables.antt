@@ -1,0 +1,109 @@
+-- The tables of packages as plain values: what they say of each function, in the order of the names' bytes.
+use Rattle.std.specs.Prelude.{ℕ, ◌+◌, ◌≡◌, Bool, true, false, ◌&&◌, if◌then◌else◌, List, [], ◌∷◌, flat_map, length, map, Option, None, Some, is_some, option_map, slice_get, Contains, ⊤}
+use Rattle.std.specs.List.Sorted.{IsStrictlySortedBy}
+use Rattle.tree.specs.Syntax.{SourceFile, TopLevelDeclaration, function_declaration, general_declaration}
+use Rattle.tree.specs.View.{file_syntax}
+use Rattle.meaning.specs.FunctionFacts.{FunctionFacts, TrackedParameter, VariableKind, cancel, group}
+use Rattle.whole_packages.specs.declared.loaded_package.LoadedPackage.{LoadedPackage as KeptPackage}
+use Rattle.whole_packages.specs.LoadedViews.{TellPackages, HaveDistinctPaths}
+use Rattle.table_json.specs.declared.table.Parameter.{Parameter}
+use Rattle.table_json.specs.declared.table.Parameter.TheVariants.{Cancel, Group}
+use Rattle.table_json.specs.declared.table.Table.{Table}
+use Rattle.table_json.specs.Parts.{if_fits}
+use Rattle.table_json.specs.Tables.{Entry, by_bytes, entries_of}
+use Rattle.meaning_reports.specs.Loaded.{LoadedPackage, PackageTable}
+use Rattle.all_packages.specs.declared.judged.Judged.{Judged}
+use Rattle.all_packages.specs.Judgments.{table_view}
+use Rattle.all_packages.specs.Reports.{AreReports}
+
+abbrev pub as_list : {A : Type 0} → Option A → List A
+as_list None = []
+as_list (Some a) = a ∷ []
+
+-- a position that is not below 2^32 is left out
+abbrev pub position_told : ℕ → List ℕ
+position_told n = as_list (if_fits n)
+
+abbrev pub parameter_kept : (ℕ → Bool) → TrackedParameter → VariableKind → ℕ → Parameter
+parameter_kept calls p cancel at = Cancel at (calls p.position)
+parameter_kept calls p group at = Group at
+
+abbrev pub parameter_told : (ℕ → Bool) → TrackedParameter → Option Parameter
+parameter_told calls p = option_map (parameter_kept calls p p.kind) (if_fits p.position)
+
+-- what is told of the function of that name, of whose parameters these are known to be called
+abbrev pub entry_told : (ℕ → Bool) → List ℕ → FunctionFacts → Entry
+entry_told calls name facts = record {
+  name = name;
+  gives = flat_map position_told facts.gives;
+  params = flat_map (λ p. as_list (parameter_told calls p)) facts.parameters;
+}
+
+abbrev pub is_none_of : {A : Type 0} → List A → Bool
+is_none_of [] = true
+is_none_of (x ∷ xs) = false
+
+-- a function of which nothing is told is left out
+abbrev pub if_told : Entry → List Entry
+if_told e = if is_none_of e.gives && is_none_of e.params then [] else e ∷ []
+
+abbrev pub entries_with : (ℕ → Bool) → List ℕ → Option FunctionFacts → List Entry
+entries_with calls name None = []
+entries_with calls name (Some facts) = if_told (entry_told calls name facts)
+
+-- what the table says of the function of that name
+abbrev pub entries_for : PackageTable → List ℕ → List Entry
+entries_for table name = entries_with (table.calls name) name (table.signatures name)
+
+-- The names of functions and methods
+
+abbrev pub declared_name : TopLevelDeclaration → List (List ℕ)
+declared_name (function_declaration f) = f.name.text ∷ []
+declared_name (general_declaration d) = []
+
+abbrev pub declared_names : List SourceFile → List (List ℕ)
+declared_names = flat_map (λ tree. flat_map declared_name tree.declarations)
+
+-- these names in the order of their bytes, each once
+pub record AreInOrder (declared names : List (List ℕ)) : Type 0 where
+  pub rise : IsStrictlySortedBy by_bytes names
+  pub are_there : (name : List ℕ) → Contains declared name → Contains names name
+
+-- what the table says of the functions of these names
+pub record TellsNames (declared : List (List ℕ)) (table : PackageTable) (entries : List Entry) : Type 0 where
+  pub names : List (List ℕ)
+  pub in_order : AreInOrder declared names
+  pub are_told : entries ≡ flat_map (entries_for table) names
+
+-- the entries are what the table says of all functions, in the order of their names
+pub record IsPlain (table : PackageTable) (entries : List Entry) : Type 0 where
+  pub names : List (List ℕ)
+  pub rise : IsStrictlySortedBy by_bytes names
+  pub are_all : (name : List ℕ) → is_some (table.signatures name) ≡ true → Contains names name
+  pub are_told : entries ≡ flat_map (entries_for table) names
+
+abbrev pub names_of_kept : Option KeptPackage → List (List ℕ)
+names_of_kept None = []
+names_of_kept (Some k) = declared_names (map file_syntax k.trees.items)
+
+-- it has what was found of the package of that place
+abbrev pub IsTableAt : List KeptPackage → ℕ → Judged → Table → Type 0
+IsTableAt kept i j table = TellsNames (names_of_kept (slice_get kept i)) (table_view j) (entries_of table)
+
+-- each of these has its table, where the first has the place `n`
+abbrev pub AreTablesFrom : List KeptPackage → ℕ → List Judged → List Table → Type 0
+AreTablesFrom kept n [] [] = ⊤
+AreTablesFrom kept n [] (t ∷ ts) = ⊥
+AreTablesFrom kept n (j ∷ js) [] = ⊥
+AreTablesFrom kept n (j ∷ js) (t ∷ ts) = IsTableAt kept n j t × AreTablesFrom kept (n + 1) js ts
+
+-- they are the final tables of the packages that are kept so, whichever these are: a table of each, in their order
+pub record TellsTables (kept : List KeptPackage) (tables : List Table) : Type 0 where
+  pub said : List Judged
+  pub are_reports : (ps : List LoadedPackage) → TellPackages ps kept → HaveDistinctPaths ps → AreReports ps kept said
+  pub are_as_many : length tables ≡ length said
+  pub are_plain : (ps : List LoadedPackage) → TellPackages ps kept → HaveDistinctPaths ps
+      → (i : ℕ) (j : Judged) (table : Table)
+      → slice_get said i ≡ Some j
+      → slice_get tables i ≡ Some table
+      → IsPlain (table_view j) (entries_of table)

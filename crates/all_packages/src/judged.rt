@@ -1,0 +1,169 @@
+//! One package.
+
+ghost use Rattle.std.specs.Prelude.{◌≡◌, ◌↔◌, ℕ, List, IfOk, Some, map, slice_get, Contains, string_bytes};
+ghost use Rattle.std.specs.List.{AllPairs};
+ghost use Rattle.all_packages.specs.Judgments.{IsJudgment, IsWholeOnly, TellsAround, TellsSources};
+ghost use Rattle.all_packages.specs.ToldPackages.{IsToldPackage, IsFoundPackage};
+ghost use Rattle.whole_packages.specs.LoadedViews.{TellsPackage};
+ghost use Rattle.report.specs.Entries.{Entry, Precedes, entry_of};
+ghost use Rattle.meaning_reports.specs.Loaded.{LoadedPackage as MeantPackage, Tables};
+ghost use Rattle.meaning_reports.specs.WholeFaults.{HasNoWholeFault};
+
+use crate::grounds::{Grounds, find_grounds};
+use crate::told_package::{PackageBodies, ToldPackage, package_bodies};
+use calls_flags::{Called, ImportedCalls, KnownCalls};
+use facts::{Imported, Table};
+use findings::find_faults;
+use names::PackageNames;
+use report::{Diagnostic, DiagnosticCode, PackageReport, in_order};
+use std::alloc::{AllocError, Global};
+use whole_packages::{LoadedPackage, Marked, add_imports, numbered_trees};
+
+/// What is known of the packages around the one that is judged.
+#[derive(Clone, Copy)]
+pub struct Around<'k, 'a> {
+    /// The names of the given packages.
+    pub names: &'k PackageNames<'a>,
+    /// What the signatures of its imports' functions say.
+    pub signatures: &'k Imported<'a, 'k>,
+    /// Which of their parameters its imports' functions are known to call.
+    pub calls: &'k ImportedCalls<'a, 'k>,
+    /// The given packages that have no rank.
+    pub unranked: Marked<'k, 'a>,
+    /// Among its imports, those that are not yes.
+    pub not_yes: Marked<'k, 'a>,
+}
+
+/// What is to be said of a package, in no order, and which of their parameters its functions are known to call.
+#[derive(Drop)]
+struct FoundPackage<'a> {
+    diagnostics: Vec<Diagnostic<'a>>,
+    called: Called<'a>,
+}
+
+/// What is known of the functions of a package.
+#[derive(Drop)]
+pub struct PackageTable<'a> {
+    /// What their signatures say.
+    pub signatures: Table<'a>,
+    /// Which of their parameters they are known to call.
+    pub called: Called<'a>,
+}
+
+/// What is said of a package, and what is known of its functions.
+#[derive(Drop)]
+pub struct Judged<'a> {
+    pub report: PackageReport<'a>,
+    pub table: PackageTable<'a>,
+}
+
+/// The report of a package of which this was found.
+fn report_of<'a>(loaded: &'a LoadedPackage, found: Vec<Diagnostic<'a>>) -> PackageReport<'a>
+    ensures path { result.path.now ≡ string_bytes loaded.now.path }
+    ensures sources { result.sources.now ≡ loaded.now.sources.items }
+    ensures sorted { AllPairs Precedes (map entry_of result.diagnostics.items) }
+    ensures same { (x : Entry)
+        → Contains (map entry_of result.diagnostics.items) x ↔ Contains (map entry_of found.entry.items) x }
+{
+    PackageReport {
+        path: loaded.path.as_str(),
+        sources: &loaded.sources,
+        diagnostics: in_order(found),
+    }
+}
+
+/// A package of which nothing is to be said but these faults, and of whose functions nothing is known.
+fn whole_only<'a>(
+    alloc: Global,
+    loaded: &'a LoadedPackage,
+    faults: Vec<Diagnostic<'a>>,
+) -> Judged<'a>
+    ensures only { IsWholeOnly (map entry_of faults.entry.items) result }
+    ensures told { TellsSources loaded.now result }
+{
+    Judged {
+        report: report_of(loaded, faults),
+        table: PackageTable {
+            signatures: Table::new(alloc),
+            called: Called::new(alloc),
+        },
+    }
+}
+
+/// Finds what is to be said of a package that has no fault as a whole and was told of, and which of their parameters
+/// its functions are known to call.
+fn find_in_package<'a>(
+    alloc: Global,
+    loaded: &'a LoadedPackage,
+    told: &ToldPackage<'a>,
+    around: Around<'_, 'a>,
+) -> Result<FoundPackage<'a>, AllocError>
+    ensures { IfOk result (λ found. (ps : List MeantPackage) (tables : Tables) (i : ℕ) (p : MeantPackage)
+        → slice_get ps i ≡ Some p → TellsPackage p loaded.now → TellsAround ps tables i p around.entry
+        → IsToldPackage ps tables p told.now
+        → HasNoWholeFault ps i
+        → IsFoundPackage ps tables i p found) }
+{
+    let PackageBodies { files, called } = package_bodies(alloc, told, around.calls)?;
+    let calls = KnownCalls {
+        own: &called,
+        imported: around.calls,
+    };
+    let mut diagnostics = find_faults(alloc, &files, calls)?;
+    let trees = numbered_trees(alloc, loaded)?;
+    add_imports(
+        around.not_yes,
+        DiagnosticCode::ImportIsNotYes,
+        &trees,
+        &mut diagnostics,
+    )?;
+    Ok(FoundPackage {
+        diagnostics,
+        called,
+    })
+}
+
+/// Judges a package that has no fault as a whole and was told of.
+fn judge_told<'a>(
+    alloc: Global,
+    loaded: &'a LoadedPackage,
+    told: ToldPackage<'a>,
+    around: Around<'_, 'a>,
+) -> Result<Judged<'a>, AllocError>
+    ensures told { IfOk result (TellsSources loaded.now) }
+    ensures judged { IfOk result (λ judged. (ps : List MeantPackage) (tables : Tables) (i : ℕ) (p : MeantPackage)
+        → slice_get ps i ≡ Some p → TellsPackage p loaded.now → TellsAround ps tables i p around.entry
+        → HasNoWholeFault ps i → IsToldPackage ps tables p told.entry
+        → IsJudgment ps tables i p judged) }
+{
+    let FoundPackage {
+        diagnostics,
+        called,
+    } = find_in_package(alloc, loaded, &told, around)?;
+    let ToldPackage { signatures, .. } = told;
+    Ok(Judged {
+        report: report_of(loaded, diagnostics),
+        table: PackageTable { signatures, called },
+    })
+}
+
+/// Judges a package.
+///
+/// # Errors
+///
+/// Memory was refused.
+pub fn judge<'a>(
+    alloc: Global,
+    loaded: &'a LoadedPackage,
+    around: Around<'_, 'a>,
+) -> Result<Judged<'a>, AllocError>
+    ensures told { IfOk result (TellsSources loaded.now) }
+    ensures judged { IfOk result (λ judged. (ps : List MeantPackage) (tables : Tables) (i : ℕ) (p : MeantPackage)
+        → slice_get ps i ≡ Some p → TellsPackage p loaded.now → TellsAround ps tables i p around.entry
+        → IsJudgment ps tables i p judged) }
+{
+    match find_grounds(alloc, loaded, around)? {
+        Grounds::WholeFaults(faults) => Ok(whole_only(alloc, loaded, faults)),
+        Grounds::Told(told) => judge_told(alloc, loaded, told, around),
+    }
+}

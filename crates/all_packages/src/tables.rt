@@ -1,0 +1,268 @@
+//! What is known of the functions of packages, as plain values. What it says is in `specs/Tables.antt`.
+
+ghost use Rattle.std.specs.Prelude.{◌≡◌, ◌++◌, IfOk, OnOk, flat_map, map};
+ghost use Rattle.all_packages.specs.Judgments.{table_view};
+ghost use Rattle.all_packages.specs.Tables.{as_list, declared_name, declared_names, entries_for, entry_told, if_told, is_none_of, parameter_kept, parameter_told, position_told, AreInOrder, AreTablesFrom, IsTableAt, TellsNames, TellsTables};
+ghost use Rattle.facts.specs.FactViews.{facts_view, kind_view, parameter_view};
+ghost use Rattle.imports.specs.Views.{text_views};
+ghost use Rattle.calls_flags.specs.KnownCalls.{is_called};
+ghost use Rattle.table_json.specs.Parts.{if_fits};
+ghost use Rattle.table_json.specs.Tables.{entries_of, entry_of};
+ghost use Rattle.tree.specs.View.{file_syntax, top_level_syntax};
+
+use crate::judged::Judged;
+use crate::packages::check;
+use calls_flags::Called;
+use facts::{FunctionFacts, TrackedParameter, VariableKind};
+use std::alloc::{AllocError, Global};
+use table_json::{Function, Parameter, Table};
+use tree::{File, TopLevelDecl};
+use whole_packages::LoadedPackage;
+
+/// Adds the name of a declaration that is a function or a method.
+fn add_name<'a>(declaration: &'a TopLevelDecl, names: &mut Vec<&'a str>) -> Result<(), AllocError>
+    ensures { OnOk result (text_views names.new.items ≡ text_views names.old.items
+        ++ declared_name (top_level_syntax declaration.now)) }
+{
+    match declaration {
+        TopLevelDecl::Func(function) => {
+            names.push(function.name.text.as_str())?;
+            Ok(())
+        }
+        TopLevelDecl::Decl(_) => Ok(()),
+    }
+}
+
+fn add_names<'a>(
+    declarations: &'a [TopLevelDecl],
+    names: &mut Vec<&'a str>,
+) -> Result<(), AllocError>
+    ensures { OnOk result (text_views names.new.items ≡ text_views names.old.items
+        ++ flat_map declared_name (map top_level_syntax declarations.now)) }
+{
+    for declaration in declarations {
+        add_name(declaration, names)?;
+    }
+    Ok(())
+}
+
+/// The names of the functions and methods of these files, in the order of the text.
+fn function_names<'a>(alloc: Global, trees: &'a [File]) -> Result<Vec<&'a str>, AllocError>
+    ensures { IfOk result (λ names. text_views names.items ≡ declared_names (map file_syntax trees.now)) }
+{
+    let mut names = Vec::new(alloc);
+    for tree in trees {
+        add_names(&tree.declarations, &mut names)?;
+    }
+    Ok(names)
+}
+
+/// The same names in the order of their bytes, each once.
+fn names_in_order<'a>(alloc: Global, trees: &'a [File]) -> Result<Vec<&'a str>, AllocError>
+    ensures { IfOk result (λ names. AreInOrder (declared_names (map file_syntax trees.now)) (text_views names.items)) }
+{
+    let mut names = function_names(alloc, trees)?;
+    names.sort_unstable();
+    names.dedup();
+    Ok(names)
+}
+
+/// The position, if it is one that a table can have.
+fn if_fits(position: usize) -> Option<u32>
+    ensures { result ≡ if_fits position }
+{
+    u32::try_from(position).ok()
+}
+
+/// Adds a position, if it is one that a table can have.
+fn add_position(position: usize, positions: &mut Vec<u32>) -> Result<(), AllocError>
+    ensures { OnOk result (positions.new.items ≡ positions.old.items ++ position_told position) }
+{
+    if let Some(position) = if_fits(position) {
+        positions.push(position)?;
+    }
+    Ok(())
+}
+
+fn positions_of(alloc: Global, positions: &[usize]) -> Result<Vec<u32>, AllocError>
+    ensures { IfOk result (λ found. found.items ≡ flat_map position_told positions.now) }
+{
+    let mut found = Vec::new(alloc);
+    for position in positions {
+        add_position(*position, &mut found)?;
+    }
+    Ok(found)
+}
+
+/// A parameter of the function of that name, as a table has it.
+fn parameter_kept(name: &str, tracked: TrackedParameter, at: u32, called: &Called<'_>) -> Parameter
+    ensures { result ≡ parameter_kept (is_called called.now name.now) (parameter_view tracked) (kind_view tracked.kind)
+        at }
+{
+    match tracked.kind {
+        VariableKind::Cancel => Parameter::Cancel {
+            at,
+            calls: called.has(name, tracked.position),
+        },
+        VariableKind::Group => Parameter::Group { at },
+    }
+}
+
+/// Adds a parameter of the function of that name, if a table can have its position.
+fn add_parameter(
+    name: &str,
+    tracked: TrackedParameter,
+    called: &Called<'_>,
+    parameters: &mut Vec<Parameter>,
+) -> Result<(), AllocError>
+    ensures { OnOk result (parameters.new.items ≡ parameters.old.items
+        ++ as_list (parameter_told (is_called called.now name.now) (parameter_view tracked))) }
+{
+    if let Some(at) = if_fits(tracked.position) {
+        parameters.push(parameter_kept(name, tracked, at, called))?;
+    }
+    Ok(())
+}
+
+fn parameters_of(
+    alloc: Global,
+    name: &str,
+    tracked: &[TrackedParameter],
+    called: &Called<'_>,
+) -> Result<Vec<Parameter>, AllocError>
+    ensures { IfOk result (λ parameters. parameters.items ≡ flat_map
+        (λ p. as_list (parameter_told (is_called called.now name.now) p)) (map parameter_view tracked.now)) }
+{
+    let mut parameters = Vec::new(alloc);
+    for parameter in tracked {
+        add_parameter(name, *parameter, called, &mut parameters)?;
+    }
+    Ok(parameters)
+}
+
+/// What a table says of the function of that name.
+fn function_of(
+    alloc: Global,
+    name: &str,
+    facts: &FunctionFacts,
+    called: &Called<'_>,
+) -> Result<Function, AllocError>
+    ensures { IfOk result (λ function. entry_of function
+        ≡ entry_told (is_called called.now name.now) name.now (facts_view facts.now)) }
+{
+    let gives = positions_of(alloc, &facts.gives)?;
+    let params = parameters_of(alloc, name, &facts.parameters, called)?;
+    Ok(Function {
+        name: String::from_str(alloc, name)?,
+        gives,
+        params,
+    })
+}
+
+/// Whether there is none.
+fn is_none_of<T>(items: &[T]) -> bool
+    ensures { result ≡ is_none_of items.now }
+{
+    items.is_empty()
+}
+
+/// Adds a function, if anything is told of it but its name.
+fn add_told(function: Function, functions: &mut Vec<Function>) -> Result<(), AllocError>
+    ensures { OnOk result (map entry_of functions.new.items ≡ map entry_of functions.old.items
+        ++ if_told (entry_of function)) }
+{
+    if is_none_of(&function.gives) && is_none_of(&function.params) {
+        return Ok(());
+    }
+    functions.push(function)?;
+    Ok(())
+}
+
+/// Adds what is known of the function of that name, if anything is.
+fn add_function(
+    alloc: Global,
+    name: &str,
+    judged: &Judged<'_>,
+    functions: &mut Vec<Function>,
+) -> Result<(), AllocError>
+    ensures { OnOk result (map entry_of functions.new.items ≡ map entry_of functions.old.items
+        ++ entries_for (table_view judged.now) name.now) }
+{
+    match judged.table.signatures.facts(name) {
+        Some(facts) => add_told(
+            function_of(alloc, name, facts, &judged.table.called)?,
+            functions,
+        ),
+        None => Ok(()),
+    }
+}
+
+/// What is known of the functions of these names.
+fn functions_of(
+    alloc: Global,
+    names: &[&str],
+    judged: &Judged<'_>,
+) -> Result<Vec<Function>, AllocError>
+    ensures { IfOk result (λ functions. map entry_of functions.items
+        ≡ flat_map (entries_for (table_view judged.now)) (text_views names.now)) }
+{
+    let mut functions = Vec::new(alloc);
+    for name in names {
+        add_function(alloc, name, judged, &mut functions)?;
+    }
+    Ok(functions)
+}
+
+/// The table of a package with these trees.
+fn table_of(alloc: Global, trees: &[File], judged: &Judged<'_>) -> Result<Table, AllocError>
+    ensures { IfOk result (λ table. TellsNames (declared_names (map file_syntax trees.now)) (table_view judged.now)
+        (entries_of table)) }
+{
+    let names = names_in_order(alloc, trees)?;
+    let functions = functions_of(alloc, &names, judged)?;
+    Ok(Table { functions })
+}
+
+/// The table of the package of that place.
+fn table_at(
+    alloc: Global,
+    packages: &[LoadedPackage],
+    place: usize,
+    judged: &Judged<'_>,
+) -> Result<Table, AllocError>
+    ensures { IfOk result (IsTableAt packages.now place judged.now) }
+{
+    match packages.get(place) {
+        Some(loaded) => table_of(alloc, &loaded.trees, judged),
+        None => Ok(Table {
+            functions: Vec::new(alloc),
+        }),
+    }
+}
+
+fn tables_of(
+    alloc: Global,
+    packages: &[LoadedPackage],
+    judged: &[Judged<'_>],
+) -> Result<Vec<Table>, AllocError>
+    ensures { IfOk result (λ tables. AreTablesFrom packages.now 0 judged.now tables.items) }
+{
+    let mut tables = Vec::new(alloc);
+    for (place, one) in judged.iter().enumerate() {
+        tables.push(table_at(alloc, packages, place, one)?)?;
+    }
+    Ok(tables)
+}
+
+/// Judges packages of different paths, and tells what is known of their functions: a table of each, in their order. A
+/// function of which nothing is told is left out, and so is a position that is not below 2^32.
+///
+/// # Errors
+///
+/// Memory was refused.
+pub fn final_tables(alloc: Global, packages: &[LoadedPackage]) -> Result<Vec<Table>, AllocError>
+    ensures { IfOk result (λ tables. TellsTables packages.now tables.items) }
+{
+    let judged = check(alloc, packages)?;
+    tables_of(alloc, packages, &judged)
+}

@@ -1,6 +1,0 @@
-use Rattle.std.proofs.Common.{◌∙◌}
-use Rattle.allowed.proofs.Forms.{empty_list}
-use Rattle.allowed.proofs.places.is_empty.Goals as goal
-
-pub returns : goal.returns
-returns c = c.is_empty.ensures ∙ empty_list c.args.values.now

@@ -1,0 +1,28 @@
+//! A mention of a local.
+
+ghost use Rattle.std.specs.Prelude.{◌≡◌};
+ghost use Rattle.meaning.specs.Uses.{variable_at};
+ghost use Rattle.mentions.specs.MarkViews.{mention_view};
+ghost use Rattle.tracked.specs.EventViews.{variable_view};
+ghost use Rattle.tracked.specs.LocalViews.{local_view};
+
+use mentions::{BodyPlace, Mention};
+use tracked::{Local, VariableAt};
+
+/// A mention of a local, in the bodies around it, the innermost first.
+#[derive(Clone, Copy)]
+pub struct LocalMention<'b, 'a> {
+    pub local: Local<'a>,
+    pub bodies: &'b [BodyPlace<'a>],
+    pub mention: Mention<'a>,
+}
+
+/// The variable, where the mention stands.
+pub fn variable_at(local: Local<'_>, mention: Mention<'_>) -> VariableAt
+    ensures { variable_view result ≡ variable_at (local_view local.entry) (mention_view mention.entry) }
+{
+    VariableAt {
+        number: local.number,
+        at: mention.named.at,
+    }
+}

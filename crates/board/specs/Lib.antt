@@ -1,7 +1,0 @@
--- For a reader of the contracts: what the program keeps of packages that were judged, and what it stands for. The rules
--- are those of `verdicts/specs/PackageReports.antt` and `verdicts/specs/PackageTables.antt`.
-pub mod Judgments
-pub mod Reports
-pub mod Tables
--- What serves the proofs: what is known while packages are judged one after another.
-pub mod Progress

@@ -1,0 +1,50 @@
+-- The bodies of a file that was told of, each with its variables and its graph.
+use Rattle.std.proofs.Common.{◌≡◌, ℕ, Bool, List, map, ap, ◌∙◌, subst}
+use Rattle.std.specs.List.{AllZip}
+use Rattle.bodies.specs.declared.body.Body.{Body as KeptBody}
+use Rattle.bodies.specs.Bodies.{has_too_many, has_paths, IsGraphIf, TellsBody, TellsPlace, TellBodies}
+use Rattle.bodies.proofs.ZippedLists.{zipped_views, zipped_at}
+use Rattle.events.specs.declared.found.Variables.{Variables}
+use Rattle.events.specs.declared.told.Told.{Told}
+use Rattle.events.specs.ToldViews.{TellsFile}
+use Rattle.events.specs.VariableViews.{variable_view, ordered_in}
+use Rattle.meaning.specs.BodyEvents.{variables_of}
+use Rattle.meaning.specs.Uses.{Seen}
+use Rattle.mentions.specs.declared.mark.BodyPlace.{BodyPlace as KeptPlace}
+use Rattle.mentions.specs.MarkViews.{body_view}
+
+pub tells_place : (file : ℕ) (told : Told) (variables : Variables) (place : KeptPlace) (kept : KeptBody)
+    (are_judged : Bool)
+    → kept.file ≡ file
+    → kept.place ≡ place
+    → map variable_view kept.variables.items ≡ ordered_in variables place.at
+    → kept.has_too_many ≡ has_too_many (map variable_view kept.variables.items)
+    → are_judged ≡ has_paths (map variable_view kept.variables.items)
+    → IsGraphIf are_judged told (body_view place) kept.graph
+    → TellsPlace file told variables (body_view place) kept
+tells_place file told variables place kept are_judged is_file is_place are too_many judged graph seen of_file of_all =
+    let are_variables = are ∙ of_all place.at in
+    record {
+      is_file = is_file;
+      is_place = ap body_view is_place;
+      are_variables = are_variables;
+      too_many = too_many ∙ ap has_too_many are_variables;
+      has_graph = graph.has_graph ∙ judged ∙ ap has_paths are_variables;
+      is_graph = graph.is_graph seen of_file;
+    }
+
+-- what is kept of the body at a place that was told of
+abbrev pub TellsAt : ℕ → Told → Variables → KeptPlace → KeptBody → Type 0
+TellsAt file told variables p b = TellsPlace file told variables (body_view p) b
+
+pub tell_bodies : (file : ℕ) (told : Told) (variables : Variables) (bodies : List KeptBody)
+    → AllZip (TellsAt file told variables) told.opened.items bodies
+    → (seen : Seen)
+    → TellsFile seen told
+    → ((at : ℕ) → ordered_in variables at ≡ variables_of seen at)
+    → TellBodies file seen bodies
+tell_bodies file told variables bodies each seen of_file of_all =
+    subst (λ bs. AllZip (TellsBody file seen) bs bodies) of_file.opened
+    (zipped_views (TellsBody file seen) body_view told.opened.items bodies
+    (zipped_at (TellsAt file told variables) (λ p b. TellsBody file seen (body_view p) b)
+    (λ p b tells. tells seen of_file of_all) told.opened.items bodies each))

@@ -1,0 +1,7 @@
+pub mod BodiesTold
+pub mod ChangedCode
+pub mod ChangedGraph
+pub mod ListsOfGraphs
+pub mod SitesAdded
+pub mod WholeGraph
+pub mod ZippedLists

@@ -1,0 +1,108 @@
+//! The bodies of a file.
+
+ghost use Rattle.std.specs.Prelude.{◌≡◌, ℕ, IfOk, map};
+ghost use Rattle.bodies.specs.Bodies.{has_too_many, has_paths, IsGraphIf, TellsPlace, TellBodies};
+ghost use Rattle.events.specs.ToldViews.{TellsFile};
+ghost use Rattle.events.specs.VariableViews.{variable_view, ordered_in};
+ghost use Rattle.meaning.specs.BodyEvents.{variables_of};
+ghost use Rattle.meaning.specs.Uses.{Seen};
+ghost use Rattle.mentions.specs.MarkViews.{body_view};
+
+use crate::graph::{BodyGraph, ordered_graph};
+use events::{Told, Variable, Variables, too_many};
+use mentions::BodyPlace;
+use std::alloc::{AllocError, Global};
+
+/// A body of a file that was told of: made once, and taken by whoever asks for its paths.
+#[derive(Drop)]
+pub struct Body<'e, 'a> {
+    /// The number of its file in the package.
+    pub file: usize,
+    /// Where it stands, with its signature and its statements.
+    pub place: BodyPlace<'a>,
+    /// Its variables in their order, each with how it is declared.
+    pub variables: Vec<Variable<'a>>,
+    /// It has more cancel functions or groups than a body may have: nothing is said of its paths.
+    pub has_too_many: bool,
+    /// The graph of its code, where it has a variable, and not too many.
+    pub graph: Option<BodyGraph<'e, 'a>>,
+}
+
+/// Whether there are more cancel functions or groups than a body may have.
+fn has_too_many(alloc: Global, variables: &[Variable<'_>]) -> Result<bool, AllocError>
+    ensures { IfOk result (λ has. has ≡ has_too_many (map variable_view variables.now)) }
+{
+    let faults = too_many(alloc, variables)?;
+    Ok(!faults.is_empty())
+}
+
+/// Whether the paths of a body with these variables are judged: it has some, and not too many.
+fn has_paths(variables: &[Variable<'_>], has_too_many: bool) -> bool
+    ensures { has_too_many ≡ Rattle.bodies.specs.Bodies.has_too_many (map variable_view variables.now)
+        → result ≡ has_paths (map variable_view variables.now) }
+{
+    !variables.is_empty() && !has_too_many
+}
+
+/// The graph of the body at that place, if its paths are judged.
+fn graph_if<'e, 'a>(
+    alloc: Global,
+    are_judged: bool,
+    told: &'e Told<'a>,
+    place: BodyPlace<'a>,
+) -> Result<Option<BodyGraph<'e, 'a>>, AllocError>
+    ensures { IfOk result (λ kept. IsGraphIf are_judged told.now (body_view place.entry) kept) }
+{
+    if !are_judged {
+        return Ok(None);
+    }
+    let graph = ordered_graph(alloc, told, place)?;
+    Ok(Some(graph))
+}
+
+/// The body at that place.
+fn body_at<'e, 'a>(
+    alloc: Global,
+    file: usize,
+    told: &'e Told<'a>,
+    variables: &Variables<'a>,
+    place: BodyPlace<'a>,
+) -> Result<Body<'e, 'a>, AllocError>
+    ensures { IfOk result (λ body. TellsPlace file told.now variables.now (body_view place.entry) body) }
+{
+    let variables = variables.of(alloc, place.at)?;
+    let has_too_many = has_too_many(alloc, &variables)?;
+    let are_judged = has_paths(&variables, has_too_many);
+    let graph = graph_if(alloc, are_judged, told, place)?;
+    Ok(Body {
+        file,
+        place,
+        variables,
+        has_too_many,
+        graph,
+    })
+}
+
+/// The bodies of the file of that number in its package, in the order of their places. The file was told of, and these
+/// are the variables of its bodies.
+///
+/// # Errors
+///
+/// Memory was refused.
+pub fn bodies<'e, 'a>(
+    alloc: Global,
+    file: usize,
+    told: &'e Told<'a>,
+    variables: &Variables<'a>,
+) -> Result<Vec<Body<'e, 'a>>, AllocError>
+    ensures { IfOk result (λ bodies. (seen : Seen) → TellsFile seen told.now
+        → ((at : ℕ) → ordered_in variables.now at ≡ variables_of seen at)
+        → TellBodies file seen bodies.items) }
+{
+    let mut bodies = Vec::new(alloc);
+    for place in &told.opened {
+        let body = body_at(alloc, file, told, variables, *place)?;
+        bodies.push(body)?;
+    }
+    Ok(bodies)
+}

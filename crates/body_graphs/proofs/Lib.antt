@@ -1,5 +1,0 @@
-pub mod ChangedCode
-pub mod ChangedGraph
-pub mod ListsOfGraphs
-pub mod SitesAdded
-pub mod WholeGraph

@@ -1,9 +1,0 @@
-use Rattle.std.proofs.Common.{drop}
-use Rattle.code.specs.SiteViews.{sites_view}
-use Rattle.body_graphs.proofs.SitesAdded.{EventsLeft}
-use Rattle.body_graphs.proofs.body_sites.add_events.Given as goal
-
--- what was added, with what is left, is the whole
-abbrev pub invariant-loop-event : goal.invariant-loop-event
-invariant-loop-event l =
-    EventsLeft (drop l.event-index l.events) l.events (sites_view l.initial.sites) (sites_view l.sites)

@@ -1,5 +1,0 @@
-use Rattle.body_graphs.proofs.ListsOfGraphs.{graphs_tell_lists}
-use Rattle.body_graphs.proofs.graphs_tell_lists.Goals as goal
-
-pub returns : goal.returns
-returns c = graphs_tell_lists

@@ -1,6 +1,0 @@
--- What the contracts of this crate name: what nodes do, the sites and the graph of a body, the lists of a code by way
--- of its graph in memory, and tables of classes.
-pub mod NodeEvents
-pub mod BodySites
-pub mod MemoryLists
-pub mod Classified

@@ -1,0 +1,6 @@
+use Rattle.calls_flags.proofs.ToldInOrder.{told_so}
+use Rattle.calls_flags.proofs.told_file.tell_file.Goals as goal
+
+pub returns : goal.returns
+returns c =
+    told_so _ _ c.in_ok-seen.ensures.view _ c.in_ok-told.ensures c.in_ok-variables.ensures

@@ -1,0 +1,15 @@
+//! Which of their parameters the functions of a package are known to call, with what is told of each of its files, and
+//! the bodies of each. The rules are those of `meaning_packages/specs/CallsFlags.antt`.
+#![tactic(auto)]
+
+mod claims;
+mod file_bodies;
+mod keeping;
+mod known_calls;
+mod rounds;
+mod told_file;
+
+pub use file_bodies::{FileBodies, bodies_of_files};
+pub use known_calls::{Called, ImportedCalls, KnownCalls};
+pub use rounds::find_called;
+pub use told_file::{ToldFile, tell_files};

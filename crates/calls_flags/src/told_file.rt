@@ -1,0 +1,70 @@
+//! What is told of each file of a package.
+
+ghost use Rattle.std.specs.Prelude.{◌≡◌, ℕ, IfOk, map};
+ghost use Rattle.facts.specs.FactViews.{facts_by_name, facts_by_path};
+ghost use Rattle.calls_flags.specs.ToldFiles.{TellsSeen, TellAllSeen};
+ghost use Rattle.meaning.specs.BodyEvents.{seen_file};
+ghost use Rattle.meaning.specs.Tracked.{Known as MeantKnown};
+ghost use Rattle.names.specs.Answers.{declared_at};
+ghost use Rattle.tracked.specs.RowViews.{known_view};
+ghost use Rattle.tree.specs.View.{file_syntax};
+ghost use Rattle.meaning_reports.specs.Loaded.{seen_from};
+
+use events::{Told, Variables, find_variables, tell};
+use facts::{Imported, Table};
+use names::Names;
+use std::alloc::{AllocError, Global};
+use tracked::{Known, see};
+use tree::File;
+
+/// A file that was told of: its events and use faults, and the variables of its bodies.
+#[derive(Drop)]
+pub struct ToldFile<'a> {
+    pub told: Told<'a>,
+    pub variables: Variables<'a>,
+}
+
+fn tell_file<'k, 'a>(
+    alloc: Global,
+    known: Known<'k, 'a>,
+    file: &'a File,
+) -> Result<ToldFile<'a>, AllocError>
+    ensures { IfOk result (TellsSeen (seen_file (known_view known.entry) (file_syntax file.now))) }
+{
+    let seen = see(alloc, known, file)?;
+    let told = tell(alloc, &seen)?;
+    let variables = find_variables(alloc, &seen)?;
+    Ok(ToldFile { told, variables })
+}
+
+/// Tells of each file of a package, where the uses of names mean this, the functions of the package have these facts,
+/// and those of its imports these.
+///
+/// # Errors
+///
+/// Memory was refused.
+pub fn tell_files<'k, 't, 'a>(
+    alloc: Global,
+    files: &'a [File],
+    names: &'k Names<'a>,
+    table: &'k Table<'a>,
+    imported: &'k Imported<'a, 't>,
+) -> Result<Vec<ToldFile<'a>>, AllocError>
+    ensures { IfOk result (λ told. TellAllSeen (seen_from (λ number. record {
+      means = declared_at names.now number;
+      functions = facts_by_name table.now;
+      imported = facts_by_path imported.now;
+    }) 0 (map file_syntax files.now)) told.items) }
+{
+    let mut told = Vec::new(alloc);
+    for (number, file) in files.iter().enumerate() {
+        let known = Known {
+            file: number,
+            names: &*names,
+            table: &*table,
+            imported: &*imported,
+        };
+        told.push(tell_file(alloc, known, file)?)?;
+    }
+    Ok(told)
+}

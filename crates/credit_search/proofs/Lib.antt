@@ -1,0 +1,5 @@
+mod BodiesByPlace
+mod FoundBackward
+pub mod PairedLists
+mod SearchedPaths
+pub mod SettledBodies

@@ -1,0 +1,94 @@
+-- What the program keeps of the events of a file, and what it stands for.
+use Rattle.std.specs.Prelude.{ℕ, ◌≡◌, ◌==◌, ◌&&◌, ◌||◌, Bool, false, if◌then◌else◌, List, [], ◌∷◌, ◌++◌, Option, Some, None, map, nat_eq}
+use Rattle.std.specs.List.{list_any}
+use Rattle.lists.specs.declared.Lists.{Lists}
+use Rattle.lists.specs.ListViews.{items_at}
+use Rattle.events.specs.declared.told.SiteEvent.{SiteEvent}
+use Rattle.events.specs.declared.told.Told.{Told}
+use Rattle.tracked.specs.EventViews.{event_view}
+use Rattle.mentions.specs.MarkViews.{body_view}
+use Rattle.uses.specs.declared.faults.UseFault.{UseFault as KeptFault}
+use Rattle.uses.specs.OutcomeViews.{fault_view}
+use Rattle.meaning.specs.Mentions.{BodyPlace, Mark}
+use Rattle.meaning.specs.Tracked.{Known, Placed}
+use Rattle.meaning.specs.Uses.{Seen, Event, UseFault, is_body, is_outside}
+use Rattle.meaning.specs.BodyEvents.{opened_by, bodies_of, mark_faults, outer_faults_of, faults_of, mark_events, events_at, is_site, panics_there}
+
+abbrev pub faults_at : Lists KeptFault → ℕ → List UseFault
+faults_at lists body = map fault_view (items_at lists body)
+
+-- the events at a site, of a list of events with their sites
+abbrev pub events_of_site : ℕ → List SiteEvent → List Event
+events_of_site at [] = []
+events_of_site at (e ∷ es) = if e.site == at then event_view e.event ∷ events_of_site at es else events_of_site at es
+
+abbrev pub events_in : Lists SiteEvent → ℕ → ℕ → List Event
+events_in lists body at = events_of_site at (items_at lists body)
+
+abbrev pub has_panic : Lists ℕ → ℕ → ℕ → Bool
+has_panic lists body at = list_any (λ site. site == at) (items_at lists body)
+
+-- What one mark in these bodies adds
+
+abbrev pub if_there : {A : Type 0} → Bool → List A → List A
+if_there b xs = if b then xs else []
+
+-- nothing is told of any body
+pub record TellsNothing (told : Told) : Type 0 where
+  pub outer : told.outer.items ≡ []
+  pub faults : (body : ℕ) → items_at told.faults body ≡ []
+  pub events : (body : ℕ) → items_at told.events body ≡ []
+  pub panics : (body : ℕ) → items_at told.panics body ≡ []
+  pub opened : told.opened.items ≡ []
+
+abbrev pub AddsInner : ℕ → List UseFault → Lists KeptFault → Lists KeptFault → Type 0
+AddsInner number faults before after =
+    (body : ℕ) → faults_at after body ≡ faults_at before body ++ if_there (nat_eq number body) faults
+
+pub record AddsFaultsOf (bodies : List BodyPlace) (faults : List UseFault) (outer outer_after : List KeptFault)
+    (before after : Lists KeptFault) : Type 0 where
+  pub outside : map fault_view outer_after ≡ map fault_view outer ++ if_there (is_outside bodies) faults
+  pub inside : (body : ℕ) → faults_at after body ≡ faults_at before body ++ if_there (is_body body bodies) faults
+
+abbrev pub is_at : Option ℕ → ℕ → Bool
+is_at None at = false
+is_at (Some site) at = site == at
+
+-- the event is added at that site to those of the body of that number
+abbrev pub AddsSiteEvent : ℕ → ℕ → Event → Lists SiteEvent → Lists SiteEvent → Type 0
+AddsSiteEvent number site event before after = (body at : ℕ)
+    → events_in after body at ≡ events_in before body at ++ if_there (nat_eq number body && (site == at)) (event ∷ [])
+
+abbrev pub AddsEvent : List BodyPlace → Mark → List Event → Lists SiteEvent → Lists SiteEvent → Type 0
+AddsEvent bodies mark events before after = (body at : ℕ)
+    → events_in after body at ≡ events_in before body at ++ if_there (is_body body bodies && is_site mark at) events
+
+-- the site is added to those of the body of that number, if it panics
+abbrev pub AddsSite : ℕ → ℕ → Bool → Lists ℕ → Lists ℕ → Type 0
+AddsSite number site panics before after = (body at : ℕ)
+    → has_panic after body at ≡ (has_panic before body at || (nat_eq number body && ((site == at) && panics)))
+
+abbrev pub AddsPanic : Known → List BodyPlace → Mark → Lists ℕ → Lists ℕ → Type 0
+AddsPanic known bodies mark before after = (body at : ℕ)
+    → has_panic after body at ≡ (has_panic before body at || panics_there known body at bodies mark)
+
+pub record AddsMark (seen : Seen) (bodies : List BodyPlace) (mark : Mark) (before after : Told) : Type 0 where
+  pub outer : map fault_view after.outer.items
+      ≡ map fault_view before.outer.items ++ if_there (is_outside bodies) (mark_faults seen bodies mark)
+  pub faults : (body : ℕ) → faults_at after.faults body
+      ≡ faults_at before.faults body ++ if_there (is_body body bodies) (mark_faults seen bodies mark)
+  pub events : AddsEvent bodies mark (mark_events seen bodies mark) before.events after.events
+  pub panics : AddsPanic seen.known bodies mark before.panics after.panics
+  pub opened : map body_view after.opened.items ≡ map body_view before.opened.items ++ opened_by mark
+
+-- What is told of a file
+
+abbrev pub panics_in : Known → ℕ → ℕ → List Placed → Bool
+panics_in known body at = list_any (λ p. panics_there known body at p.bodies p.mark)
+
+pub record TellsFile (seen : Seen) (told : Told) : Type 0 where
+  pub outer : map fault_view told.outer.items ≡ outer_faults_of seen seen.marks
+  pub faults : (body : ℕ) → faults_at told.faults body ≡ faults_of seen body seen.marks
+  pub events : (body at : ℕ) → events_in told.events body at ≡ events_at seen body seen.marks at
+  pub panics : (body at : ℕ) → has_panic told.panics body at ≡ panics_in seen.known body at seen.marks
+  pub opened : map body_view told.opened.items ≡ bodies_of seen

@@ -1,0 +1,3 @@
+-- For a reader of the contracts: what is found in the files of a package.
+-- The rules are those of `meaning_reports/specs/PackageReports.antt`.
+pub mod FoundEntries

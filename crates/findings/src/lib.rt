@@ -1,0 +1,9 @@
+//! What the report says of the files of a package that has no fault as a whole. The rules are those of
+//! `meaning_reports/specs/PackageReports.antt`.
+#![tactic(auto)]
+
+mod entries;
+mod found;
+
+pub use entries::add_use_faults;
+pub use found::find_faults;

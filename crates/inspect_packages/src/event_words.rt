@@ -1,0 +1,105 @@
+//! What an event does, in words.
+
+use crate::page::{Page, place_of, push_variable};
+use bodies::NodeEvent;
+use std::alloc::AllocError;
+use tracked::{Event, GroupState, Handed};
+
+/// What the node does, with the variables that it is about.
+///
+/// # Errors
+///
+/// Memory was refused.
+pub fn push_event(
+    text: &mut String,
+    page: Page<'_, '_, '_>,
+    event: NodeEvent<'_, '_>,
+) -> Result<(), AllocError> {
+    match event {
+        NodeEvent::Other => text.push_str("other")?,
+        NodeEvent::FallsOff => text.push_str("return")?,
+        NodeEvent::Does(event) => push_known(text, page, event)?,
+    }
+    Ok(())
+}
+
+/// A word, and the variable that is declared there.
+fn push_one(
+    text: &mut String,
+    page: Page<'_, '_, '_>,
+    word: &str,
+    declared: u32,
+) -> Result<(), AllocError> {
+    text.push_str(word)?;
+    push_variable(text, page, declared)
+}
+
+fn push_known(
+    text: &mut String,
+    page: Page<'_, '_, '_>,
+    event: &Event<'_>,
+) -> Result<(), AllocError> {
+    match event {
+        Event::Obtain { variable, .. } => push_one(text, page, "obtain", variable.number),
+        Event::Clear { variable } => push_one(text, page, "clear", variable.number),
+        Event::Call { variable: number } => push_one(text, page, "call", *number),
+        Event::DeferCall { variable: number } => push_one(text, page, "defer", *number),
+        Event::Pass { variable, .. } => push_one(text, page, "pass", variable.number),
+        Event::DeferPass { variable, .. } => push_one(text, page, "defer pass", variable.number),
+        Event::Lend { group: number, .. } => push_one(text, page, "lend", *number),
+        Event::Start {
+            group: number,
+            literal,
+        } => push_start(text, page, *number, *literal),
+        Event::Try { group: number, .. } => push_one(text, page, "try", *number),
+        Event::Wait { group: number } => push_one(text, page, "wait", *number),
+        Event::DeferWait { group: number } => push_one(text, page, "defer wait", *number),
+        Event::Make { variable, state } => {
+            push_one(text, page, "make", variable.number)?;
+            text.push_str(state_text(*state))?;
+            Ok(())
+        }
+        Event::DeferLiteral { literal } => {
+            text.push_str("defer")?;
+            push_literal(text, page, *literal)
+        }
+        Event::Return { handed } => push_return(text, page, handed),
+    }
+}
+
+fn state_text(state: GroupState) -> &'static str {
+    match state {
+        GroupState::Idle => " idle",
+        GroupState::Live => " live",
+    }
+}
+
+fn push_literal(text: &mut String, page: Page<'_, '_, '_>, literal: u32) -> Result<(), AllocError> {
+    let at = place_of(page.source, literal);
+    write!(text, " literal {}:{}", at.line, at.column)
+}
+
+fn push_start(
+    text: &mut String,
+    page: Page<'_, '_, '_>,
+    number: u32,
+    literal: Option<u32>,
+) -> Result<(), AllocError> {
+    push_one(text, page, "start", number)?;
+    match literal {
+        Some(literal) => push_literal(text, page, literal),
+        None => Ok(()),
+    }
+}
+
+fn push_return(
+    text: &mut String,
+    page: Page<'_, '_, '_>,
+    handed: &[Handed],
+) -> Result<(), AllocError> {
+    text.push_str("return")?;
+    for item in handed {
+        push_variable(text, page, item.number)?;
+    }
+    Ok(())
+}

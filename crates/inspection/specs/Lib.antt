@@ -1,2 +1,0 @@
--- What tables in memory say of calls.
-pub mod TableCalls

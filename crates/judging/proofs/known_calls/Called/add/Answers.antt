@@ -1,8 +1,0 @@
-use Rattle.std.proofs.Common.{refl}
-use Rattle.judging.proofs.AddedParameters.{added}
-use Rattle.judging.proofs.known_calls.Called.add.Goals as goal
-
-pub returns : goal.returns
-returns c = λ name k.
-    added _ (λ x y. refl) c.args.self.now.parameters.keys c.insert.new.self.keys c.args.parameter
-    c.in_ok-insert.ensures.updates.1 c.in_ok-insert.ensures.updates.3 name k

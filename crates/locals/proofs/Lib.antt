@@ -1,4 +1,0 @@
-pub mod Added
-pub mod AllNoted
-pub mod MarksInOrder
-pub mod Numbers

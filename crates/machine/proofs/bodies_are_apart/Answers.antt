@@ -1,5 +1,0 @@
-use Rattle.machine.proofs.BodyOffsets.{bodies_are_apart}
-use Rattle.machine.proofs.bodies_are_apart.Goals as goal
-
-pub returns : goal.returns
-returns c = bodies_are_apart

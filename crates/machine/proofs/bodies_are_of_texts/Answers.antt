@@ -1,5 +1,0 @@
-use Rattle.machine.proofs.RunLists.{bodies_are_of_texts}
-use Rattle.machine.proofs.bodies_are_of_texts.Goals as goal
-
-pub returns : goal.returns
-returns c = bodies_are_of_texts

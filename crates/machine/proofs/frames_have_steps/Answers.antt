@@ -1,5 +1,0 @@
-use Rattle.machine.proofs.EachStep.{frames_have_steps}
-use Rattle.machine.proofs.frames_have_steps.Goals as goal
-
-pub returns : goal.returns
-returns c = frames_have_steps

@@ -1,5 +1,0 @@
-use Rattle.machine.proofs.RunLists.{lists_of_texts_are_run}
-use Rattle.machine.proofs.lists_of_texts_are_run.Goals as goal
-
-pub returns : goal.returns
-returns c = lists_of_texts_are_run

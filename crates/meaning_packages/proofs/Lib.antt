@@ -1,0 +1,2 @@
+pub mod FirstBodies
+pub mod BodyPlaces

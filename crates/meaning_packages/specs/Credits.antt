@@ -1,0 +1,84 @@
+-- Which literals may be relied on for the variables that they capture. A literal that a group starts, or that is
+-- called under `defer`, is relied on for a cancel variable if each list that comes to one of its returns leaves the
+-- variable safe, and one under `defer` for a group if none leaves the group live. So a literal of which no return is
+-- reached is relied on for all that it captures, and one with too many variables for nothing. A literal relies on
+-- the literals in it, which begin behind its `func`. Of functions nothing is asked: no literal passes a variable
+-- that it captures.
+-- (The Go specification, "Defer statements"; the documentation of `golang.org/x/sync/errgroup`.)
+use Rattle.std.specs.Prelude.{ℕ, ◌≡◌, ◌↔◌, ◌==◌, Bool, true, false, not, ◌&&◌, if◌then◌else◌, List, [], ◌∷◌, Option, Some, None, Contains, nat_lt}
+use Rattle.meaning.specs.Code.{Occurrence}
+use Rattle.meaning.specs.FunctionFacts.{VariableKind, cancel, group}
+use Rattle.meaning.specs.Mentions.{BodyPlace}
+use Rattle.meaning.specs.Tracked.{live, idle}
+use Rattle.meaning.specs.Uses.{Callee, Handed, Event, Seen}
+use Rattle.meaning.specs.BodyEvents.{Variable, captured, bodies_of, variables_of, too_many_faults}
+use Rattle.meaning.specs.Classes.{Promises, CancelClass, unset, opened, safe, pending, GroupClass, unmade, in_state, awaited}
+use Rattle.meaning_packages.specs.PathFaults.{Paths, cancel_class, group_class, ComesToReturn, paths_of}
+
+-- Bodies of a file
+
+-- the first of these whose `func` has that offset
+abbrev pub body_at : ℕ → List BodyPlace → Option BodyPlace
+body_at at [] = None
+body_at at (b ∷ bs) = if b.at == at then Some b else body_at at bs
+
+-- Credits
+
+-- for each literal, by the offset of its `func`, and each variable, by its number
+abbrev pub Credits : Type 0
+Credits = ℕ → ℕ → Bool
+
+-- those of the literals that begin behind the offset
+abbrev pub behind : ℕ → Credits → Credits
+behind at credits literal number = nat_lt at literal && credits literal number
+
+-- what the body at an offset relies on
+abbrev pub promises_in : (Callee → ℕ → Bool) → Credits → ℕ → Promises
+promises_in calls credits at = record { calls = calls; credits = behind at credits }
+
+-- no function is known to call anything
+abbrev pub no_calls : Callee → ℕ → Bool
+no_calls f k = false
+
+abbrev pub is_safe : CancelClass → Bool
+is_safe unset = false
+is_safe opened = false
+is_safe safe = true
+is_safe (pending g) = false
+
+abbrev pub is_live : GroupClass → Bool
+is_live unmade = false
+is_live (in_state idle) = false
+is_live (in_state live) = true
+is_live awaited = false
+
+-- the list leaves the cancel variable safe, or the group not live
+abbrev pub is_settled : Paths → Variable → List (Occurrence Event) → VariableKind → Bool
+is_settled b v t cancel = is_safe (cancel_class b v t)
+is_settled b v t group = not (is_live (group_class b v t))
+
+-- each list that comes to a return does so
+pub record Settles (b : Paths) (v : Variable) : Type 0 where
+  pub at_returns : (handed : List Handed) (t : List (Occurrence Event)) (o : Occurrence Event)
+      → ComesToReturn b t o handed
+      → is_settled b v t v.kind ≡ true
+
+-- the literal at that offset captures the variable of that number, and settles it under these credits
+pub record IsCredited (seen : Seen) (credits : Credits) (literal number : ℕ) : Type 0 where
+  pub body : BodyPlace
+  pub variable : Variable
+  pub is_there : body_at literal (bodies_of seen) ≡ Some body
+  pub are_few : too_many_faults (variables_of seen literal) ≡ []
+  pub is_of_body : Contains (variables_of seen literal) variable
+  pub is_captured : variable.role ≡ captured
+  pub is_it : variable.number ≡ number
+  pub settles : Settles (paths_of seen (promises_in no_calls credits literal) body) variable
+
+-- all credits of a file: there is one such table
+pub record AreFullCredits (seen : Seen) (credits : Credits) : Type 0 where
+  pub each : (literal number : ℕ) → (credits literal number ≡ true) ↔ IsCredited seen credits literal number
+
+-- Credits that hold under themselves. They may leave out some of an inner literal's, and so have some of an outer one's
+-- that the full credits have not.
+pub record AreFairCredits (seen : Seen) (credits : Credits) : Type 0 where
+  pub each : (literal number : ℕ) → credits literal number ≡ true → IsCredited seen credits literal number

@@ -1,0 +1,78 @@
+-- Each entry of a report is of a file of its package.
+use Rattle.std.proofs.Common.{◌≡◌, ℕ, suc, ◌+◌, ◌<◌, ◌≤◌, Bool, List, [], ◌∷◌, length, Some, Contains, refl, sym, ap, ◌∙◌, subst, arith}
+use Rattle.std.specs.Prelude.{slice_get}
+use Rattle.std.proofs.lemmas.List.{length-map}
+use Rattle.std.proofs.lemmas.Option.{same_Some, slice_get_within, get_or_from_slice_get}
+use Rattle.tree.specs.Syntax.{ImportSpec, SourceFile}
+use Rattle.meaning.specs.Uses.{Callee, Seen}
+use Rattle.meaning_packages.specs.CallsFlags.{FileWithCredits}
+use Rattle.report.specs.Entries.{Entry}
+use Rattle.meaning_reports.specs.Loaded.{Reading, has_tree, has_text_fault, has_tree_fault, LoadedPackage, NumberedTree, Tables, trees_from, numbered_trees, trees_of, known_in, seen_from, seen_files}
+use Rattle.meaning.specs.Tracked.{Known}
+use Rattle.meaning_reports.specs.WholeFaults.{ImportsAt, IsWholeFault, has_no_tokens, has_no_tree, has_two_functions, has_no_rank}
+use Rattle.meaning_reports.specs.PackageTables.{AreCredited, no_file, file_and}
+use Rattle.meaning_reports.specs.PackageReports.{IsFileFinding, outside_bodies, of_use, of_path, IsFinding, of_whole, of_import, of_file}
+use Rattle.meaning_reports.proofs.NumberedTrees.{file_of}
+use Rattle.meaning_reports.specs.EntryFiles.{EntriesAreOfFiles}
+
+-- Numbers of trees
+
+of_numbered : (p : LoadedPackage) (t : NumberedTree) → Contains (numbered_trees p) t → t.file < length p.files
+of_numbered p t h = slice_get_within p.files t.file (has_tree t.tree) (file_of p t h)
+
+fewer_trees : (n : ℕ) (rs : List Reading) → length (trees_from n rs) ≤ length rs
+fewer_trees n [] = omega arith
+fewer_trees n (has_tree tree ∷ rs) = let l = fewer_trees (n + 1) rs in omega (arith, l)
+fewer_trees n (has_text_fault at why ∷ rs) = let l = fewer_trees (n + 1) rs in omega (arith, l)
+fewer_trees n (has_tree_fault at why ∷ rs) = let l = fewer_trees (n + 1) rs in omega (arith, l)
+
+as_many_seen : (known : ℕ → Known) (n : ℕ) (trees : List SourceFile) → length (seen_from known n trees) ≡ length trees
+as_many_seen known n [] = refl
+as_many_seen known n (tree ∷ trees) = ap suc (as_many_seen known (n + 1) trees)
+
+as_many_credited : {seens : List Seen} {files : List FileWithCredits} → AreCredited seens files → length files ≡ length seens
+as_many_credited no_file = refl
+as_many_credited (file_and same full credited) = ap suc (as_many_credited credited)
+
+its_number : (calls : Callee → ℕ → Bool) (number : ℕ) (file : FileWithCredits) (x : Entry) → IsFileFinding calls number file x
+    → x.file ≡ number
+its_number calls number file x (outside_bodies f among) = refl
+its_number calls number file x (of_use b f among found) = refl
+its_number calls number file x (of_path b f among found) = refl
+
+-- Entries
+
+module _ (ps : List LoadedPackage) (i : ℕ) (p : LoadedPackage) (is : slice_get ps i ≡ Some p) where
+  of_this : (q : LoadedPackage) (n : ℕ) → slice_get ps i ≡ Some q → n < length q.files → n < length p.files
+  of_this q n that l = subst (λ (r : LoadedPackage). n < length r.files) (same_Some q p (sym that ∙ is)) l
+
+  of_spec : (j file : ℕ) (spec : ImportSpec) → (im : ImportsAt ps i j file spec) → file < length p.files
+  of_spec j file spec im =
+      of_this im.importer file im.is_importer
+      (subst (λ (n : ℕ). n < length im.importer.files) im.is_file (of_numbered im.importer im.tree im.is_tree))
+
+  whole_within : (x : Entry) → IsWholeFault ps i x → x.file < length p.files
+  whole_within x (has_no_tokens q file at why that there) = of_this q file that (slice_get_within q.files file (has_text_fault at why) there)
+  whole_within x (has_no_tree q file at why that there) = of_this q file that (slice_get_within q.files file (has_tree_fault at why) there)
+  whole_within x (has_two_functions q f tree that second there) =
+      let among : Contains (numbered_trees q) tree = (f.file, slice_get_within (numbered_trees q) f.file tree there, get_or_from_slice_get (numbered_trees q) f.file tree tree there) in
+      of_this q tree.file that (of_numbered q tree among)
+  whole_within x (has_no_rank j file spec none_above none im) = of_spec j file spec im
+
+  finding_within : (tables : Tables) (x : Entry) → IsFinding ps tables i x → x.file < length p.files
+  finding_within tables x (of_whole fault) = whole_within x fault
+  finding_within tables x (of_import j number spec y none im found) = of_spec j number spec im
+  finding_within tables x (of_file flags number file h found) =
+      let judged = h.is_judged in
+      let own : number < length h.files = slice_get_within h.files number file h.is_file in
+      let seen = as_many_credited judged.are_files in
+      let trees : length (seen_files ps tables h.loaded) ≡ length (trees_of h.loaded) = as_many_seen (known_in ps tables h.loaded) 0 (trees_of h.loaded) in
+      let numbered : length (trees_of h.loaded) ≡ length (numbered_trees h.loaded) = length-map (numbered_trees h.loaded) (λ (t : NumberedTree). t.tree) in
+      let fewer = fewer_trees 0 h.loaded.files in
+      let its = its_number _ number file x found in
+      of_this h.loaded x.file judged.is_package (omega (arith, own, seen, trees, numbered, fewer, its))
+
+pub entries_are_of_files : EntriesAreOfFiles
+entries_are_of_files ps report p said x is_report of among =
+    let w = is_report.of_package of.place p said of.is_package of.is_said in
+    finding_within ps of.place p of.is_package is_report.tables x ((w.1.each x).0 among)

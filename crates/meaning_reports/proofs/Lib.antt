@@ -1,0 +1,7 @@
+mod EntryFiles
+pub mod EntryOrder
+pub mod ImportsOf
+pub mod NumberedTrees
+pub mod OneAnswer
+pub mod OneReport
+pub mod RanksGiven

@@ -1,0 +1,141 @@
+-- There is one answer: a file has one table of full credits, and a package one table of the most consistent flags.
+use Rattle.std.proofs.Common.{◌≡◌, ℕ, zero, suc, ◌+◌, ◌<◌, ◌≤◌, Bool, true, false, ◌&&◌, if◌then◌else◌, List, [], ◌∷◌, Some, nat_lt, refl, sym, ◌∙◌, subst, arith}
+use Rattle.std.specs.Prelude.{◌==◌}
+use Rattle.std.proofs.lemmas.Bool.{ltb-true}
+use Rattle.std.proofs.lemmas.Bool.Decides.{Decides-eqb}
+use Rattle.meaning.specs.Mentions.{BodyPlace}
+use Rattle.meaning.specs.Uses.{Seen}
+use Rattle.meaning_packages.specs.PathFaults.{paths_of}
+use Rattle.meaning_packages.specs.Credits.{body_at, Credits, behind, no_calls, Settles, IsCredited, AreFullCredits}
+use Rattle.meaning.specs.BodyEvents.{bodies_of}
+use Rattle.meaning_packages.specs.CallsFlags.{Flags, FileWithCredits, AreMost}
+use Rattle.meaning_reports.specs.PackageTables.{AreCredited, no_file, file_and}
+
+same_test : (a b : Bool) → (a ≡ true → b ≡ true) → (b ≡ true → a ≡ true) → a ≡ b
+same_test true b there back = sym (there refl)
+same_test false true there back = back refl
+same_test false false there back = refl
+
+-- Credits
+
+-- no body begins so far on
+abbrev bound : List BodyPlace → ℕ
+bound [] = 0
+bound (b ∷ bs) = b.at + 1 + bound bs
+
+before_bound : (at : ℕ) (bs : List BodyPlace) (b : BodyPlace) → body_at at bs ≡ Some b → at < bound bs
+before_bound at [] b e = cc
+before_bound at (x ∷ bs) b e = by (x.at == at) (Decides-eqb x.at at).0 (before_bound at bs b) e
+  where
+    by : (t : Bool) → (t ≡ true → x.at ≡ at) → (body_at at bs ≡ Some b → at < bound bs)
+        → (if t then Some x else body_at at bs) ≡ Some b
+        → at < x.at + 1 + bound bs
+    by true same later is = let here = same refl in omega (arith, here)
+    by false same later is = let l = later is in omega (arith, l)
+
+-- tables that agree on what lies behind a literal
+same_behind : (one other : Credits) (literal : ℕ)
+    → ((later number : ℕ) → literal < later → one later number ≡ other later number)
+    → behind literal one ≡ behind literal other
+same_behind one other literal agree = λ i later number. by later number (nat_lt literal later) refl i
+  where
+    by : (later number : ℕ) (t : Bool) → nat_lt literal later ≡ t → (t && one later number) ≡ (t && other later number)
+    by later number false e = refl
+    by later number true e = agree later number (ltb-true literal later e)
+
+module _ (seen : Seen) where
+  credited_too : (one other : Credits) (literal number : ℕ) → behind literal one ≡ behind literal other
+      → IsCredited seen one literal number
+      → IsCredited seen other literal number
+  credited_too one other literal number same h = record {
+    body = h.body;
+    variable = h.variable;
+    is_there = h.is_there;
+    are_few = h.are_few;
+    is_of_body = h.is_of_body;
+    is_captured = h.is_captured;
+    is_it = h.is_it;
+    settles = subst (λ c. Settles (paths_of seen (record { calls = no_calls; credits = c }) h.body) h.variable) same h.settles;
+  }
+
+  module _ (one other : Credits) (full : AreFullCredits seen one) (full_too : AreFullCredits seen other) where
+    none_past : (credits : Credits) → AreFullCredits seen credits → (literal number : ℕ) → bound (bodies_of seen) ≤ literal
+        → credits literal number ≡ false
+    none_past credits are literal number past = by (credits literal number) refl
+      where
+        by : (t : Bool) → credits literal number ≡ t → t ≡ false
+        by false e = refl
+        by true e =
+            let h = (are.each literal number).0 e in
+            absurd (let l = before_bound literal (bodies_of seen) h.body h.is_there in omega (arith, l, past))
+
+    -- from the last literal to the first
+    same_from : (k literal : ℕ) → bound (bodies_of seen) ≤ literal + k → (number : ℕ)
+        → one literal number ≡ other literal number
+    same_from zero literal past number =
+        let behind_all : bound (bodies_of seen) ≤ literal = omega (arith, past) in
+        none_past one full literal number behind_all ∙ sym (none_past other full_too literal number behind_all)
+    same_from (suc k) literal past number =
+        let same = same_behind one other literal (λ later n l. same_from k later (omega (arith, l, past)) n) in
+        same_test (one literal number) (other literal number)
+        (λ e. (full_too.each literal number).1 (credited_too one other literal number same ((full.each literal number).0 e)))
+        (λ e. (full.each literal number).1
+        (credited_too other one literal number (sym same) ((full_too.each literal number).0 e)))
+
+  pub one_table : (one other : Credits) → AreFullCredits seen one → AreFullCredits seen other → one ≡ other
+  one_table one other full full_too = λ i literal number.
+      same_from one other full full_too (bound (bodies_of seen)) literal (omega arith) number i
+
+-- Files
+
+-- they are credited in one way
+record IsFirst (seen : Seen) (rest : List Seen) (files : List FileWithCredits) : Type 0 where
+  file : FileWithCredits
+  others : List FileWithCredits
+  is : files ≡ file ∷ others
+  same : file.seen ≡ seen
+  are_full : AreFullCredits seen file.credits
+  are_credited : AreCredited rest others
+
+first_of : {seens : List Seen} {files : List FileWithCredits} → AreCredited seens files
+    → (first : Seen) (others : List Seen) → seens ≡ first ∷ others
+    → IsFirst first others files
+first_of no_file first others e = cc
+first_of (file_and {seen} {rest} {file} {files} same full credited) first others e =
+    let here : seen ≡ first = cc in
+    let later : rest ≡ others = cc in
+    record {
+      file = file;
+      others = files;
+      is = refl;
+      same = same ∙ here;
+      are_full = subst (λ x. AreFullCredits x file.credits) here full;
+      are_credited = subst (λ x. AreCredited x files) later credited;
+    }
+
+none_of : {seens : List Seen} {files : List FileWithCredits} → AreCredited seens files → seens ≡ [] → files ≡ []
+none_of no_file e = refl
+none_of (file_and same full credited) e = cc
+
+pub one_list : (seens : List Seen) (files others : List FileWithCredits) → AreCredited seens files
+    → AreCredited seens others
+    → files ≡ others
+one_list [] files others one other = none_of one refl ∙ sym (none_of other refl)
+one_list (seen ∷ rest) files others one other =
+    let a = first_of one seen rest refl in
+    let b = first_of other seen rest refl in
+    let credits : a.file.credits ≡ b.file.credits = one_table seen a.file.credits b.file.credits a.are_full b.are_full in
+    let seen_so : a.file.seen ≡ b.file.seen = a.same ∙ sym b.same in
+    let file : a.file ≡ b.file = λ i. record { seen = seen_so i; credits = credits i } in
+    let left = one_list rest a.others b.others a.are_credited b.are_credited in
+    a.is ∙ ((λ i. file i ∷ left i) ∙ sym b.is)
+
+-- Flags
+
+pub one_most : (files : List FileWithCredits) (imported : List ℕ → Flags) (one other : Flags)
+    → AreMost files imported one
+    → AreMost files imported other
+    → one ≡ other
+one_most files imported one other most most_too = λ i name k.
+    same_test (one name k) (other name k) (most_too.include one most.are_consistent name k)
+    (most.include other most_too.are_consistent name k) i

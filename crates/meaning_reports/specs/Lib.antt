@@ -1,0 +1,8 @@
+-- What is to be said of packages: to be trusted.
+pub mod Loaded
+pub mod WholeFaults
+pub mod PackageTables
+pub mod PackageReports
+-- What is proved of them.
+pub mod OneReport
+pub mod EntryFiles

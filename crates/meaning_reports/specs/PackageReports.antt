@@ -1,0 +1,102 @@
+-- What the report says of a package: the faults of the whole package, or else each import of a given package that isn't
+-- yes, the use faults of what stands in no body, and the faults of each body: its use faults, those of its passes and
+-- those of its paths. A package is yes if there is nothing to say of it.
+use Rattle.std.specs.Prelude.{ℕ, ◌≡◌, ◌↔◌, Bool, List, length, Some, slice_get, Contains}
+use Rattle.std.specs.List.{AllPairs}
+use Rattle.tree.specs.Syntax.{ImportSpec}
+use Rattle.meaning.specs.Mentions.{BodyPlace}
+use Rattle.meaning.specs.Uses.{Callee, UseFault, UseCode, recover_used, cancel_discarded, cancel_used_otherwise, group_used_otherwise, bound_again, too_many_variables}
+use Rattle.meaning.specs.BodyEvents.{outer_faults, body_faults}
+use Rattle.meaning_packages.specs.PathFaults.{PathFault, PathCode, overwritten, not_called, group_is_live, group_overwritten, left_to_live_group, passed_on, IsFaultOf}
+use Rattle.meaning_packages.specs.Credits.{promises_in}
+use Rattle.meaning.specs.BodyEvents.{bodies_of}
+use Rattle.meaning_packages.specs.CallsFlags.{Flags, calls_by, FileWithCredits}
+use Rattle.report.specs.declared.codes.DiagnosticCode.{DiagnosticCode}
+use Rattle.report.specs.declared.codes.DiagnosticCode.TheVariants.{LeftOut, Discarded, Overwritten, NotCalled, CancelMisused, GroupIsLive, GroupOverwritten, GroupMisused, LeftToLiveGroup, BoundAgain, TooMany, ImportIsNotYes}
+use Rattle.report.specs.declared.codes.TreeFault.TheVariants.{Recover}
+use Rattle.report.specs.Entries.{Entry, Precedes}
+use Rattle.meaning_reports.specs.Loaded.{LoadedPackage, PackageTable, Tables, imported_flags}
+use Rattle.meaning_reports.specs.WholeFaults.{ImportsAt, import_entry, IsWholeFault, HasNoWholeFault}
+use Rattle.meaning_reports.specs.PackageTables.{IsJudged, AreTables}
+
+abbrev pub use_code : UseCode → DiagnosticCode
+use_code recover_used = LeftOut Recover
+use_code cancel_discarded = Discarded
+use_code cancel_used_otherwise = CancelMisused
+use_code group_used_otherwise = GroupMisused
+use_code bound_again = BoundAgain
+use_code too_many_variables = TooMany
+
+abbrev pub path_code : PathCode → DiagnosticCode
+path_code overwritten = Overwritten
+path_code not_called = NotCalled
+path_code group_is_live = GroupIsLive
+path_code group_overwritten = GroupOverwritten
+path_code left_to_live_group = LeftToLiveGroup
+path_code passed_on = CancelMisused
+
+abbrev pub use_entry : ℕ → UseFault → Entry
+use_entry file f = record { file = file; offset = f.at; code = use_code f.code; name = f.name }
+
+abbrev pub path_entry : ℕ → PathFault → Entry
+path_entry file f = record { file = file; offset = f.at; code = path_code f.code; name = f.name }
+
+-- what is to be said of a file of that number, by what is known of functions
+pub data IsFileFinding (calls : Callee → ℕ → Bool) (number : ℕ) (file : FileWithCredits) : Entry → Type 0 where
+  outside_bodies : (f : UseFault)
+      → Contains (outer_faults file.seen) f
+      → IsFileFinding calls number file (use_entry number f)
+  of_use : (b : BodyPlace) (f : UseFault)
+      → Contains (bodies_of file.seen) b
+      → Contains (body_faults file.seen b.at) f
+      → IsFileFinding calls number file (use_entry number f)
+  of_path : (b : BodyPlace) (f : PathFault)
+      → Contains (bodies_of file.seen) b
+      → IsFaultOf file.seen (promises_in calls file.credits b.at) b f
+      → IsFileFinding calls number file (path_entry number f)
+
+-- the file of that number of a package that is judged, in which each file has a tree
+pub record IsFileOf
+    (ps : List LoadedPackage) (tables : Tables) (i : ℕ) (flags : Flags) (number : ℕ) (file : FileWithCredits)
+    : Type 0 where
+  pub loaded : LoadedPackage
+  pub files : List FileWithCredits
+  pub is_judged : IsJudged ps tables i loaded files flags
+  pub is_file : slice_get files number ≡ Some file
+
+pub data IsFinding (ps : List LoadedPackage) (tables : Tables) : ℕ → Entry → Type 0 where
+  of_whole : {i : ℕ} {x : Entry} → IsWholeFault ps i x → IsFinding ps tables i x
+  of_import : {i : ℕ} (j number : ℕ) (spec : ImportSpec) (x : Entry)
+      → HasNoWholeFault ps i
+      → ImportsAt ps i j number spec
+      → IsFinding ps tables j x
+      → IsFinding ps tables i (import_entry number spec ImportIsNotYes)
+  of_file : {i : ℕ} {x : Entry} (flags : Flags) (number : ℕ) (file : FileWithCredits)
+      → (h : IsFileOf ps tables i flags number file)
+      → IsFileFinding (calls_by flags (imported_flags h.loaded tables)) number file x
+      → IsFinding ps tables i x
+
+-- nothing is to be said of the package
+abbrev pub IsYes : List LoadedPackage → Tables → ℕ → Type 0
+IsYes ps tables i = (x : Entry) → IsFinding ps tables i x → ⊥
+
+-- the entries are what is to be said of the package, each once, in their order
+pub record AreFindings (ps : List LoadedPackage) (tables : Tables) (i : ℕ) (entries : List Entry) : Type 0 where
+  pub in_order : AllPairs Precedes entries
+  pub each : (x : Entry) → Contains entries x ↔ IsFinding ps tables i x
+
+-- what is said of a package: its path, the findings, and its table
+pub record Said : Type 0 where
+  pub path : List ℕ
+  pub entries : List Entry
+  pub table : PackageTable
+
+-- the report has for each package, in their order, what is to be said of it
+pub record IsReportOf (ps : List LoadedPackage) (report : List Said) : Type 0 where
+  pub tables : Tables
+  pub are_tables : AreTables ps tables
+  pub is_as_long : length report ≡ length ps
+  pub of_package : (i : ℕ) (p : LoadedPackage) (said : Said)
+      → slice_get ps i ≡ Some p
+      → slice_get report i ≡ Some said
+      → (said.path ≡ p.path) × AreFindings ps tables i said.entries × (said.table ≡ tables p.path)

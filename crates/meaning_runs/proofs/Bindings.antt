@@ -1,0 +1,138 @@
+-- An event that binds is that of a mention on a left side, of a local that the body declares in its block.
+use Rattle.std.proofs.Common.{◌≡◌, ℕ, Bool, true, false, inl, inr, List, [], ◌∷◌, Option, Some, None, Contains, refl, sym, ◌∙◌, subst}
+use Rattle.std.specs.Prelude.{if◌then◌else◌}
+use Rattle.meaning.specs.FunctionFacts.{VariableKind}
+use Rattle.meaning.specs.Mentions.{BodyPlace, Row, Role, elsewhere, called, called_in_brackets, argument, returned, left, names_type, new_literal, parameter_pointer, Mention, Mark, mentions, defers_literal, returns, opens, closes}
+use Rattle.meaning.specs.Tracked.{Known, variable_of, LocalRole, parameter, receiver, variadic, result, in_block, Local}
+use Rattle.meaning.specs.Uses.{Seen, found, kind_of, tracked_kind, VariableAt, Event, other, obtain, clear, call, defer_call, pass, defer_pass, lend, start, try, wait, defer_wait, make, defer_literal, return_event, Binding, obtained, cleared, made, binding_at, binding_event, variable_at, mention_outcome, binding_outcome, row_outcome, role_outcome, local_outcome, is_own, is_body, body_gives}
+use Rattle.meaning.specs.BodyEvents.{handed_on, mark_events}
+use Rattle.meaning.proofs.Membership.{contains_cases, contains_nil}
+use Rattle.meaning_packages.specs.PathFaults.{BindsCancel, obtains, clears}
+use Rattle.meaning_runs.specs.Bodies.{Body}
+use Rattle.meaning_runs.specs.EventSources.{HasSource, says_nothing, falls_off, of_mark, IsBound, BindingsAreOfLocals}
+use Rattle.meaning_runs.proofs.Places.{eqb_is}
+use Rattle.meaning_runs.proofs.EventSources.{events_have_sources}
+use Rattle.meaning_runs.proofs.MentionEvents.{is_use, mention_fits}
+
+-- events that bind nothing
+abbrev pub Harmless : List Event → Type 0
+Harmless es = (e : Event) → Contains es e → (u : VariableAt) → BindsCancel e u → ⊥
+
+abbrev pub is_binding : Event → Bool
+is_binding other = false
+is_binding (obtain u c n is_new) = true
+is_binding (clear u) = true
+is_binding (call v) = false
+is_binding (defer_call v) = false
+is_binding (pass u c n) = false
+is_binding (defer_pass u c n) = false
+is_binding (lend g c n) = false
+is_binding (start g literal) = false
+is_binding (try g literal) = false
+is_binding (wait g) = false
+is_binding (defer_wait g) = false
+is_binding (make u state) = false
+is_binding (defer_literal at) = false
+is_binding (return_event handed) = false
+
+binds_so : (e : Event) (u : VariableAt) → BindsCancel e u → is_binding e ≡ true
+binds_so e u obtains = refl
+binds_so e u clears = refl
+
+pub no_binding : (e : Event) (u : VariableAt) → is_binding e ≡ false → BindsCancel e u → ⊥
+no_binding e u q b = let bad : false ≡ true = sym q ∙ binds_so e u b in cc
+
+pub single : (x : Event) → is_binding x ≡ false → Harmless (x ∷ [])
+single x q e h u b =
+    elim (contains_cases x e [] h) [ inl same ↦ no_binding x u q (subst (λ y. BindsCancel y u) (sym same) b) | inr n ↦ contains_nil e n ]
+
+use_binds_nothing : (e : Event) → is_use e ≡ true → is_binding e ≡ false
+use_binds_nothing other h = refl
+use_binds_nothing (obtain u c n is_new) h = let bad : false ≡ true = h in cc
+use_binds_nothing (clear u) h = let bad : false ≡ true = h in cc
+use_binds_nothing (call v) h = refl
+use_binds_nothing (defer_call v) h = refl
+use_binds_nothing (pass u c n) h = refl
+use_binds_nothing (defer_pass u c n) h = refl
+use_binds_nothing (lend g c n) h = refl
+use_binds_nothing (start g literal) h = refl
+use_binds_nothing (try g literal) h = refl
+use_binds_nothing (wait g) h = refl
+use_binds_nothing (defer_wait g) h = refl
+use_binds_nothing (make u state) h = refl
+use_binds_nothing (defer_literal at) h = refl
+use_binds_nothing (return_event handed) h = refl
+
+pub mention_harmless : (seen : Seen) (l : Local) (kind : Option VariableKind) (bodies : List BodyPlace) (m : Mention) → Harmless (mention_outcome seen l kind bodies m).events
+mention_harmless seen l kind bodies m =
+    mention_fits (λ e. (u : VariableAt) → BindsCancel e u → ⊥)
+    (λ e h u b. no_binding e u (use_binds_nothing e h) b) seen l kind bodies m
+
+same_body : (bodies : List BodyPlace) (m n : ℕ) → is_body m bodies ≡ true → is_body n bodies ≡ true → m ≡ n
+same_body [] m n h k = let bad : false ≡ true = h in cc
+same_body (b ∷ bs) m n h k = sym (eqb_is b.at m h) ∙ eqb_is b.at n k
+
+bound_number : (known : Known) (l : Local) (m : Mention) (row : Row) (binding : Binding) (u : VariableAt) → BindsCancel (binding_event known l m row binding) u → l.number ≡ u.number
+bound_number known l m row (obtained k) u obtains = refl
+bound_number known l m row cleared u clears = refl
+bound_number known l m row (made state) u b = absurd (no_binding (make (variable_at l m) state) u refl b)
+
+module _ (b : Body) (bodies : List BodyPlace) (here : is_body b.place.at bodies ≡ true) (m : Mention) (e : Event) (u : VariableAt) (binds : BindsCancel e u) where
+  module _ (l : Local) (is : found b.file (variable_of b.file.known m) ≡ Some l) where
+    by_place : (own : Bool) (x : Event) → is_own l bodies ≡ own → (BindsCancel x u → l.number ≡ u.number) → l.role ≡ in_block → Contains (if own then x ∷ [] else []) e → IsBound b u
+    by_place false x q number role h = absurd (contains_nil e h)
+    by_place true x q number role h =
+        let same : x ≡ e = elim (contains_cases x e [] h) [ inl k ↦ k | inr n ↦ absurd (contains_nil e n) ] in
+        record {
+          mention = m;
+          local = l;
+          is_found = is;
+          is_it = number (subst (λ y. BindsCancel y u) (sym same) binds);
+          is_declared_here = same_body bodies l.body b.place.at q here;
+          is_in_block = role;
+        }
+
+    by_local_role : (kind : VariableKind) (row : Row) (x : Event) (r : LocalRole) → l.role ≡ r → (BindsCancel x u → l.number ≡ u.number) → Contains (binding_outcome b.file l kind bodies m row x r).events e → IsBound b u
+    by_local_role kind row x (parameter k) q number h = absurd (contains_nil e h)
+    by_local_role kind row x receiver q number h = absurd (contains_nil e h)
+    by_local_role kind row x variadic q number h = absurd (contains_nil e h)
+    by_local_role kind row x result q number h = absurd (contains_nil e h)
+    by_local_role kind row x in_block q number h = by_place (is_own l bodies) x refl number q h
+
+    by_row : (kind : Option VariableKind) (row : Row) (binding : Option Binding) → Contains (row_outcome b.file l kind bodies m row binding).events e → IsBound b u
+    by_row None row None h = absurd (contains_nil e h)
+    by_row None row (Some binding) h = absurd (contains_nil e h)
+    by_row (Some kind) row None h = absurd (mention_harmless b.file l (tracked_kind b.file (Some l)) bodies m e h u binds)
+    by_row (Some kind) row (Some binding) h =
+        by_local_role kind row (binding_event b.file.known l m row binding) l.role refl (bound_number b.file.known l m row binding u) h
+
+    by_role : (r : Role) → Contains (role_outcome b.file l bodies m r).events e → IsBound b u
+    by_role (left k row) h = by_row (kind_of b.file (Some l)) row (binding_at b.file row k) h
+    by_role elsewhere h = absurd (mention_harmless b.file l (tracked_kind b.file (Some l)) bodies m e h u binds)
+    by_role (called c) h = absurd (mention_harmless b.file l (tracked_kind b.file (Some l)) bodies m e h u binds)
+    by_role called_in_brackets h = absurd (mention_harmless b.file l (tracked_kind b.file (Some l)) bodies m e h u binds)
+    by_role (argument k x c) h = absurd (mention_harmless b.file l (tracked_kind b.file (Some l)) bodies m e h u binds)
+    by_role (returned k) h = absurd (mention_harmless b.file l (tracked_kind b.file (Some l)) bodies m e h u binds)
+    by_role (names_type row) h = absurd (mention_harmless b.file l (tracked_kind b.file (Some l)) bodies m e h u binds)
+    by_role (new_literal row) h = absurd (mention_harmless b.file l (tracked_kind b.file (Some l)) bodies m e h u binds)
+    by_role parameter_pointer h = absurd (mention_harmless b.file l (tracked_kind b.file (Some l)) bodies m e h u binds)
+
+  by_found : (o : Option Local) → found b.file (variable_of b.file.known m) ≡ o → Contains (local_outcome b.file bodies m o).events e → IsBound b u
+  by_found None q h = absurd (contains_nil e h)
+  by_found (Some l) q h = by_role l q m.role h
+
+by_mark : (b : Body) (bodies : List BodyPlace) (mark : Mark) (e : Event) (u : VariableAt) → is_body b.place.at bodies ≡ true → Contains (mark_events b.file bodies mark) e → BindsCancel e u → IsBound b u
+by_mark b bodies (mentions m) e u here h binds =
+    by_found b bodies here m e u binds (found b.file (variable_of b.file.known m)) refl h
+by_mark b bodies (defers_literal site at) e u here h binds = absurd (single (defer_literal at) refl e h u binds)
+by_mark b bodies (returns at es) e u here h binds = absurd (single (return_event (handed_on b.file (body_gives b.file.known bodies) 0 es)) refl e h u binds)
+by_mark b bodies (opens x) e u here h binds = absurd (contains_nil e h)
+by_mark b bodies closes e u here h binds = absurd (contains_nil e h)
+
+by_source : (b : Body) (e : Event) (u : VariableAt) → HasSource b e → BindsCancel e u → IsBound b u
+by_source b e u says_nothing binds = absurd (no_binding other u refl binds)
+by_source b e u falls_off binds = absurd (no_binding (return_event []) u refl binds)
+by_source b e u (of_mark mark among here h) binds = by_mark b mark.bodies mark.mark e u here h binds
+
+pub bindings_are_of_locals : BindingsAreOfLocals
+bindings_are_of_locals b t o u reached binds = by_source b o.event u (events_have_sources b t o reached) binds

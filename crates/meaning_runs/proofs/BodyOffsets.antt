@@ -1,0 +1,159 @@
+-- In the tree of a text no two bodies begin at one offset, and a body that stands in another begins behind it.
+use Rattle.std.proofs.Common.{◌≡◌, ℕ, ◌≤◌, length, arith, inl, inr, Bool, true, false, List, [], ◌∷◌, ◌++◌, Option, Some, None, Contains, refl, sym, ap, subst, append_assoc}
+use Rattle.std.specs.Prelude.{◌-◌}
+use Rattle.std.proofs.lemmas.List.Elements.{Contains-append_cases}
+use Rattle.tree.specs.declared.operator.DeclKeyword.{DeclKeyword}
+use Rattle.tree.specs.Syntax.{Parameters, Specs, no_spec, value_and, type_and, declaration_of, Block, Function, TopLevelDeclaration, function_declaration, general_declaration, ImportSpec, ImportDeclaration, SourceFile}
+use Rattle.meaning.specs.Mentions.{BodyPlace, Mark, mentions, defers_literal, returns, opens, closes, part_of, expressions_marks, optional_marks, signature_marks, statements_marks, receiver_marks, function_body, function_marks, outer_specs_marks, top_level_marks, top_levels_marks, file_marks}
+use Rattle.meaning.specs.Tracked.{Placed, placed}
+use Rattle.meaning.specs.TreeOfText.{first_place, IsTreeOf}
+use Rattle.meaning.specs.Grammar.{as_type, as_expression, IsLast, SpellsSpecs, SpellsDeclaration, SpellsImportSpec, SpellsImportSpecs, SpellsOneImport, SpellsImports, SpellsReceiver, SpellsBody, SpellsFunction, SpellsTopLevel, SpellsTopLevels, SpellsFile}
+use Rattle.meaning.proofs.Membership.{contains_nil, contains_here, contains_there, contains_cases}
+use Rattle.meaning.specs.BodyEvents.{opened_by, opened_in}
+use Rattle.meaning_runs.specs.BodyOffsets.{BodiesAreApart}
+use Rattle.meaning_runs.proofs.LeftSides.{is_placed}
+use Rattle.meaning_runs.proofs.BodyOffsetsWithin.{AllBefore}
+use Rattle.meaning_runs.proofs.BodyOffsetsTokens.{tokens_ordered, tokens_under}
+use Rattle.meaning_runs.proofs.AskedSites.{CodeSite, unasked_at, asked_statements}
+use Rattle.meaning_runs.proofs.SitesWithin.{Sited, no_site, from_site}
+use Rattle.meaning_runs.proofs.SavedLiterals.{AreSaved}
+use Rattle.meaning_runs.proofs.BodyOffsetsRules.{Gives, both, behind, ending, given, spanned, loosely, gives_nothing, gives_never, gives_token, gives_chosen, gives_only_if, enclosed, gives_string, gives_semicolon, gives_identifier, gives_optional_identifier, gives_identifiers, moved, spanned_begun, unasked, foreign, past, simple, led, braced, bodied}
+use Rattle.meaning_runs.proofs.BodyOffsetsParts.{gives_perhaps, gives_expressions}
+use Rattle.meaning_runs.proofs.BodyOffsetsSpelled.{gives_keyword, no_expressions, last_gives, of_expression, of_each, of_optional, of_signature, of_items, of_statements}
+
+no_outer_specs : (specs : Specs) → IsLast specs → outer_specs_marks specs ≡ []
+no_outer_specs no_spec h = refl
+no_outer_specs (value_and ns t es span specs) h = absurd h
+no_outer_specs (type_and n is_alias t span specs) h = absurd h
+
+abbrev block_sites : Block → List CodeSite
+block_sites b = unasked_at b.braces.start ∷ (asked_statements b.statements ++ unasked_at (b.braces.end - 1) ∷ [])
+
+module _ (text : List ℕ) where
+  outer_specs : (keyword : DeclKeyword) (is_grouped : Bool) (specs : Specs)
+      → Gives false no_site [] (outer_specs_marks specs) (SpellsSpecs text keyword is_grouped specs)
+  unfolding SpellsSpecs
+  outer_specs keyword is_grouped no_spec = gives_chosen is_grouped gives_nothing gives_never
+  outer_specs keyword is_grouped (value_and ns t es span specs) =
+      moved (append_assoc (optional_marks span.start t) (expressions_marks (part_of span.start) es) (outer_specs_marks specs))
+      (given (loosely (both (spanned_begun (unasked (simple (behind (gives_identifiers text ns)
+      (both (of_optional text as_type span.start t)
+      (gives_perhaps es (expressions_marks (part_of span.start)) (no_expressions (part_of span.start))
+      (behind (gives_token _)
+      (gives_expressions text as_expression (part_of span.start) es (of_each text as_expression es)))))))))
+      (gives_chosen is_grouped (behind gives_semicolon (outer_specs keyword true specs))
+      (last_gives [] (outer_specs_marks specs) specs (λ h. refl) (no_outer_specs specs))))))
+  outer_specs keyword is_grouped (type_and n is_alias t span specs) =
+      given (loosely (both (spanned_begun (unasked (simple (behind (gives_identifier text n)
+      (behind (gives_only_if is_alias (gives_token _))
+      (of_expression text as_type (part_of span.start) t))))))
+      (gives_chosen is_grouped (behind gives_semicolon (outer_specs keyword true specs))
+      (last_gives [] (outer_specs_marks specs) specs (λ h. refl) (no_outer_specs specs)))))
+
+  pub receiver : (site : ℕ) (ps : Option Parameters)
+      → Gives false (from_site site) [] (receiver_marks site ps) (SpellsReceiver text ps)
+  receiver site None = gives_nothing
+  receiver site (Some ps) = given (loosely (enclosed _ _ (of_items text true true site ps)))
+
+  block : (b : Block)
+      → Gives true no_site (block_sites b) (statements_marks b.statements) (SpellsBody text (Some b))
+  block b = braced (of_statements text b.statements)
+
+  -- a function by its parts
+  with_block : (f : Function) (b : Option Block)
+      → Gives true no_site [] (function_marks f b) (SpellsFunction text record f { body = b })
+  with_block f None =
+      spanned_begun (unasked (led _ refl (past (both (receiver f.span.start f.receiver)
+      (behind (gives_identifier text f.name)
+      (ending (of_signature text f.span.start f.signature) gives_nothing))))))
+  with_block f (Some b) =
+      bodied (function_body f b) refl
+      (moved (sym (append_assoc (receiver_marks f.span.start f.receiver) (signature_marks f.span.start f.signature) (statements_marks b.statements)))
+      (both (past (receiver f.span.start f.receiver))
+      (behind (gives_identifier text f.name)
+      (both (past (of_signature text f.span.start f.signature)) (foreign (block b))))))
+
+  pub top_level : (d : TopLevelDeclaration) → Gives false no_site [] (top_level_marks d) (SpellsTopLevel text d)
+  unfolding SpellsDeclaration
+  top_level (function_declaration f) = loosely (with_block f f.body)
+  top_level (general_declaration (declaration_of keyword specs is_grouped span)) =
+      spanned (loosely (behind (gives_keyword keyword)
+      (gives_chosen is_grouped (loosely (enclosed _ _ (outer_specs keyword true specs)))
+      (outer_specs keyword false specs))))
+
+  top_levels : (ds : List TopLevelDeclaration) → Gives false no_site [] (top_levels_marks ds) (SpellsTopLevels text ds)
+  top_levels [] = gives_nothing
+  top_levels (d ∷ ds) = both (top_level d) (behind gives_semicolon (top_levels ds))
+
+  pub import_spec : (i : ImportSpec) → Gives false no_site [] [] (SpellsImportSpec text i)
+  import_spec i = given (spanned (behind (gives_optional_identifier text i.name) (spanned gives_string)))
+
+  import_specs : (is : List ImportSpec) → Gives false no_site [] [] (SpellsImportSpecs text is)
+  import_specs [] = gives_nothing
+  import_specs (i ∷ is) = behind (import_spec i) (behind gives_semicolon (import_specs is))
+
+  one_import : (is : List ImportSpec) → Gives false no_site [] [] (SpellsOneImport text is)
+  one_import [] = gives_never
+  one_import (i ∷ []) = import_spec i
+  one_import (i ∷ j ∷ is) = gives_never
+
+  pub imports : (ds : List ImportDeclaration) → Gives false no_site [] [] (SpellsImports text ds)
+  imports [] = gives_nothing
+  imports (d ∷ ds) =
+      loosely (behind (spanned (behind (gives_token _)
+      (gives_chosen d.is_grouped (loosely (enclosed _ _ (import_specs d.specs))) (one_import d.specs))))
+      (behind gives_semicolon (imports ds)))
+
+  whole_file : (file : SourceFile) → Gives true no_site [] (file_marks file) (SpellsFile text file)
+  whole_file file =
+      spanned (behind (gives_token _) (behind (gives_identifier text file.package_name) (behind gives_semicolon
+      (behind (imports file.imports) (top_levels file.declarations)))))
+
+-- the bodies that placed marks open
+opened_here : (m : Mark) (b : BodyPlace) → Contains (opened_by m) b → m ≡ opens b
+opened_here (mentions m) b h = absurd (contains_nil b h)
+opened_here (defers_literal site at) b h = absurd (contains_nil b h)
+opened_here (returns at es) b h = absurd (contains_nil b h)
+opened_here (opens c) b h = elim (contains_cases c b [] h) [
+  | inl e ↦ ap opens e
+  | inr none ↦ absurd (contains_nil b none)
+]
+opened_here closes b h = absurd (contains_nil b h)
+
+pub opened_there : (ps : List Placed) (b : BodyPlace) → Contains (opened_in ps) b → (p : Placed) × Contains ps p × (p.mark ≡ opens b)
+opened_there [] b h = absurd (contains_nil b h)
+opened_there (p ∷ ps) b h = elim (Contains-append_cases (opened_by p.mark) (opened_in ps) b h) [
+  | inl here ↦ (p, contains_here p ps, opened_here p.mark b here)
+  | inr rest ↦ let w = opened_there ps b rest in (w.0, contains_there p w.0 ps w.1, w.2)
+]
+
+pub opens_one : (ms : List Mark) (b : BodyPlace) → Contains (opened_in (placed [] ms)) b → Contains ms (opens b)
+opens_one ms b h =
+    let w = opened_there (placed [] ms) b h in
+    subst (λ (m : Mark). Contains ms m) w.2 (is_placed [] ms w.0 w.1)
+
+no_bodies_before : AllBefore 0 []
+no_bodies_before c h = absurd (contains_nil c h)
+
+pub bodies_are_apart : BodiesAreApart
+bodies_are_apart text tree t =
+    let g = whole_file text tree (first_place t.tokens) t.last 0 tt (tokens_ordered text t.tokens t.cut) t.spelled in
+    let w = g.within in
+    record {
+      falling = w.falls [] tt no_bodies_before;
+      one_each = λ b c first second same.
+          w.one_each b c (opens_one (file_marks tree) b first) (opens_one (file_marks tree) c second) same;
+    }
+
+-- the sites and the literals under `defer` of a file whose tree is the tree of a text
+pub record AreSited (text : List ℕ) (tree : SourceFile) : Type 0 where
+  pub end : ℕ
+  pub in_text : end ≤ length text
+  pub sited : Sited no_site 0 end [] (file_marks tree)
+  pub saved : AreSaved [] (file_marks tree)
+
+pub are_sited : (text : List ℕ) (tree : SourceFile) → IsTreeOf text tree → AreSited text tree
+are_sited text tree t =
+    let g = whole_file text tree (first_place t.tokens) t.last 0 tt (tokens_ordered text t.tokens t.cut) t.spelled in
+    let bounded = g.bounded (length text) (omega arith) (tokens_under text t.tokens t.cut) in
+    record { end = g.hi; in_text = bounded.0; sited = g.sited; saved = g.saved [] }

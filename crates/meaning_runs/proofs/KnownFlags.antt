@@ -1,0 +1,236 @@
+-- Where packages are well known, what is known of a function holds of each body that it has: the flags of its package
+-- are consistent, and no other body of the package has its name.
+use Rattle.std.proofs.Common.{◌≡◌, ℕ, zero, suc, ◌+◌, ◌≤◌, Bool, true, false, ◌⊎◌, inl, inr, List, [], ◌∷◌, map, Option, Some, None, Contains, refl, sym, ap, ◌∙◌, subst, arith}
+use Rattle.std.specs.Prelude.{if◌then◌else◌, slice_get}
+use Rattle.std.specs.Str.{bytes_eq}
+use Rattle.std.proofs.lemmas.Option.{none-some}
+use Rattle.std.proofs.lemmas.Slice.Eq.{bytes_eq-Decides}
+use Rattle.std.proofs.lemmas.List.Elements.{Contains-append_cases}
+use Rattle.tree.specs.Syntax.{TopLevelDeclaration, function_declaration, general_declaration}
+use Rattle.meaning.specs.OuterBlocks.{can_be_meant}
+use Rattle.meaning.specs.TwoFunctions.{FunctionName, function_names_in, function_names_from, is_called_before, second_after, second_function}
+use Rattle.meaning.specs.Uses.{Callee, Seen}
+use Rattle.meaning.specs.BodyEvents.{Variable, own_parameter}
+use Rattle.meaning.proofs.Membership.{contains_here, contains_there, contains_cases, contains_nil}
+use Rattle.meaning_packages.specs.Credits.{AreFairCredits}
+use Rattle.meaning_packages.specs.CallsFlags.{FileWithCredits, flag_of, is_function}
+use Rattle.imports.specs.Ranks.{Package, Imports, Chain, ends, goes_on}
+use Rattle.meaning_reports.specs.Loaded.{LoadedPackage, NumberedTree, numbered_trees, trees_of, imported_paths, import_list, is_imported, no_table, PackageTable, imported_flags, known_in, seen_files}
+use Rattle.meaning_reports.specs.WholeFaults.{HasNoWholeFault, has_two_functions}
+use Rattle.meaning_reports.proofs.ImportsOf.{has_path, list_item, in_lists, given_in_lists}
+use Rattle.meaning_runs.specs.Bodies.{Program, Body, IsBelow, IsOf, IsNamed}
+use Rattle.meaning_runs.specs.Promise.{AreFairlyCredited, no_file, file_and, AreWellKnown}
+use Rattle.meaning_runs.specs.Duties.{IsFlagged, TakesUp, calls_in}
+use Rattle.meaning_runs.proofs.NamedBodies.{AreApart, apart, one_body}
+
+some_inj : {A : Type 0} (x y : A) → Some x ≡ Some y → x ≡ y
+some_inj x y e = cc
+
+not_both : {b : Bool} → b ≡ false → b ≡ true → ⊥
+not_both e g = let bad : false ≡ true = sym e ∙ g in cc
+
+-- No two functions of one name
+
+in_file : (n : ℕ) (ds : List TopLevelDeclaration) (f : FunctionName) → Contains (function_names_in n ds) f → f.file ≡ n
+in_file n [] f h = absurd (contains_nil f h)
+in_file n (general_declaration d ∷ ds) f h = in_file n ds f h
+in_file n (function_declaration g ∷ ds) f h = by (can_be_meant g) h (in_file n ds f)
+  where
+    by : (b : Bool) → Contains (if b then record { file = n; name = g.name } ∷ function_names_in n ds else function_names_in n ds) f → (Contains (function_names_in n ds) f → f.file ≡ n) → f.file ≡ n
+    by false k go = go k
+    by true k go = elim (contains_cases _ f (function_names_in n ds) k) [
+      | inl q ↦ ap (λ (x : FunctionName). x.file) (sym q)
+      | inr r ↦ go r
+    ]
+
+record HasTree (n : ℕ) (ts : List NumberedTree) (f : FunctionName) : Type 0 where
+  place : ℕ
+  tree : NumberedTree
+  is_place : f.file ≡ n + place
+  is_there : slice_get ts place ≡ Some tree
+
+has_tree_there : (n : ℕ) (ts : List NumberedTree) (f : FunctionName) → Contains (function_names_from n (map (λ (t : NumberedTree). t.tree) ts)) f → HasTree n ts f
+has_tree_there n [] f h = absurd (contains_nil f h)
+has_tree_there n (t ∷ ts) f h =
+    elim (Contains-append_cases (function_names_in n t.tree.declarations) (function_names_from (n + 1) (map (λ (x : NumberedTree). x.tree) ts)) f h) [
+      | inl r ↦
+          let same : n ≡ n + 0 = omega arith in
+          record { place = 0; tree = t; is_place = in_file n t.tree.declarations f r ∙ same; is_there = refl }
+      | inr r ↦
+          let w = has_tree_there (n + 1) ts f r in
+          let same : (n + 1) + w.place ≡ n + suc w.place = omega arith in
+          record { place = suc w.place; tree = w.tree; is_place = w.is_place ∙ same; is_there = w.is_there }
+    ]
+
+pub second_among : (earlier fs : List FunctionName) (f : FunctionName) → second_after earlier fs ≡ Some f → Contains fs f
+second_among earlier [] f e = absurd (none-some f e)
+second_among earlier (x ∷ xs) f e = by (is_called_before x earlier) e (second_among (x ∷ earlier) xs f)
+  where
+    by : (b : Bool) → (if b then Some x else second_after (x ∷ earlier) xs) ≡ Some f → (second_after (x ∷ earlier) xs ≡ Some f → Contains xs f) → Contains (x ∷ xs) f
+    by true q go = subst (λ y. Contains (x ∷ xs) y) (some_inj x f q) (contains_here x xs)
+    by false q go = contains_there x f xs (go q)
+
+no_second : (ps : List LoadedPackage) (i : ℕ) (q : LoadedPackage) → slice_get ps i ≡ Some q → HasNoWholeFault ps i → second_function (trees_of q) ≡ None
+no_second ps i q is none = by (second_function (trees_of q)) refl
+  where
+    by : (o : Option FunctionName) → second_function (trees_of q) ≡ o → second_function (trees_of q) ≡ None
+    by None e = e
+    by (Some f) e =
+        let w = has_tree_there 0 (numbered_trees q) f (second_among [] (function_names_from 0 (trees_of q)) f e) in
+        let same : 0 + w.place ≡ w.place = omega arith in
+        let there : slice_get (numbered_trees q) f.file ≡ Some w.tree = ap (slice_get (numbered_trees q)) (w.is_place ∙ same) ∙ w.is_there in
+        absurd (none _ (has_two_functions q f w.tree is e there))
+
+-- Files
+
+credited_seen : (seens : List Seen) (files : List FileWithCredits) (file : FileWithCredits) → AreFairlyCredited seens files → Contains files file → Contains seens file.seen
+credited_seen seens files file no_file h = absurd (contains_nil file h)
+credited_seen seens files file (file_and {seen = first} {rest = rest} {file = one} {files = others} same fair more) h =
+    elim (contains_cases one file others h) [
+      | inl q ↦ subst (λ x. Contains (first ∷ rest) x) (sym same ∙ ap (λ (x : FileWithCredits). x.seen) q) (contains_here first rest)
+      | inr r ↦ contains_there first file.seen rest (credited_seen rest others file more r)
+    ]
+
+pub credited_fairly : (seens : List Seen) (files : List FileWithCredits) (file : FileWithCredits) → AreFairlyCredited seens files → Contains files file → AreFairCredits file.seen file.credits
+credited_fairly seens files file no_file h = absurd (contains_nil file h)
+credited_fairly seens files file (file_and {seen = first} {rest = rest} {file = one} {files = others} same fair more) h =
+    elim (contains_cases one file others h) [
+      | inl q ↦ subst (λ (x : FileWithCredits). AreFairCredits x.seen x.credits) q (subst (λ x. AreFairCredits x one.credits) (sym same) fair)
+      | inr r ↦ credited_fairly rest others file more r
+    ]
+
+-- The package of a path
+
+record First (path : List ℕ) (ps : List LoadedPackage) : Type 0 where
+  place : ℕ
+  found : LoadedPackage
+  is_there : slice_get ps place ≡ Some found
+  same : found.path ≡ path
+  first : (k : ℕ) (r : LoadedPackage) → slice_get ps k ≡ Some r → r.path ≡ path → place ≤ k
+
+abbrev IsNone : List ℕ → List LoadedPackage → Type 0
+IsNone path ps = (k : ℕ) (r : LoadedPackage) → slice_get ps k ≡ Some r → r.path ≡ path → ⊥
+
+first_or_none : (path : List ℕ) (ps : List LoadedPackage) → First path ps ⊎ IsNone path ps
+first_or_none path [] = inr (λ k r e q. none-some r e)
+first_or_none path (p ∷ ps) = by (bytes_eq p.path path) refl (first_or_none path ps)
+  where
+    other : bytes_eq p.path path ≡ false → p.path ≡ path → ⊥
+    other e q = not_both e ((bytes_eq-Decides p.path path).1 q)
+
+    after : bytes_eq p.path path ≡ false → (f : First path ps) → (k : ℕ) (r : LoadedPackage) → slice_get (p ∷ ps) k ≡ Some r → r.path ≡ path → suc f.place ≤ k
+    after e f zero r is q = absurd (other e (ap (λ (x : LoadedPackage). x.path) (some_inj p r is) ∙ q))
+    after e f (suc k) r is q = let l : f.place ≤ k = f.first k r is q in omega (arith, l)
+
+    neither : bytes_eq p.path path ≡ false → IsNone path ps → IsNone path (p ∷ ps)
+    neither e n zero r is q = other e (ap (λ (x : LoadedPackage). x.path) (some_inj p r is) ∙ q)
+    neither e n (suc k) r is q = n k r is q
+
+    by : (b : Bool) → bytes_eq p.path path ≡ b → First path ps ⊎ IsNone path ps → First path (p ∷ ps) ⊎ IsNone path (p ∷ ps)
+    by true e o = inl record { place = 0; found = p; is_there = refl; same = (bytes_eq-Decides p.path path).0 e; first = λ k r is q. omega arith }
+    by false e (inl f) = inl record { place = suc f.place; found = f.found; is_there = f.is_there; same = f.same; first = after e f }
+    by false e (inr n) = inr (neither e n)
+
+imports_first : (ps : List LoadedPackage) (i : ℕ) (q : LoadedPackage) (path : List ℕ) → slice_get ps i ≡ Some q → is_imported q path ≡ true → (f : First path ps) → Imports (import_list ps) i f.place
+imports_first ps i q path is e f = record {
+  importer = list_item ps q;
+  imported = list_item ps f.found;
+  is_importer = in_lists ps i q is;
+  is_imported = in_lists ps f.place f.found f.is_there;
+  names = subst (λ x. Contains (imported_paths q) x) (sym f.same) (has_path (imported_paths q) path e);
+  is_first = λ k r there same.
+      let w = given_in_lists ps k r there in
+      f.first k w.0 w.1 (ap (λ (x : Package). x.path) w.2 ∙ same ∙ f.same);
+}
+
+one_more : {ps : List Package} {i j k : ℕ} → Chain ps i j → Imports ps j k → Chain ps i k
+one_more ends im = goes_on im ends
+one_more (goes_on first rest) im = goes_on first (one_more rest im)
+
+imported_by : (loaded : LoadedPackage) (tables : List ℕ → PackageTable) (path name : List ℕ) (k : ℕ) → imported_flags loaded tables path name k ≡ true → (is_imported loaded path ≡ true) × ((tables path).calls name k ≡ true)
+imported_by loaded tables path name k e = by (is_imported loaded path) refl e
+  where
+    by : (b : Bool) → is_imported loaded path ≡ b → (if b then tables path else no_table).calls name k ≡ true → (is_imported loaded path ≡ true) × ((tables path).calls name k ≡ true)
+    by true q h = (q, h)
+    by false q h = let bad : false ≡ true = h in cc
+
+-- Flags
+
+module _ (p : Program) (known : AreWellKnown p) where
+  -- A function of which its package's table has a flag: it has a body there, and the flag holds of each that it has.
+  record HasFlag (i : ℕ) (name : List ℕ) (k : ℕ) : Type 0 where
+    body : Body
+    of : IsOf p body
+    home : body.home ≡ i
+    named : is_function name body.place ≡ true
+    each : (c : Body) → IsOf p c → c.home ≡ i → is_function name c.place ≡ true → (v : Variable) × IsFlagged p c v × (v.role ≡ own_parameter k)
+
+  has_flag : (i : ℕ) (q : LoadedPackage) → IsBelow p i → slice_get p.packages i ≡ Some q → (name : List ℕ) (k : ℕ) → (p.tables q.path).calls name k ≡ true → HasFlag i name k
+  has_flag i q below is name k e =
+      let w = known.of_package i q below is in
+      let kept = w.are_flags.each name k e in
+      let there : Contains (seen_files p.packages p.tables q) kept.file.seen = credited_seen (seen_files p.packages p.tables q) w.files kept.file w.are_files kept.is_of_package in
+      let parted : AreApart (function_names_from 0 (trees_of q)) = apart [] (function_names_from 0 (trees_of q)) (no_second p.packages i q is w.has_no_whole_fault) in
+      let it : Body = record { home = i; file = kept.file.seen; place = kept.body } in
+      let flag : IsFlagged p it kept.variable = record {
+        loaded = q;
+        name = name;
+        position = k;
+        is_package = is;
+        has_name = kept.is_claim.is_of_function;
+        is_flag = e;
+        is_of_body = kept.is_claim.is_of_body;
+        is_parameter = kept.is_claim.is_parameter;
+        is_cancel_variable = kept.is_claim.is_cancel_variable;
+        credits = kept.file.credits;
+        are_fair = credited_fairly (seen_files p.packages p.tables q) w.files kept.file w.are_files kept.is_of_package;
+        keeps = kept.keeps;
+      } in
+      record {
+        body = it;
+        of = record { loaded = q; is_package = is; is_below = below; is_file = there; is_body = kept.is_claim.is_body };
+        home = refl;
+        named = kept.is_claim.is_of_function;
+        each = λ c of home named.
+            let same : of.loaded ≡ q = some_inj of.loaded q (sym of.is_package ∙ ap (λ n. slice_get p.packages n) home ∙ is) in
+            let among = subst (λ x. Contains (seen_files p.packages p.tables x) c.file) same of.is_file in
+            let one = one_body (known_in p.packages p.tables q) name 0 (trees_of q) parted kept.file.seen c.file kept.body c.place there among kept.is_claim.is_body of.is_body kept.is_claim.is_of_function named in
+            let is_it : it ≡ c = λ j. record { home = sym home j; file = one.0 j; place = one.1 j } in
+            (kept.variable, subst (λ x. IsFlagged p x kept.variable) is_it flag, kept.is_claim.is_parameter);
+      }
+
+  module _ (b : Body) (loaded : LoadedPackage) (of : IsOf p b) (is : slice_get p.packages b.home ≡ Some loaded) (f : Callee) (k : ℕ) where
+    of_this : f.path ≡ None → (p.tables loaded.path).calls f.name k ≡ true → TakesUp p b f k
+    of_this q e =
+        let h = has_flag b.home loaded of.is_below is f.name k e in
+        record {
+          body = h.body;
+          is_function = record { is_of = h.of; is_of_package = subst (λ o. IsNamed p b.home o h.body.home) (sym q) h.home; has_name = h.named };
+          each = λ c g. h.each c g.is_of (subst (λ o. IsNamed p b.home o c.home) q g.is_of_package) g.has_name;
+        }
+
+    of_first : (path : List ℕ) → f.path ≡ Some path → is_imported loaded path ≡ true → (p.tables path).calls f.name k ≡ true → First path p.packages ⊎ IsNone path p.packages → TakesUp p b f k
+    of_first path q im e (inr none) = absurd (not_both ((known.of_others path none).no_flag f.name k) e)
+    of_first path q im e (inl first) =
+        let flag : (other : LoadedPackage) → other.path ≡ path → (p.tables other.path).calls f.name k ≡ true = λ other same. subst (λ x. (p.tables x).calls f.name k ≡ true) (sym same) e in
+        let h = has_flag first.place first.found (one_more of.is_below (imports_first p.packages b.home loaded path is im first)) first.is_there f.name k (flag first.found first.same) in
+        let its : IsNamed p b.home (Some path) h.body.home = (first.found, ap (λ n. slice_get p.packages n) h.home ∙ first.is_there, first.same) in
+        record {
+          body = h.body;
+          is_function = record { is_of = h.of; is_of_package = subst (λ o. IsNamed p b.home o h.body.home) (sym q) its; has_name = h.named };
+          each = λ c g.
+              let n = subst (λ o. IsNamed p b.home o c.home) q g.is_of_package in
+              (has_flag c.home n.0 g.is_of.is_below n.1 f.name k (flag n.0 n.2)).each c g.is_of refl g.has_name;
+        }
+
+    of_path : (o : Option (List ℕ)) → f.path ≡ o → flag_of (p.tables loaded.path).calls (imported_flags loaded p.tables) o f.name k ≡ true → TakesUp p b f k
+    of_path None q e = of_this q e
+    of_path (Some path) q e =
+        let w = imported_by loaded p.tables path f.name k e in
+        of_first path q w.0 w.1 (first_or_none path p.packages)
+
+    pub functions_taken_up_by : calls_in p loaded f k ≡ true → TakesUp p b f k
+    functions_taken_up_by e = of_path f.path refl e
+
+pub functions_taken_up : (p : Program) (known : AreWellKnown p) (b : Body) (loaded : LoadedPackage) → IsOf p b → slice_get p.packages b.home ≡ Some loaded → (f : Callee) (k : ℕ) → calls_in p loaded f k ≡ true → TakesUp p b f k
+functions_taken_up p known b loaded of is f k e = functions_taken_up_by p known b loaded of is f k e

@@ -1,0 +1,367 @@
+-- A mention whose role is a left side of a row is what stands on that left side of the row.
+use Rattle.std.proofs.Common.{◌≡◌, ℕ, zero, suc, ◌+◌, Bool, true, false, inl, inr, List, [], ◌∷◌, ◌++◌, map, drop, Option, Some, None, Contains, refl, sym, ap, ◌∙◌, subst, arith}
+use Rattle.std.specs.Prelude.{◌&&◌, if◌then◌else◌, not, slice_get}
+use Rattle.std.proofs.lemmas.List.Elements.{Contains-append_cases}
+use Rattle.tree.specs.declared.operator.DeclKeyword.{DeclKeyword}
+use Rattle.tree.specs.declared.span.Span.{Span}
+use Rattle.tree.specs.Syntax.{Identifier, Expression, expression_node, ExpressionForm, name_expression, basic_literal, function_literal, composite_literal, literal_value, key_value, parenthesized, selector_expression, index_expression, slice_expression, type_assertion, call_expression, star_expression, unary_expression, binary_expression, array_type, ellipsis_array_type, slice_type, map_type, channel_type, function_type, struct_type, interface_type, Expressions, no_expression, expression_and, OptionalExpression, missing_expression, present_expression, Signature, signature_of, Parameters, no_parameter, named_and, unnamed_and, name_alone_and, Fields, no_field, fields_and, embedded_and, method_and, Statement, statement_node, StatementForm, empty_statement, declaration_statement, labeled_statement, expression_statement, send_statement, increment_statement, decrement_statement, assignment, operator_assignment, define_statement, go_statement, defer_statement, return_statement, break_statement, continue_statement, block_statement, if_statement, for_statement, range_assignment, range_definition, switch_statement, type_switch_statement, select_statement, Statements, no_statement, statement_and, OptionalStatement, missing_statement, present_statement, CaseClauses, no_case, case_and, CommunicationClauses, no_communication, communication_and, Declaration, declaration_of, Specs, no_spec, value_and, type_and, Block, Function, TopLevelDeclaration, function_declaration, general_declaration, SourceFile}
+use Rattle.meaning.specs.Scopes.{is_blank}
+use Rattle.meaning.specs.Mentions.{Named, bare, as_bare, as_named, as_bracketed, as_pointer, as_new_literal, select_from, embedded, defines, assigns, declares, Standing, ordinary, first_of_for, communication, Row, CallPlace, nowhere, as_statement, only_value, return_item, deferred, place_in, Call, call_of, is_none_left, LiteralUse, other_use, deferred_call, started_by, argument_use, callee_use, Role, elsewhere, called, called_in_brackets, argument, returned, left, names_type, new_literal, parameter_pointer, BodyPlace, Mark, mentions, defers_literal, returns, opens, closes, Spot, part_of, whole, mention, declaring, number_of, name_role, named_or, callee_or, addressed, argument_or, argument_at, new_literal_or, deferral, literal_body, in_body, parameter_type_or, value_spot, left_names, declared_elsewhere, guard_in_clause, row_of, expression_marks, form_marks, expressions_marks, optional_marks, arguments_marks, items_marks, lefts_marks, names_type_marks, signature_marks, parameters_marks, fields_marks, statement_marks, statement_form_marks, statements_marks, optional_statement_marks, cases_marks, communications_marks, declaration_marks, specs_marks, receiver_marks, function_body, function_types_marks, function_marks, outer_specs_marks, top_level_marks, top_levels_marks, file_marks}
+use Rattle.meaning.specs.Tracked.{left_name, left_of_name, left_of_named, lefts_of_expressions, lefts_of, Placed, placed, outer}
+use Rattle.meaning.proofs.Membership.{contains_here, contains_there, contains_cases, contains_nil}
+
+-- the name with what it declares is the left side that the role says
+abbrev pub Fits : Named → Option ℕ → Role → Type 0
+Fits n declared (left k row) = slice_get (lefts_of row.form) k ≡ Some (left_name n declared)
+Fits n declared elsewhere = Unit {0}
+Fits n declared (called c) = Unit {0}
+Fits n declared called_in_brackets = Unit {0}
+Fits n declared (argument k has_address c) = Unit {0}
+Fits n declared (returned k) = Unit {0}
+Fits n declared (names_type row) = Unit {0}
+Fits n declared (new_literal row) = Unit {0}
+Fits n declared parameter_pointer = Unit {0}
+
+abbrev pub Stands : Mark → Type 0
+Stands (mentions m) = Fits m.named m.declares m.role
+Stands (defers_literal site at) = Unit {0}
+Stands (returns at es) = Unit {0}
+Stands (opens b) = Unit {0}
+Stands closes = Unit {0}
+
+-- The same of a mark inside an expression, a type or a statement, where each body is that of a literal, which has no
+-- name.
+abbrev pub Inside : Mark → Type 0
+Inside (mentions m) = Fits m.named m.declares m.role
+Inside (defers_literal site at) = Unit {0}
+Inside (returns at es) = Unit {0}
+Inside (opens b) = b.name ≡ None
+Inside closes = Unit {0}
+
+stands : (m : Mark) → Inside m → Stands m
+stands (mentions m) h = h
+stands (defers_literal site at) h = tt
+stands (returns at es) h = tt
+stands (opens b) h = tt
+stands closes h = tt
+
+pub record AllStand (ms : List Mark) : Type 0 where
+  pub each : (m : Mark) → Contains ms m → Inside m
+
+none : AllStand []
+none = record { each = λ m h. absurd (contains_nil m h) }
+
+and_then : (x : Mark) (xs : List Mark) → Inside x → AllStand xs → AllStand (x ∷ xs)
+and_then x xs s h = record {
+  each = λ m k. elim (contains_cases x m xs k) [ inl q ↦ subst Inside q s | inr r ↦ h.each m r ];
+}
+
+both : {xs ys : List Mark} → AllStand xs → AllStand ys → AllStand (xs ++ ys)
+both {xs} {ys} h k = record {
+  each = λ m among. elim (Contains-append_cases xs ys m among) [ inl r ↦ h.each m r | inr r ↦ k.each m r ];
+}
+
+only : (x : Mark) → Inside x → AllStand (x ∷ [])
+only x s = and_then x [] s none
+
+chosen : (b : Bool) {xs ys : List Mark} → AllStand xs → AllStand ys → AllStand (if b then xs else ys)
+chosen true h k = h
+chosen false h k = k
+
+-- what is left of a list from a place on
+plus_one : (k : ℕ) → k + 1 ≡ suc k
+plus_one k = omega arith
+
+at_place : {X : Type 0} (k : ℕ) (ls : List X) (x : X) (xs : List X) → drop k ls ≡ x ∷ xs → slice_get ls k ≡ Some x
+at_place zero [] x xs e = let bad : [] ≡ x ∷ xs = e in cc
+at_place zero (y ∷ ys) x xs e = let same : y ≡ x = cc in ap Some same
+at_place (suc k) [] x xs e = let bad : [] ≡ x ∷ xs = e in cc
+at_place (suc k) (y ∷ ys) x xs e = at_place k ys x xs e
+
+behind : {X : Type 0} (k : ℕ) (ls : List X) (x : X) (xs : List X) → drop k ls ≡ x ∷ xs → drop (suc k) ls ≡ xs
+behind zero [] x xs e = let bad : [] ≡ x ∷ xs = e in cc
+behind zero (y ∷ ys) x xs e = cc
+behind (suc k) [] x xs e = let bad : [] ≡ x ∷ xs = e in cc
+behind (suc k) (y ∷ ys) x xs e = behind k ys x xs e
+
+next_place : {X : Type 0} (k : ℕ) (ls : List X) (x : X) (xs : List X) → drop k ls ≡ x ∷ xs → drop (k + 1) ls ≡ xs
+next_place k ls x xs e = subst (λ j. drop j ls ≡ xs) (sym (plus_one k)) (behind k ls x xs e)
+
+-- names
+named : (o : Option Named) (site : ℕ) (role : Role) {ms : List Mark} → ((n : Named) → o ≡ Some n → Fits n None role) → AllStand ms → AllStand (named_or o site role ms)
+named None site role f h = h
+named (Some n) site role f h = only (mention site role n) (f n refl)
+
+name_fits : (place : CallPlace) (n : Named) → Fits n None (name_role place)
+name_fits nowhere n = tt
+name_fits as_statement n = tt
+name_fits (only_value row) n = tt
+name_fits (return_item k) n = tt
+name_fits deferred n = tt
+
+callee_named : (c : Option Call) (site : ℕ) (e : Expression) {ms : List Mark} → AllStand ms → AllStand (callee_or c site e ms)
+callee_named None site e h = named (as_bracketed e) site called_in_brackets (λ n q. tt) h
+callee_named (Some c) site e h = only (mention site (called c) c.callee) tt
+
+argued : (c : Call) (site k : ℕ) (e : Expression) {ms : List Mark} → AllStand ms → AllStand (argument_or c site k e ms)
+argued c site k (expression_node (unary_expression op e) span) h =
+    named (addressed op e) site (argument k true c) (λ n q. tt) h
+argued c site k e h = named (as_named e) site (argument k false c) (λ n q. tt) h
+
+argued_at : (c : Option Call) (site k : ℕ) (is_last : Bool) (e : Expression) {ms : List Mark} → AllStand ms → AllStand (argument_at c site k is_last e ms)
+argued_at None site k is_last e h = h
+argued_at (Some c) site k is_last e h = chosen (is_last && c.has_ellipsis) h (argued c site k e h)
+
+newly : (place : CallPlace) (site : ℕ) (n : Option Named) {ms : List Mark} → AllStand ms → AllStand (new_literal_or place site n ms)
+newly nowhere site n h = h
+newly as_statement site n h = h
+newly (only_value row) site n h = named n site (new_literal row) (λ m q. tt) h
+newly (return_item k) site n h = h
+newly deferred site n h = h
+
+deferring : (used : LiteralUse) (site at : ℕ) → AllStand (deferral used site at)
+deferring other_use site at = none
+deferring deferred_call site at = only (defers_literal site at) tt
+deferring (started_by n) site at = none
+
+within : (b : BodyPlace) {ms : List Mark} → b.name ≡ None → AllStand ms → AllStand (in_body b ms)
+within b {ms} e h = and_then (opens b) (ms ++ closes ∷ []) e (both h (only closes tt))
+
+typed : (is_plain : Bool) (t : Expression) (site : ℕ) {ms : List Mark} → AllStand ms → AllStand (parameter_type_or is_plain t site ms)
+typed is_plain t site h =
+    chosen is_plain (named (as_pointer t) site parameter_pointer (λ n q. tt) h) h
+
+names : (row : Row) (site k : ℕ) (ns : List Identifier) → drop k (lefts_of row.form) ≡ map left_of_name ns → AllStand (left_names row site k ns)
+names row site k [] e = none
+names row site k (n ∷ ns) e =
+    and_then (declaring site (left k row) n (number_of n)) (left_names row site (k + 1) ns) (at_place k (lefts_of row.form) (left_of_name n) (map left_of_name ns) e) (names row site (k + 1) ns (next_place k (lefts_of row.form) (left_of_name n) (map left_of_name ns) e))
+
+names_elsewhere : (site : ℕ) (ns : List Identifier) → AllStand (declared_elsewhere site ns)
+names_elsewhere site [] = none
+names_elsewhere site (n ∷ ns) =
+    and_then (declaring site elsewhere n (number_of n)) (declared_elsewhere site ns) tt (names_elsewhere site ns)
+
+guarded : (site : ℕ) (n : Option Identifier) (clause : Span) → AllStand (guard_in_clause site n clause)
+guarded site None clause = none
+guarded site (Some n) clause =
+    chosen (is_blank n.text) none (only (declaring site elsewhere n (Some clause.start)) tt)
+
+mutual
+  unfolding expression_marks form_marks expressions_marks optional_marks arguments_marks items_marks lefts_marks names_type_marks signature_marks parameters_marks fields_marks statement_marks statement_form_marks statements_marks optional_statement_marks cases_marks communications_marks declaration_marks specs_marks
+
+  of_expression : (spot : Spot) (e : Expression) → AllStand (expression_marks spot e)
+  of_expression spot (expression_node form span) = of_form spot span form
+
+  of_form : (spot : Spot) (span : Span) (form : ExpressionForm) → AllStand (form_marks spot span form)
+  of_form spot span (name_expression text) =
+      only (mention spot.site (name_role spot.place) (bare text span.start)) (name_fits spot.place (bare text span.start))
+  of_form spot span (basic_literal kind) = none
+  of_form spot span (function_literal signature ss braces) =
+      both (within (literal_body spot.literal span.start signature ss braces) refl (both (of_signature span.start signature) (of_statements ss))) (deferring spot.literal spot.site span.start)
+  of_form spot span (composite_literal t es) =
+      both (of_expression (part_of spot.site) t) (of_expressions (part_of spot.site) es)
+  of_form spot span (literal_value es) = of_expressions (part_of spot.site) es
+  of_form spot span (key_value k v) =
+      both (of_expression (part_of spot.site) k) (of_expression (part_of spot.site) v)
+  of_form spot span (parenthesized e) = of_expression (part_of spot.site) e
+  of_form spot span (selector_expression e n) =
+      named (select_from (as_bare e) n) spot.site elsewhere (λ m q. tt) (of_expression (part_of spot.site) e)
+  of_form spot span (index_expression e i) =
+      both (of_expression (part_of spot.site) e) (of_expression (part_of spot.site) i)
+  of_form spot span (slice_expression e low high most) =
+      both (of_expression (part_of spot.site) e) (both (of_optional spot.site low) (both (of_optional spot.site high) (of_optional spot.site most)))
+  of_form spot span (type_assertion e t) =
+      both (of_expression (part_of spot.site) e) (of_expression (part_of spot.site) t)
+  of_form spot span (call_expression e es ellipsis) =
+      both (callee_named (call_of spot.place e es ellipsis) spot.site e (of_expression record { place = nowhere; literal = callee_use spot.place; site = spot.site } e)) (of_arguments (call_of spot.place e es ellipsis) spot.site 0 es)
+  of_form spot span (star_expression e) = of_expression (part_of spot.site) e
+  of_form spot span (unary_expression op e) =
+      newly spot.place spot.site (as_new_literal op e) (of_expression (part_of spot.site) e)
+  of_form spot span (binary_expression op l r) =
+      both (of_expression (part_of spot.site) l) (of_expression (part_of spot.site) r)
+  of_form spot span (array_type n t) =
+      both (of_expression (part_of spot.site) n) (of_expression (part_of spot.site) t)
+  of_form spot span (ellipsis_array_type t) = of_expression (part_of spot.site) t
+  of_form spot span (slice_type t) = of_expression (part_of spot.site) t
+  of_form spot span (map_type k t) =
+      both (of_expression (part_of spot.site) k) (of_expression (part_of spot.site) t)
+  of_form spot span (channel_type direction t) = of_expression (part_of spot.site) t
+  of_form spot span (function_type signature) = of_signature spot.site signature
+  of_form spot span (struct_type fs) = of_fields spot.site fs
+  of_form spot span (interface_type fs) = of_fields spot.site fs
+
+  of_expressions : (spot : Spot) (es : Expressions) → AllStand (expressions_marks spot es)
+  of_expressions spot no_expression = none
+  of_expressions spot (expression_and e es) = both (of_expression spot e) (of_expressions spot es)
+
+  of_optional : (site : ℕ) (e : OptionalExpression) → AllStand (optional_marks site e)
+  of_optional site missing_expression = none
+  of_optional site (present_expression e) = of_expression (part_of site) e
+
+  of_arguments : (c : Option Call) (site k : ℕ) (es : Expressions) → AllStand (arguments_marks c site k es)
+  of_arguments c site k no_expression = none
+  of_arguments c site k (expression_and e es) =
+      both (argued_at c site k (is_none_left es) e (of_expression record { place = nowhere; literal = argument_use c; site = site } e)) (of_arguments c site (k + 1) es)
+
+  of_items : (site k : ℕ) (es : Expressions) → AllStand (items_marks site k es)
+  of_items site k no_expression = none
+  of_items site k (expression_and e es) =
+      both (of_expression (whole (return_item k) site) e) (of_items site (k + 1) es)
+
+  of_lefts : (row : Row) (site k : ℕ) (es : Expressions) → drop k (lefts_of row.form) ≡ lefts_of_expressions es → AllStand (lefts_marks row site k es)
+  of_lefts row site k no_expression q = none
+  of_lefts row site k (expression_and e es) q =
+      both (named (as_bare e) site (left k row) (λ n is. at_place k (lefts_of row.form) (left_of_named (as_bare e)) (lefts_of_expressions es) q ∙ ap (λ o. Some (left_of_named o)) is) (of_expression (part_of site) e)) (of_lefts row site (k + 1) es (next_place k (lefts_of row.form) (left_of_named (as_bare e)) (lefts_of_expressions es) q))
+
+  of_names_type : (row : Row) (site : ℕ) (t : OptionalExpression) → AllStand (names_type_marks row site t)
+  of_names_type row site missing_expression = none
+  of_names_type row site (present_expression t) =
+      named (as_named t) site (names_type row) (λ n q. tt) (of_expression (part_of site) t)
+
+  of_signature : (site : ℕ) (s : Signature) → AllStand (signature_marks site s)
+  of_signature site (signature_of ps rs brackets) = both (of_parameters true site ps) (of_parameters false site rs)
+
+  of_parameters : (are_parameters : Bool) (site : ℕ) (ps : Parameters) → AllStand (parameters_marks are_parameters site ps)
+  of_parameters are_parameters site no_parameter = none
+  of_parameters are_parameters site (named_and n ellipsis t ps) =
+      both (typed (are_parameters && not ellipsis) t site (of_expression (part_of site) t)) (of_parameters are_parameters site ps)
+  of_parameters are_parameters site (unnamed_and ellipsis t ps) =
+      both (typed (are_parameters && not ellipsis) t site (of_expression (part_of site) t)) (of_parameters are_parameters site ps)
+  of_parameters are_parameters site (name_alone_and n ps) = of_parameters are_parameters site ps
+
+  of_fields : (site : ℕ) (fs : Fields) → AllStand (fields_marks site fs)
+  of_fields site no_field = none
+  of_fields site (fields_and ns t tag span fs) = both (of_expression (part_of site) t) (of_fields site fs)
+  of_fields site (embedded_and star n tag span fs) =
+      and_then (mention site elsewhere (embedded n)) (fields_marks site fs) tt (of_fields site fs)
+  of_fields site (method_and n signature span fs) = both (of_signature site signature) (of_fields site fs)
+
+  of_statement : (standing : Standing) (s : Statement) → AllStand (statement_marks standing s)
+  of_statement standing (statement_node form span) = of_statement_form standing span.start form
+
+  of_statement_form : (standing : Standing) (at : ℕ) (form : StatementForm) → AllStand (statement_form_marks standing at form)
+  of_statement_form standing at empty_statement = none
+  of_statement_form standing at (declaration_statement d) = of_declaration d
+  of_statement_form standing at (labeled_statement n s) = of_statement standing s
+  of_statement_form standing at (expression_statement e) =
+      of_expression (whole (place_in standing as_statement) at) e
+  of_statement_form standing at (send_statement c v) =
+      both (of_expression (part_of at) c) (of_expression (part_of at) v)
+  of_statement_form standing at (increment_statement e) = of_expression (part_of at) e
+  of_statement_form standing at (decrement_statement e) = of_expression (part_of at) e
+  of_statement_form standing at (assignment ls rs) =
+      both (of_expressions (value_spot (row_of standing at (assigns ls) rs) at) rs) (of_lefts (row_of standing at (assigns ls) rs) at 0 ls refl)
+  of_statement_form standing at (operator_assignment op l r) =
+      both (of_expression (part_of at) l) (of_expression (part_of at) r)
+  of_statement_form standing at (define_statement ns rs) =
+      both (of_expressions (value_spot (row_of standing at (defines ns) rs) at) rs) (names (row_of standing at (defines ns) rs) at 0 ns refl)
+  of_statement_form standing at (go_statement e) = of_expression (part_of at) e
+  of_statement_form standing at (defer_statement e) = of_expression (whole deferred at) e
+  of_statement_form standing at (return_statement es) = both (of_items at 0 es) (only (returns at es) tt)
+  of_statement_form standing at (break_statement n) = none
+  of_statement_form standing at (continue_statement n) = none
+  of_statement_form standing at (block_statement ss braces) = of_statements ss
+  of_statement_form standing at (if_statement init has_semicolon c ss braces otherwise) =
+      both (of_optional_statement ordinary init) (both (of_expression (part_of at) c) (both (of_statements ss) (of_optional_statement ordinary otherwise)))
+  of_statement_form standing at (for_statement init c post has_semicolons ss braces) =
+      both (of_optional_statement first_of_for init) (both (of_optional at c) (both (of_optional_statement ordinary post) (of_statements ss)))
+  of_statement_form standing at (range_assignment ls e ss braces) =
+      both (of_expressions (part_of at) ls) (both (of_expression (part_of at) e) (of_statements ss))
+  of_statement_form standing at (range_definition ns e ss braces) =
+      both (of_expression (part_of at) e) (both (names_elsewhere at ns) (of_statements ss))
+  of_statement_form standing at (switch_statement init has_semicolon tag cs) =
+      both (of_optional_statement ordinary init) (both (of_optional at tag) (of_cases at None cs))
+  of_statement_form standing at (type_switch_statement init has_semicolon n e cs) =
+      both (of_optional_statement ordinary init) (both (of_expression (part_of at) e) (of_cases at n cs))
+  of_statement_form standing at (select_statement cs) = of_communications cs
+
+  of_statements : (ss : Statements) → AllStand (statements_marks ss)
+  of_statements no_statement = none
+  of_statements (statement_and s ss) = both (of_statement ordinary s) (of_statements ss)
+
+  of_optional_statement : (standing : Standing) (s : OptionalStatement) → AllStand (optional_statement_marks standing s)
+  of_optional_statement standing missing_statement = none
+  of_optional_statement standing (present_statement s) = of_statement standing s
+
+  of_cases : (at : ℕ) (guard : Option Identifier) (cs : CaseClauses) → AllStand (cases_marks at guard cs)
+  of_cases at guard no_case = none
+  of_cases at guard (case_and es ss span cs) =
+      both (guarded at guard span) (both (of_expressions (part_of span.start) es) (both (of_statements ss) (of_cases at guard cs)))
+
+  of_communications : (cs : CommunicationClauses) → AllStand (communications_marks cs)
+  of_communications no_communication = none
+  of_communications (communication_and c ss span cs) =
+      both (of_optional_statement communication c) (both (of_statements ss) (of_communications cs))
+
+  of_declaration : (d : Declaration) → AllStand (declaration_marks d)
+  of_declaration (declaration_of keyword specs is_grouped span) = of_specs keyword span.start specs
+
+  of_specs : (keyword : DeclKeyword) (at : ℕ) (specs : Specs) → AllStand (specs_marks keyword at specs)
+  of_specs keyword at no_spec = none
+  of_specs keyword at (value_and ns t es span specs) =
+      both (of_names_type (row_of ordinary at (declares keyword ns t) es) span.start t) (both (of_expressions (value_spot (row_of ordinary at (declares keyword ns t) es) span.start) es) (both (names (row_of ordinary at (declares keyword ns t) es) span.start 0 ns refl) (of_specs keyword at specs)))
+  of_specs keyword at (type_and n is_alias t span specs) =
+      and_then (declaring span.start elsewhere n (number_of n)) (expression_marks (part_of span.start) t ++ specs_marks keyword at specs) tt (both (of_expression (part_of span.start) t) (of_specs keyword at specs))
+
+of_receiver : (site : ℕ) (ps : Option Parameters) → AllStand (receiver_marks site ps)
+of_receiver site None = none
+of_receiver site (Some ps) = of_parameters true site ps
+
+pub of_types : (f : Function) → AllStand (function_types_marks f)
+of_types f = both (of_receiver f.span.start f.receiver) (of_signature f.span.start f.signature)
+
+pub of_outer_specs : (specs : Specs) → AllStand (outer_specs_marks specs)
+of_outer_specs no_spec = none
+of_outer_specs (value_and ns t es span specs) =
+    both (of_optional span.start t) (both (of_expressions (part_of span.start) es) (of_outer_specs specs))
+of_outer_specs (type_and n is_alias t span specs) =
+    both (of_expression (part_of span.start) t) (of_outer_specs specs)
+
+pub of_block : (f : Function) (b : Block) → AllStand ((function_types_marks f ++ statements_marks b.statements) ++ closes ∷ [])
+of_block f b = both (both (of_types f) (of_statements b.statements)) (only closes tt)
+
+of_function : (f : Function) (b : Option Block) (m : Mark) → Contains (function_marks f b) m → Stands m
+of_function f None m h = stands m ((of_types f).each m h)
+of_function f (Some b) m h =
+    elim (contains_cases (opens (function_body f b)) m ((function_types_marks f ++ statements_marks b.statements) ++ closes ∷ []) h) [
+      | inl q ↦ subst Stands q tt
+      | inr r ↦ stands m ((of_block f b).each m r)
+    ]
+
+of_top_level : (d : TopLevelDeclaration) (m : Mark) → Contains (top_level_marks d) m → Stands m
+of_top_level (function_declaration f) m h = of_function f f.body m h
+of_top_level (general_declaration (declaration_of keyword specs is_grouped span)) m h =
+    stands m ((of_outer_specs specs).each m h)
+
+of_top_levels : (ds : List TopLevelDeclaration) (m : Mark) → Contains (top_levels_marks ds) m → Stands m
+of_top_levels [] m h = absurd (contains_nil m h)
+of_top_levels (d ∷ ds) m h = elim (Contains-append_cases (top_level_marks d) (top_levels_marks ds) m h) [
+  | inl r ↦ of_top_level d m r
+  | inr r ↦ of_top_levels ds m r
+]
+
+-- a mark that is placed is one of the marks
+pub is_placed : (bodies : List BodyPlace) (ms : List Mark) (p : Placed) → Contains (placed bodies ms) p → Contains ms p.mark
+unfolding placed
+is_placed bodies [] p h = absurd (contains_nil p h)
+is_placed bodies (mentions m ∷ ms) p h = elim (contains_cases _ p (placed bodies ms) h) [
+  | inl q ↦ subst (λ (x : Placed). Contains (mentions m ∷ ms) x.mark) q (contains_here (mentions m) ms)
+  | inr r ↦ contains_there (mentions m) p.mark ms (is_placed bodies ms p r)
+]
+is_placed bodies (defers_literal site at ∷ ms) p h = elim (contains_cases _ p (placed bodies ms) h) [
+  | inl q ↦ subst (λ (x : Placed). Contains (defers_literal site at ∷ ms) x.mark) q (contains_here (defers_literal site at) ms)
+  | inr r ↦ contains_there (defers_literal site at) p.mark ms (is_placed bodies ms p r)
+]
+is_placed bodies (returns at es ∷ ms) p h = elim (contains_cases _ p (placed bodies ms) h) [
+  | inl q ↦ subst (λ (x : Placed). Contains (returns at es ∷ ms) x.mark) q (contains_here (returns at es) ms)
+  | inr r ↦ contains_there (returns at es) p.mark ms (is_placed bodies ms p r)
+]
+is_placed bodies (opens b ∷ ms) p h = elim (contains_cases _ p (placed (b ∷ bodies) ms) h) [
+  | inl q ↦ subst (λ (x : Placed). Contains (opens b ∷ ms) x.mark) q (contains_here (opens b) ms)
+  | inr r ↦ contains_there (opens b) p.mark ms (is_placed (b ∷ bodies) ms p r)
+]
+is_placed bodies (closes ∷ ms) p h = contains_there closes p.mark ms (is_placed (outer bodies) ms p h)
+
+-- of each mark of a file
+pub left_sides_fit : (file : SourceFile) (p : Placed) → Contains (placed [] (file_marks file)) p → Stands p.mark
+left_sides_fit file p h = of_top_levels file.declarations p.mark (is_placed [] (file_marks file) p h)

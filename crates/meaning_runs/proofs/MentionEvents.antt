@@ -1,0 +1,298 @@
+-- The events of a mention: what holds of each call, pass, loan, start, try and wait holds of all that a mention gives
+-- which binds nothing. No mention gives a return or a literal under `defer`.
+use Rattle.std.proofs.Common.{◌≡◌, ℕ, Bool, true, false, inl, inr, List, [], ◌∷◌, Option, Some, None, Contains, refl, subst}
+use Rattle.std.specs.Prelude.{◌&&◌, ◌||◌, if◌then◌else◌, codes}
+use Rattle.std.specs.List.{list_all}
+use Rattle.std.specs.Str.{bytes_eq}
+use Rattle.meaning.specs.FunctionFacts.{VariableKind, cancel, group}
+use Rattle.meaning.specs.Mentions.{BodyPlace, Row, Call, Role, elsewhere, called, called_in_brackets, argument, returned, left, names_type, new_literal, parameter_pointer, Mention}
+use Rattle.meaning.specs.Tracked.{Known, is_in, variable_of, LocalRole, parameter, receiver, variadic, result, in_block, Local}
+use Rattle.meaning.specs.Uses.{Seen, found, kind_of, tracked_kind, VariableAt, Event, other, obtain, clear, call, defer_call, pass, defer_pass, lend, start, try, wait, defer_wait, make, defer_literal, return_event, Binding, obtained, cleared, made, binding_at, binding_event, allowed_if, either_use, variable_at, cancel_called, cancel_passed, cancel_use, group_started, group_tried, group_awaited, group_limited, group_called, group_lent, group_use, kind_use, use_outcome, mention_outcome, binding_outcome, row_outcome, role_outcome, local_outcome, variable_outcome, is_own, has_no_argument, is_statement_place, is_deferred_place, takes, is_call_place, callee_of, body_gives, is_free, only_argument, started_literal, is_member_of, literals_between, is_statement_or_value, is_item_place, is_deferred}
+use Rattle.meaning.proofs.Membership.{contains_cases, contains_nil}
+use Rattle.meaning_runs.specs.RunLists.{is_return}
+
+-- what a mention gives that binds nothing
+abbrev pub is_use : Event → Bool
+is_use (call v) = true
+is_use (defer_call v) = true
+is_use (pass u c n) = true
+is_use (defer_pass u c n) = true
+is_use (lend g c n) = true
+is_use (start g literal) = true
+is_use (try g literal) = true
+is_use (wait g) = true
+is_use (defer_wait g) = true
+is_use e = false
+
+-- what a mention gives
+abbrev pub is_told_of_mention : Event → Bool
+is_told_of_mention other = false
+is_told_of_mention (defer_literal at) = false
+is_told_of_mention (return_event handed) = false
+is_told_of_mention e = true
+
+use_is_told : (e : Event) → is_use e ≡ true → is_told_of_mention e ≡ true
+use_is_told other h = h
+use_is_told (obtain u c n is_new) h = refl
+use_is_told (clear u) h = refl
+use_is_told (call v) h = refl
+use_is_told (defer_call v) h = refl
+use_is_told (pass u c n) h = refl
+use_is_told (defer_pass u c n) h = refl
+use_is_told (lend g c n) h = refl
+use_is_told (start g literal) h = refl
+use_is_told (try g literal) h = refl
+use_is_told (wait g) h = refl
+use_is_told (defer_wait g) h = refl
+use_is_told (make u state) h = refl
+use_is_told (defer_literal at) h = h
+use_is_told (return_event handed) h = h
+
+module _ (P : Event → Type 0) where
+  -- the property holds of each of these events
+  abbrev pub AllFit : List Event → Type 0
+  AllFit es = (e : Event) → Contains es e → P e
+
+  -- so it does where the mention is allowed
+  abbrev AllFitIf : Option (List Event) → Type 0
+  AllFitIf None = Unit {0}
+  AllFitIf (Some es) = AllFit es
+
+  pub none_given : AllFit []
+  none_given e h = absurd (contains_nil e h)
+
+  pub one_fits : (x : Event) → P x → AllFit (x ∷ [])
+  one_fits x p e h =
+      elim (contains_cases x e [] h) [ inl same ↦ subst P same p | inr n ↦ absurd (contains_nil e n) ]
+
+  module _ (fits : (e : Event) → is_use e ≡ true → P e) where
+    allowed : (b : Bool) (es : List Event) → AllFit es → AllFitIf (allowed_if b es)
+    allowed true es h = h
+    allowed false es h = tt
+
+    one_of : (o k : Option (List Event)) → AllFitIf o → AllFitIf k → AllFitIf (either_use o k)
+    one_of None k h m = m
+    one_of (Some es) k h m = h
+
+    one_allowed : (b c : Bool) (x y : Event)
+        → is_use x ≡ true
+        → is_use y ≡ true
+        → AllFitIf (either_use (allowed_if b (x ∷ [])) (allowed_if c (y ∷ [])))
+    one_allowed b c x y p q =
+        one_of (allowed_if b (x ∷ [])) (allowed_if c (y ∷ [])) (allowed b (x ∷ []) (one_fits x (fits x p)))
+        (allowed c (y ∷ []) (one_fits y (fits y q)))
+
+    if_so : (b : Bool) (o k : Option (List Event)) → AllFitIf o → AllFitIf k → AllFitIf (if b then o else k)
+    if_so true o k h m = h
+    if_so false o k h m = m
+
+    cancel_called_fits : (v : ℕ) (selected : Option (List ℕ)) (c : Call) → AllFitIf (cancel_called v selected c)
+    cancel_called_fits v (Some m) c = tt
+    cancel_called_fits v None c =
+        one_allowed (has_no_argument c && is_statement_place c.place) (has_no_argument c && is_deferred_place c.place)
+        (call v) (defer_call v) refl refl
+
+    cancel_passed_fits : (known : Known) (v : VariableAt) (selected : Option (List ℕ)) (k : ℕ) (b : Bool) (c : Call)
+        → AllFitIf (cancel_passed known v selected k b c)
+    cancel_passed_fits known v None k false c =
+        one_allowed (takes known c cancel k && is_call_place c.place)
+        (takes known c cancel k && is_deferred_place c.place) (pass v (callee_of known c.callee) k)
+        (defer_pass v (callee_of known c.callee) k) refl refl
+    cancel_passed_fits known v None k true c = tt
+    cancel_passed_fits known v (Some m) k b c = tt
+
+    cancel_use_fits : (known : Known) (l : Local) (bodies : List BodyPlace) (m : Mention) (r : Role)
+        → AllFitIf (cancel_use known l bodies m r)
+    cancel_use_fits known l bodies m elsewhere = tt
+    cancel_use_fits known l bodies m (called c) = cancel_called_fits l.number m.named.selected c
+    cancel_use_fits known l bodies m called_in_brackets = tt
+    cancel_use_fits known l bodies m (argument k b c) =
+        if_so (is_own l bodies) (cancel_passed known (variable_at l m) m.named.selected k b c) None
+        (cancel_passed_fits known (variable_at l m) m.named.selected k b c) tt
+    cancel_use_fits known l bodies m (returned k) =
+        allowed (is_own l bodies && is_in k (body_gives known bodies)) [] none_given
+    cancel_use_fits known l bodies m (left k row) = tt
+    cancel_use_fits known l bodies m (names_type row) = tt
+    cancel_use_fits known l bodies m (new_literal row) = tt
+    cancel_use_fits known l bodies m parameter_pointer = tt
+
+    group_called_fits : (seen : Seen) (l : Local) (bodies : List BodyPlace) (selected : Option (List ℕ)) (c : Call)
+        → AllFitIf (group_called seen l bodies selected c)
+    group_called_fits seen l bodies None c = tt
+    group_called_fits seen l bodies (Some m) c =
+        let inside = list_all (is_member_of seen.known l) (literals_between l.body bodies) in
+        let saved = list_all is_deferred (literals_between l.body bodies) in
+        let limited = if bytes_eq m (codes "SetLimit") then group_limited l bodies c else None in
+        let awaited = if bytes_eq m (codes "Wait") then group_awaited l bodies c else limited in
+        let tried = if bytes_eq m (codes "TryGo") then group_tried seen l bodies c else awaited in
+        if_so (bytes_eq m (codes "Go")) (group_started seen l bodies c) tried
+        (allowed (is_statement_place c.place && (is_free seen (only_argument c) && inside))
+        (start l.number (started_literal (only_argument c)) ∷ [])
+        (one_fits (start l.number (started_literal (only_argument c)))
+        (fits (start l.number (started_literal (only_argument c))) refl)))
+        (if_so (bytes_eq m (codes "TryGo")) (group_tried seen l bodies c) awaited
+        (allowed (is_statement_or_value c.place && (is_free seen (only_argument c) && inside))
+        (try l.number (started_literal (only_argument c)) ∷ [])
+        (one_fits (try l.number (started_literal (only_argument c)))
+        (fits (try l.number (started_literal (only_argument c))) refl)))
+        (if_so (bytes_eq m (codes "Wait")) (group_awaited l bodies c) limited
+        (one_allowed (has_no_argument c &&
+        ((is_statement_or_value c.place || (is_item_place c.place && is_own l bodies)) && saved))
+        (has_no_argument c && (is_deferred_place c.place && saved)) (wait l.number) (defer_wait l.number) refl refl)
+        (if_so (bytes_eq m (codes "SetLimit")) (group_limited l bodies c) None
+        (allowed (is_statement_place c.place && is_own l bodies) [] none_given) tt)))
+
+    group_lent_fits : (known : Known) (l : Local) (bodies : List BodyPlace) (selected : Option
+        (List ℕ)) (k : ℕ) (c : Call)
+        → AllFitIf (group_lent known l bodies selected k c)
+    group_lent_fits known l bodies None k c =
+        allowed (is_own l bodies && (takes known c group k && is_call_place c.place))
+        (lend l.number (callee_of known c.callee) k ∷ [])
+        (one_fits (lend l.number (callee_of known c.callee) k) (fits (lend l.number (callee_of known c.callee) k) refl))
+    group_lent_fits known l bodies (Some m) k c = tt
+
+    group_use_fits : (seen : Seen) (l : Local) (bodies : List BodyPlace) (m : Mention) (r : Role)
+        → AllFitIf (group_use seen l bodies m r)
+    group_use_fits seen l bodies m elsewhere = tt
+    group_use_fits seen l bodies m (called c) = group_called_fits seen l bodies m.named.selected c
+    group_use_fits seen l bodies m called_in_brackets = tt
+    group_use_fits seen l bodies m (argument k b c) = group_lent_fits seen.known l bodies m.named.selected k c
+    group_use_fits seen l bodies m (returned k) = tt
+    group_use_fits seen l bodies m (left k row) = tt
+    group_use_fits seen l bodies m (names_type row) = tt
+    group_use_fits seen l bodies m (new_literal row) = tt
+    group_use_fits seen l bodies m parameter_pointer = tt
+
+    kind_use_fits : (seen : Seen) (l : Local) (kind : VariableKind) (bodies : List BodyPlace) (m : Mention)
+        → AllFitIf (kind_use seen l kind bodies m)
+    kind_use_fits seen l cancel bodies m = cancel_use_fits seen.known l bodies m m.role
+    kind_use_fits seen l group bodies m = group_use_fits seen l bodies m m.role
+
+    use_outcome_fits : (kind : VariableKind) (l : Local) (m : Mention) (o : Option (List Event))
+        → AllFitIf o
+        → AllFit (use_outcome kind l m o).events
+    use_outcome_fits kind l m None h = none_given
+    use_outcome_fits kind l m (Some es) h = h
+
+    pub mention_fits : (seen : Seen) (l : Local) (kind : Option VariableKind) (bodies : List BodyPlace) (m : Mention)
+        → AllFit (mention_outcome seen l kind bodies m).events
+    mention_fits seen l None bodies m = none_given
+    mention_fits seen l (Some kind) bodies m =
+        use_outcome_fits kind l m (kind_use seen l kind bodies m) (kind_use_fits seen l kind bodies m)
+
+  module _ (fits : (e : Event) → is_told_of_mention e ≡ true → P e) where
+    of_use : (e : Event) → is_use e ≡ true → P e
+    of_use e h = fits e (use_is_told e h)
+
+    unbound_fits : (seen : Seen) (l : Local) (bodies : List BodyPlace) (m : Mention)
+        → AllFit (mention_outcome seen l (tracked_kind seen (Some l)) bodies m).events
+    unbound_fits seen l bodies m = mention_fits of_use seen l (tracked_kind seen (Some l)) bodies m
+
+    binding_fits : (known : Known) (l : Local) (m : Mention) (row : Row) (binding : Binding)
+        → P (binding_event known l m row binding)
+    binding_fits known l m row (obtained k) = fits (binding_event known l m row (obtained k)) refl
+    binding_fits known l m row cleared = fits (binding_event known l m row cleared) refl
+    binding_fits known l m row (made state) = fits (binding_event known l m row (made state)) refl
+
+    here_fits : (own : Bool) (x : Event) → P x → AllFit (if own then x ∷ [] else [])
+    here_fits true x q = one_fits x q
+    here_fits false x q = none_given
+
+    bound_fits : (seen : Seen) (l : Local) (kind : VariableKind) (bodies : List BodyPlace) (m : Mention) (row : Row)
+        (x : Event) (r : LocalRole)
+        → P x
+        → AllFit (binding_outcome seen l kind bodies m row x r).events
+    bound_fits seen l kind bodies m row x (parameter k) q = none_given
+    bound_fits seen l kind bodies m row x receiver q = none_given
+    bound_fits seen l kind bodies m row x variadic q = none_given
+    bound_fits seen l kind bodies m row x result q = none_given
+    bound_fits seen l kind bodies m row x in_block q = here_fits (is_own l bodies) x q
+
+    row_fits : (seen : Seen) (l : Local) (kind : Option VariableKind) (bodies : List BodyPlace) (m : Mention)
+        (row : Row) (binding : Option Binding)
+        → AllFit (row_outcome seen l kind bodies m row binding).events
+    row_fits seen l None bodies m row None = none_given
+    row_fits seen l None bodies m row (Some binding) = none_given
+    row_fits seen l (Some kind) bodies m row None = unbound_fits seen l bodies m
+    row_fits seen l (Some kind) bodies m row (Some binding) =
+        bound_fits seen l kind bodies m row (binding_event seen.known l m row binding) l.role
+        (binding_fits seen.known l m row binding)
+
+    role_fits : (seen : Seen) (l : Local) (bodies : List BodyPlace) (m : Mention) (r : Role)
+        → AllFit (role_outcome seen l bodies m r).events
+    role_fits seen l bodies m (left k row) =
+        row_fits seen l (kind_of seen (Some l)) bodies m row (binding_at seen row k)
+    role_fits seen l bodies m elsewhere = unbound_fits seen l bodies m
+    role_fits seen l bodies m (called c) = unbound_fits seen l bodies m
+    role_fits seen l bodies m called_in_brackets = unbound_fits seen l bodies m
+    role_fits seen l bodies m (argument k x c) = unbound_fits seen l bodies m
+    role_fits seen l bodies m (returned k) = unbound_fits seen l bodies m
+    role_fits seen l bodies m (names_type row) = unbound_fits seen l bodies m
+    role_fits seen l bodies m (new_literal row) = unbound_fits seen l bodies m
+    role_fits seen l bodies m parameter_pointer = unbound_fits seen l bodies m
+
+    local_fits : (seen : Seen) (bodies : List BodyPlace) (m : Mention) (o : Option Local)
+        → AllFit (local_outcome seen bodies m o).events
+    local_fits seen bodies m None = none_given
+    local_fits seen bodies m (Some l) = role_fits seen l bodies m m.role
+
+    pub variable_fits : (seen : Seen) (bodies : List BodyPlace) (m : Mention)
+        → AllFit (variable_outcome seen bodies m).events
+    variable_fits seen bodies m = local_fits seen bodies m (found seen (variable_of seen.known m))
+
+-- No returns, and no literals under `defer`
+
+-- none of these events is a return
+abbrev pub AreQuiet : List Event → Type 0
+AreQuiet es = (e : Event) → Contains es e → is_return e ≡ false
+
+told_is_no_return : (e : Event) → is_told_of_mention e ≡ true → is_return e ≡ false
+told_is_no_return other h = refl
+told_is_no_return (obtain u c n is_new) h = refl
+told_is_no_return (clear u) h = refl
+told_is_no_return (call v) h = refl
+told_is_no_return (defer_call v) h = refl
+told_is_no_return (pass u c n) h = refl
+told_is_no_return (defer_pass u c n) h = refl
+told_is_no_return (lend g c n) h = refl
+told_is_no_return (start g literal) h = refl
+told_is_no_return (try g literal) h = refl
+told_is_no_return (wait g) h = refl
+told_is_no_return (defer_wait g) h = refl
+told_is_no_return (make u state) h = refl
+told_is_no_return (defer_literal at) h = refl
+told_is_no_return (return_event handed) h = let bad : false ≡ true = h in cc
+
+pub mentions_are_quiet : (seen : Seen) (bodies : List BodyPlace) (m : Mention)
+    → AreQuiet (variable_outcome seen bodies m).events
+mentions_are_quiet seen bodies m = variable_fits (λ e. is_return e ≡ false) told_is_no_return seen bodies m
+
+-- it saves the call of a literal
+abbrev is_deferral : Event → Bool
+is_deferral (defer_literal at) = true
+is_deferral e = false
+
+told_is_no_deferral : (e : Event) → is_told_of_mention e ≡ true → is_deferral e ≡ false
+told_is_no_deferral other h = refl
+told_is_no_deferral (obtain u c n is_new) h = refl
+told_is_no_deferral (clear u) h = refl
+told_is_no_deferral (call v) h = refl
+told_is_no_deferral (defer_call v) h = refl
+told_is_no_deferral (pass u c n) h = refl
+told_is_no_deferral (defer_pass u c n) h = refl
+told_is_no_deferral (lend g c n) h = refl
+told_is_no_deferral (start g literal) h = refl
+told_is_no_deferral (try g literal) h = refl
+told_is_no_deferral (wait g) h = refl
+told_is_no_deferral (defer_wait g) h = refl
+told_is_no_deferral (make u state) h = refl
+told_is_no_deferral (defer_literal at) h = let bad : false ≡ true = h in cc
+told_is_no_deferral (return_event handed) h = refl
+
+pub mentions_defer_no_literal : (seen : Seen) (bodies : List BodyPlace) (m : Mention) (at : ℕ)
+    → Contains (variable_outcome seen bodies m).events (defer_literal at)
+    → ⊥
+mentions_defer_no_literal seen bodies m at h =
+    let bad : true ≡ false = variable_fits (λ e. is_deferral e ≡ false) told_is_no_deferral seen bodies m
+    (defer_literal at) h in
+    cc

@@ -1,0 +1,5 @@
+use Rattle.meaning_runs.proofs.RunLists.{lists_are_run}
+use Rattle.meaning_runs.proofs.lists_are_run.Goals as goal
+
+pub returns : goal.returns
+returns c = lists_are_run

@@ -1,0 +1,23 @@
+-- Where bodies begin. In the tree of a text no two bodies have their `func` at one offset, and a body that stands in
+-- another one begins behind it.
+-- (The Go specification, "Function declarations", "Function literals".)
+use Rattle.std.specs.Prelude.{ℕ, ◌≡◌, ◌<◌, List, [], ◌∷◌, Contains}
+use Rattle.tree.specs.Syntax.{SourceFile}
+use Rattle.meaning.specs.Mentions.{BodyPlace, file_marks}
+use Rattle.meaning.specs.Tracked.{Placed, placed}
+use Rattle.meaning.specs.TreeOfText.{IsTreeOf}
+use Rattle.meaning.specs.BodyEvents.{opened_in}
+
+-- each of these bodies begins behind those that come after it in the list
+abbrev pub AreFalling : List BodyPlace → Type 0
+AreFalling [] = Unit {0}
+AreFalling (b ∷ bs) = ((c : BodyPlace) → Contains bs c → c.at < b.at) × AreFalling bs
+
+pub record AreApart (marks : List Placed) : Type 0 where
+  -- the bodies around a mark, the innermost first
+  pub falling : (p : Placed) → Contains marks p → AreFalling p.bodies
+  -- one body at an offset
+  pub one_each : (b c : BodyPlace) → Contains (opened_in marks) b → Contains (opened_in marks) c → b.at ≡ c.at → b ≡ c
+
+abbrev pub BodiesAreApart : Type 0
+BodiesAreApart = (text : List ℕ) (tree : SourceFile) → IsTreeOf text tree → AreApart (placed [] (file_marks tree))

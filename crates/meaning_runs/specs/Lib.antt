@@ -1,0 +1,22 @@
+-- Runs of a program, and what a yes says of them: to be trusted.
+pub mod Bodies
+pub mod World
+pub mod Moves
+pub mod Steps
+pub mod Runs
+pub mod Promise
+pub mod PackageYes
+-- What shows that they aren't empty, and leave nothing out.
+pub mod Laws
+pub mod CallSteps
+pub mod Doings
+pub mod OccurrencePlaces
+pub mod FilePlaces
+pub mod RunLists
+pub mod Examples
+pub mod Returns
+pub mod LoudReturns
+-- What serves the proofs.
+pub mod EventSources
+pub mod BodyOffsets
+pub mod Duties

@@ -1,0 +1,38 @@
+-- The promise, said of a report of packages: under the tables of the report, a package of which the report says nothing
+-- is quiet, if neither it nor a given package below it imports `errgroup`.
+use Rattle.std.specs.Prelude.{◌≡◌, ℕ, false, List, [], Some, slice_get}
+use Rattle.meaning.specs.FunctionFacts.{errgroup_path}
+use Rattle.meaning_reports.specs.Loaded.{LoadedPackage, Tables, is_imported}
+use Rattle.meaning_reports.specs.PackageReports.{Said, IsReportOf}
+use Rattle.meaning_runs.specs.Bodies.{Program, IsBelow}
+use Rattle.meaning_runs.specs.Runs.{IsQuietProgram}
+use Rattle.meaning_runs.specs.Promise.{AreTreesOfTexts}
+
+-- the report has the package at that place, and nothing is said of it
+pub record IsYesIn (ps : List LoadedPackage) (report : List Said) (i : ℕ) : Type 0 where
+  pub loaded : LoadedPackage
+  pub said : Said
+  pub is_package : slice_get ps i ≡ Some loaded
+  pub is_said : slice_get report i ≡ Some said
+  pub is_yes : said.entries ≡ []
+
+-- these packages, what these tables know of their functions, and the one at that place, which is looked at
+abbrev pub program_of : List LoadedPackage → Tables → ℕ → Program
+program_of ps tables i = record { packages = ps; tables = tables; looked_at = i }
+
+-- the trees of the packages that runs go through are those of texts
+abbrev pub AreOfTexts : Program → Type 0
+AreOfTexts p = (i : ℕ) (q : LoadedPackage) → IsBelow p i → slice_get p.packages i ≡ Some q → AreTreesOfTexts q
+
+-- none of these packages imports `errgroup`
+abbrev pub AreWithoutGroups : Program → Type 0
+AreWithoutGroups p =
+    (i : ℕ) (q : LoadedPackage) → IsBelow p i → slice_get p.packages i ≡ Some q → is_imported q errgroup_path ≡ false
+
+abbrev pub YesOfAPackageIsQuiet : Type 0
+YesOfAPackageIsQuiet = (ps : List LoadedPackage) (report : List Said) (i : ℕ)
+    → (is_report : IsReportOf ps report)
+    → IsYesIn ps report i
+    → AreOfTexts (program_of ps is_report.tables i)
+    → AreWithoutGroups (program_of ps is_report.tables i)
+    → IsQuietProgram (program_of ps is_report.tables i)

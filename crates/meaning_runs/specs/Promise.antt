@@ -1,0 +1,70 @@
+-- What a yes promises: where nothing is to be said of a package's files, each return of a frame of the package is
+-- quiet, in every run. It is enough that tables are consistent and credits fair, of this package and of those below it:
+-- they need not be the most that are. Nothing is promised where one of these packages imports `errgroup`, for the steps
+-- leave groups out.
+use Rattle.std.specs.Prelude.{◌≡◌, ℕ, false, List, [], ◌∷◌, Some, slice_get, Contains}
+use Rattle.tree.specs.Syntax.{SourceFile}
+use Rattle.meaning.specs.TreeOfText.{IsTreeOf}
+use Rattle.meaning.specs.FunctionFacts.{errgroup_path}
+use Rattle.meaning.specs.Uses.{Seen}
+use Rattle.meaning_packages.specs.Credits.{AreFairCredits}
+use Rattle.meaning_packages.specs.CallsFlags.{FileWithCredits, calls_by, AreConsistent}
+use Rattle.report.specs.Entries.{Entry}
+use Rattle.meaning_reports.specs.Loaded.{LoadedPackage, Tables, is_imported, imported_flags, signatures_of, trees_of, seen_files}
+use Rattle.meaning_reports.specs.WholeFaults.{HasNoWholeFault}
+use Rattle.meaning_reports.specs.PackageTables.{IsEmpty}
+use Rattle.meaning_reports.specs.PackageReports.{IsFileFinding}
+use Rattle.meaning_runs.specs.Bodies.{Program, IsBelow}
+use Rattle.meaning_runs.specs.Runs.{IsQuietProgram}
+
+-- each file with fair credits
+pub data AreFairlyCredited : List Seen → List FileWithCredits → Type 0 where
+  no_file : AreFairlyCredited [] []
+  file_and : {seen : Seen} {rest : List Seen} {file : FileWithCredits} {files : List FileWithCredits}
+      → file.seen ≡ seen
+      → AreFairCredits seen file.credits
+      → AreFairlyCredited rest files
+      → AreFairlyCredited (seen ∷ rest) (file ∷ files)
+
+-- What is known of the functions of the package at that place holds of them: its table has what their signatures say,
+-- and its flags are consistent under fair credits.
+pub record IsWellKnown (ps : List LoadedPackage) (tables : Tables) (i : ℕ) (p : LoadedPackage) : Type 0 where
+  pub has_no_whole_fault : HasNoWholeFault ps i
+  pub files : List FileWithCredits
+  pub are_files : AreFairlyCredited (seen_files ps tables p) files
+  pub are_flags : AreConsistent files (imported_flags p tables) (tables p.path).calls
+  pub are_signatures : (name : List ℕ) → (tables p.path).signatures name ≡ signatures_of ps p name
+
+-- Each tree is that of a text, so that no two of its names or bodies stand at one offset.
+abbrev pub AreTreesOfTexts : LoadedPackage → Type 0
+AreTreesOfTexts q = (tree : SourceFile) → Contains (trees_of q) tree → (text : List ℕ) × IsTreeOf text tree
+
+-- so it is of each package that runs go through, of which none imports `errgroup`; of others nothing is known
+pub record AreWellKnown (p : Program) : Type 0 where
+  pub of_package : (i : ℕ) (q : LoadedPackage)
+      → IsBelow p i
+      → slice_get p.packages i ≡ Some q
+      → IsWellKnown p.packages p.tables i q
+  pub of_texts : (i : ℕ) (q : LoadedPackage) → IsBelow p i → slice_get p.packages i ≡ Some q → AreTreesOfTexts q
+  pub without_groups : (i : ℕ) (q : LoadedPackage)
+      → IsBelow p i
+      → slice_get p.packages i ≡ Some q
+      → is_imported q errgroup_path ≡ false
+  pub of_others : (path : List ℕ)
+      → ((i : ℕ) (q : LoadedPackage) → slice_get p.packages i ≡ Some q → q.path ≡ path → ⊥)
+      → IsEmpty (p.tables path)
+
+-- Nothing is to be said of the files of the package that is looked at, under some fair credits, perhaps others than
+-- those by which its flags are known. Of what it imports nothing is asked here: where
+-- that has a finding, as a use that the rules don't allow, its functions may do in Go what they do in no run.
+pub record HasNoFinding (p : Program) : Type 0 where
+  pub loaded : LoadedPackage
+  pub is_package : slice_get p.packages p.looked_at ≡ Some loaded
+  pub is_known : IsWellKnown p.packages p.tables p.looked_at loaded
+  pub none : (number : ℕ) (file : FileWithCredits) (x : Entry)
+      → slice_get is_known.files number ≡ Some file
+      → IsFileFinding (calls_by (p.tables loaded.path).calls (imported_flags loaded p.tables)) number file x
+      → ⊥
+
+abbrev pub YesIsQuiet : Type 0
+YesIsQuiet = (p : Program) → AreWellKnown p → HasNoFinding p → IsQuietProgram p

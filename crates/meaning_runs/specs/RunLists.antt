@@ -1,0 +1,167 @@
+-- Each list of a body is the list of some run, so the lists that the analysis looks at are not more than what the
+-- machine does. The run begins with a call of the body from outside, and then only this one goroutine acts.
+-- (The Go specification, "Statements", "Calls", "Return statements".)
+use Rattle.std.specs.Prelude.{◌≡◌, ℕ, Bool, true, false, if◌then◌else◌, ◌++◌, List, [], ◌∷◌, None, Contains}
+use Rattle.tree.specs.Syntax.{SourceFile}
+use Rattle.meaning.specs.TreeOfText.{IsTreeOf}
+use Rattle.meaning.specs.Tracked.{Known}
+use Rattle.meaning.specs.BodyEvents.{seen_file}
+use Rattle.meaning.specs.Code.{Occurrence, Code}
+use Rattle.meaning.specs.Lists.{Exit, Lists}
+use Rattle.meaning.specs.Uses.{Event, other, obtain, clear, call, defer_call, pass, defer_pass, lend, start, try, wait, defer_wait, make, defer_literal, return_event}
+use Rattle.meaning.specs.BodyEvents.{bodies_of}
+use Rattle.meaning_runs.specs.Bodies.{Program, Body, IsOf, IsOutermost, IsLiteralIn, IsFunction, code_of}
+use Rattle.meaning_runs.specs.World.{Store, runs, exits, Frame, World}
+use Rattle.meaning_runs.specs.Steps.{ComesTo, Acts, moves_on, does_other, obtains_one, clears_one, calls_one, saves_call, evaluates, evaluates_deferred, makes_call, saves_pass, saves_literal, comes_to_return, runs_call, runs_pass, runs_literal, returns_now, Step, of_goroutine, of_environment}
+use Rattle.meaning_runs.specs.Runs.{Run, no_step, step_more}
+use Rattle.meaning_runs.specs.Doings.{Does, IsLeft}
+use Rattle.meaning_runs.specs.Promise.{AreTreesOfTexts}
+
+-- The events of a run
+
+abbrev pub event_of : {f : Frame} {e : Event} {rest : Code Event} → ComesTo f e rest → Occurrence Event
+event_of {e = e} c = record { at = c.at; order = c.order; event = e }
+
+-- the event by which the code of the frame goes on, if it goes on by one
+abbrev pub events_of_act : {p : Program} {s : Store} {f : Frame} {after : Store} {frames : List Frame}
+    → Acts p s f after frames
+    → List (Occurrence Event)
+events_of_act (moves_on g) = []
+events_of_act (does_other d) = event_of d.comes_to ∷ []
+events_of_act (obtains_one d o) = event_of d.comes_to ∷ []
+events_of_act (clears_one d) = event_of d.comes_to ∷ []
+events_of_act (calls_one d) = event_of d.comes_to ∷ []
+events_of_act (saves_call d) = event_of d.comes_to ∷ []
+events_of_act (evaluates c j) = event_of c ∷ []
+events_of_act (evaluates_deferred c j) = event_of c ∷ []
+events_of_act (makes_call u n b) = []
+events_of_act (saves_pass u d) = []
+events_of_act (saves_literal b d i e) = event_of d.comes_to ∷ []
+events_of_act (comes_to_return d) = event_of d.comes_to ∷ []
+events_of_act (runs_call r) = []
+events_of_act (runs_pass r b) = []
+events_of_act (runs_literal values r any) = []
+events_of_act (returns_now e) = []
+
+abbrev pub events_of_step : {p : Program} {w next : World} → Step p w next → List (Occurrence Event)
+events_of_step (of_goroutine g at a) = events_of_act a
+events_of_step (of_environment s) = []
+
+-- of all goroutines, the first one first
+abbrev pub events_of : {p : Program} {w : World} → Run p w → List (Occurrence Event)
+events_of no_step = []
+events_of (step_more r s) = events_of r ++ events_of_step s
+
+-- Lists that can be run
+
+-- What an event asks for so that the frame comes past it: that it is about no group, that its literal is there, and
+-- that no body is known for the function that gets the argument, since such a body need not come to an end.
+abbrev pub IsRunnable : Program → Body → Event → Type 0
+IsRunnable p b other = Unit {0}
+IsRunnable p b (obtain u c n is_new) = Unit {0}
+IsRunnable p b (clear u) = Unit {0}
+IsRunnable p b (call v) = Unit {0}
+IsRunnable p b (defer_call v) = Unit {0}
+IsRunnable p b (pass u c n) = (d : Body) → IsFunction p b c d → ⊥
+IsRunnable p b (defer_pass u c n) = Unit {0}
+IsRunnable p b (lend g c n) = ⊥
+IsRunnable p b (start g literal) = ⊥
+IsRunnable p b (try g literal) = ⊥
+IsRunnable p b (wait g) = ⊥
+IsRunnable p b (defer_wait g) = ⊥
+IsRunnable p b (make g state) = ⊥
+IsRunnable p b (defer_literal at) = (d : Body) × IsLiteralIn b d × (d.place.at ≡ at)
+IsRunnable p b (return_event handed) = Unit {0}
+
+-- the event of a `return`, or of the end of a body
+abbrev pub is_return : Event → Bool
+is_return (return_event handed) = true
+is_return e = false
+
+-- No event but the last one is a return. The lists of a tree of a text are all so (`ReturnsAreLast`). A tree with two
+-- statements at one offset, which no text has, may have other lists.
+abbrev pub ReturnsComeLast : List (Occurrence Event) → Type 0
+ReturnsComeLast [] = Unit {0}
+ReturnsComeLast (o ∷ []) = Unit {0}
+ReturnsComeLast (o ∷ q ∷ t) = (is_return o.event ≡ false) × ReturnsComeLast (q ∷ t)
+
+abbrev pub ends_in_return : List (Occurrence Event) → Bool
+ends_in_return [] = false
+ends_in_return (o ∷ []) = is_return o.event
+ends_in_return (o ∷ q ∷ t) = ends_in_return (q ∷ t)
+
+-- What the run comes to
+
+-- A run whose events are these; then its one goroutine is in the body alone, and what is left of that fits the exit. A
+-- return's event takes the frame to its return, whatever is left.
+pub record HasGoneThrough (p : Program) (b : Body) (t : List (Occurrence Event)) (x : Exit) : Type 0 where
+  pub world : World
+  pub run : Run p world
+  pub has_events : events_of run ≡ t
+  pub goroutine : ℕ
+  pub frame : Frame
+  pub is_only : world.stacks goroutine ≡ frame ∷ []
+  pub is_its : frame.body ≡ b
+  -- each call that it came to was made
+  pub none_waits : frame.waiting ≡ None
+  pub rest : Code Event
+  pub does_it : Does (code_of b) t rest
+  pub is_left : IsLeft x rest
+  pub stands_there : frame.stage ≡ (if ends_in_return t then exits else runs rest)
+
+abbrev pub ListsAreRun : Type 0
+ListsAreRun = (p : Program) (b : Body) (t : List (Occurrence Event)) (x : Exit)
+    → IsOf p b
+    → IsOutermost b
+    → Lists (code_of b) t x
+    → ((o : Occurrence Event) → Contains t o → IsRunnable p b o.event)
+    → ReturnsComeLast t
+    → HasGoneThrough p b t x
+
+-- Lists of trees of texts
+
+-- the tree of the body's file is that of a text
+pub record IsOfText (b : Body) : Type 0 where
+  pub text : List ℕ
+  pub tree : SourceFile
+  pub known : Known
+  pub is_tree : IsTreeOf text tree
+  pub is_file : b.file ≡ seen_file known tree
+
+-- So it is of each body of a package whose trees are those of texts, as the promise asks for.
+abbrev pub BodiesAreOfTexts : Type 0
+BodiesAreOfTexts = (p : Program) (b : Body) (of : IsOf p b) → AreTreesOfTexts of.loaded → IsOfText b
+
+-- There no event of a list but the last one is a return: the event of a return is the last one at its offset, for whose
+-- events no other statement asks, and the code leaves the body then; or it is at the body's end.
+abbrev pub ReturnsAreLast : Type 0
+ReturnsAreLast = (b : Body) (t : List (Occurrence Event)) (x : Exit)
+    → IsOfText b
+    → Contains (bodies_of b.file) b.place
+    → Lists (code_of b) t x
+    → ReturnsComeLast t
+
+-- There each literal whose call is saved stands in the body.
+abbrev pub DeferredLiteralsAreThere : Type 0
+DeferredLiteralsAreThere = (b : Body) (t : List (Occurrence Event)) (x : Exit) (o : Occurrence Event) (at : ℕ)
+    → IsOfText b
+    → Lists (code_of b) t x
+    → Contains t o
+    → o.event ≡ defer_literal at
+    → (d : Body) × IsLiteralIn b d × (d.place.at ≡ at)
+
+-- so an event that saves a literal asks for nothing there
+abbrev pub IsRunnableOfText : Program → Body → Event → Type 0
+IsRunnableOfText p b (defer_literal at) = Unit {0}
+IsRunnableOfText p b e = IsRunnable p b e
+
+-- So there each list is that of a run, as far as its events are about no group, and no body is known for a function
+-- that gets a cancel function.
+abbrev pub ListsOfTextsAreRun : Type 0
+ListsOfTextsAreRun = (p : Program) (b : Body) (t : List (Occurrence Event)) (x : Exit)
+    → IsOf p b
+    → IsOutermost b
+    → IsOfText b
+    → Lists (code_of b) t x
+    → ((o : Occurrence Event) → Contains t o → IsRunnableOfText p b o.event)
+    → HasGoneThrough p b t x

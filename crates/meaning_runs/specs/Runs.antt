@@ -1,0 +1,35 @@
+-- A run is a list of steps from the empty world. A frame owes the cancel functions that its variables obtained and that
+-- its return doesn't hand on. Its return is quiet if, at that moment, each of them was called, and its context is done
+-- with all that come from it. (The documentation of `context`.)
+use Rattle.std.specs.Prelude.{◌≡◌, ℕ, List, ◌∷◌, Contains}
+use Rattle.meaning_runs.specs.Bodies.{Program}
+use Rattle.meaning_runs.specs.World.{cancel_function, ComesFrom, IsDone, Frame, World, empty_world}
+use Rattle.meaning_runs.specs.Steps.{IsAtEnd, Step}
+
+pub data Run (p : Program) : World → Type 0 where
+  no_step : Run p empty_world
+  step_more : {w next : World} → Run p w → Step p w next → Run p next
+
+-- a goroutine's running frame has come to a return, and all that it saved has run
+pub record IsReturning (w : World) (f : Frame) : Type 0 where
+  pub goroutine : ℕ
+  pub others : List Frame
+  pub is_running : w.stacks goroutine ≡ f ∷ others
+  pub is_at_end : IsAtEnd f
+
+-- the frame has to see to it that the function is called
+pub record Owes (f : Frame) (a : ℕ) : Type 0 where
+  pub was_obtained : Contains f.obtained a
+  pub is_kept : Contains f.handed_on (cancel_function a) → ⊥
+
+pub record IsQuiet (w : World) (f : Frame) : Type 0 where
+  pub called : (a : ℕ) → Owes f a → Contains w.store.called a
+  pub done : (a b : ℕ) → Owes f a → ComesFrom w.store a b → IsDone w.store b
+
+-- in every run each return of a frame of the package that is looked at is quiet
+abbrev pub IsQuietProgram : Program → Type 0
+IsQuietProgram p = (w : World) (f : Frame)
+    → Run p w
+    → IsReturning w f
+    → f.body.home ≡ p.looked_at
+    → IsQuiet w f

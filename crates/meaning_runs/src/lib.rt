@@ -1,0 +1,135 @@
+//! The machine that an analysed program is, and laws of it. It runs nothing.
+#![tactic(auto)]
+
+ghost use Rattle.meaning_runs.specs.BodyOffsets.{BodiesAreApart};
+ghost use Rattle.meaning_runs.specs.CallSteps.{CallsHaveSteps};
+ghost use Rattle.meaning_runs.specs.Doings.{MovesAreLists};
+ghost use Rattle.meaning_runs.specs.Laws.{ContextsAreSound, FramesHaveSteps};
+ghost use Rattle.meaning_runs.specs.EventSources.{BindingsAreOfLocals, BindingsAreTracked, EventsHaveSources};
+ghost use Rattle.meaning_runs.specs.FilePlaces.{WholePlacesLieInFiles};
+ghost use Rattle.meaning_runs.specs.OccurrencePlaces.{OccurrencesHavePlaces, OccurrencesLieInTexts};
+ghost use Rattle.meaning_runs.specs.Promise.{YesIsQuiet};
+ghost use Rattle.meaning_runs.specs.PackageYes.{YesOfAPackageIsQuiet};
+ghost use Rattle.meaning_runs.specs.RunLists.{BodiesAreOfTexts, DeferredLiteralsAreThere, ListsAreRun, ListsOfTextsAreRun, ReturnsAreLast};
+ghost use Rattle.meaning_runs.specs.LoudReturns.{LostFunctionsAreSeen};
+ghost use Rattle.meaning_runs.specs.Returns.{ReturnsExist};
+
+/// The moves of a code are its lists of events: each list that the code may go through is done by its moves, one after
+/// another, and what moves do is a list.
+pub fn moves_are_lists<E>()
+    ensures { MovesAreLists E }
+{}
+
+/// In the tree of a text no two bodies begin at one offset, and a body that stands in another begins behind it.
+pub fn bodies_are_apart()
+    ensures { BodiesAreApart }
+{}
+
+/// Each event of a body is that of a mark in it, or says nothing, or is the return at the body's end.
+pub fn events_have_sources()
+    ensures { EventsHaveSources }
+{}
+
+/// An event of a body that binds a cancel variable is that of a mention of a local which the body declares in its
+/// block: no parameter, and none of a body around it.
+pub fn bindings_are_of_locals()
+    ensures { BindingsAreOfLocals }
+{}
+
+/// The local that an event of a body binds is tracked as a cancel variable: a row obtains and clears only what is of
+/// that kind, by its type or by a row that obtains it.
+pub fn bindings_are_tracked()
+    ensures { BindingsAreTracked }
+{}
+
+/// A goroutine's running frame always has a step, but for what is done to a group, and for a call of a function that
+/// gets cancel functions, of which `calls_have_steps` tells.
+pub fn frames_have_steps()
+    ensures { FramesHaveSteps }
+{}
+
+/// A call of a function that gets cancel functions always begins, at once or when what was saved runs: in every world
+/// of a run there are values that it can give.
+pub fn calls_have_steps()
+    ensures { CallsHaveSteps }
+{}
+
+/// In every world of a run: a cancel function that was called has ended its context and all that come from it; a
+/// context that is made from a done one is born done; and what is done stays done.
+pub fn contexts_are_sound()
+    ensures { ContextsAreSound }
+{}
+
+/// Runs come to returns: to quiet ones of a function that saves the call, of one that passes its cancel function to
+/// another one, and of one that saves a literal; and to ones that are not quiet of a function that forgets the call,
+/// and of one that assigns to the variable before its function was called.
+pub fn returns_exist()
+    ensures { ReturnsExist }
+{}
+
+/// What a yes promises, of packages without groups: where nothing is to be said of the files of a package, under tables
+/// that are consistent, of it and of the given packages below it, each of its returns is quiet, in every run. Literals
+/// share the variables that they capture with the activation around them, be they deferred or called by anyone.
+pub fn yes_is_quiet()
+    ensures { YesIsQuiet }
+{}
+
+/// So it is by a report of packages. Where it says nothing of a package, its tables know what holds of that package and
+/// of all given ones below it, and none of these has a finding; so if none of these packages imports `errgroup`, each
+/// return of the package is quiet, in every run.
+pub fn yes_of_a_package_is_quiet()
+    ensures { YesOfAPackageIsQuiet }
+{}
+
+/// Each list of a body is the list of events of some run, as far as its events are runnable: they are about no group,
+/// and no body is known for a function that gets a cancel function. The run begins with a call of the body, and comes
+/// to what is left of it after the list, or to its return.
+pub fn lists_are_run()
+    ensures { ListsAreRun }
+{}
+
+/// The tree of a body's file is that of a text where the trees of its package are, as the promise asks for.
+pub fn bodies_are_of_texts()
+    ensures { BodiesAreOfTexts }
+{}
+
+/// In the tree of a text no event of a body's list but the last one is a return: the event of a return is the last one
+/// at its offset, and no other statement asks for the events there.
+pub fn returns_are_last()
+    ensures { ReturnsAreLast }
+{}
+
+/// In the tree of a text no two occurrences of a body's code have one place, whatever its sites give: they differ in
+/// offset, or in order among the events there.
+pub fn occurrences_have_places<E>()
+    ensures { OccurrencesHavePlaces E }
+{}
+
+/// In the tree of a text each occurrence of a body's code stands at an offset in the text.
+pub fn occurrences_lie_in_texts<E>()
+    ensures { OccurrencesLieInTexts E }
+{}
+
+/// Where the trees of a package are those of its files' texts, each fault of the whole package and what is said of its
+/// imports stands in one of these files, at an offset of its text or at its end.
+pub fn whole_places_lie_in_files()
+    ensures { WholePlacesLieInFiles }
+{}
+
+/// In the tree of a text each literal whose call an event of a body saves stands in the body.
+pub fn deferred_literals_are_there()
+    ensures { DeferredLiteralsAreThere }
+{}
+
+/// So each list of an outermost body in the tree of a text is the list of events of some run, as far as its events are
+/// about no group, and no body is known for a function that gets a cancel function.
+pub fn lists_of_texts_are_run()
+    ensures { ListsOfTextsAreRun }
+{}
+
+/// Runs come to returns that are not quiet in each of these packages: one passes its cancel function to a function that
+/// does not call it, one saves such a call, one saves a literal that calls nothing, one a literal that calls it in one
+/// branch, one uses the function in another way, one calls it in one branch, and one returns before the call.
+pub fn lost_functions_are_seen()
+    ensures { LostFunctionsAreSeen }
+{}

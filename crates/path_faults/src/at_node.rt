@@ -1,0 +1,17 @@
+//! What the faults at a node are read off.
+
+use crate::live::LiveGroups;
+use events::Variable;
+use flow::NodePlace;
+
+/// A node of a body's graph, and what is known where it comes next.
+#[derive(Drop)]
+pub struct AtNode<'c, 'a, A> {
+    /// The body's variables.
+    pub variables: &'c [Variable<'a>],
+    /// Which classes of them arrive at which nodes.
+    pub arrivals: &'c A,
+    /// Which groups may be live at which places.
+    pub live: &'c LiveGroups,
+    pub node: NodePlace,
+}

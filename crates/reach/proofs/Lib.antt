@@ -1,5 +1,0 @@
-pub mod CarriedFlags
-pub mod MarkedRows
-pub mod Memory
-pub mod Searches
-pub mod Visits

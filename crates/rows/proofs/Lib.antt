@@ -1,3 +1,0 @@
-pub mod LeftSides
-pub mod OnlyValues
-pub mod ValueForms

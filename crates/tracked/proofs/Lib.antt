@@ -1,0 +1,7 @@
+pub mod LeftSides
+pub mod OnlyValues
+pub mod ValueForms
+pub mod Added
+pub mod AllNoted
+pub mod MarksInOrder
+pub mod Numbers

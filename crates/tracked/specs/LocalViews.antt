@@ -1,0 +1,158 @@
+-- What the program keeps of locals, and what it stands for.
+use Rattle.std.specs.Prelude.{ℕ, ◌≡◌, not, ◌&&◌, ◌||◌, Bool, false, if◌then◌else◌, List, [], ◌∷◌, ◌++◌, Option, Some, None, is_some, option_map, map, nat_eq}
+use Rattle.std.specs.List.{list_any, filter}
+use Rattle.indexmap.specs.IndexMap.{get}
+use Rattle.tracked.specs.declared.local.LocalRole.{LocalRole as KeptRole}
+use Rattle.tracked.specs.declared.local.LocalRole.TheVariants.{Parameter, Receiver, Variadic, Result, InBlock}
+use Rattle.tracked.specs.declared.local.Local.{Local as KeptLocal}
+use Rattle.tracked.specs.declared.local.Entry.{Entry as KeptEntry}
+use Rattle.tracked.specs.declared.table.Entries.{Entries}
+use Rattle.tracked.specs.declared.table.Locals.{Locals}
+use Rattle.tracked.specs.declared.seen.Seen.{Seen as KeptSeen}
+use Rattle.facts.specs.FactViews.{kind_view}
+use Rattle.mentions.specs.MarkViews.{marks_view}
+use Rattle.tracked.specs.RowViews.{known_view}
+use Rattle.meaning.specs.OuterBlocks.{or_else}
+use Rattle.meaning.specs.Mentions.{BodyPlace, Mention, Mark, mentions, defers_literal, returns, opens, closes}
+use Rattle.meaning.specs.FunctionFacts.{VariableKind, cancel, group}
+use Rattle.meaning.specs.Tracked.{Known, variable_of, outer, Placed, LocalRole, parameter, receiver, variadic, result, in_block, Local, find_local, is_variable, obtains_in, makes_in}
+use Rattle.meaning.specs.Uses.{Seen, seen_in, may_be_tracked, is_own, is_in_literal}
+use Rattle.meaning.specs.BodyEvents.{distinct}
+
+-- Bodies
+
+-- the bodies around a mark, by those around the mark before it
+abbrev pub bodies_at : List BodyPlace → Mark → List BodyPlace
+bodies_at bs (mentions m) = bs
+bodies_at bs (defers_literal site at) = bs
+bodies_at bs (returns at es) = bs
+bodies_at bs (opens b) = b ∷ bs
+bodies_at bs closes = outer bs
+
+-- Locals
+
+abbrev pub local_role_view : KeptRole → LocalRole
+local_role_view (Parameter k) = parameter k
+local_role_view Receiver = receiver
+local_role_view Variadic = variadic
+local_role_view Result = result
+local_role_view InBlock = in_block
+
+abbrev pub local_view : KeptLocal → Local
+local_view l = record {
+  number = l.number;
+  name = l.name.now;
+  at = l.at;
+  role = local_role_view l.role;
+  typed = option_map kind_view l.typed;
+  body = l.body;
+}
+
+-- a local, and what the marks of the file do to it
+pub record Entry : Type 0 where
+  pub local : Local
+  pub is_obtained : Bool
+  pub is_made : Bool
+  pub is_in_literal : Bool
+
+abbrev pub entry_view : KeptEntry → Entry
+entry_view e = record {
+  local = local_view e.local;
+  is_obtained = e.is_obtained;
+  is_made = e.is_made;
+  is_in_literal = e.is_in_literal;
+}
+
+-- no mark has been seen of it
+abbrev pub fresh : Local → Entry
+fresh l = record { local = l; is_obtained = false; is_made = false; is_in_literal = false }
+
+-- Tables of locals
+
+abbrev pub entry_in : Entries → ℕ → Option Entry
+entry_in entries n = option_map entry_view (get nat_eq entries.by_number n)
+
+abbrev pub numbers_of : List Local → List ℕ
+numbers_of = map (λ l. l.number)
+
+-- the numbers that have no entry, each once
+abbrev pub new_numbers : Entries → List ℕ → List ℕ
+new_numbers entries ns = filter (λ n. not (is_some (entry_in entries n))) (distinct ns)
+
+pub record HasNoLocals (locals : Locals) : Type 0 where
+  pub entries : (n : ℕ) → entry_in locals.entries n ≡ None
+  pub numbers : locals.numbers.items ≡ []
+
+-- of those with one number the first counts
+pub record AddsLocals (before after : Locals) (ls : List Local) : Type 0 where
+  pub entries : (n : ℕ)
+      → entry_in after.entries n ≡ or_else (entry_in before.entries n) (option_map fresh (find_local ls n))
+  pub numbers : after.numbers.items ≡ before.numbers.items ++ new_numbers before.entries (numbers_of ls)
+
+-- the locals are these, and no mark has been seen of them
+pub record HasLocals (locals : Locals) (ls : List Local) : Type 0 where
+  pub entries : (n : ℕ) → entry_in locals.entries n ≡ option_map fresh (find_local ls n)
+  pub numbers : locals.numbers.items ≡ distinct (numbers_of ls)
+
+abbrev pub update_entry : ℕ → Entry → Option Entry → ℕ → Option Entry
+update_entry number e known n = if nat_eq number n then Some e else known
+
+-- What marks do to the local of a number
+
+-- a mention of it in a literal, seen from the body that declares the local
+abbrev pub is_inside : Known → ℕ → Local → List BodyPlace → Mention → Bool
+is_inside known n l bodies m = is_variable (variable_of known m) n && not (is_own l bodies)
+
+abbrev pub noted_mention : Known → ℕ → List BodyPlace → Mention → Entry → Entry
+noted_mention known n bodies m e = record {
+  local = e.local;
+  is_obtained = e.is_obtained || obtains_in known n (mentions m);
+  is_made = e.is_made || makes_in known n (mentions m);
+  is_in_literal = e.is_in_literal || is_inside known n e.local bodies m;
+}
+
+abbrev pub noted : Known → ℕ → List BodyPlace → Mark → Entry → Entry
+noted known n bodies (mentions m) e = noted_mention known n bodies m e
+noted known n bodies (defers_literal site at) e = e
+noted known n bodies (returns at es) e = e
+noted known n bodies (opens b) e = e
+noted known n bodies closes e = e
+
+abbrev pub noted_all : Known → ℕ → List Placed → Entry → Entry
+noted_all known n [] e = e
+noted_all known n (p ∷ ps) e = noted_all known n ps (noted known n p.bodies p.mark e)
+
+abbrev pub NotesMark : Known → List BodyPlace → Mark → Entries → Entries → Type 0
+NotesMark known bodies mark before after =
+    (n : ℕ) → entry_in after n ≡ option_map (noted known n bodies mark) (entry_in before n)
+
+-- A file
+
+abbrev pub seen_view : KeptSeen → Seen
+seen_view seen = seen_in (known_view seen.known) (marks_view seen.marks.items)
+
+-- what the marks of the file do to a local
+abbrev pub entry_of : Seen → Local → Entry
+entry_of seen l = record {
+  local = l;
+  is_obtained = list_any (λ p. obtains_in seen.known l.number p.mark) seen.marks;
+  is_made = list_any (λ p. makes_in seen.known l.number p.mark) seen.marks;
+  is_in_literal = is_in_literal seen l;
+}
+
+-- the table has the locals of the file, each with what its marks do to it, and the number of each once
+pub record Sees (seen : KeptSeen) : Type 0 where
+  pub entries : (n : ℕ)
+      → entry_in seen.locals.entries n ≡ option_map (entry_of (seen_view seen)) (find_local (seen_view seen).locals n)
+  pub numbers : seen.locals.numbers.items ≡ distinct (numbers_of (seen_view seen).locals)
+
+-- Kinds
+
+abbrev pub kind_by_flags : Bool → Bool → Option VariableKind
+kind_by_flags is_obtained is_made = if is_obtained then Some cancel else if is_made then Some group else None
+
+abbrev pub kind_of_entry : Entry → Option VariableKind
+kind_of_entry e = or_else e.local.typed (kind_by_flags e.is_obtained e.is_made)
+
+abbrev pub tracked_kind_of_entry : Entry → Option VariableKind
+tracked_kind_of_entry e = if may_be_tracked e.local.role then kind_of_entry e else None

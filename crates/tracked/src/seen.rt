@@ -1,0 +1,135 @@
+//! A file with what is known of it.
+
+ghost use Rattle.std.specs.Prelude.{◌≡◌, ℕ, [], IfOk, OnOk, map, option_map};
+ghost use Rattle.facts.specs.FactViews.{kind_view};
+ghost use Rattle.tracked.specs.LocalViews.{entry_view, entry_in, noted_all, seen_view, entry_of, HasLocals, Sees};
+ghost use Rattle.meaning.specs.BodyEvents.{distinct, seen_file};
+ghost use Rattle.meaning.specs.Tracked.{placed, locals_of};
+ghost use Rattle.meaning.specs.Uses.{found, kind_of, is_tracked};
+ghost use Rattle.mentions.specs.MarkViews.{mark_view, marks_view};
+ghost use Rattle.tracked.specs.RowViews.{known_view};
+ghost use Rattle.tree.specs.View.{file_syntax};
+
+use crate::around::enter;
+use crate::declared::add_locals;
+use crate::kinds::{kind, tracked_kind};
+use crate::known::Known;
+use crate::local::Entry;
+use crate::noted::note;
+use crate::table::{Entries, Locals};
+use facts::VariableKind;
+use mentions::{BodyPlace, Mark, file_marks};
+use std::alloc::{AllocError, Global};
+use tree::File;
+
+/// A file's marks and locals, with what is known.
+#[derive(Drop)]
+pub struct Seen<'k, 'a> {
+    pub known: Known<'k, 'a>,
+    pub marks: Vec<Mark<'a>>,
+    locals: Locals<'a>,
+}
+
+/// The locals that the marks declare.
+fn all_locals<'a>(
+    alloc: Global,
+    known: Known<'_, 'a>,
+    marks: &[Mark<'a>],
+) -> Result<Locals<'a>, AllocError>
+    ensures { IfOk result (λ locals. HasLocals locals (locals_of (known_view known.entry)
+        (placed [] (marks_view marks.now)))) }
+{
+    let mut locals = Locals::new(alloc);
+    let mut bodies: Vec<BodyPlace<'a>> = Vec::new(alloc);
+    for mark in marks {
+        enter(&mut bodies, *mark)?;
+        add_locals(alloc, known, &bodies, *mark, &mut locals)?;
+    }
+    Ok(locals)
+}
+
+/// Notes what the marks do to the locals.
+fn note_all<'a>(
+    alloc: Global,
+    known: Known<'_, 'a>,
+    marks: &[Mark<'a>],
+    entries: &mut Entries<'a>,
+) -> Result<(), AllocError>
+    ensures { OnOk result ((n : ℕ) → entry_in entries.new n ≡ option_map (noted_all (known_view known.entry) n
+        (placed [] (marks_view marks.now))) (entry_in entries.old n)) }
+{
+    let mut bodies: Vec<BodyPlace<'a>> = Vec::new(alloc);
+    for mark in marks {
+        enter(&mut bodies, *mark)?;
+        note(known, &bodies, *mark, entries)?;
+    }
+    Ok(())
+}
+
+/// Looks at a file.
+///
+/// # Errors
+///
+/// Memory was refused.
+pub fn see<'k, 'a>(
+    alloc: Global,
+    known: Known<'k, 'a>,
+    file: &'a File,
+) -> Result<Seen<'k, 'a>, AllocError>
+    ensures view { IfOk result (λ seen. seen_view seen ≡ seen_file (known_view known.entry) (file_syntax file.now)) }
+    ensures sees { IfOk result (λ seen. Sees seen) }
+{
+    let marks = file_marks(alloc, file)?;
+    let mut locals = all_locals(alloc, known, &marks)?;
+    note_all(alloc, known, &marks, &mut locals.entries)?;
+    Ok(Seen {
+        known,
+        marks,
+        locals,
+    })
+}
+
+impl<'k, 'a> Seen<'k, 'a> {
+    /// The local of that number.
+    pub fn entry(&self, number: Option<u32>) -> Option<Entry<'a>>
+        requires { Sees self.now }
+        ensures { option_map entry_view result ≡ option_map (entry_of (seen_view self.now))
+            (found (seen_view self.now) number) }
+    {
+        match number {
+            Some(number) => self.locals.entries.entry(number),
+            None => None,
+        }
+    }
+
+    /// The numbers of the locals, each once, in the order in which the marks declare them.
+    pub fn numbers(&self) -> &[u32]
+        requires { Sees self.now }
+        ensures { result.now ≡ distinct (map (λ l. l.number) (seen_view self.now).locals) }
+    {
+        &self.locals.numbers
+    }
+
+    /// The kind of the local of that number, whatever its role is.
+    pub fn kind_of(&self, number: Option<u32>) -> Option<VariableKind>
+        requires { Sees self.now }
+        ensures { option_map kind_view result ≡ kind_of (seen_view self.now)
+            (found (seen_view self.now) number) }
+    {
+        match self.entry(number) {
+            Some(entry) => kind(entry),
+            None => None,
+        }
+    }
+
+    /// Whether the local of that number is tracked.
+    pub fn is_tracked(&self, number: Option<u32>) -> bool
+        requires { Sees self.now }
+        ensures { result ≡ is_tracked (seen_view self.now) number }
+    {
+        match self.entry(number) {
+            Some(entry) => tracked_kind(entry).is_some(),
+            None => false,
+        }
+    }
+}

@@ -1,4 +1,0 @@
-pub mod Joined
-pub mod Ordered
-pub mod Sighted
-pub mod VariablesFound

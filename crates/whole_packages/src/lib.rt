@@ -1,0 +1,16 @@
+//! Packages as they were read: their files with their trees, what they import, and the faults of a package as a whole.
+//! The rules are those of `meaning_reports/specs/Loaded.antt` and `meaning_reports/specs/WholeFaults.antt`.
+#![tactic(auto)]
+
+mod failures;
+mod import_entries;
+mod imported;
+mod loaded_package;
+mod numbered;
+mod whole;
+
+pub use import_entries::{Marked, add_imports};
+pub use imported::import_lists;
+pub use loaded_package::{LoadedPackage, Reading};
+pub use numbered::{NumberedTree, numbered_trees};
+pub use whole::{Second, unranked, whole_faults};
