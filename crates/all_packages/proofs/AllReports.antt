@@ -9,7 +9,7 @@ use Rattle.imports.specs.Settling.{place_from}
 use Rattle.whole_packages.specs.declared.loaded_package.LoadedPackage.{LoadedPackage as KeptPackage}
 use Rattle.whole_packages.specs.LoadedViews.{TellPackages}
 use Rattle.whole_packages.specs.WholeEntries.{is_set, TellsOrder}
-use Rattle.whole_packages.proofs.ImportsOf.{list_item}
+use Rattle.meaning_reports.proofs.ImportsOf.{list_item}
 use Rattle.meaning_reports.specs.Loaded.{LoadedPackage, import_list}
 use Rattle.all_packages.specs.declared.judged.Judged.{Judged}
 use Rattle.all_packages.specs.declared.given.Given.{Given}

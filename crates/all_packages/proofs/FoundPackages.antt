@@ -8,7 +8,7 @@ use Rattle.imports.specs.Ranks.{Package}
 use Rattle.imports.specs.Views.{package_view, packages_view}
 use Rattle.imports.specs.declared.import_list.ImportList.{ImportList}
 use Rattle.whole_packages.specs.declared.loaded_package.LoadedPackage.{LoadedPackage as KeptPackage}
-use Rattle.whole_packages.proofs.ImportsOf.{list_item, in_lists}
+use Rattle.meaning_reports.proofs.ImportsOf.{list_item, in_lists}
 use Rattle.meaning_reports.specs.Loaded.{LoadedPackage, imported_paths}
 use Rattle.all_packages.specs.declared.given.Given.{Given}
 use Rattle.all_packages.specs.Progress.{JudgedByPath, WasJudged, TellsGiven}

@@ -1,11 +1,8 @@
 -- What is known of a package's imports where other packages were judged before it.
-use Rattle.std.proofs.Common.{◌≡◌, ℕ, zero, suc, ◌+◌, ◌⊎◌, inl, inr, Bool, true, false, ◌||◌, if◌then◌else◌, List, [], ◌∷◌, Contains, Option, Some, None, option_map, is_some, bytes_eq, refl, sym, ap, ◌∙◌, subst, true≢false}
+use Rattle.std.proofs.Common.{◌≡◌, ℕ, ◌⊎◌, inl, inr, Bool, true, false, ◌||◌, if◌then◌else◌, List, [], ◌∷◌, Contains, Option, Some, None, option_map, is_some, bytes_eq, refl, sym, ap, ◌∙◌, subst}
 use Rattle.std.specs.Prelude.{◌↔◌, slice_get}
 use Rattle.std.specs.List.{list_any}
 use Rattle.std.proofs.lemmas.Bool.{false≢true}
-use Rattle.std.proofs.lemmas.Option.{same_Some, none-some}
-use Rattle.std.proofs.lemmas.Slice.Eq.{bytes_eq-Decides}
-use Rattle.meaning.proofs.Membership.{contains_here, contains_there}
 use Rattle.meaning.specs.OuterBlocks.{or_else}
 use Rattle.facts.specs.declared.table.Imported.{Imported}
 use Rattle.facts.specs.FactViews.{facts_in_table, facts_by_path, table_by_path}
@@ -17,7 +14,7 @@ use Rattle.calls_flags.specs.KnownCalls.{is_called_in, called_by_path, flags_by_
 use Rattle.report.specs.Entries.{Entry}
 use Rattle.whole_packages.specs.declared.loaded_package.LoadedPackage.{LoadedPackage as KeptPackage}
 use Rattle.whole_packages.specs.WholeEntries.{is_set, TellsOrder}
-use Rattle.whole_packages.proofs.ImportsOf.{names_first, list_item, in_lists, given_in_lists}
+use Rattle.meaning_reports.proofs.ImportsOf.{has_path, no_place, names_first, list_item, in_lists, given_in_lists}
 use Rattle.meaning_reports.specs.Loaded.{LoadedPackage, PackageTable, Tables, import_list, imported_paths, no_table, is_imported, imported_signatures, imported_flags, package_names}
 use Rattle.meaning_reports.specs.WholeFaults.{IsWholeFault}
 use Rattle.meaning_reports.specs.PackageReports.{of_whole}
@@ -30,16 +27,6 @@ some_from None e = absurd (false≢true e)
 some_from (Some a) e = (a, refl)
 
 -- Paths
-
-has_path : (paths : List (List ℕ)) (path : List ℕ) → list_any (λ q. bytes_eq q path) paths ≡ true → Contains paths path
-has_path [] path e = absurd (false≢true e)
-has_path (q ∷ qs) path e = by (bytes_eq q path) refl (has_path qs path) e
-  where
-    by : (b : Bool) → bytes_eq q path ≡ b → (list_any (λ r. bytes_eq r path) qs ≡ true → Contains qs path)
-        → (b || list_any (λ r. bytes_eq r path) qs) ≡ true
-        → Contains (q ∷ qs) path
-    by true same rest is = subst (Contains (q ∷ qs)) ((bytes_eq-Decides q path).0 same) (contains_here q qs)
-    by false same rest is = contains_there q path qs (rest is)
 
 -- what is given for a path is that of its package, if it is among the paths
 module _ {V : Type 0} (f : Judged → V) (judged : JudgedByPath) (path : List ℕ) where
@@ -59,22 +46,6 @@ module _ {V : Type 0} (f : Judged → V) (judged : JudgedByPath) (path : List �
       by true false (Some j) = refl
       by false true o = refl
       by false false o = refl
-
--- a path without a place is that of no package
-no_place : (path : List ℕ) (lists : List Package) (n : ℕ) → place_from path lists n ≡ None
-    → (k : ℕ) (q : Package) → slice_get lists k ≡ Some q → q.path ≡ path
-    → ⊥
-no_place path [] n e k q is same = none-some q is
-no_place path (l ∷ ls) n e k q is same = by (bytes_eq l.path path) refl e k is (no_place path ls (n + 1))
-  where
-    by : (b : Bool) → bytes_eq l.path path ≡ b → (if b then Some n else place_from path ls (n + 1)) ≡ None
-        → (k : ℕ) → slice_get (l ∷ ls) k ≡ Some q
-        → (place_from path ls (n + 1) ≡ None → (m : ℕ) (r : Package) → slice_get ls m ≡ Some r → r.path ≡ path → ⊥)
-        → ⊥
-    by true here none m there rest = none-some n (sym none)
-    by false here none zero there rest =
-        true≢false (sym ((bytes_eq-Decides l.path path).1 (ap (λ (r : Package). r.path) (same_Some l q there) ∙ same)) ∙ here)
-    by false here none (suc m) there rest = rest none m q there same
 
 -- Tables
 

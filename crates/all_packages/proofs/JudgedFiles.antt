@@ -21,7 +21,7 @@ use Rattle.meaning_reports.specs.WholeFaults.{ImportsAt, import_entry, HasNoWhol
 use Rattle.meaning_reports.specs.PackageTables.{IsJudged}
 use Rattle.meaning_reports.specs.PackageReports.{IsFileFinding, IsFinding, of_whole, of_import, of_file, IsFileOf}
 use Rattle.whole_packages.specs.WholeEntries.{is_set, is_set_at, is_marked, spec_entries, tree_entries}
-use Rattle.whole_packages.proofs.ImportsOf.{gives, given_by, only_one, names_first, import_there, first_import}
+use Rattle.meaning_reports.proofs.ImportsOf.{gives, given_by, only_one, names_first, import_there, first_import}
 use Rattle.calls_flags.specs.declared.file_bodies.FileBodies.{FileBodies}
 use Rattle.calls_flags.specs.declared.told_file.ToldFile.{ToldFile}
 use Rattle.calls_flags.specs.FilesBodies.{with_credits, with_all_credits}

@@ -9,6 +9,7 @@ ghost use Rattle.tree.specs.View.{identifier_syntax, signature_syntax};
 
 use facts::{given_positions, parameter_items};
 use mentions::BodyPlace;
+use names::INIT;
 use std::alloc::{AllocError, Global};
 use tracked::{Giving, Known};
 use tree::{BLANK, Identifier, Signature};
@@ -24,7 +25,7 @@ fn named_gives(
         (signature_syntax signature.now)) }
 {
     let text = name.text.as_str();
-    if text == BLANK || text == "init" {
+    if text == BLANK || text == INIT {
         return Ok(Vec::new(alloc));
     }
     let results = parameter_items(alloc, &signature.results)?;

@@ -42,7 +42,7 @@ pub fn is_item_place(place: CallPlace<'_>) -> bool
     }
 }
 
-/// A call behind `defer`.
+/// A call after `defer`.
 pub fn is_deferred_place(place: CallPlace<'_>) -> bool
     ensures { result ≡ is_deferred_place (place_view place.entry) }
 {

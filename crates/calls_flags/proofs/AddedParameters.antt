@@ -8,11 +8,11 @@ use Rattle.std.specs.Str.{bytes_eq}
 use Rattle.std.proofs.lemmas.Bool.{and_parts, and_from, true≢false}
 use Rattle.std.proofs.lemmas.Bool.Decides.{Decides-eqb}
 use Rattle.std.proofs.lemmas.Slice.Eq.{bytes_eq-Decides}
-use Rattle.calls_flags.specs.declared.known_calls.Parameter.{Parameter}
+use Rattle.calls_flags.specs.declared.known_calls.FunctionParameter.{FunctionParameter}
 use Rattle.calls_flags.specs.KnownCalls.{is_parameter}
 
 -- the test of the name and the position of a parameter that passes it
-same_test : (name : List ℕ) (k : ℕ) (x y : Parameter) → is_parameter name k x ≡ true
+same_test : (name : List ℕ) (k : ℕ) (x y : FunctionParameter) → is_parameter name k x ≡ true
     → is_parameter name k y ≡ is_parameter x.name.now x.position y
 same_test name k x y e =
     let both = and_parts (bytes_eq name x.name.now) (k == x.position) e in
@@ -21,7 +21,7 @@ same_test name k x y e =
     λ i. is_parameter (same_name i) (same_position i) y
 
 -- and the other way round
-passes_too : (name : List ℕ) (k : ℕ) (x y : Parameter) → is_parameter name k y ≡ true
+passes_too : (name : List ℕ) (k : ℕ) (x y : FunctionParameter) → is_parameter name k y ≡ true
     → is_parameter x.name.now x.position y ≡ true
     → is_parameter name k x ≡ true
 passes_too name k x y e h =
@@ -44,19 +44,19 @@ or_assoc : (t p rest : Bool) → (t || p || rest) ≡ (t || (p || rest))
 or_assoc true p rest = refl
 or_assoc false p rest = refl
 
-module _ (eq : Parameter → Parameter → Bool)
-    (eq_is : (x y : Parameter) → eq x y ≡ is_parameter x.name.now x.position y) where
+module _ (eq : FunctionParameter → FunctionParameter → Bool)
+    (eq_is : (x y : FunctionParameter) → eq x y ≡ is_parameter x.name.now x.position y) where
   is_key_test : (name : List ℕ) (k : ℕ) → IsKeyTest eq (is_parameter name k)
   is_key_test name k x y e = same_test name k x y e ∙ sym (eq_is x y)
 
-  apart : (name : List ℕ) (k : ℕ) (p : Parameter) → is_parameter name k p ≡ false → AreApart (eq p) (is_parameter name k)
+  apart : (name : List ℕ) (k : ℕ) (p : FunctionParameter) → is_parameter name k p ≡ false → AreApart (eq p) (is_parameter name k)
   apart name k p none q e = by (is_parameter name k q) refl
     where
       by : (t : Bool) → is_parameter name k q ≡ t → t ≡ false
       by false is = refl
       by true is = absurd (true≢false (sym (passes_too name k p q is (sym (eq_is p q) ∙ e)) ∙ none))
 
-  pub added : (before after : List Parameter) (p : Parameter) → list_any (eq p) after ≡ true
+  pub added : (before after : List FunctionParameter) (p : FunctionParameter) → list_any (eq p) after ≡ true
       → KeepsOthers eq (eq p) before after
       → (name : List ℕ) (k : ℕ)
       → list_any (is_parameter name k) after ≡ (list_any (is_parameter name k) before || is_parameter name k p)

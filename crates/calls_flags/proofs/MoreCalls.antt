@@ -7,7 +7,7 @@ use Rattle.meaning.specs.Uses.{Callee, Event, other, obtain, clear, call, defer_
 use Rattle.meaning.specs.BodyEvents.{Variable}
 use Rattle.meaning.specs.Classes.{Promises, CancelClass, unset, opened, safe, pending, entry_cancel, left_to, ended, started, change_cancel, cancel_after, GroupClass, entry_group, change_group, group_after}
 use Rattle.meaning_packages.specs.PathFaults.{paths_of, KeepsCall}
-use Rattle.meaning_packages.specs.Credits.{Credits, promises_in, behind}
+use Rattle.meaning_packages.specs.Credits.{Credits, promises_in, begun_after}
 use Rattle.meaning_packages.specs.CallsFlags.{Flags, flag_of, calls_by}
 
 -- where one list of events leaves the variable so, with more known it is left the same, or safe
@@ -102,7 +102,7 @@ module _ (fewer more : Callee → ℕ → Bool) (grows : (f : Callee) (k : ℕ) 
       → NoWorse (cancel_after (promises_in fewer credits b.at) v.number (entry_cancel v.role) t)
       (cancel_after (promises_in more credits b.at) v.number (entry_cancel v.role) t)
   no_worse t =
-      after_no_worse fewer more grows (behind b.at credits) v.number (entry_cancel v.role) (entry_cancel v.role) t
+      after_no_worse fewer more grows (begun_after b.at credits) v.number (entry_cancel v.role) (entry_cancel v.role) t
       (inl refl)
 
   abbrev not_safe : CancelClass → Type 0
@@ -137,7 +137,7 @@ module _ (fewer more : Callee → ℕ → Bool) (grows : (f : Callee) (k : ℕ) 
             is_of_body = left.is_live.is_of_body;
             is_group_variable = left.is_live.is_group_variable;
             is_live =
-                same_group fewer more grows (behind b.at credits) left.left_to.number (entry_group left.left_to.role)
+                same_group fewer more grows (begun_after b.at credits) left.left_to.number (entry_group left.left_to.role)
                 left.other_list
                 ∙ left.is_live.is_live;
           };

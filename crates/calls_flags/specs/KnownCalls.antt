@@ -6,12 +6,12 @@ use Rattle.indexmap.specs.IndexSet.{contains_by}
 use Rattle.names.specs.Answers.{at_name}
 use Rattle.meaning.specs.Uses.{Callee}
 use Rattle.meaning_packages.specs.CallsFlags.{Flags, calls_by}
-use Rattle.calls_flags.specs.declared.known_calls.Parameter.{Parameter}
+use Rattle.calls_flags.specs.declared.known_calls.FunctionParameter.{FunctionParameter}
 use Rattle.calls_flags.specs.declared.known_calls.Called.{Called}
 use Rattle.calls_flags.specs.declared.known_calls.ImportedCalls.{ImportedCalls}
 use Rattle.calls_flags.specs.declared.known_calls.KnownCalls.{KnownCalls}
 
-abbrev pub is_parameter : List ℕ → ℕ → Parameter → Bool
+abbrev pub is_parameter : List ℕ → ℕ → FunctionParameter → Bool
 is_parameter name k p = bytes_eq name p.name.now && (k == p.position)
 
 -- the function of that name is known to call its parameter at that position
@@ -34,5 +34,5 @@ known_calls known = calls_by (is_called known.own.now) (flags_by_path known.impo
 
 -- The parameters of a list
 
-abbrev pub flags_of : List Parameter → Flags
+abbrev pub flags_of : List FunctionParameter → Flags
 flags_of parameters name k = list_any (is_parameter name k) parameters

@@ -14,11 +14,12 @@ ghost use Rattle.path_faults.specs.FoundFaults.{each_from};
 ghost use Rattle.events.specs.VariableViews.{variable_view};
 
 use crate::file_bodies::FileBodies;
-use crate::known_calls::Parameter;
+use crate::known_calls::FunctionParameter;
 use bodies::Body;
 use events::{Variable, VariableRole};
 use facts::{FunctionFacts, Table, VariableKind};
 use mentions::BodyPlace;
+use names::INIT;
 use std::alloc::{AllocError, Global};
 use tree::BLANK;
 
@@ -31,7 +32,7 @@ pub struct Claim<'a> {
     pub body: usize,
     /// The place of the parameter's variable in the list of the body's variables.
     pub place: usize,
-    pub parameter: Parameter<'a>,
+    pub parameter: FunctionParameter<'a>,
 }
 
 /// A function of which claims are made: the number of its file, the place of its body in the list of the file's, its
@@ -51,7 +52,7 @@ fn function_name(body: BodyPlace<'_>) -> Option<&str>
     match (body.name, body.receiver) {
         (Some(name), None) => {
             let text = name.text.as_str();
-            if text != BLANK && text != "init" {
+            if text != BLANK && text != INIT {
                 Some(text)
             } else {
                 None
@@ -86,7 +87,7 @@ fn add_variable<'a>(
         return Ok(());
     };
     if function.facts.takes(VariableKind::Cancel, position) {
-        let parameter = Parameter {
+        let parameter = FunctionParameter {
             name: function.name,
             position,
         };

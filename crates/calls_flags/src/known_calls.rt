@@ -13,7 +13,7 @@ use tracked::Callee;
 /// A parameter of a function of a package: the function's name and the parameter's position from 0. A receiver has no
 /// position.
 #[derive(Clone, Copy, PartialEq, Eq, Hash)]
-pub struct Parameter<'a> {
+pub struct FunctionParameter<'a> {
     pub name: &'a str,
     pub position: usize,
 }
@@ -21,7 +21,7 @@ pub struct Parameter<'a> {
 /// The parameters that the functions of a package are known to have called when they return.
 #[derive(Drop)]
 pub struct Called<'a> {
-    parameters: IndexSet<Parameter<'a>>,
+    parameters: IndexSet<FunctionParameter<'a>>,
 }
 
 impl<'a> Called<'a> {
@@ -38,7 +38,8 @@ impl<'a> Called<'a> {
     pub fn has(&self, name: &str, position: usize) -> bool
         ensures { result ≡ is_called self.now name.now position }
     {
-        self.parameters.contains(&Parameter { name, position })
+        self.parameters
+            .contains(&FunctionParameter { name, position })
     }
 
     /// Adds a parameter.
@@ -46,7 +47,7 @@ impl<'a> Called<'a> {
     /// # Errors
     ///
     /// Memory was refused.
-    pub(crate) fn add(&mut self, parameter: Parameter<'a>) -> Result<(), AllocError>
+    pub(crate) fn add(&mut self, parameter: FunctionParameter<'a>) -> Result<(), AllocError>
         ensures { OnOk result ((name : List ℕ) (k : ℕ) → is_called self.new name k
             ≡ (is_called self.old name k || is_parameter name k parameter.entry)) }
     {

@@ -71,7 +71,7 @@ fn kept_claims<'a>(
 }
 
 /// Finds which functions of a package are known to call which of their parameters, where the functions of the package
-/// have these facts, and this is known of its imports: the most that the paths of the functions keep. All cancel
+/// have these facts, and this is known of its imports: the most consistent flags. All cancel
 /// parameters are claimed first; each round drops the claims that the paths break under the claims that are left, until
 /// none is dropped.
 ///

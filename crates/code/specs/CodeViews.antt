@@ -5,8 +5,8 @@ use Rattle.code.specs.declared.code.Way.{Way as KeptWay}
 use Rattle.code.specs.declared.code.Way.TheVariants.{Returning, Breaking, Continuing}
 use Rattle.code.specs.declared.code.Occurrence.{Occurrence as KeptOccurrence}
 use Rattle.code.specs.declared.code.Code.{Code as KeptCode, Skip, Does, Leave, Then', Sequence', Choice', Repeats', UpTo', Row_of-Code, end_of-Code, more_of-Code}
-use Rattle.code.specs.declared.parts.Exit.{Exit}
-use Rattle.code.specs.declared.parts.Exit.TheVariants.{Break, Continue}
+use Rattle.code.specs.declared.parts.Jump.{Jump}
+use Rattle.code.specs.declared.parts.Jump.TheVariants.{Break, Continue}
 use Rattle.meaning.specs.Code.{Occurrence, Way, returning, breaking, continuing, Code, skip, does, leave, then_code, either, repeats, up_to}
 use Rattle.meaning.specs.StatementCode.{stuck, up_to_labels}
 use Rattle.tree.specs.Syntax.{Statements, Block}
@@ -25,7 +25,7 @@ way_view (Breaking label) = breaking (option_map text_now label)
 way_view (Continuing label) = continuing (option_map text_now label)
 
 -- the way out to the label
-abbrev pub way_to : Exit → Option (List ℕ) → Way
+abbrev pub way_to : Jump → Option (List ℕ) → Way
 way_to Break label = breaking label
 way_to Continue label = continuing label
 
@@ -38,7 +38,7 @@ module _ {E : Type 0} where
   turn_or_end may_end turn = if may_end then either (leave (breaking None)) turn else turn
 
   -- what leaves that way, to these labels or to none, arrives at the end of the code
-  abbrev pub ends_at : Exit → List (List ℕ) → Code E → Code E
+  abbrev pub ends_at : Jump → List (List ℕ) → Code E → Code E
   ends_at exit labels code = up_to (way_to exit None) (up_to_labels (way_to exit) labels code)
 
   -- each after the one before it

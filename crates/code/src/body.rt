@@ -12,7 +12,7 @@ ghost use Rattle.tree.specs.View.{identifier_syntax, statement_form, statement_s
 use crate::clauses::{one_clause, one_communication};
 use crate::code::{Code, Occurrence, Way};
 use crate::parts::{
-    Exit, Made, in_sequence, label_of, one_of, one_turn, then, turns, two_ways, way_to,
+    Jump, Made, in_sequence, label_of, one_of, one_turn, then, turns, two_ways, way_to,
 };
 use crate::site::{declaration, site};
 use crate::sites::Sites;
@@ -105,10 +105,10 @@ fn form<'a, E: Copy>(
         StmtKind::Defer(_) => site(alloc, sites, at),
         StmtKind::Return(_) => leaving(alloc, sites, at, Way::Returning),
         StmtKind::Break(label) => {
-            leaving(alloc, sites, at, way_to(Exit::Break, label_of(label)))
+            leaving(alloc, sites, at, way_to(Jump::Break, label_of(label)))
         }
         StmtKind::Continue(label) => {
-            leaving(alloc, sites, at, way_to(Exit::Continue, label_of(label)))
+            leaving(alloc, sites, at, way_to(Jump::Continue, label_of(label)))
         }
         StmtKind::Block(inner) => statements(alloc, sites, &inner.statements),
         StmtKind::If {

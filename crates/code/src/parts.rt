@@ -16,18 +16,18 @@ pub type Made<'a, E> = Result<Code<'a, E>, AllocError>;
 
 /// The statements that lead to the end of a statement around them, or of its block.
 #[derive(Clone, Copy)]
-pub enum Exit {
+pub enum Jump {
     Break,
     Continue,
 }
 
 /// The way out to a label, or to the innermost end.
-pub fn way_to<'a>(exit: Exit, label: Option<&'a str>) -> Way<'a>
+pub fn way_to<'a>(exit: Jump, label: Option<&'a str>) -> Way<'a>
     ensures { way_view result ≡ way_to exit (option_map text_now label.entry) }
 {
     match exit {
-        Exit::Break => Way::Breaking(label),
-        Exit::Continue => Way::Continuing(label),
+        Jump::Break => Way::Breaking(label),
+        Jump::Continue => Way::Continuing(label),
     }
 }
 
@@ -95,7 +95,7 @@ fn up_to<'a, E: Copy>(alloc: Global, way: Way<'a>, code: Made<'a, E>) -> Made<'a
 /// What leaves by these labels, the innermost first, arrives at the end of the code.
 fn up_to_labels<'a, E: Copy>(
     alloc: Global,
-    exit: Exit,
+    exit: Jump,
     labels: &[&'a str],
     code: Made<'a, E>,
 ) -> Made<'a, E>
@@ -114,7 +114,7 @@ fn up_to_labels<'a, E: Copy>(
 /// What leaves that way, to these labels or to none, arrives at the end of the code.
 fn ends_at<'a, E: Copy>(
     alloc: Global,
-    exit: Exit,
+    exit: Jump,
     labels: &[&'a str],
     code: Made<'a, E>,
 ) -> Made<'a, E>
@@ -128,14 +128,14 @@ fn ends_at<'a, E: Copy>(
 pub fn breaks_end<'a, E: Copy>(alloc: Global, labels: &[&'a str], code: Made<'a, E>) -> Made<'a, E>
     ensures { Changes (breaks_end (map text_now labels.now)) code.entry result }
 {
-    ends_at(alloc, Exit::Break, labels, code)
+    ends_at(alloc, Jump::Break, labels, code)
 }
 
 /// The end of a loop's block is where `continue` leads.
 fn turns_end<'a, E: Copy>(alloc: Global, labels: &[&'a str], code: Made<'a, E>) -> Made<'a, E>
     ensures { Changes (turns_end (map text_now labels.now)) code.entry result }
 {
-    ends_at(alloc, Exit::Continue, labels, code)
+    ends_at(alloc, Jump::Continue, labels, code)
 }
 
 /// What follows the header of a loop: a turn, or the end of the loop where the header may end it.

@@ -1,5 +1,5 @@
 -- Credits are found from the last body of a file to the first: what is found of a literal stays, since a literal relies
--- only on those behind it.
+-- only on those after it.
 use Rattle.std.proofs.Common.{◌≡◌, ℕ, ◌+◌, ◌<◌, ◌≤◌, Bool, true, false, ◌&&◌, List, [], ◌∷◌, ◌++◌, take, length, get_or, Option, Some, None, nat_eq, nat_lt, refl, sym, ap, ◌∙◌, subst, arith}
 use Rattle.std.specs.Prelude.{◌↔◌, ◌==◌, slice_get}
 use Rattle.std.proofs.lemmas.Bool.{ltb-true, ne_eqb, true≢false}
@@ -10,13 +10,13 @@ use Rattle.meaning.specs.Mentions.{BodyPlace}
 use Rattle.meaning.specs.Uses.{Seen}
 use Rattle.meaning.specs.BodyEvents.{bodies_of}
 use Rattle.meaning_packages.specs.PathFaults.{paths_of}
-use Rattle.meaning_packages.specs.Credits.{body_at, Credits, behind, no_calls, promises_in, Settles, IsCredited}
+use Rattle.meaning_packages.specs.Credits.{body_at, Credits, begun_after, no_calls, promises_in, Settles, IsCredited}
 use Rattle.credit_search.specs.FoundCredits.{IsSettledBy, SettlesBody, AreFoundBut}
 use Rattle.credit_search.proofs.BodiesByPlace.{none_of_more, is_first, is_behind}
 
 module _ (seen : Seen) where
-  -- what a literal relies on lies behind it
-  credited_too : (before after : Credits) (literal number : ℕ) → behind literal before ≡ behind literal after
+  -- what a literal relies on lies after it
+  credited_too : (before after : Credits) (literal number : ℕ) → begun_after literal before ≡ begun_after literal after
       → IsCredited seen before literal number
       → IsCredited seen after literal number
   credited_too before after literal number same h = record {
@@ -32,7 +32,7 @@ module _ (seen : Seen) where
 
   same_behind : (before after : Credits) (at : ℕ)
       → ((other number : ℕ) → nat_eq at other ≡ false → after other number ≡ before other number)
-      → (literal : ℕ) → at ≤ literal → behind literal before ≡ behind literal after
+      → (literal : ℕ) → at ≤ literal → begun_after literal before ≡ begun_after literal after
   same_behind before after at others literal l = λ i other number. by other number (nat_lt literal other) refl i
     where
       by : (other number : ℕ) (t : Bool) → nat_lt literal other ≡ t → (t && before other number) ≡ (t && after other number)
@@ -100,7 +100,7 @@ module _ (seen : Seen) where
               ∙ old.1 (credited_too after before literal number (sym (same h.body h.is_there)) h),
         )
       where
-        same : (x : BodyPlace) → body_at literal (bodies_of seen) ≡ Some x → behind literal before ≡ behind literal after
+        same : (x : BodyPlace) → body_at literal (bodies_of seen) ≡ Some x → begun_after literal before ≡ begun_after literal after
         same x is = same_behind before after b.at settles.others literal (is_behind seen i b is_there literal x none is)
 
     pub next_found : AreFoundBut seen first_ones after

@@ -15,7 +15,7 @@ use credits::{Credits, NoCalls, captures_any, settled_captured};
 use std::alloc::{AllocError, Global};
 
 /// The numbers of the variables that a body of that graph captures and settles, where it relies on the credits of the
-/// literals behind it.
+/// literals after it.
 fn settled_with<'a>(
     alloc: Global,
     body: &Body<'_, 'a>,
@@ -30,7 +30,7 @@ fn settled_with<'a>(
     settled_captured(alloc, &kept.graph, &body.variables, &solution)
 }
 
-/// The numbers of the variables that a body captures and settles, where it relies on the credits of the literals behind
+/// The numbers of the variables that a body captures and settles, where it relies on the credits of the literals after
 /// it; none, where it has too many variables.
 fn settled_by<'a>(
     alloc: Global,
@@ -50,7 +50,7 @@ fn settled_by<'a>(
     }
 }
 
-/// Tells the credits of a body by those of the literals behind it.
+/// Tells the credits of a body by those of the literals after it.
 fn tell_body(alloc: Global, body: &Body<'_, '_>, credits: &mut Credits) -> Result<(), AllocError>
     ensures { OnOk result ((file : ℕ) (seen : Seen) (b : BodyPlace) → TellsBody file seen b body.now
         → SettlesBody seen b (has credits.old) (has credits.new)) }
@@ -60,7 +60,7 @@ fn tell_body(alloc: Global, body: &Body<'_, '_>, credits: &mut Credits) -> Resul
 }
 
 /// Finds which literals of a file with these bodies settle which of the variables that they capture. The bodies stand
-/// in the order of their places, and the last is told first, since a body relies on those behind it. Of several at
+/// in the order of their places, and the last is told first, since a body relies on those after it. Of several at
 /// one place the first counts, so that it is told last; no tree of a text has such.
 ///
 /// # Errors

@@ -17,7 +17,7 @@ use maker::{Solution, solve};
 use std::alloc::{AllocError, Global};
 
 /// Looks which classes of a body's variables arrive at each node of its graph, where the body relies on what is known
-/// of functions, and on the credits of the literals that begin behind it.
+/// of functions, and on the credits of the literals that begin after it.
 ///
 /// # Errors
 ///

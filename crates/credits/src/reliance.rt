@@ -31,7 +31,7 @@ impl Calls for NoCalls {
     }
 }
 
-/// What a body relies on: what is known of functions, and the credits of the literals that begin behind its `func`.
+/// What a body relies on: what is known of functions, and the credits of the literals that begin after its `func`.
 #[derive(Drop)]
 pub struct Reliance<'c, C> {
     pub calls: &'c C,

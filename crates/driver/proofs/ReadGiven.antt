@@ -5,7 +5,7 @@ use Rattle.load.specs.declared.packages.GivenPackage.{GivenPackage}
 use Rattle.folders.specs.ReadFaults.{IsReadFault}
 use Rattle.folders.specs.declared.fault.Fault.{Fault}
 use Rattle.folders.specs.declared.fault.Fault.TheVariants.{WordNotText, WrongWords, BadPackage, CannotRead, CannotWrite, TwoPackages, TooManyPackages, OutOfMemory}
-use Rattle.driver.specs.declared.packages.Named.{Named}
+use Rattle.driver.specs.declared.packages.NamedPackage.{NamedPackage}
 use Rattle.driver.specs.Packages.{AreGiven, AreNamed}
 use Rattle.driver.specs.Faults.{HasBadWord, IsCheckFault, IsReportFault}
 
@@ -26,13 +26,13 @@ abbrev pub GoesOn : List (List ℕ) → List (List ℕ) → Type 0
 GoesOn all left = HasBadWord left → HasBadWord all
 
 -- where each word names a package, none is bad
-pub none_bad : (words : List (List ℕ)) (packages : List Named) → AreNamed words packages → HasBadWord words → ⊥
+pub none_bad : (words : List (List ℕ)) (packages : List NamedPackage) → AreNamed words packages → HasBadWord words → ⊥
 none_bad [] packages h bad = absurd bad
 none_bad (w ∷ ws) [] h bad = absurd h
 none_bad (w ∷ ws) (n ∷ ns) h (inl bad) = bad n.path.now n.folder.now h.0
 none_bad (w ∷ ws) (n ∷ ns) h (inr bad) = none_bad ws ns h.1 bad.1
 
-pub of_reading : (words : List (List ℕ)) (packages : List Named) (fault : Fault) → AreNamed words packages
+pub of_reading : (words : List (List ℕ)) (packages : List NamedPackage) (fault : Fault) → AreNamed words packages
     → IsReadFault fault
     → IsCheckFault words fault
 of_reading words packages WordNotText named is = is

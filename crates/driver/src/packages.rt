@@ -13,18 +13,18 @@ use std::rt::Files;
 
 /// The package that a word `PATH=DIR` names: its import path, and the folder of its files.
 #[derive(Clone, Copy, Debug)]
-pub struct Named<'a> {
+pub struct NamedPackage<'a> {
     pub path: &'a str,
     pub folder: &'a str,
 }
 
 /// The package that a word names.
-fn package_of<'a>(alloc: Global, word: &'a str) -> Result<Named<'a>, Fault>
+fn package_of<'a>(alloc: Global, word: &'a str) -> Result<NamedPackage<'a>, Fault>
     ensures named { IfOk result (IsNamed word.now) }
     ensures fault { IfErr result (IsWordFault word.now) }
 {
     match split_word(word) {
-        Some((path, folder)) => Ok(Named { path, folder }),
+        Some((path, folder)) => Ok(NamedPackage { path, folder }),
         None => Err(Fault::BadPackage(escaped(alloc, word)?)),
     }
 }
@@ -34,7 +34,7 @@ fn package_of<'a>(alloc: Global, word: &'a str) -> Result<Named<'a>, Fault>
 /// # Errors
 ///
 /// The first word that names none, or memory was refused.
-pub fn all_named<'a>(alloc: Global, words: &[&'a str]) -> Result<Vec<Named<'a>>, Fault>
+pub fn all_named<'a>(alloc: Global, words: &[&'a str]) -> Result<Vec<NamedPackage<'a>>, Fault>
     ensures named { IfOk result (λ packages. AreNamed (texts_of words.now) packages.items) }
     ensures fault { IfErr result (IsWordsFault (texts_of words.now)) }
 {
@@ -48,7 +48,7 @@ pub fn all_named<'a>(alloc: Global, words: &[&'a str]) -> Result<Vec<Named<'a>>,
 /// The package with the Go files of its folder. The folder is kept where it has none.
 fn read_package<'a, R: Files + AllocGlobal>(
     rt: &R,
-    one: Named<'a>,
+    one: NamedPackage<'a>,
     empty: &mut Vec<&'a str>,
 ) -> Result<GivenPackage, Fault>
     ensures read { IfOk result (IsRead one.entry) }
@@ -71,7 +71,7 @@ fn read_package<'a, R: Files + AllocGlobal>(
 /// The first folder that can't be listed or file that can't be read, or memory was refused.
 pub fn read_packages<'a, R: Files + AllocGlobal>(
     rt: &R,
-    packages: &[Named<'a>],
+    packages: &[NamedPackage<'a>],
     empty: &mut Vec<&'a str>,
 ) -> Result<Vec<GivenPackage>, Fault>
     ensures read { IfOk result (λ given. AreRead packages.now given.items) }

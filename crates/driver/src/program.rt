@@ -81,7 +81,7 @@ fn answer<R: Files + AllocGlobal, S: AsStr, W: Write, E: Write>(
 }
 
 /// Checks the packages of these words, `PATH=DIR` each, and prints their report. Folders without a Go file are noted
-/// behind it.
+/// after it.
 fn check<R: Files + AllocGlobal, W: Write, E: Write>(
     rt: &R,
     words: &[&str],

@@ -25,7 +25,7 @@ pub struct Sighting {
 
 /// A mention of a tracked local.
 #[derive(Clone, Copy)]
-struct LocalMention {
+struct NumberedMention {
     /// The number of the local.
     number: u32,
     /// The body that declares it.
@@ -37,7 +37,7 @@ struct LocalMention {
 /// Notes a mention for each body around it.
 fn add_in_bodies(
     alloc: Global,
-    mention: LocalMention,
+    mention: NumberedMention,
     bodies: &[BodyPlace<'_>],
     sightings: &mut Lists<Sighting>,
 ) -> Result<(), AllocError>
@@ -89,7 +89,7 @@ fn add_mention<'a>(
     let number = variable_of(seen.known, mention);
     match (number, tracked_local(seen, number)) {
         (Some(number), Some(local)) => {
-            let noted = LocalMention {
+            let noted = NumberedMention {
                 number,
                 declaring: local.body,
                 at: mention.named.at,

@@ -11,14 +11,8 @@ ghost use Rattle.tree.specs.View.{expression_syntax};
 
 use crate::items::Item;
 use mentions::{Named, as_named, as_pointer};
-use names::{Decl, Names};
+use names::{CONTEXT, ERRGROUP, NameMeaning, Names};
 use tree::Expr;
-
-/// The path of the package of contexts.
-pub const CONTEXT: &str = "context";
-
-/// The path of the package of groups.
-pub const ERRGROUP: &str = "golang.org/x/sync/errgroup";
 
 /// What a tracked variable holds.
 #[derive(Clone, Copy, PartialEq, Eq)]
@@ -62,11 +56,11 @@ impl VariableKind {
 }
 
 /// Whether it is an import of that path.
-pub fn is_import(path: &str, meaning: Option<Decl<'_>>) -> bool
+pub fn is_import(path: &str, meaning: Option<NameMeaning<'_>>) -> bool
     ensures { result ≡ is_import path.now (option_map decl_view meaning.entry) }
 {
     match meaning {
-        Some(Decl::Import(other)) => other == path,
+        Some(NameMeaning::Import(other)) => other == path,
         _ => false,
     }
 }

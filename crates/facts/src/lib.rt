@@ -11,5 +11,5 @@ pub mod table;
 pub use by_signature::{given_positions, signatures};
 pub use facts::{FunctionFacts, TrackedParameter};
 pub use items::{Item, parameter_items};
-pub use kinds::{CONTEXT, ERRGROUP, VariableKind, is_import, is_of, item_kind, kind_of_type};
+pub use kinds::{VariableKind, is_import, is_of, item_kind, kind_of_type};
 pub use table::{Imported, Table};

@@ -4,12 +4,12 @@ use Rattle.std.proofs.lemmas.List.{at_drop_all}
 use Rattle.tree.proofs.Depths.{drop_item}
 use Rattle.meaning.specs.Code.{Way}
 use Rattle.code.specs.CodeViews.{way_view}
-use Rattle.flow.specs.declared.exits.Exit.{Exit}
+use Rattle.flow.specs.declared.exits.Destination.{Destination}
 use Rattle.flow.specs.GraphOfCode.{same_way, arriving}
 use Rattle.flow.specs.GraphViews.{exits_view}
 use Rattle.flow.proofs.Numbered.{chosen, not_chosen}
 
-module _ (exits : List Exit) (i : ℕ) (e : Exit) (within : i < length exits) (is : e ≡ get_or exits i e) (way : Way) where
+module _ (exits : List Destination) (i : ℕ) (e : Destination) (within : i < length exits) (is : e ≡ get_or exits i e) (way : Way) where
   split : exits_view (drop i exits) way ≡ arriving (way_view e.way) e.next.items (exits_view (drop (i + 1) exits)) way
   split = ap (λ es. exits_view es way) (drop_item exits i e within is)
 
@@ -21,5 +21,5 @@ module _ (exits : List Exit) (i : ℕ) (e : Exit) (within : i < length exits) (i
   way_passed whole so_far t =
       sym (not_chosen (same_way way (way_view e.way)) e.next.items (exits_view (drop (i + 1) exits) way) t) ∙ sym split ∙ so_far
 
-pub no_way : (exits : List Exit) (i : ℕ) (way : Way) (whole : List ℕ) → length exits ≤ i → exits_view (drop i exits) way ≡ whole → [] ≡ whole
+pub no_way : (exits : List Destination) (i : ℕ) (way : Way) (whole : List ℕ) → length exits ≤ i → exits_view (drop i exits) way ≡ whole → [] ≡ whole
 no_way exits i way whole past so_far = sym (at_drop_all (λ es. exits_view es way) exits i past) ∙ so_far

@@ -3,7 +3,7 @@ use Rattle.std.specs.Prelude.{ℕ, ◌≡◌, ◌+◌, ◌≤◌, List, [], ◌�
 use Rattle.std.specs.declared.alloc.Global.{Global}
 use Rattle.std.specs.declared.vec.Vec.{Vec as VecIn}
 use Rattle.code.specs.CodeViews.{occurrence_view, way_view}
-use Rattle.flow.specs.declared.exits.Exit.{Exit as KeptExit}
+use Rattle.flow.specs.declared.exits.Destination.{Destination}
 use Rattle.flow.specs.declared.exits.Exits.{Exits}
 use Rattle.flow.specs.declared.graph.Node.{Node}
 use Rattle.flow.specs.declared.graph.Graph.{Graph as KeptGraph}
@@ -23,7 +23,7 @@ total (c ∷ cs) = size c + total cs
 
 -- Ways out
 
-abbrev pub exits_view : List KeptExit → Way → List ℕ
+abbrev pub exits_view : List Destination → Way → List ℕ
 exits_view [] = no_exit
 exits_view (e ∷ es) = arriving (way_view e.way) e.next.items (exits_view es)
 

@@ -11,7 +11,7 @@ use std::alloc::{AllocError, Global};
 
 /// The nodes at which what leaves this way arrives.
 #[derive(Drop)]
-pub struct Exit<'a> {
+pub struct Destination<'a> {
     pub way: Way<'a>,
     pub next: Vec<usize>,
 }
@@ -19,7 +19,7 @@ pub struct Exit<'a> {
 /// Where the ways out lead, the innermost first; other ways lead nowhere.
 #[derive(Drop)]
 pub struct Exits<'a> {
-    pub entries: Vec<Exit<'a>>,
+    pub entries: Vec<Destination<'a>>,
 }
 
 /// Whether they are the same label, or both none.
@@ -67,7 +67,7 @@ impl<'a> Exits<'a> {
         ensures { OnOk result (Enters (way_view way.entry) next.now self.old self.new) }
     {
         let next = copied(alloc, next)?;
-        self.entries.insert(0, Exit { way, next })?;
+        self.entries.insert(0, Destination { way, next })?;
         Ok(())
     }
 

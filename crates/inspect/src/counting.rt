@@ -38,8 +38,8 @@ pub fn count(rt: &HostRuntime, counted: Counted, paths: &[String]) -> Result<Str
         Counted::Tokens => count_tokens(rt, paths, &mut counts)?,
         Counted::Trees => count_trees(rt, paths, &mut counts)?,
         Counted::KeptTrees => keep_trees(rt, paths, &mut counts)?,
-        Counted::Names => count_with(rt, paths, &mut counts, Found::Names)?,
-        Counted::Events => count_with(rt, paths, &mut counts, Found::Events)?,
+        Counted::Names => count_with(rt, paths, &mut counts, FoundBeside::Names)?,
+        Counted::Events => count_with(rt, paths, &mut counts, FoundBeside::Events)?,
     }
     Ok(counts.line(rt.alloc(), parts_of(counted))?)
 }
@@ -95,7 +95,7 @@ fn keep_trees(rt: &HostRuntime, paths: &[String], counts: &mut Counts) -> Result
 
 /// What is found of each file beside its tree.
 #[derive(Clone, Copy)]
-enum Found {
+enum FoundBeside {
     Names,
     Events,
 }
@@ -104,7 +104,7 @@ fn count_with(
     rt: &HostRuntime,
     paths: &[String],
     counts: &mut Counts,
-    found: Found,
+    found: FoundBeside,
 ) -> Result<(), Fault> {
     for path in paths {
         if let Some(file) = counted_tree(rt, path.as_str(), counts)? {
@@ -131,11 +131,11 @@ fn counted_tree(rt: &HostRuntime, path: &str, counts: &mut Counts) -> Result<Opt
 }
 
 /// Finds this of the file, as of a package of its own, and lets all of it go.
-fn find_alone(alloc: Global, file: File, found: Found) -> Result<(), AllocError> {
+fn find_alone(alloc: Global, file: File, found: FoundBeside) -> Result<(), AllocError> {
     let files = [file];
     let ended = match found {
-        Found::Names => resolve_all(alloc, &files),
-        Found::Events => tell(alloc, &files),
+        FoundBeside::Names => resolve_all(alloc, &files),
+        FoundBeside::Events => tell(alloc, &files),
     };
     let [file] = files;
     release::file(file);

@@ -1,6 +1,6 @@
 //! What is made of a file by itself: its tokens and its tree.
 
-use crate::text_fault::{TextFault, lexical_fault, tree_fault};
+use crate::text_fault::{FaultInWords, lexical_fault, tree_fault};
 use inspect_source::{text_of_tokens, text_of_tree};
 use lexer::{Source, lex, place};
 use parser::parse;
@@ -52,7 +52,7 @@ pub fn lines_of_tree(alloc: Global, source: &Source) -> Result<FileLines, AllocE
 }
 
 /// The line that says why a text has no tokens, or no tree.
-fn refused(alloc: Global, source: &Source, fault: TextFault) -> Result<FileLines, AllocError> {
+fn refused(alloc: Global, source: &Source, fault: FaultInWords) -> Result<FileLines, AllocError> {
     let name = &source.name;
     let at = place(source, (fault.at as usize).min(source.bytes.len()));
     let (line, column, text) = (at.line, at.column, fault.text);

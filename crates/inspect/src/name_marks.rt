@@ -9,7 +9,7 @@
 //! - `/*second*/`: the first function whose name an earlier one has; then nothing else is looked at.
 
 use lexer::Source;
-use names::{Decl, Names};
+use names::{NameMeaning, Names};
 use std::alloc::{AllocError, Global};
 use tree::DeclKeyword;
 
@@ -18,6 +18,15 @@ const OPENING: &str = "/*";
 const CLOSING: &str = "*/";
 
 const SECOND: &str = "/*second*/";
+
+/// A mark: the number of its file, that file's text, what it says, and the offset at which it ends.
+#[derive(Clone, Copy)]
+struct NameMark<'a> {
+    file: usize,
+    text: &'a str,
+    says: &'a str,
+    end: usize,
+}
 
 /// What each mark wants and the names say otherwise, a line each.
 pub fn differences(
@@ -30,9 +39,15 @@ pub fn differences(
         let text = str::from_utf8(&source.bytes).unwrap_or("");
         let mut at = 0usize;
         for part in text.split(OPENING) {
-            if let Some((mark, after)) = part.split_once(CLOSING) {
+            if let Some((says, after)) = part.split_once(CLOSING) {
                 let end = at.saturating_add(part.len()).saturating_sub(after.len());
-                compare(&mut found, alloc, names, text, file, mark, end)?;
+                let mark = NameMark {
+                    file,
+                    text,
+                    says,
+                    end,
+                };
+                compare(&mut found, alloc, names, mark)?;
             }
             at = at.saturating_add(part.len()).saturating_add(OPENING.len());
         }
@@ -40,17 +55,20 @@ pub fn differences(
     Ok(found)
 }
 
-/// Adds a line where the names say otherwise than the mark, which ends at this offset.
+/// Adds a line where the names say otherwise than the mark.
 fn compare(
     found: &mut String,
     alloc: Global,
     names: &Names<'_>,
-    text: &str,
-    file: usize,
-    mark: &str,
-    end: usize,
+    mark: NameMark<'_>,
 ) -> Result<(), AllocError> {
-    let wanted = if mark.starts_with('=') { "none" } else { mark };
+    let NameMark {
+        file,
+        text,
+        says,
+        end,
+    } = mark;
+    let wanted = if says.starts_with('=') { "none" } else { says };
     let answer = answer(alloc, names, text, file, end)?;
     if answer.as_str() != wanted {
         writeln!(
@@ -74,11 +92,11 @@ fn answer(
     };
     match names.declaration(file, offset) {
         None => String::from_str(alloc, "none"),
-        Some(Decl::Local(number, kind)) => local_mark(alloc, text, number as usize, kind),
-        Some(Decl::Import(path)) => format!(in alloc; "import {path}"),
-        Some(Decl::Function) => String::from_str(alloc, "function"),
-        Some(Decl::PackageLevel) => String::from_str(alloc, "package"),
-        Some(Decl::Universe) => String::from_str(alloc, "universe"),
+        Some(NameMeaning::Local(number, kind)) => local_mark(alloc, text, number as usize, kind),
+        Some(NameMeaning::Import(path)) => format!(in alloc; "import {path}"),
+        Some(NameMeaning::Function) => String::from_str(alloc, "function"),
+        Some(NameMeaning::PackageLevel) => String::from_str(alloc, "package"),
+        Some(NameMeaning::Universe) => String::from_str(alloc, "universe"),
     }
 }
 

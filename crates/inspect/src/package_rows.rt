@@ -18,7 +18,7 @@ const WANT: &str = "WANT";
 
 /// What a row wants to be shown.
 #[derive(Clone, Copy)]
-pub enum Wanted {
+pub enum RowKind {
     /// This of its packages.
     Packages(Shown),
     /// The tokens of each file.
@@ -39,14 +39,18 @@ struct Case {
 /// # Errors
 ///
 /// Two packages of the row have one path, or memory was refused.
-pub fn shown_otherwise(alloc: Global, wanted: Wanted, text: &str) -> Result<Option<String>, Fault> {
+pub fn shown_otherwise(
+    alloc: Global,
+    wanted: RowKind,
+    text: &str,
+) -> Result<Option<String>, Fault> {
     let Case {
         packages,
         wanted: lines,
     } = read_case(alloc, text)?;
     let found = match wanted {
-        Wanted::Packages(shown) => text_of_packages(alloc, shown, packages)?,
-        Wanted::Tokens | Wanted::Trees => text_of_files(alloc, wanted, &packages)?,
+        RowKind::Packages(shown) => text_of_packages(alloc, shown, packages)?,
+        RowKind::Tokens | RowKind::Trees => text_of_files(alloc, wanted, &packages)?,
     };
     if found == lines {
         return Ok(None);
@@ -57,7 +61,7 @@ pub fn shown_otherwise(alloc: Global, wanted: Wanted, text: &str) -> Result<Opti
 /// What is shown of each file by itself, in the order of the row.
 fn text_of_files(
     alloc: Global,
-    wanted: Wanted,
+    wanted: RowKind,
     packages: &[GivenPackage],
 ) -> Result<String, AllocError> {
     let mut text = String::new(alloc);
@@ -72,11 +76,11 @@ fn text_of_files(
 fn push_file(
     text: &mut String,
     alloc: Global,
-    wanted: Wanted,
+    wanted: RowKind,
     source: &Source,
 ) -> Result<(), AllocError> {
     let shown = match wanted {
-        Wanted::Trees => lines_of_tree(alloc, source)?,
+        RowKind::Trees => lines_of_tree(alloc, source)?,
         _ => lines_of_tokens(alloc, source)?,
     };
     match shown {

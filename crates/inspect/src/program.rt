@@ -23,7 +23,7 @@ const HELP: &str = "Shows what ctxvet makes of Go files, step by step
                          import path PATH: uses that the rules do not allow, the cancel functions and groups that are
                          tracked, and what each statement does to them, in the order of the body's text
   inspect graph PATH=DIR..
-                         the same, and behind each event: -> and the numbers of those that can directly follow it; then
+                         the same, and after each event: -> and the numbers of those that can directly follow it; then
                          | and for each variable what may be so before the event, as a sum. Of a cancel function:
                          1 unset, 2 open, 4 safe, and 8, 16, .. left to the first group, the second, .. Of a group:
                          1 not made, 2 idle, 4 live, 8 a Wait is deferred. 0 where nothing arrives
@@ -39,7 +39,7 @@ For those who work on ctxvet:
                          names         Go sources, in which marks say what each name means
                          codes, rows   Go sources, in which marks say what is reported
                          events, graphs, facts, tokens, trees
-                                       files, and behind them the lines of inspect events, graph, facts, tokens or tree
+                                       files, and after them the lines of inspect events, graph, facts, tokens or tree
                          packages      folders, each with the packages of a run of ctxvet check
                          examples      packages, each with a run of its own
                          counts        files, on all of which inspect count is run
@@ -68,7 +68,7 @@ const FINE: u8 = 0;
 const OTHERWISE: u8 = 1;
 
 /// What the words ask for.
-enum Asked<'a> {
+enum AskedFor<'a> {
     Help,
     Tokens(&'a str),
     Tree(&'a str),
@@ -94,22 +94,22 @@ pub fn refuse(rt: &HostRuntime, fault: &Fault) -> u8 {
 /// Does what the words ask for, and gives the status to end with.
 fn answer(rt: &HostRuntime, words: &[String]) -> Result<u8, Fault> {
     match read_words(words) {
-        Some(Asked::Help) => shown(rt, HELP),
-        Some(Asked::Tokens(path)) => {
+        Some(AskedFor::Help) => shown(rt, HELP),
+        Some(AskedFor::Tokens(path)) => {
             show_file(rt, &lines_of_tokens(rt.alloc(), &read_source(rt, path)?)?)
         }
-        Some(Asked::Tree(path)) => {
+        Some(AskedFor::Tree(path)) => {
             show_file(rt, &lines_of_tree(rt.alloc(), &read_source(rt, path)?)?)
         }
-        Some(Asked::Packages(of, words)) => {
+        Some(AskedFor::Packages(of, words)) => {
             let packages = read_packages(rt, words)?;
             shown(rt, &text_of_packages(rt.alloc(), of, packages)?)
         }
-        Some(Asked::Rows(folders)) => {
+        Some(AskedFor::Rows(folders)) => {
             let is_well = show_folders(rt, folders)?;
             Ok(if is_well { FINE } else { OTHERWISE })
         }
-        Some(Asked::Count(counted, paths)) => shown(rt, &count(rt, counted, paths)?),
+        Some(AskedFor::Count(counted, paths)) => shown(rt, &count(rt, counted, paths)?),
         None => Err(Fault::WrongWords(PROGRAM)),
     }
 }
@@ -134,14 +134,14 @@ fn show_file(rt: &HostRuntime, lines: &FileLines) -> Result<u8, Fault> {
     }
 }
 
-fn read_words(words: &[String]) -> Option<Asked<'_>> {
+fn read_words(words: &[String]) -> Option<AskedFor<'_>> {
     match words {
-        [word] if word.as_str() == "--help" => Some(Asked::Help),
-        [word, path] if word.as_str() == "tokens" => Some(Asked::Tokens(path.as_str())),
-        [word, path] if word.as_str() == "tree" => Some(Asked::Tree(path.as_str())),
-        [word, _, ..] if word.as_str() == "rows" => Some(Asked::Rows(&words[1..])),
+        [word] if word.as_str() == "--help" => Some(AskedFor::Help),
+        [word, path] if word.as_str() == "tokens" => Some(AskedFor::Tokens(path.as_str())),
+        [word, path] if word.as_str() == "tree" => Some(AskedFor::Tree(path.as_str())),
+        [word, _, ..] if word.as_str() == "rows" => Some(AskedFor::Rows(&words[1..])),
         [word, _, ..] if word.as_str() == "count" => asked_count(&words[1..]),
-        [word, _, ..] => Some(Asked::Packages(shown_by(word.as_str())?, &words[1..])),
+        [word, _, ..] => Some(AskedFor::Packages(shown_by(word.as_str())?, &words[1..])),
         _ => None,
     }
 }
@@ -156,14 +156,14 @@ fn shown_by(word: &str) -> Option<Shown> {
     }
 }
 
-/// What the words behind `count` ask for.
-fn asked_count(words: &[String]) -> Option<Asked<'_>> {
+/// What the words after `count` ask for.
+fn asked_count(words: &[String]) -> Option<AskedFor<'_>> {
     match words {
         [word, keep] if is_keep(word, keep) => None,
         [word, keep, _, ..] if is_keep(word, keep) => {
-            Some(Asked::Count(Counted::KeptTrees, &words[2..]))
+            Some(AskedFor::Count(Counted::KeptTrees, &words[2..]))
         }
-        [word, _, ..] => Some(Asked::Count(counted_by(word.as_str())?, &words[1..])),
+        [word, _, ..] => Some(AskedFor::Count(counted_by(word.as_str())?, &words[1..])),
         _ => None,
     }
 }

@@ -14,7 +14,7 @@ const PATH: &str = "a";
 
 /// A source without its marks, and the report that they want of it.
 #[derive(Drop)]
-struct Marked {
+struct MarkedSource {
     source: Source,
     wanted: String,
 }
@@ -30,7 +30,7 @@ const CLOSING: &str = " */";
 ///
 /// Memory was refused.
 pub fn reported_otherwise(alloc: Global, text: &str) -> Result<Option<String>, Fault> {
-    let Marked { source, wanted } = read_marks(alloc, text)?;
+    let MarkedSource { source, wanted } = read_marks(alloc, text)?;
     let report = report_alone(alloc, source)?;
     if report.text.as_slice() == wanted.as_bytes() {
         return Ok(None);
@@ -50,7 +50,7 @@ fn report_alone(alloc: Global, source: Source) -> Result<Report, Fault> {
 }
 
 /// Takes the marks out of a text.
-fn read_marks(alloc: Global, text: &str) -> Result<Marked, AllocError> {
+fn read_marks(alloc: Global, text: &str) -> Result<MarkedSource, AllocError> {
     let mut bare = String::new(alloc);
     let mut wanted = String::new(alloc);
     let mut parts = text.split(OPENING);
@@ -63,7 +63,7 @@ fn read_marks(alloc: Global, text: &str) -> Result<Marked, AllocError> {
     }
     let verdict = if wanted.is_empty() { "yes" } else { "no" };
     writeln!(wanted, "{verdict} {PATH}")?;
-    Ok(Marked {
+    Ok(MarkedSource {
         source: Source {
             name: String::from_str(alloc, "a.go")?,
             bytes: bare.into_bytes(),

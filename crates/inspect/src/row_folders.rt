@@ -5,7 +5,7 @@
 use crate::files::{entries, read_text};
 use crate::name_rows::names_otherwise;
 use crate::output::print;
-use crate::package_rows::{Wanted, shown_otherwise};
+use crate::package_rows::{RowKind, shown_otherwise};
 use crate::program::PROGRAM;
 use crate::report_marks::reported_otherwise;
 use crate::transcripts::{show_counts, show_examples, show_runs};
@@ -34,7 +34,7 @@ enum Compared {
     /// Marks that say what is reported.
     Report,
     /// What is shown of its files.
-    Shown(Wanted),
+    Shown(RowKind),
 }
 
 impl Compared {
@@ -51,11 +51,11 @@ impl Compared {
 fn cases_of(name: &str) -> Option<Cases> {
     match name {
         "names" => Some(Cases::Compared(Compared::Names)),
-        "events" => Some(shown_cases(Wanted::Packages(Shown::Events))),
-        "graphs" => Some(shown_cases(Wanted::Packages(Shown::Graphs))),
-        "facts" => Some(shown_cases(Wanted::Packages(Shown::Facts))),
-        "tokens" => Some(shown_cases(Wanted::Tokens)),
-        "trees" => Some(shown_cases(Wanted::Trees)),
+        "events" => Some(shown_cases(RowKind::Packages(Shown::Events))),
+        "graphs" => Some(shown_cases(RowKind::Packages(Shown::Graphs))),
+        "facts" => Some(shown_cases(RowKind::Packages(Shown::Facts))),
+        "tokens" => Some(shown_cases(RowKind::Tokens)),
+        "trees" => Some(shown_cases(RowKind::Trees)),
         "codes" | "rows" => Some(Cases::Compared(Compared::Report)),
         "packages" => Some(Cases::Packages),
         "examples" => Some(Cases::Examples),
@@ -64,7 +64,7 @@ fn cases_of(name: &str) -> Option<Cases> {
     }
 }
 
-fn shown_cases(wanted: Wanted) -> Cases {
+fn shown_cases(wanted: RowKind) -> Cases {
     Cases::Compared(Compared::Shown(wanted))
 }
 

@@ -6,7 +6,7 @@ use std::alloc::AllocError;
 
 /// What is wrong with a text, in the words of ctxvet's report, and the byte offset where.
 #[derive(Clone, Copy)]
-pub struct TextFault {
+pub struct FaultInWords {
     pub at: u32,
     pub text: &'static str,
 }
@@ -16,7 +16,7 @@ pub struct TextFault {
 /// # Errors
 ///
 /// Memory was refused, which is no fault of the text.
-pub fn lexical_fault(fault: LexFault) -> Result<TextFault, AllocError> {
+pub fn lexical_fault(fault: LexFault) -> Result<FaultInWords, AllocError> {
     match fault {
         LexFault::TooLong => text_fault(0, "file over 1 MiB"),
         LexFault::NotUtf8(at) => text_fault(at, "not UTF-8"),
@@ -34,7 +34,7 @@ pub fn lexical_fault(fault: LexFault) -> Result<TextFault, AllocError> {
 /// # Errors
 ///
 /// Memory was refused, which is no fault of the text.
-pub fn tree_fault(fault: ParseFault) -> Result<TextFault, AllocError> {
+pub fn tree_fault(fault: ParseFault) -> Result<FaultInWords, AllocError> {
     match fault {
         ParseFault::Unexpected(at) => text_fault(at, "unexpected token"),
         ParseFault::LeftOut(LeftOut::TypeParameters, at) => text_fault(
@@ -49,6 +49,6 @@ pub fn tree_fault(fault: ParseFault) -> Result<TextFault, AllocError> {
     }
 }
 
-fn text_fault(at: u32, text: &'static str) -> Result<TextFault, AllocError> {
-    Ok(TextFault { at, text })
+fn text_fault(at: u32, text: &'static str) -> Result<FaultInWords, AllocError> {
+    Ok(FaultInWords { at, text })
 }

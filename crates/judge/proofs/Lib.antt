@@ -1,3 +1,7 @@
 mod QuietYes
+mod LoadedPackages
+mod SourcePlaces
 mod Loads
 mod SameTexts
+mod OneLoad
+mod OneReport

@@ -1,6 +1,5 @@
--- The report of given packages, which are loaded in the order of their paths: its text, whether each is yes, and what a
--- yes says of runs. Packages that are loaded in one way have one report (`one_report` of `meaning_reports`), and so one
--- text: `proofs/SameTexts.antt`.
+-- The report of given packages, which are loaded in the order of their paths: its text, whether each is yes, that what
+-- is said stands in the sources, and what a yes says of runs. How far there is one such report says `OneReport.antt`.
 use Rattle.std.specs.Prelude.{List}
 use Rattle.whole_packages.specs.declared.loaded_package.LoadedPackage.{LoadedPackage as KeptPackage}
 use Rattle.load.specs.declared.packages.GivenPackage.{GivenPackage}
@@ -9,6 +8,7 @@ use Rattle.all_packages.specs.declared.judged.Judged.{Judged}
 use Rattle.all_packages.specs.Reports.{AreReports, IsTold}
 pub use Rattle.all_packages.specs.declared.reports.Report.{Report}
 use Rattle.judge.specs.QuietYes.{YesAreQuiet}
+use Rattle.judge.specs.SourcePlaces.{StandInSources}
 
 -- The given packages are loaded in the order of their paths, as their files are read, and it is their report.
 pub record IsReport (given : List GivenPackage) (report : Report) : Type 0 where
@@ -17,4 +17,5 @@ pub record IsReport (given : List GivenPackage) (report : Report) : Type 0 where
   pub said : List Judged
   pub are_reports : AreReports load.meant packages said
   pub told : IsTold said report
+  pub placed : StandInSources said
   pub quiet : YesAreQuiet load.meant are_reports.is_report.tables said

@@ -2,7 +2,9 @@
 //! the report of given packages is says `specs/Reports.antt`.
 #![tactic(auto)]
 
+mod laws;
 mod reports;
 
 pub use all_packages::Report;
+pub use laws::given_packages_have_one_report;
 pub use reports::report_of;

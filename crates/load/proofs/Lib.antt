@@ -1,5 +1,5 @@
 mod FilesLoaded
 mod GivenLists
-mod OneOrder
+pub mod OneOrder
 mod Unparsed
 pub mod ZippedLists

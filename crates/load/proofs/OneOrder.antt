@@ -10,7 +10,7 @@ use Rattle.lexer.specs.declared.source.Source.{Source}
 use Rattle.load.specs.FilesByName.{comes_before, AreByName}
 
 module _ {X : Type 0} where
-  abbrev In : X → List X → Type 0
+  abbrev pub In : X → List X → Type 0
   In z [] = ⊥
   In z (y ∷ ys) = (y ≡ z) ⊎ In z ys
 
@@ -54,14 +54,14 @@ module _ {X : Type 0} where
     they_tie : (x y : X) → lt x y ≡ false → lt y x ≡ false → ties lt x y ≡ true
     they_tie x y e f = λ i. not (e i) && not (f i)
 
-    rest_sorted : (x : X) (xs : List X) → IsSortedBy lt (x ∷ xs) → IsSortedBy lt xs
+    pub rest_sorted : (x : X) (xs : List X) → IsSortedBy lt (x ∷ xs) → IsSortedBy lt xs
     rest_sorted x xs s k d low within =
         let e : suc k + 1 ≡ suc (k + 1) = omega arith in
         subst (λ n. lt (slice_index_or (x ∷ xs) n d) (slice_index_or xs k d) ≡ false) e
         (s (suc k) d (omega arith) (omega (arith, within)))
 
     -- no element comes before the first
-    least : (x : X) (xs : List X) → IsSortedBy lt (x ∷ xs) → (z : X) → In z (x ∷ xs) → lt z x ≡ false
+    pub least : (x : X) (xs : List X) → IsSortedBy lt (x ∷ xs) → (z : X) → In z (x ∷ xs) → lt z x ≡ false
     least x xs s z (inl e) = subst (λ t. lt t x ≡ false) e (not_itself x)
     least x [] s z (inr later) = absurd later
     least x (y ∷ ys) s z (inr later) =

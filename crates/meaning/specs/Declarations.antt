@@ -6,7 +6,7 @@ use Rattle.std.specs.Prelude.{ℕ, ◌==◌, Bool, true, false, ◌&&◌, ◌||�
 use Rattle.std.specs.Str.{bytes_eq}
 use Rattle.tree.specs.declared.operator.DeclKeyword.{DeclKeyword}
 use Rattle.tree.specs.Syntax.{SourceFile}
-use Rattle.meaning.specs.Scopes.{Local, Naming, uses_name, declares_name, file_names}
+use Rattle.meaning.specs.Scopes.{LocalName, Naming, uses_name, declares_name, file_names}
 use Rattle.meaning.specs.OuterBlocks.{PackageNames, PackageLevel, specs_of, import_meant, package_block, package_meant}
 
 -- what a use means
@@ -23,40 +23,40 @@ pub data Meaning : Type 0 where
 
 -- Locals
 
-abbrev pub locals_of : List Naming → List Local
+abbrev pub locals_of : List Naming → List LocalName
 locals_of [] = []
 locals_of (uses_name name at ∷ ns) = locals_of ns
 locals_of (declares_name l ∷ ns) = l ∷ locals_of ns
 
 -- declarations of one name in one block
-abbrev pub same_name_and_block : Local → Local → Bool
+abbrev pub same_name_and_block : LocalName → LocalName → Bool
 same_name_and_block l m = bytes_eq l.name m.name && (l.block.start == m.block.start)
 
-abbrev pub without : Local → List Local → List Local
+abbrev pub without : LocalName → List LocalName → List LocalName
 without l [] = []
 without l (m ∷ ms) = if same_name_and_block l m then without l ms else m ∷ without l ms
 
 -- those that count: the first of each name in its block
-unfoldable pub first_locals : List Local → List Local
+unfoldable pub first_locals : List LocalName → List LocalName
 first_locals [] = []
 first_locals (l ∷ ls) = l ∷ without l (first_locals ls)
 
 -- the offset lies in the scope of the declaration
-abbrev pub covers : Local → ℕ → Bool
+abbrev pub covers : LocalName → ℕ → Bool
 covers l at = nat_le l.block.start at && (nat_le l.from at && nat_lt at l.block.end)
 
 -- of two declarations the one in the inner block
-abbrev pub inner_of : Local → Option Local → Local
+abbrev pub inner_of : LocalName → Option LocalName → LocalName
 inner_of l None = l
 inner_of l (Some m) = if nat_le l.block.start m.block.start then m else l
 
 -- the innermost declaration of the name that covers the offset
-unfoldable pub innermost : List ℕ → ℕ → List Local → Option Local
+unfoldable pub innermost : List ℕ → ℕ → List LocalName → Option LocalName
 innermost name at [] = None
 innermost name at (l ∷ ls) =
     if bytes_eq l.name name && covers l at then Some (inner_of l (innermost name at ls)) else innermost name at ls
 
-abbrev pub local_meant : List Local → List ℕ → ℕ → Option Local
+abbrev pub local_meant : List LocalName → List ℕ → ℕ → Option LocalName
 local_meant locals name at = innermost name at (first_locals locals)
 
 -- Uses
@@ -67,16 +67,16 @@ pub record Use : Type 0 where
   pub at : ℕ
 
 -- one of the declarations that count has the name and the block of this one, and its scope has begun
-abbrev pub is_in_scope : Local → List Local → Bool
+abbrev pub is_in_scope : LocalName → List LocalName → Bool
 is_in_scope l [] = false
 is_in_scope l (m ∷ ms) = (same_name_and_block m l && nat_le m.from l.number) || is_in_scope l ms
 
 -- a `:=` assigns to a name that its block has declared in an earlier statement, or as a parameter
-abbrev pub is_assigned : List Local → Local → Bool
+abbrev pub is_assigned : List LocalName → LocalName → Bool
 is_assigned locals l = l.is_short && is_in_scope l (first_locals locals)
 
 -- the uses among the names, given all locals
-abbrev pub uses_among : List Local → List Naming → List Use
+abbrev pub uses_among : List LocalName → List Naming → List Use
 uses_among locals [] = []
 uses_among locals (uses_name name at ∷ ns) = record { name = name; at = at } ∷ uses_among locals ns
 uses_among locals (declares_name l ∷ ns) =
@@ -101,7 +101,7 @@ abbrev pub import_or_around : Option (List ℕ) → Meaning → Meaning
 import_or_around None around = around
 import_or_around (Some path) around = import_name path
 
-abbrev pub local_or_around : Option Local → Meaning → Meaning
+abbrev pub local_or_around : Option LocalName → Meaning → Meaning
 local_or_around None around = around
 local_or_around (Some l) around = local_name l.number l.kind
 

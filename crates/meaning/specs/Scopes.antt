@@ -17,7 +17,7 @@ use Rattle.tree.specs.declared.span.Span.{Span}
 use Rattle.tree.specs.Syntax.{Identifier, TypeName, Expression, expression_node, ExpressionForm, name_expression, basic_literal, function_literal, composite_literal, literal_value, key_value, parenthesized, selector_expression, index_expression, slice_expression, type_assertion, call_expression, star_expression, unary_expression, binary_expression, array_type, ellipsis_array_type, slice_type, map_type, channel_type, function_type, struct_type, interface_type, Expressions, no_expression, expression_and, OptionalExpression, missing_expression, present_expression, Signature, signature_of, Parameters, no_parameter, named_and, unnamed_and, name_alone_and, Fields, no_field, fields_and, embedded_and, method_and, Statement, statement_node, StatementForm, empty_statement, declaration_statement, labeled_statement, expression_statement, send_statement, increment_statement, decrement_statement, assignment, operator_assignment, define_statement, go_statement, defer_statement, return_statement, break_statement, continue_statement, block_statement, if_statement, for_statement, range_assignment, range_definition, switch_statement, type_switch_statement, select_statement, Statements, no_statement, statement_and, OptionalStatement, missing_statement, present_statement, CaseClauses, no_case, case_and, CommunicationClauses, no_communication, communication_and, Declaration, declaration_of, Specs, no_spec, value_and, type_and, Block, Function, TopLevelDeclaration, function_declaration, general_declaration, SourceFile}
 
 -- what a function declares
-pub record Local : Type 0 where
+pub record LocalName : Type 0 where
   pub name : List ℕ
   -- the offset of the name that declares it; in a clause of a type switch, of the clause's keyword
   pub number : ℕ
@@ -33,13 +33,13 @@ pub record Local : Type 0 where
 -- one name of a text: used at an offset, or declared
 pub data Naming : Type 0 where
   uses_name : List ℕ → ℕ → Naming
-  declares_name : Local → Naming
+  declares_name : LocalName → Naming
 
 abbrev pub is_blank : List ℕ → Bool
 is_blank name = bytes_eq name (underscore ∷ [])
 
 -- the blank identifier declares nothing
-abbrev pub declared : Local → List Naming
+abbrev pub declared : LocalName → List Naming
 declared l = if is_blank l.name then [] else declares_name l ∷ []
 
 -- names that are declared together

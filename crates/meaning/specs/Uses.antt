@@ -452,6 +452,7 @@ group_use seen l bodies m role = None
 
 -- Faults
 
+-- what is said of a use; in a report these are LC02, LC03, LC06, LC09, LC11 and LC12
 pub data UseCode : Type 0 where
   recover_used : UseCode
   cancel_discarded : UseCode

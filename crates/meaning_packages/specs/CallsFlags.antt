@@ -2,7 +2,7 @@
 -- has been called. Only a cancel parameter with a name can be known so, of a function (no method, and none that is
 -- called `init` or `_`) with a block and with not too many variables. The flag is kept if the function's paths keep it,
 -- where its own calls rely on flags in turn. Flags are consistent if each of them is kept under all of them; recursion
--- is trusted so, until a path breaks it. A package's flags are the most that are consistent.
+-- is trusted so, until a path breaks it. A package's flags are the most consistent flags.
 -- (This tool's rules; the documentation of `context`.)
 use Rattle.std.specs.Prelude.{ℕ, ◌≡◌, Bool, true, false, not, ◌&&◌, List, [], Option, Some, None, is_none, Contains}
 use Rattle.std.specs.Str.{bytes_eq}

@@ -2,7 +2,7 @@
 -- called under `defer`, is relied on for a cancel variable if each list that comes to one of its returns leaves the
 -- variable safe, and one under `defer` for a group if none leaves the group live. So a literal of which no return is
 -- reached is relied on for all that it captures, and one with too many variables for nothing. A literal relies on
--- the literals in it, which begin behind its `func`. Of functions nothing is asked: no literal passes a variable
+-- the literals in it, which begin after its `func`. Of functions nothing is asked: no literal passes a variable
 -- that it captures.
 -- (The Go specification, "Defer statements"; the documentation of `golang.org/x/sync/errgroup`.)
 use Rattle.std.specs.Prelude.{ℕ, ◌≡◌, ◌↔◌, ◌==◌, Bool, true, false, not, ◌&&◌, if◌then◌else◌, List, [], ◌∷◌, Option, Some, None, Contains, nat_lt}
@@ -28,13 +28,13 @@ body_at at (b ∷ bs) = if b.at == at then Some b else body_at at bs
 abbrev pub Credits : Type 0
 Credits = ℕ → ℕ → Bool
 
--- those of the literals that begin behind the offset
-abbrev pub behind : ℕ → Credits → Credits
-behind at credits literal number = nat_lt at literal && credits literal number
+-- those of the literals that begin after the offset
+abbrev pub begun_after : ℕ → Credits → Credits
+begun_after at credits literal number = nat_lt at literal && credits literal number
 
 -- what the body at an offset relies on
 abbrev pub promises_in : (Callee → ℕ → Bool) → Credits → ℕ → Promises
-promises_in calls credits at = record { calls = calls; credits = behind at credits }
+promises_in calls credits at = record { calls = calls; credits = begun_after at credits }
 
 -- no function is known to call anything
 abbrev pub no_calls : Callee → ℕ → Bool

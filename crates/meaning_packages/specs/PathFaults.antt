@@ -24,6 +24,7 @@ use Rattle.meaning.specs.Uses.{Callee, VariableAt, Handed, Event, obtain, clear,
 use Rattle.meaning.specs.BodyEvents.{Variable, VariableRole, own_parameter, own_receiver, declared_in_body, captured, sites_of, events_at, variables_of, too_many_faults}
 use Rattle.meaning.specs.Classes.{Promises, CancelClass, unset, opened, safe, pending, entry_cancel, cancel_after, GroupClass, in_state, entry_group, group_after}
 
+-- what is said of a path or a pass; in a report these are LC04, LC05, LC07, LC08, LC10 and LC06
 pub data PathCode : Type 0 where
   overwritten : PathCode
   not_called : PathCode

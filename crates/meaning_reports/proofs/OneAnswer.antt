@@ -6,7 +6,7 @@ use Rattle.std.proofs.lemmas.Bool.Decides.{Decides-eqb}
 use Rattle.meaning.specs.Mentions.{BodyPlace}
 use Rattle.meaning.specs.Uses.{Seen}
 use Rattle.meaning_packages.specs.PathFaults.{paths_of}
-use Rattle.meaning_packages.specs.Credits.{body_at, Credits, behind, no_calls, Settles, IsCredited, AreFullCredits}
+use Rattle.meaning_packages.specs.Credits.{body_at, Credits, begun_after, no_calls, Settles, IsCredited, AreFullCredits}
 use Rattle.meaning.specs.BodyEvents.{bodies_of}
 use Rattle.meaning_packages.specs.CallsFlags.{Flags, FileWithCredits, AreMost}
 use Rattle.meaning_reports.specs.PackageTables.{AreCredited, no_file, file_and}
@@ -33,10 +33,10 @@ before_bound at (x ∷ bs) b e = by (x.at == at) (Decides-eqb x.at at).0 (before
     by true same later is = let here = same refl in omega (arith, here)
     by false same later is = let l = later is in omega (arith, l)
 
--- tables that agree on what lies behind a literal
+-- tables that agree on what lies after a literal
 same_behind : (one other : Credits) (literal : ℕ)
     → ((later number : ℕ) → literal < later → one later number ≡ other later number)
-    → behind literal one ≡ behind literal other
+    → begun_after literal one ≡ begun_after literal other
 same_behind one other literal agree = λ i later number. by later number (nat_lt literal later) refl i
   where
     by : (later number : ℕ) (t : Bool) → nat_lt literal later ≡ t → (t && one later number) ≡ (t && other later number)
@@ -44,7 +44,7 @@ same_behind one other literal agree = λ i later number. by later number (nat_lt
     by later number true e = agree later number (ltb-true literal later e)
 
 module _ (seen : Seen) where
-  credited_too : (one other : Credits) (literal number : ℕ) → behind literal one ≡ behind literal other
+  credited_too : (one other : Credits) (literal number : ℕ) → begun_after literal one ≡ begun_after literal other
       → IsCredited seen one literal number
       → IsCredited seen other literal number
   credited_too one other literal number same h = record {

@@ -21,7 +21,7 @@ use Rattle.meaning_runs.proofs.BodyOffsetsRules.{Gives, both, behind, ending, gi
 use Rattle.meaning_runs.proofs.BodyOffsetsParts.{gives_perhaps, gives_expressions}
 use Rattle.meaning_runs.proofs.BodyOffsetsSpelled.{gives_keyword, no_expressions, last_gives, of_expression, of_each, of_optional, of_signature, of_items, of_statements}
 
-no_outer_specs : (specs : Specs) → IsLast specs → outer_specs_marks specs ≡ []
+pub no_outer_specs : (specs : Specs) → IsLast specs → outer_specs_marks specs ≡ []
 no_outer_specs no_spec h = refl
 no_outer_specs (value_and ns t es span specs) h = absurd h
 no_outer_specs (type_and n is_alias t span specs) h = absurd h

@@ -19,7 +19,7 @@ use Rattle.meaning_runs.proofs.SitesWithin.{Around, no_site, from_site, behind_s
 use Rattle.meaning_runs.proofs.BodyOffsetsRules.{Gives, both, turned, behind, ending, given, spanned, loosely, gives_nothing, gives_never, gives_not_before, gives_token, gives_chosen, gives_only_if, enclosed, gives_semicolon, gives_semicolons, gives_identifier, gives_optional_identifier, gives_identifiers, moved, asked_so, replaced, plain_before, plain_behind, statement_at, begun, given_begun, spanned_begun, foreign, past, simple, led, noted, braced, returned, bodied, whole_literal}
 use Rattle.meaning_runs.proofs.BodyOffsetsParts.{named, callee_named, newly, typed, names, names_elsewhere, guarded, gives_end_of_name, gives_end_of_type, gives_channel, gives_arguments, gives_perhaps, gives_elements, gives_range_left, clause, gives_third_bound, gives_guard_name, gives_initial, communication_clause, gives_tag, gives_before_item, gives_after_items, gives_assign_operator, gives_type_name, EachGives, gives_expressions, gives_argument_list, gives_items, gives_lefts}
 
-missing_gives_none : (site : ℕ) (e : OptionalExpression) → e ≡ missing_expression → optional_marks site e ≡ []
+pub missing_gives_none : (site : ℕ) (e : OptionalExpression) → e ≡ missing_expression → optional_marks site e ≡ []
 unfolding optional_marks
 missing_gives_none site missing_expression q = refl
 missing_gives_none site (present_expression e) q = let bad : present_expression e ≡ missing_expression = q in cc
@@ -29,7 +29,7 @@ unfolding asked_optional
 missing_asks_none missing_statement q = refl
 missing_asks_none (present_statement s) q = let bad : present_statement s ≡ missing_statement = q in cc
 
-missing_statement_gives_none : (standing : Standing) (s : OptionalStatement) → s ≡ missing_statement → optional_statement_marks standing s ≡ []
+pub missing_statement_gives_none : (standing : Standing) (s : OptionalStatement) → s ≡ missing_statement → optional_statement_marks standing s ≡ []
 unfolding optional_statement_marks
 missing_statement_gives_none standing missing_statement q = refl
 missing_statement_gives_none standing (present_statement s) q =
@@ -39,11 +39,11 @@ pub no_expressions : (spot : Spot) → expressions_marks spot no_expression ≡ 
 unfolding expressions_marks
 no_expressions spot = refl
 
-no_arguments : (c : Option Call) (site k : ℕ) → arguments_marks c site k no_expression ≡ []
+pub no_arguments : (c : Option Call) (site k : ℕ) → arguments_marks c site k no_expression ≡ []
 unfolding arguments_marks
 no_arguments c site k = refl
 
-no_items : (site k : ℕ) → items_marks site k no_expression ≡ []
+pub no_items : (site k : ℕ) → items_marks site k no_expression ≡ []
 unfolding items_marks
 no_items site k = refl
 
@@ -93,7 +93,7 @@ result_alone site ms ps e =
     sym (append-nil ms) ∙ ap (λ (qs : Parameters). ms ++ parameters_marks false site qs) (sym e)
 
 -- marks of four parts, of which the first three stand together
-three_and_one : (a b c d : List Mark) → (a ++ (b ++ c)) ++ d ≡ a ++ (b ++ (c ++ d))
+pub three_and_one : (a b c d : List Mark) → (a ++ (b ++ c)) ++ d ≡ a ++ (b ++ (c ++ d))
 three_and_one a b c d = append_assoc a (b ++ c) d ∙ ap (λ (l : List Mark). a ++ l) (append_assoc b c d)
 
 -- or one after the other
@@ -104,7 +104,7 @@ all_semicolons : {own : Around} → Gives false own [] [] semicolons
 all_semicolons from to lo f o t = gives_semicolons lo o t
 
 -- a spec that is the last one
-no_specs_left : (keyword : DeclKeyword) (at : ℕ) (specs : Specs) → IsLast specs → specs_marks keyword at specs ≡ []
+pub no_specs_left : (keyword : DeclKeyword) (at : ℕ) (specs : Specs) → IsLast specs → specs_marks keyword at specs ≡ []
 unfolding specs_marks
 no_specs_left keyword at no_spec h = refl
 no_specs_left keyword at (value_and ns t es span specs) h = absurd h

@@ -172,7 +172,7 @@ three_there (a ∷ []) e = absurd (true≢false (sym (and_parts _ _ (and_parts _
 three_there (a ∷ b ∷ []) e = absurd (true≢false (sym (and_parts _ _ e).1))
 three_there (a ∷ b ∷ c ∷ text) e = omega arith
 
-mark_there : (text : List ℕ) → mark_size text ≤ length text
+pub mark_there : (text : List ℕ) → mark_size text ≤ length text
 mark_there text = by (begins_with_mark text) refl
   where
     by : (b : Bool) → begins_with_mark text ≡ b → (if b then 3 else 0) ≤ length text

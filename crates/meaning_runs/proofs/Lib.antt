@@ -11,7 +11,7 @@ mod QuietRuns
 mod Findings
 mod Credited
 mod BodyOffsetsWithin
-mod BodyOffsetsTokens
+pub mod BodyOffsetsTokens
 mod AskedSites
 mod SitesWithin
 mod SavedLiterals
@@ -33,6 +33,13 @@ mod OwnNumbers
 mod LeftSides
 mod NamedBodies
 mod FilePlaces
+mod NameRules
+mod NameParts
+mod NamesSpelled
+mod NamePlaces
+mod MentionPlaces
+mod FaultPlaces
+pub mod EntryPlaces
 mod KnownFlags
 mod TrackedBindings
 mod LeavingLists

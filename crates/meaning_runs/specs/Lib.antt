@@ -12,6 +12,8 @@ pub mod CallSteps
 pub mod Doings
 pub mod OccurrencePlaces
 pub mod FilePlaces
+pub mod NamePlaces
+pub mod EntryPlaces
 pub mod RunLists
 pub mod Examples
 pub mod Returns

@@ -1,7 +1,7 @@
 -- What a yes promises: where nothing is to be said of a package's files, each return of a frame of the package is
 -- quiet, in every run. It is enough that tables are consistent and credits fair, of this package and of those below it:
--- they need not be the most that are. Nothing is promised where one of these packages imports `errgroup`, for the steps
--- leave groups out.
+-- they need not be the most consistent flags, or full credits. Nothing is promised where one of these packages imports
+-- `errgroup`, for the steps leave groups out.
 use Rattle.std.specs.Prelude.{◌≡◌, ℕ, false, List, [], ◌∷◌, Some, slice_get, Contains}
 use Rattle.tree.specs.Syntax.{SourceFile}
 use Rattle.meaning.specs.TreeOfText.{IsTreeOf}

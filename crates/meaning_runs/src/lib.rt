@@ -5,8 +5,10 @@ ghost use Rattle.meaning_runs.specs.BodyOffsets.{BodiesAreApart};
 ghost use Rattle.meaning_runs.specs.CallSteps.{CallsHaveSteps};
 ghost use Rattle.meaning_runs.specs.Doings.{MovesAreLists};
 ghost use Rattle.meaning_runs.specs.Laws.{ContextsAreSound, FramesHaveSteps};
+ghost use Rattle.meaning_runs.specs.EntryPlaces.{EntriesLieInFiles};
 ghost use Rattle.meaning_runs.specs.EventSources.{BindingsAreOfLocals, BindingsAreTracked, EventsHaveSources};
 ghost use Rattle.meaning_runs.specs.FilePlaces.{WholePlacesLieInFiles};
+ghost use Rattle.meaning_runs.specs.NamePlaces.{NamesLieInTexts};
 ghost use Rattle.meaning_runs.specs.OccurrencePlaces.{OccurrencesHavePlaces, OccurrencesLieInTexts};
 ghost use Rattle.meaning_runs.specs.Promise.{YesIsQuiet};
 ghost use Rattle.meaning_runs.specs.PackageYes.{YesOfAPackageIsQuiet};
@@ -110,10 +112,22 @@ pub fn occurrences_lie_in_texts<E>()
     ensures { OccurrencesLieInTexts E }
 {}
 
+/// In the tree of a text each name that a mark mentions stands in the text, and so do the statement of the row whose
+/// only value is a call that is looked at, and the names of a body's receiver, parameters and results.
+pub fn names_lie_in_texts()
+    ensures { NamesLieInTexts }
+{}
+
 /// Where the trees of a package are those of its files' texts, each fault of the whole package and what is said of its
 /// imports stands in one of these files, at an offset of its text or at its end.
 pub fn whole_places_lie_in_files()
     ensures { WholePlacesLieInFiles }
+{}
+
+/// Where the trees of a package are those of its files' texts, each entry of a report of the package stands in one of
+/// these files, at an offset of its text or at its end.
+pub fn entries_lie_in_files()
+    ensures { EntriesLieInFiles }
 {}
 
 /// In the tree of a text each literal whose call an event of a body saves stands in the body.

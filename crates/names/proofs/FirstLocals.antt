@@ -10,11 +10,11 @@ use Rattle.std.proofs.Math.Bool.{or-false}
 use Rattle.std.proofs.lemmas.List.{append-nil, map-append, take_more}
 use Rattle.std.proofs.lemmas.List.Elements.{All-nil, All-head, All-tail, All-push}
 use Rattle.std.proofs.lemmas.Option.{slice_get-map}
-use Rattle.scopes.specs.declared.naming.Local.{Local as KeptLocal}
+use Rattle.scopes.specs.declared.naming.LocalName.{LocalName as KeptLocal}
 use Rattle.scopes.specs.declared.naming.Naming.{Naming as KeptNaming}
 use Rattle.scopes.specs.declared.naming.Naming.TheVariants.{Use, Declaration}
 use Rattle.scopes.specs.Views.{local_view, naming_view, namings_view}
-use Rattle.meaning.specs.Scopes.{Local, Naming, uses_name, declares_name}
+use Rattle.meaning.specs.Scopes.{LocalName, Naming, uses_name, declares_name}
 use Rattle.meaning.specs.Declarations.{same_name_and_block, without, locals_of, first_locals, is_in_scope}
 use Rattle.indexmap.specs.IndexMap.{IndexMap, get_by, insert_entry}
 use Rattle.indexmap.proofs.CallerLemmas.{insert_entry-new}
@@ -28,14 +28,14 @@ same_laws : IsEquivalence same_name_and_block
 same_laws = and_equiv (on_equiv (λ l. l.name) nat_list_eq_equiv) (on_equiv (λ l. l.block.start) nat_eq_equiv)
 
 -- one of the locals has the name and the block of this one
-abbrev pub has : Local → List Local → Bool
+abbrev pub has : LocalName → List LocalName → Bool
 has l ls = list_any (λ m. same_name_and_block m l) ls
 
 -- this one at the end, unless one of its name and block is there
-abbrev pub with_last : List Local → Local → List Local
+abbrev pub with_last : List LocalName → LocalName → List LocalName
 with_last ls l = cond (has l ls) ls (ls ++ l ∷ [])
 
-without_append : (x : Local) (ls ms : List Local) → without x (ls ++ ms) ≡ without x ls ++ without x ms
+without_append : (x : LocalName) (ls ms : List LocalName) → without x (ls ++ ms) ≡ without x ls ++ without x ms
 without_append x [] ms = refl
 without_append x (l ∷ ls) ms = by (same_name_and_block x l) (without_append x ls ms)
   where
@@ -44,7 +44,7 @@ without_append x (l ∷ ls) ms = by (same_name_and_block x l) (without_append x 
     by true rest = rest
     by false rest = ap (λ r. l ∷ r) rest
 
-has_without : (x l : Local) (ls : List Local) → same_name_and_block x l ≡ false → has l (without x ls) ≡ has l ls
+has_without : (x l : LocalName) (ls : List LocalName) → same_name_and_block x l ≡ false → has l (without x ls) ≡ has l ls
 has_without x l [] e = refl
 has_without x l (m ∷ ls) e = by (same_name_and_block x m) refl (has_without x l ls e)
   where
@@ -53,7 +53,7 @@ has_without x l (m ∷ ls) e = by (same_name_and_block x m) refl (has_without x 
     by true k rest = rest ∙ sym (ap (λ b. b || has l ls) (sym (same_laws.congr x m l k) ∙ e))
     by false k rest = ap (λ b. same_name_and_block m l || b) rest
 
-step : (x l : Local) (ls : List Local) → x ∷ without x (with_last ls l) ≡ with_last (x ∷ without x ls) l
+step : (x l : LocalName) (ls : List LocalName) → x ∷ without x (with_last ls l) ≡ with_last (x ∷ without x ls) l
 step x l ls = by (same_name_and_block x l) (has l ls) refl refl
   where
     last_left : same_name_and_block x l ≡ true → without x (ls ++ l ∷ []) ≡ without x ls
@@ -78,7 +78,7 @@ step x l ls = by (same_name_and_block x l) (has l ls) refl refl
         ∙ sym (cond-false _ (x ∷ without x ls) _ (or_from _ (has l (without x ls)) e (has_without x l ls e ∙ k)))
 
 -- one more local counts if it is the first of its name and block
-pub first_locals_last : (ls : List Local) (l : Local) → first_locals (ls ++ l ∷ []) ≡ with_last (first_locals ls) l
+pub first_locals_last : (ls : List LocalName) (l : LocalName) → first_locals (ls ++ l ∷ []) ≡ with_last (first_locals ls) l
 unfolding first_locals
 first_locals_last [] l = refl
 first_locals_last (x ∷ ls) l = ap (λ r. x ∷ without x r) (first_locals_last ls l) ∙ step x l (first_locals ls)
@@ -154,7 +154,7 @@ module _ (l : KeptLocal) (es : List (Key × KeptLocal)) (fit : All FitsKey es) (
 
 -- adding a local to the map
 
-module _ {S : Type 0} (old : IndexMap Key KeptLocal S) (l : KeptLocal) (before : List Local) (all : AreFirst old before) where
+module _ {S : Type 0} (old : IndexMap Key KeptLocal S) (l : KeptLocal) (before : List LocalName) (all : AreFirst old before) where
   seen : is_some (get_by (key_same (key_of l)) old) ≡ has (local_view l) (first_locals before)
   seen = has_tells l old.entries all.fit ∙ ap (has (local_view l)) all.first
 
@@ -206,7 +206,7 @@ module _ (ns : List KeptNaming) (i : ℕ) (d : KeptNaming) (below : i < length n
       ∙ ap (λ r. locals_of (namings_view (take i ns)) ++ locals_of (naming_view r ∷ [])) e
 
   module _ {S : Type 0} (m now : IndexMap Key KeptLocal S) (same : now ≡ m) where
-    carried : (before after : List Local) → after ≡ before → AreFirst m before → AreFirst now after
+    carried : (before after : List LocalName) → after ≡ before → AreFirst m before → AreFirst now after
     carried before after e all = subst (λ n. AreFirst n after) (sym same) (subst (AreFirst m) (sym e) all)
 
     pub declared_next : (l : KeptLocal) → get_or ns i d ≡ Declaration l

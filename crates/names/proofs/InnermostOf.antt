@@ -11,49 +11,49 @@ use Rattle.std.proofs.lemmas.Bool.{cond-true, cond-false, cases_Bool, and_parts,
 use Rattle.std.proofs.lemmas.Cmp.{nat_list_cmp_total, tied_itself}
 use Rattle.std.proofs.lemmas.Option.{get_or_from_slice_get, slice_get_within}
 use Rattle.std.proofs.lemmas.Slice.Eq.{bytes_eq-Decides}
-use Rattle.meaning.specs.Scopes.{Local}
+use Rattle.meaning.specs.Scopes.{LocalName}
 use Rattle.meaning.specs.Declarations.{innermost, inner_of, covers}
 use Rattle.names.specs.Ordered.{AreOrdered, IsNotAfter, IsLink, AreLinks}
 use Rattle.names.specs.Before.{is_before_by, comes_before, AllBefore, NoneBefore, IsNumberBefore}
 
 -- the local has the name and covers the offset
-abbrev pub hits : List ℕ → ℕ → Local → Bool
+abbrev pub hits : List ℕ → ℕ → LocalName → Bool
 hits name at l = bytes_eq l.name name && covers l at
 
-abbrev pub NoneHits : List Local → List ℕ → ℕ → ℕ → Type 0
-NoneHits ls name at start = (i : ℕ) (l : Local) → start ≤ i → slice_get ls i ≡ Some l → hits name at l ≡ false
+abbrev pub NoneHits : List LocalName → List ℕ → ℕ → ℕ → Type 0
+NoneHits ls name at start = (i : ℕ) (l : LocalName) → start ≤ i → slice_get ls i ≡ Some l → hits name at l ≡ false
 
-pub innermost-none : (name : List ℕ) (at : ℕ) (ls : List Local) → NoneHits ls name at 0 → innermost name at ls ≡ None
+pub innermost-none : (name : List ℕ) (at : ℕ) (ls : List LocalName) → NoneHits ls name at 0 → innermost name at ls ≡ None
 unfolding innermost
 innermost-none name at [] h = refl
 innermost-none name at (l ∷ ls) h =
     cond-false _ _ _ (h 0 l (omega arith) refl) ∙ innermost-none name at ls (λ i x w e. h (suc i) x (omega arith) e)
 
 pub innermost-some :
-    (name : List ℕ) (at : ℕ) (ls : List Local) (k : ℕ) (l : Local) → slice_get ls k ≡ Some l → hits name at l ≡ true
+    (name : List ℕ) (at : ℕ) (ls : List LocalName) (k : ℕ) (l : LocalName) → slice_get ls k ≡ Some l → hits name at l ≡ true
     → NoneHits ls name at (suc k)
-    → ((i : ℕ) (x : Local) → i < k → slice_get ls i ≡ Some x → hits name at x ≡ true → x.block.start ≤ l.block.start)
+    → ((i : ℕ) (x : LocalName) → i < k → slice_get ls i ≡ Some x → hits name at x ≡ true → x.block.start ≤ l.block.start)
     → innermost name at ls ≡ Some l
 unfolding innermost
 innermost-some name at [] k l is hit later earlier = cc
 innermost-some name at (x ∷ ls) zero l is hit later earlier =
     let same : x ≡ l = cc in
     cond-true _ _ _ (ap (hits name at) same ∙ hit)
-    ∙ ap (λ (o : Option Local). Some (inner_of x o))
+    ∙ ap (λ (o : Option LocalName). Some (inner_of x o))
     (innermost-none name at ls (λ i y w e. later (suc i) y (omega arith) e))
     ∙ ap Some same
 innermost-some name at (x ∷ ls) (suc k) l is hit later earlier =
     let rest : innermost name at ls ≡ Some l = innermost-some name at ls k l is hit
     (λ i y w e. later (suc i) y (omega arith) e) (λ i y w e h. earlier (suc i) y (omega arith) e h) in
     elim (cases_Bool (hits name at x)) [
-      | inl t ↦ cond-true _ _ _ t ∙ ap (λ (o : Option Local). Some (inner_of x o)) rest
+      | inl t ↦ cond-true _ _ _ t ∙ ap (λ (o : Option LocalName). Some (inner_of x o)) rest
           ∙ ap Some (cond-true _ _ _ (le-leb _ _ (earlier 0 x (omega arith) refl t)))
       | inr f ↦ cond-false _ _ _ f ∙ rest
     ]
 
 -- The order
 
-abbrev Before : List ℕ → ℕ → Local → Type 0
+abbrev Before : List ℕ → ℕ → LocalName → Type 0
 Before name at l = (slice_cmp nat_cmp l.name name ≡ Less) ⊎ ((l.name ≡ name) × (l.block.start ≤ at))
 
 by_cases :
@@ -62,21 +62,21 @@ by_cases Less b e = inl refl
 by_cases Equal b e = inr (refl, e)
 by_cases Greater b e = absurd (false≢true e)
 
-means_before : (name : List ℕ) (at : ℕ) (l : Local) → comes_before name at l ≡ true → Before name at l
+means_before : (name : List ℕ) (at : ℕ) (l : LocalName) → comes_before name at l ≡ true → Before name at l
 means_before name at l e =
     elim (by_cases _ _ e) [
       | inl less ↦ inl less
       | inr p ↦ inr (slice_cmp-IsAntisymmetric nat_cmp-IsAntisymmetric _ _ p.0, leb-true _ _ p.1)
     ]
 
-from_before : (name : List ℕ) (at : ℕ) (l : Local) → Before name at l → comes_before name at l ≡ true
+from_before : (name : List ℕ) (at : ℕ) (l : LocalName) → Before name at l → comes_before name at l ≡ true
 from_before name at l (inl less) = ap (λ (o : Ordering). is_before_by o (nat_le l.block.start at)) less
 from_before name at l (inr p) =
     let same : slice_cmp nat_cmp l.name name ≡ Equal =
     ap (λ (n : List ℕ). slice_cmp nat_cmp n name) p.0 ∙ tied_itself nat_list_cmp_total name in
     ap (λ (o : Ordering). is_before_by o (nat_le l.block.start at)) same ∙ le-leb _ _ p.1
 
-before_back : (name : List ℕ) (at : ℕ) (l m : Local) → IsNotAfter l m → Before name at m → Before name at l
+before_back : (name : List ℕ) (at : ℕ) (l m : LocalName) → IsNotAfter l m → Before name at m → Before name at l
 before_back name at l m (inl a) (inl b) = inl (nat_list_cmp_total.trans l.name m.name name a b)
 before_back name at l m (inl a) (inr b) = inl (subst (λ (n : List ℕ). slice_cmp nat_cmp l.name n ≡ Less) b.0 a)
 before_back name at l m (inr a) (inl b) = inl (subst (λ (n : List ℕ). slice_cmp nat_cmp n name ≡ Less) (sym a.0) b)
@@ -86,16 +86,16 @@ not_less : (name : List ℕ) → slice_cmp nat_cmp name name ≡ Less → ⊥
 not_less name e = let same = tied_itself nat_list_cmp_total name in cc
 
 in_order :
-    (ls : List Local) → AreOrdered ls → (i j : ℕ) (l m : Local) → i < j → slice_get ls i ≡ Some l
+    (ls : List LocalName) → AreOrdered ls → (i j : ℕ) (l m : LocalName) → i < j → slice_get ls i ≡ Some l
     → slice_get ls j ≡ Some m → IsNotAfter l m
 in_order ls ordered i j l m below here there =
     let pair = ordered i j l below (slice_get_within ls j m there) in
-    subst (λ (x : Local). IsNotAfter x m) (get_or_from_slice_get ls i l l here)
-    (subst (λ (x : Local). IsNotAfter (get_or ls i l) x) (get_or_from_slice_get ls j m l there) pair)
+    subst (λ (x : LocalName). IsNotAfter x m) (get_or_from_slice_get ls i l l here)
+    (subst (λ (x : LocalName). IsNotAfter (get_or ls i l) x) (get_or_from_slice_get ls j m l there) pair)
 
 -- where one comes before, all up to it do; where one does not, none from it on
 pub before_below :
-    (name : List ℕ) (at : ℕ) (ls : List Local) → AreOrdered ls → (k : ℕ) (m : Local) → slice_get ls k ≡ Some m
+    (name : List ℕ) (at : ℕ) (ls : List LocalName) → AreOrdered ls → (k : ℕ) (m : LocalName) → slice_get ls k ≡ Some m
     → comes_before name at m ≡ true → AllBefore ls name at (k + 1)
 before_below name at ls ordered k m there before i l w here =
     elim (cases_lt i k) [
@@ -110,32 +110,32 @@ before_below name at ls ordered k m there before i l w here =
     ]
 
 pub none_above :
-    (name : List ℕ) (at : ℕ) (ls : List Local) → AreOrdered ls → (k : ℕ) (l : Local) → slice_get ls k ≡ Some l
+    (name : List ℕ) (at : ℕ) (ls : List LocalName) → AreOrdered ls → (k : ℕ) (l : LocalName) → slice_get ls k ≡ Some l
     → comes_before name at l ≡ false → NoneBefore ls name at k
 none_above name at ls ordered k l here after i m w there =
     false_from_ne_true _ (λ before. both_ways _ after (before_below name at ls ordered i m there before k l (omega arith) here))
 
 -- What is left of the locals, while the last of them are passed
 
-pub record Left (ls : List Local) (name : List ℕ) (at end : ℕ) : Type 0 where
+pub record Left (ls : List LocalName) (name : List ℕ) (at end : ℕ) : Type 0 where
   pub within : end ≤ length ls
   pub before : AllBefore ls name at end
   pub missed : NoneHits ls name at end
 
-has_name : (name : List ℕ) (at : ℕ) (l : Local) → hits name at l ≡ true → l.name ≡ name
+has_name : (name : List ℕ) (at : ℕ) (l : LocalName) → hits name at l ≡ true → l.name ≡ name
 has_name name at l h = (bytes_eq-Decides l.name name).0 (and_parts _ _ h).0
 
-has_begun : (name : List ℕ) (at : ℕ) (l : Local) → hits name at l ≡ true → l.block.start ≤ at
+has_begun : (name : List ℕ) (at : ℕ) (l : LocalName) → hits name at l ≡ true → l.block.start ≤ at
 has_begun name at l h = leb-true _ _ (and_parts _ _ (and_parts _ _ h).1).0
 
-in_scope : (name : List ℕ) (at : ℕ) (l : Local) → hits name at l ≡ true → (l.from ≤ at) × (at < l.block.end)
+in_scope : (name : List ℕ) (at : ℕ) (l : LocalName) → hits name at l ≡ true → (l.from ≤ at) × (at < l.block.end)
 in_scope name at l h =
     let covered : covers l at ≡ true = (and_parts (bytes_eq l.name name) (covers l at) h).1 in
     let scope = and_parts (nat_le l.block.start at) (nat_le l.from at && nat_lt at l.block.end) covered in
     let both = and_parts (nat_le l.from at) (nat_lt at l.block.end) scope.1 in
     (leb-true l.from at both.0, ltb-true at l.block.end both.1)
 
-pub left-all : (ls : List Local) (name : List ℕ) (at number : ℕ) → IsNumberBefore ls name at number → Left ls name at number
+pub left-all : (ls : List LocalName) (name : List ℕ) (at number : ℕ) → IsNumberBefore ls name at number → Left ls name at number
 left-all ls name at number h = record {
   within = h.within;
   before = h.before;
@@ -145,8 +145,8 @@ left-all ls name at number h = record {
 
 -- no local in a part at the end hits
 fewer :
-    (ls : List Local) (name : List ℕ) (at end fewer : ℕ) → Left ls name at end → fewer ≤ end
-    → ((i : ℕ) (l : Local) → fewer ≤ i → i < end → slice_get ls i ≡ Some l → hits name at l ≡ true → ⊥)
+    (ls : List LocalName) (name : List ℕ) (at end fewer : ℕ) → Left ls name at end → fewer ≤ end
+    → ((i : ℕ) (l : LocalName) → fewer ≤ i → i < end → slice_get ls i ≡ Some l → hits name at l ≡ true → ⊥)
     → Left ls name at fewer
 fewer ls name at end less left le none = record {
   within = let h = left.within in omega arith;
@@ -157,22 +157,22 @@ fewer ls name at end less left le none = record {
   ];
 }
 
-one_of : (ls : List Local) (i k : ℕ) (l m : Local) → slice_get ls i ≡ Some l → slice_get ls k ≡ Some m → i ≡ k → l ≡ m
+one_of : (ls : List LocalName) (i k : ℕ) (l m : LocalName) → slice_get ls i ≡ Some l → slice_get ls k ≡ Some m → i ≡ k → l ≡ m
 one_of ls i k l m here there one =
     let at_k : slice_get ls k ≡ Some l = subst (λ (n : ℕ). slice_get ls n ≡ Some l) one here in cc
 
 -- the scope of the last one has not begun
 pub left-last :
-    (ls : List Local) (name : List ℕ) (at end last : ℕ) (m : Local) → Left ls name at end → end ≡ last + 1
+    (ls : List LocalName) (name : List ℕ) (at end last : ℕ) (m : LocalName) → Left ls name at end → end ≡ last + 1
     → slice_get ls last ≡ Some m → at < m.from → Left ls name at last
 left-last ls name at end last m left e there later = fewer ls name at end last left (omega arith)
     (λ i l w below here hit.
     let same : l ≡ m = one_of ls i last l m here there (omega arith) in
-    let from = subst (λ (x : Local). x.from ≤ at) same (in_scope name at l hit).0 in omega arith)
+    let from = subst (λ (x : LocalName). x.from ≤ at) same (in_scope name at l hit).0 in omega arith)
 
 -- the block of the last one has ended, and with it those from its link on
 pub left-link :
-    (ls : List Local) (name : List ℕ) (at end last link : ℕ) (m : Local) → Left ls name at end → end ≡ last + 1
+    (ls : List LocalName) (name : List ℕ) (at end last link : ℕ) (m : LocalName) → Left ls name at end → end ≡ last + 1
     → slice_get ls last ≡ Some m → m.block.end ≤ at → IsLink ls last link → Left ls name at link
 left-link ls name at end last link m left e there ended is_link =
     let back = is_link.back in
@@ -183,17 +183,17 @@ left-link ls name at end last link m left e there ended is_link =
       | inl before ↦ let closed = is_link.ended i l m w before here there in omega arith
       | inr above ↦
           let same : l ≡ m = one_of ls i last l m here there (omega arith) in
-          let at_end = subst (λ (x : Local). at < x.block.end) same open_yet in omega arith
+          let at_end = subst (λ (x : LocalName). at < x.block.end) same open_yet in omega arith
     ])
 
 -- the last one has another name
 pub left-other :
-    (ls : List Local) (name : List ℕ) (at end last : ℕ) (m : Local) → AreOrdered ls → Left ls name at end
+    (ls : List LocalName) (name : List ℕ) (at end last : ℕ) (m : LocalName) → AreOrdered ls → Left ls name at end
     → end ≡ last + 1 → slice_get ls last ≡ Some m → (m.name ≡ name → ⊥) → innermost name at ls ≡ None
 left-other ls name at end last m ordered left e there other =
     innermost-none name at ls (fewer ls name at end 0 left (omega arith) none).missed
   where
-    none : (i : ℕ) (l : Local) → 0 ≤ i → i < end → slice_get ls i ≡ Some l → hits name at l ≡ true → ⊥
+    none : (i : ℕ) (l : LocalName) → 0 ≤ i → i < end → slice_get ls i ≡ Some l → hits name at l ≡ true → ⊥
     none i l w below here hit =
         let named = has_name name at l hit in
         elim (cases_lt i last) [
@@ -207,12 +207,12 @@ left-other ls name at end last m ordered left e there other =
           ]
           | inr above ↦
               let same : m ≡ l = sym (one_of ls i last l m here there (omega arith)) in
-              other (ap (λ (x : Local). x.name) same ∙ named)
+              other (ap (λ (x : LocalName). x.name) same ∙ named)
         ]
 
 -- the last one hits
 pub left-hit :
-    (ls : List Local) (name : List ℕ) (at end last : ℕ) (m : Local) → AreOrdered ls → Left ls name at end
+    (ls : List LocalName) (name : List ℕ) (at end last : ℕ) (m : LocalName) → AreOrdered ls → Left ls name at end
     → end ≡ last + 1 → slice_get ls last ≡ Some m → m.name ≡ name → m.from ≤ at → at < m.block.end
     → innermost name at ls ≡ Some m
 left-hit ls name at end last m ordered left e there named begun open_yet =
@@ -228,7 +228,7 @@ left-hit ls name at end last m ordered left e there named begun open_yet =
     hit = and_from _ _ ((bytes_eq-Decides m.name name).1 named)
         (and_from _ _ (le-leb _ _ started) (and_from _ _ (le-leb _ _ begun) (lt-ltb _ _ open_yet)))
 
-    earlier : (i : ℕ) (x : Local) → i < last → slice_get ls i ≡ Some x → hits name at x ≡ true
+    earlier : (i : ℕ) (x : LocalName) → i < last → slice_get ls i ≡ Some x → hits name at x ≡ true
         → x.block.start ≤ m.block.start
     earlier i x below here h = elim (in_order ls ordered i last x m below here there) [
       | inl lower ↦ absurd (not_less name (subst (λ (n : List ℕ). slice_cmp nat_cmp n name ≡ Less)
@@ -237,17 +237,17 @@ left-hit ls name at end last m ordered left e there named begun open_yet =
     ]
 
 pub left-none :
-    (ls : List Local) (name : List ℕ) (at end : ℕ) → Left ls name at end → end ≤ 0 → innermost name at ls ≡ None
+    (ls : List LocalName) (name : List ℕ) (at end : ℕ) → Left ls name at end → end ≤ 0 → innermost name at ls ≡ None
 left-none ls name at end left none =
     innermost-none name at ls (λ i l w here. left.missed i l (omega arith) here)
 
 -- Links
 
-pub link-itself : (ls : List Local) (index : ℕ) → IsLink ls index index
+pub link-itself : (ls : List LocalName) (index : ℕ) → IsLink ls index index
 link-itself ls index = record { back = omega arith; ended = λ i l m w below here there. absurd (omega arith) }
 
 pub link-on :
-    (ls : List Local) (index end last link : ℕ) (p m : Local) → IsLink ls index end → end ≡ last + 1
+    (ls : List LocalName) (index end last link : ℕ) (p m : LocalName) → IsLink ls index end → end ≡ last + 1
     → slice_get ls last ≡ Some p → slice_get ls index ≡ Some m → p.block.end ≤ m.block.end → IsLink ls last link
     → IsLink ls index link
 link-on ls index end last link p m so_far e before own ends next = record {
@@ -260,18 +260,18 @@ link-on ls index end last link p m so_far e before own ends next = record {
           | inl inside ↦ let closed = next.ended i l p w inside here before in omega arith
           | inr above ↦
               let one : l ≡ p = one_of ls i last l p here before (omega arith) in
-              subst (λ (x : Local). x.block.end ≤ m.block.end) (sym one) ends
+              subst (λ (x : LocalName). x.block.end ≤ m.block.end) (sym one) ends
         ]
       ] in
-      subst (λ (x : Local). l.block.end ≤ x.block.end) (sym same) ended;
+      subst (λ (x : LocalName). l.block.end ≤ x.block.end) (sym same) ended;
 }
 
 -- links of the first of the locals
-pub record Linked (ls : List Local) (links : List ℕ) (number : ℕ) : Type 0 where
+pub record Linked (ls : List LocalName) (links : List ℕ) (number : ℕ) : Type 0 where
   pub as_many : length links ≡ number
   pub each : (index link : ℕ) → slice_get links index ≡ Some link → IsLink ls index link
 
-pub linked-none : (ls : List Local) → Linked ls [] 0
+pub linked-none : (ls : List LocalName) → Linked ls [] 0
 linked-none ls = record { as_many = refl; each = λ index link e. cc }
 
 get_last : (xs : List ℕ) (x : ℕ) (i y : ℕ) → slice_get (xs ++ x ∷ []) i ≡ Some y
@@ -285,7 +285,7 @@ get_last (z ∷ xs) x (suc i) y e = elim (get_last xs x i y e) [
 ]
 
 pub linked-push :
-    (ls : List Local) (links : List ℕ) (number link : ℕ) → Linked ls links number → IsLink ls number link
+    (ls : List LocalName) (links : List ℕ) (number link : ℕ) → Linked ls links number → IsLink ls number link
     → Linked ls (links ++ link ∷ []) (number + 1)
 linked-push ls links number link linked is_link = record {
   as_many = let n = linked.as_many in omega (arith, length-append links (link ∷ []));
@@ -296,5 +296,5 @@ linked-push ls links number link linked is_link = record {
   ];
 }
 
-pub all-linked : (ls : List Local) (links : List ℕ) (number : ℕ) → length ls ≡ number → Linked ls links number → AreLinks ls links
+pub all-linked : (ls : List LocalName) (links : List ℕ) (number : ℕ) → length ls ≡ number → Linked ls links number → AreLinks ls links
 all-linked ls links number n linked = record { as_many = linked.as_many ∙ sym n; each = linked.each }

@@ -6,33 +6,33 @@ use Rattle.std.proofs.lemmas.Bool.{not-true, not-false}
 use Rattle.std.proofs.lemmas.List.{length-map}
 use Rattle.std.proofs.lemmas.Option.{slice_get-map, slice_get-get_or, slice_get_read}
 use Rattle.std.proofs.lemmas.Slice.Eq.{bytes_eq-Decides}
-use Rattle.scopes.specs.declared.naming.Local.{Local}
+use Rattle.scopes.specs.declared.naming.LocalName.{LocalName}
 use Rattle.scopes.specs.Views.{local_view}
-use Rattle.meaning.specs.Scopes.{Local as Declared}
+use Rattle.meaning.specs.Scopes.{LocalName as Declared}
 use Rattle.meaning.specs.Declarations.{innermost}
 use Rattle.names.specs.Ordered.{AreOrdered, AreLinks, IsLink, locals_view}
 use Rattle.names.specs.Before.{comes_before, AllBefore, NoneBefore}
 use Rattle.names.proofs.InnermostOf.{Left, left-last, left-link, left-other, left-hit, link-on, Linked, linked-push, all-linked, before_below, none_above}
 
 pub kept-at :
-    (xs : List Local) (i : ℕ) (d : Local) → i < length xs
+    (xs : List LocalName) (i : ℕ) (d : LocalName) → i < length xs
     → slice_get (locals_view xs) i ≡ Some (local_view (get_or xs i d))
 kept-at xs i d within = slice_get-map local_view xs i ∙ ap (option_map local_view) (slice_get-get_or xs i d within)
 
-pub links-within : (xs : List Local) (links : List ℕ) → AreLinks (locals_view xs) links → length links ≡ length xs
+pub links-within : (xs : List LocalName) (links : List ℕ) → AreLinks (locals_view xs) links → length links ≡ length xs
 links-within xs links are = are.as_many ∙ length-map xs local_view
 
-pub left-within : (xs : List Local) (name : List ℕ) (at end : ℕ) → Left (locals_view xs) name at end → end ≤ length xs
+pub left-within : (xs : List LocalName) (name : List ℕ) (at end : ℕ) → Left (locals_view xs) name at end → end ≤ length xs
 left-within xs name at end left = let h = left.within in omega (arith, length-map xs local_view)
 
 pub link-at :
-    (xs : List Local) (links : List ℕ) (i : ℕ) → AreLinks (locals_view xs) links → i < length xs
+    (xs : List LocalName) (links : List ℕ) (i : ℕ) → AreLinks (locals_view xs) links → i < length xs
     → IsLink (locals_view xs) i (get_or links i 0)
 link-at xs links i are within =
     are.each i (get_or links i 0) (slice_get-get_or links i 0 (omega (arith, links-within xs links are)))
 
 pub kept-link :
-    (xs : List Local) (links : List ℕ) (name : List ℕ) (at end : ℕ) (d : Local) → AreLinks (locals_view xs) links
+    (xs : List LocalName) (links : List ℕ) (name : List ℕ) (at end : ℕ) (d : LocalName) → AreLinks (locals_view xs) links
     → Left (locals_view xs) name at end → 0 < end → (get_or xs (end - 1) d).block.end ≤ at
     → Left (locals_view xs) name at (get_or links (end - 1) 0)
 kept-link xs links name at end d are left some ended =
@@ -41,14 +41,14 @@ kept-link xs links name at end d are left some ended =
     (omega arith) (kept-at xs (end - 1) d (omega arith)) ended (link-at xs links (end - 1) are (omega arith))
 
 pub kept-link_below :
-    (xs : List Local) (links : List ℕ) (name : List ℕ) (at end : ℕ) → AreLinks (locals_view xs) links
+    (xs : List LocalName) (links : List ℕ) (name : List ℕ) (at end : ℕ) → AreLinks (locals_view xs) links
     → Left (locals_view xs) name at end → 0 < end → get_or links (end - 1) 0 < end
 kept-link_below xs links name at end are left some =
     let within = left-within xs name at end left in
     let back = (link-at xs links (end - 1) are (omega arith)).back in omega arith
 
 pub kept-last :
-    (xs : List Local) (name : List ℕ) (at end : ℕ) (d : Local) → Left (locals_view xs) name at end → 0 < end
+    (xs : List LocalName) (name : List ℕ) (at end : ℕ) (d : LocalName) → Left (locals_view xs) name at end → 0 < end
     → at < (get_or xs (end - 1) d).from → Left (locals_view xs) name at (end - 1)
 kept-last xs name at end d left some later =
     let within = left-within xs name at end left in
@@ -56,7 +56,7 @@ kept-last xs name at end d left some later =
     (omega arith) (kept-at xs (end - 1) d (omega arith)) later
 
 pub kept-other :
-    (xs : List Local) (name : List ℕ) (at end : ℕ) (d : Local) (r : Bool) → AreOrdered (locals_view xs)
+    (xs : List LocalName) (name : List ℕ) (at end : ℕ) (d : LocalName) (r : Bool) → AreOrdered (locals_view xs)
     → Left (locals_view xs) name at end → 0 < end → r ≡ not (bytes_eq (get_or xs (end - 1) d).name.now name)
     → r ≡ true → None ≡ innermost name at (locals_view xs)
 kept-other xs name at end d r ordered left some test ne =
@@ -67,7 +67,7 @@ kept-other xs name at end d r ordered left some test ne =
     (λ same. let yes_same = (bytes_eq-Decides (get_or xs (end - 1) d).name.now name).1 same in cc))
 
 pub kept-hit :
-    (xs : List Local) (name : List ℕ) (at end : ℕ) (d : Local) (r : Bool) → AreOrdered (locals_view xs)
+    (xs : List LocalName) (name : List ℕ) (at end : ℕ) (d : LocalName) (r : Bool) → AreOrdered (locals_view xs)
     → Left (locals_view xs) name at end → 0 < end → r ≡ not (bytes_eq (get_or xs (end - 1) d).name.now name)
     → r ≡ false → (get_or xs (end - 1) d).from ≤ at → at < (get_or xs (end - 1) d).block.end
     → Some (local_view (get_or xs (end - 1) d)) ≡ innermost name at (locals_view xs)
@@ -81,13 +81,13 @@ kept-hit xs name at end d r ordered left some test ne begun open_yet =
 -- The binary search
 
 pub kept-before :
-    (xs : List Local) (name : List ℕ) (at k : ℕ) (d : Local) (r : Bool) → AreOrdered (locals_view xs) → k < length xs
+    (xs : List LocalName) (name : List ℕ) (at k : ℕ) (d : LocalName) (r : Bool) → AreOrdered (locals_view xs) → k < length xs
     → r ≡ comes_before name at (local_view (get_or xs k d)) → r ≡ true → AllBefore (locals_view xs) name at (k + 1)
 kept-before xs name at k d r ordered within test is =
     before_below name at (locals_view xs) ordered k (local_view (get_or xs k d)) (kept-at xs k d within) (sym test ∙ is)
 
 pub kept-after :
-    (xs : List Local) (name : List ℕ) (at k : ℕ) (d : Local) (r : Bool) → AreOrdered (locals_view xs) → k < length xs
+    (xs : List LocalName) (name : List ℕ) (at k : ℕ) (d : LocalName) (r : Bool) → AreOrdered (locals_view xs) → k < length xs
     → r ≡ comes_before name at (local_view (get_or xs k d)) → r ≡ false → NoneBefore (locals_view xs) name at k
 kept-after xs name at k d r ordered within test is =
     none_above name at (locals_view xs) ordered k (local_view (get_or xs k d)) (kept-at xs k d within) (sym test ∙ is)
@@ -98,7 +98,7 @@ middle_below low high h = search rules
 -- Links
 
 pub kept-link_on :
-    (xs : List Local) (links : List ℕ) (index end link : ℕ) (d e : Local) → Linked (locals_view xs) links index
+    (xs : List LocalName) (links : List ℕ) (index end link : ℕ) (d e : LocalName) → Linked (locals_view xs) links index
     → IsLink (locals_view xs) index end → index < length xs → 0 < end
     → (get_or xs (end - 1) d).block.end ≤ (get_or xs index e).block.end → link ≡ get_or links (end - 1) link
     → IsLink (locals_view xs) index link
@@ -120,14 +120,14 @@ kept-link_smaller ls links index end link linked so_far some is =
     omega arith
 
 pub kept-push :
-    (xs : List Local) (links pushed : List ℕ) (index link : ℕ) → Linked (locals_view xs) links index
+    (xs : List LocalName) (links pushed : List ℕ) (index link : ℕ) → Linked (locals_view xs) links index
     → IsLink (locals_view xs) index link → pushed ≡ links ++ link ∷ [] → Linked (locals_view xs) pushed (index + 1)
 kept-push xs links pushed index link linked is_link same =
     subst (λ (items : List ℕ). Linked (locals_view xs) items (index + 1)) (sym same)
     (linked-push (locals_view xs) links index link linked is_link)
 
 pub kept-links :
-    (xs : List Local) (links : List ℕ) (index : ℕ) → Linked (locals_view xs) links index → length xs ≤ index
+    (xs : List LocalName) (links : List ℕ) (index : ℕ) → Linked (locals_view xs) links index → length xs ≤ index
     → index ≤ length xs → AreLinks (locals_view xs) links
 kept-links xs links index linked all upto =
     all-linked (locals_view xs) links index (omega (arith, length-map xs local_view)) linked

@@ -10,7 +10,7 @@ use Rattle.std.proofs.lemmas.Map.Text.{is_eq-slice_cmp}
 use Rattle.std.proofs.lemmas.List.Sorted.{sorted_far, ranks_by}
 use Rattle.std.proofs.lemmas.List.Kept.{AllPairs-cons}
 use Rattle.std.proofs.lemmas.List.Elements.{All-map, All-from_get_or}
-use Rattle.scopes.specs.declared.naming.Local.{Local as KeptLocal}
+use Rattle.scopes.specs.declared.naming.LocalName.{LocalName as KeptLocal}
 use Rattle.scopes.specs.Views.{local_view}
 use Rattle.names.proofs.FirstLocals.{Key, key_of}
 use Rattle.names.specs.Ordered.{AreOrdered, IsNotAfter, locals_view}

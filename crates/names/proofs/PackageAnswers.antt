@@ -6,7 +6,7 @@ use Rattle.std.specs.Prelude.{Option, Some, None, slice_get, nat_eq}
 use Rattle.indexmap.specs.IndexMap.{IndexMap, get}
 use Rattle.tree.specs.declared.file.File.{File}
 use Rattle.tree.specs.View.{file_syntax}
-use Rattle.names.specs.declared.decl.Decl.{Decl}
+use Rattle.names.specs.declared.meanings.NameMeaning.{NameMeaning}
 use Rattle.names.specs.Answers.{decl_view, answer_in}
 use Rattle.tree.specs.Syntax.{SourceFile}
 use Rattle.meaning.specs.Scopes.{file_names}
@@ -46,17 +46,17 @@ one_more f g (x ∷ xs) (y ∷ ys) a b e none last each zero at = each 0 at
 one_more f g (x ∷ xs) (y ∷ ys) a b e none last each (suc k) at = one_more f g xs ys a b (omega arith) none last (λ j. each (suc j)) k at
 
 -- the answers are those of the files that were read, one for each
-pub record AreAnswers {S : Type 0} (files : List SourceFile) (packages : PackageNames) (answers : List (IndexMap ℕ Decl S)) (read : List File) : Type 0 where
+pub record AreAnswers {S : Type 0} (files : List SourceFile) (packages : PackageNames) (answers : List (IndexMap ℕ NameMeaning S)) (read : List File) : Type 0 where
   pub as_many : length answers ≡ length read
   pub each :
       (k at : ℕ) → answer_in (slice_get answers k) at ≡ meaning_at files packages (option_map file_syntax (slice_get read k)) at
 
-pub no_answers : {S : Type 0} (files : List SourceFile) (packages : PackageNames) (answers : List (IndexMap ℕ Decl S)) → answers ≡ []
+pub no_answers : {S : Type 0} (files : List SourceFile) (packages : PackageNames) (answers : List (IndexMap ℕ NameMeaning S)) → answers ≡ []
     → AreAnswers files packages answers []
 no_answers files packages answers e = subst (λ l. AreAnswers files packages l []) (sym e) (record { as_many = refl; each = λ k at. refl })
 
 pub more_answers : {S : Type 0} (files : List SourceFile) (packages : PackageNames) (block : List ℕ → Option Bool)
-    (answers new : List (IndexMap ℕ Decl S)) (one : IndexMap ℕ Decl S) (all : List File) (i : ℕ) (file : File)
+    (answers new : List (IndexMap ℕ NameMeaning S)) (one : IndexMap ℕ NameMeaning S) (all : List File) (i : ℕ) (file : File)
     → i < length all → file ≡ get_or all i file → new ≡ answers ++ (one ∷ [])
     → ((name : List ℕ) → block name ≡ is_function_in (package_block files) name)
     → ((at : ℕ) → option_map decl_view (get nat_eq one at) ≡ meant_at block packages (file_syntax file) at)
@@ -72,7 +72,7 @@ more_answers files packages block answers new one all i file below item pushed s
     subst (λ l. AreAnswers files packages l (take (i + 1) all)) (sym pushed)
     (subst (λ l. AreAnswers files packages (answers ++ (one ∷ [])) l) (sym now_read) now)
 
-pub all_answered : {S : Type 0} (packages : PackageNames) (answers : List (IndexMap ℕ Decl S)) (all : List File) (i : ℕ) → length all ≤ i
+pub all_answered : {S : Type 0} (packages : PackageNames) (answers : List (IndexMap ℕ NameMeaning S)) (all : List File) (i : ℕ) → length all ≤ i
     → AreAnswers (map file_syntax all) packages answers (take i all)
     → (file at : ℕ) → answer_in (slice_get answers file) at ≡ declaration_of_use (map file_syntax all) packages file at
 all_answered packages answers all i past so_far file at =

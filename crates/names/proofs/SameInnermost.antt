@@ -7,28 +7,28 @@ use Rattle.std.specs.List.Sorted.{IsPermutation}
 use Rattle.std.proofs.lemmas.Bool.{and_parts, and_from, eq-eqb, leb-true, leb-false}
 use Rattle.std.proofs.lemmas.Slice.Eq.{bytes_eq-Decides}
 use Rattle.std.proofs.lemmas.List.Sorted.{Contains-permutation, IsPermutation-sym, IsPermutation-map}
-use Rattle.scopes.specs.declared.naming.Local.{Local as KeptLocal}
-use Rattle.meaning.specs.Scopes.{Local}
+use Rattle.scopes.specs.declared.naming.LocalName.{LocalName as KeptLocal}
+use Rattle.meaning.specs.Scopes.{LocalName}
 use Rattle.meaning.specs.Declarations.{same_name_and_block, without, first_locals, covers, inner_of, innermost, local_meant}
 use Rattle.meaning.proofs.Membership.{contains_nil, contains_here, contains_there, contains_cases}
 use Rattle.names.specs.Ordered.{locals_view}
 use Rattle.scopes.specs.Views.{local_view}
 
 -- the local has the name, and covers the offset
-abbrev pub suits : List ℕ → ℕ → Local → Bool
+abbrev pub suits : List ℕ → ℕ → LocalName → Bool
 suits name at l = bytes_eq l.name name && covers l at
 
 -- the answer is the local of those that suit whose block begins last, or that none suits
-abbrev pub IsInnermost : List ℕ → ℕ → List Local → Option Local → Type 0
-IsInnermost name at ls None = (m : Local) → Contains ls m → suits name at m ≡ false
+abbrev pub IsInnermost : List ℕ → ℕ → List LocalName → Option LocalName → Type 0
+IsInnermost name at ls None = (m : LocalName) → Contains ls m → suits name at m ≡ false
 IsInnermost name at ls (Some l) =
     Contains ls l
     × (suits name at l ≡ true)
-    × ((m : Local) → Contains ls m → suits name at m ≡ true → m.block.start ≤ l.block.start)
+    × ((m : LocalName) → Contains ls m → suits name at m ≡ true → m.block.start ≤ l.block.start)
 
 -- one more local at the front
 with_one :
-    (name : List ℕ) (at : ℕ) (x : Local) (ls : List Local) (b : Bool) (r : Option Local) → suits name at x ≡ b
+    (name : List ℕ) (at : ℕ) (x : LocalName) (ls : List LocalName) (b : Bool) (r : Option LocalName) → suits name at x ≡ b
     → IsInnermost name at ls r → IsInnermost name at (x ∷ ls) (if b then Some (inner_of x r) else r)
 with_one name at x ls false None e h =
     λ m g. elim (contains_cases x m ls g) [ inl p ↦ ap (suits name at) (sym p) ∙ e | inr k ↦ h m k ]
@@ -46,7 +46,7 @@ with_one name at x ls true None e h = (
   e,
   λ m g s.
       elim (contains_cases x m ls g) [
-        | inl p ↦ let same = ap (λ (l : Local). l.block.start) p in omega (arith, same)
+        | inl p ↦ let same = ap (λ (l : LocalName). l.block.start) p in omega (arith, same)
         | inr k ↦ let bad : true ≡ false = sym s ∙ h m k in absurd (cc)
       ],
 )
@@ -61,7 +61,7 @@ with_one name at x ls true (Some l) e h = chosen (nat_le x.block.start l.block.s
       λ m g s.
           elim (contains_cases x m ls g) [
             | inl p ↦
-                let same = ap (λ (k : Local). k.block.start) p in
+                let same = ap (λ (k : LocalName). k.block.start) p in
                 let below = leb-true x.block.start l.block.start o in
                 omega (arith, same, below)
             | inr k ↦ h.2 m k s
@@ -72,7 +72,7 @@ with_one name at x ls true (Some l) e h = chosen (nat_le x.block.start l.block.s
       e,
       λ m g s.
           elim (contains_cases x m ls g) [
-            | inl p ↦ let same = ap (λ (k : Local). k.block.start) p in omega (arith, same)
+            | inl p ↦ let same = ap (λ (k : LocalName). k.block.start) p in omega (arith, same)
             | inr k ↦
                 let below = leb-false x.block.start l.block.start o in
                 let most = h.2 m k s in
@@ -80,26 +80,26 @@ with_one name at x ls true (Some l) e h = chosen (nat_le x.block.start l.block.s
           ],
     )
 
-pub innermost_is : (name : List ℕ) (at : ℕ) (ls : List Local) → IsInnermost name at ls (innermost name at ls)
+pub innermost_is : (name : List ℕ) (at : ℕ) (ls : List LocalName) → IsInnermost name at ls (innermost name at ls)
 unfolding innermost
 innermost_is name at [] = λ m g. absurd (contains_nil m g)
 innermost_is name at (x ∷ ls) =
     with_one name at x ls (suits name at x) (innermost name at ls) refl (innermost_is name at ls)
 
 -- the name and the block's start tell the local
-abbrev pub AreApart : List Local → Type 0
+abbrev pub AreApart : List LocalName → Type 0
 AreApart ls =
-    (l m : Local) → Contains ls l → Contains ls m → l.name ≡ m.name → l.block.start ≡ m.block.start → l ≡ m
+    (l m : LocalName) → Contains ls l → Contains ls m → l.name ≡ m.name → l.block.start ≡ m.block.start → l ≡ m
 
 -- the same locals, in any order
-abbrev pub HaveSame : List Local → List Local → Type 0
-HaveSame ls ms = (l : Local) → Contains ls l → Contains ms l
+abbrev pub HaveSame : List LocalName → List LocalName → Type 0
+HaveSame ls ms = (l : LocalName) → Contains ls l → Contains ms l
 
-suits_name : (name : List ℕ) (at : ℕ) (l : Local) → suits name at l ≡ true → l.name ≡ name
+suits_name : (name : List ℕ) (at : ℕ) (l : LocalName) → suits name at l ≡ true → l.name ≡ name
 suits_name name at l s = (bytes_eq-Decides l.name name).0 (and_parts (bytes_eq l.name name) (covers l at) s).0
 
 same_answer :
-    (name : List ℕ) (at : ℕ) (ls ms : List Local) (r q : Option Local) → AreApart ls → HaveSame ls ms → HaveSame ms ls
+    (name : List ℕ) (at : ℕ) (ls ms : List LocalName) (r q : Option LocalName) → AreApart ls → HaveSame ls ms → HaveSame ms ls
     → IsInnermost name at ls r → IsInnermost name at ms q → q ≡ r
 same_answer name at ls ms None None apart there back h g = refl
 same_answer name at ls ms None (Some m) apart there back h g =
@@ -114,7 +114,7 @@ same_answer name at ls ms (Some l) (Some m) apart there back h g =
     (omega (arith, below, above)))
 
 pub same_innermost :
-    (name : List ℕ) (at : ℕ) (ls ms : List Local) → AreApart ls → IsPermutation ls ms
+    (name : List ℕ) (at : ℕ) (ls ms : List LocalName) → AreApart ls → IsPermutation ls ms
     → innermost name at ms ≡ innermost name at ls
 same_innermost name at ls ms apart p =
     same_answer name at ls ms (innermost name at ls) (innermost name at ms) apart
@@ -123,29 +123,29 @@ same_innermost name at ls ms apart p =
 
 -- what is left of the locals without those of one name and block
 kept :
-    (x m : Local) (b : Bool) (ls : List Local) (l : Local) → same_name_and_block x m ≡ b
+    (x m : LocalName) (b : Bool) (ls : List LocalName) (l : LocalName) → same_name_and_block x m ≡ b
     → (Contains (without x ls) l → Contains ls l × (same_name_and_block x l ≡ false))
     → Contains (if b then without x ls else m ∷ without x ls) l → Contains (m ∷ ls) l × (same_name_and_block x l ≡ false)
 kept x m true ls l e h g = let w = h g in (contains_there m l ls w.0, w.1)
 kept x m false ls l e h g =
     elim (contains_cases m l (without x ls) g) [
-      | inl p ↦ (subst (λ (k : Local). Contains (m ∷ ls) k) p (contains_here m ls), ap (same_name_and_block x) (sym p) ∙ e)
+      | inl p ↦ (subst (λ (k : LocalName). Contains (m ∷ ls) k) p (contains_here m ls), ap (same_name_and_block x) (sym p) ∙ e)
       | inr k ↦ let w = h k in (contains_there m l ls w.0, w.1)
     ]
 
 pub contains_without :
-    (x : Local) (ls : List Local) (l : Local) → Contains (without x ls) l
+    (x : LocalName) (ls : List LocalName) (l : LocalName) → Contains (without x ls) l
     → Contains ls l × (same_name_and_block x l ≡ false)
 contains_without x [] l g = absurd (contains_nil l g)
 contains_without x (m ∷ ls) l g = kept x m (same_name_and_block x m) ls l refl (contains_without x ls l) g
 
 same_name_and_block_of :
-    (l m : Local) → l.name ≡ m.name → l.block.start ≡ m.block.start → same_name_and_block l m ≡ true
+    (l m : LocalName) → l.name ≡ m.name → l.block.start ≡ m.block.start → same_name_and_block l m ≡ true
 same_name_and_block_of l m e f =
     and_from (bytes_eq l.name m.name) (l.block.start == m.block.start) ((bytes_eq-Decides l.name m.name).1 e)
     (eq-eqb l.block.start m.block.start f)
 
-apart_with_one : (x : Local) (rest : List Local) → AreApart rest → AreApart (x ∷ without x rest)
+apart_with_one : (x : LocalName) (rest : List LocalName) → AreApart rest → AreApart (x ∷ without x rest)
 apart_with_one x rest before l m g h e f =
     by_cases (contains_cases x l (without x rest) g) (contains_cases x m (without x rest) h)
   where
@@ -154,26 +154,26 @@ apart_with_one x rest before l m g h e f =
     by_cases (inl p) (inr k) =
         let alike : same_name_and_block l m ≡ true = same_name_and_block_of l m e f in
         let apart : same_name_and_block x m ≡ false = (contains_without x rest m k).1 in
-        let bad : true ≡ false = sym alike ∙ ap (λ (d : Local). same_name_and_block d m) (sym p) ∙ apart in
+        let bad : true ≡ false = sym alike ∙ ap (λ (d : LocalName). same_name_and_block d m) (sym p) ∙ apart in
         cc
     by_cases (inr k) (inl q) =
         let alike : same_name_and_block m l ≡ true = same_name_and_block_of m l (sym e) (sym f) in
         let apart : same_name_and_block x l ≡ false = (contains_without x rest l k).1 in
-        let bad : true ≡ false = sym alike ∙ ap (λ (d : Local). same_name_and_block d l) (sym q) ∙ apart in
+        let bad : true ≡ false = sym alike ∙ ap (λ (d : LocalName). same_name_and_block d l) (sym q) ∙ apart in
         cc
     by_cases (inr j) (inr k) =
         before l m (contains_without x rest l j).0 (contains_without x rest m k).0 e f
 
-pub first_locals_are_apart : (ls : List Local) → AreApart (first_locals ls)
+pub first_locals_are_apart : (ls : List LocalName) → AreApart (first_locals ls)
 unfolding first_locals
 first_locals_are_apart [] = λ l m g h e f. absurd (contains_nil l g)
 first_locals_are_apart (x ∷ ls) = apart_with_one x (first_locals ls) (first_locals_are_apart ls)
 
 -- what the crate's order of the locals gives
 pub innermost_of_ordered :
-    (name : List ℕ) (at : ℕ) (kept : List KeptLocal) (ordered : List KeptLocal) (all : List Local)
+    (name : List ℕ) (at : ℕ) (kept : List KeptLocal) (ordered : List KeptLocal) (all : List LocalName)
     → locals_view kept ≡ first_locals all → IsPermutation kept ordered
     → innermost name at (locals_view ordered) ≡ local_meant all name at
 innermost_of_ordered name at kept ordered all e p =
     same_innermost name at (first_locals all) (locals_view ordered) (first_locals_are_apart all)
-    (subst (λ (ls : List Local). IsPermutation ls (locals_view ordered)) e (IsPermutation-map local_view kept ordered p))
+    (subst (λ (ls : List LocalName). IsPermutation ls (locals_view ordered)) e (IsPermutation-map local_view kept ordered p))

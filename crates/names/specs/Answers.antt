@@ -5,15 +5,15 @@ use Rattle.std.specs.Str.{bytes_eq}
 use Rattle.indexmap.specs.IndexMap.{IndexMap, get, get_by}
 use Rattle.tree.specs.declared.span.Identifier.{Identifier as KeptIdentifier}
 use Rattle.tree.specs.View.{identifier_syntax}
-use Rattle.names.specs.declared.decl.Decl.{Decl}
-use Rattle.names.specs.declared.decl.Decl.TheVariants.{Local, Import, Function, PackageLevel, Universe}
+use Rattle.names.specs.declared.meanings.NameMeaning.{NameMeaning}
+use Rattle.names.specs.declared.meanings.NameMeaning.TheVariants.{Local, Import, Function, PackageLevel, Universe}
 use Rattle.names.specs.declared.package_names.PackageNames.{PackageNames as KeptNames}
 use Rattle.names.specs.declared.resolution.Names.{Names}
 use Rattle.meaning.specs.Declarations.{Meaning, local_name, import_name, function_name, package_name, universe_name}
 use Rattle.meaning.specs.OuterBlocks.{PackageNames}
 use Rattle.meaning.specs.TwoFunctions.{FunctionName}
 
-abbrev pub decl_view : Decl → Meaning
+abbrev pub decl_view : NameMeaning → Meaning
 decl_view (Local number kind) = local_name number kind
 decl_view (Import path) = import_name path.now
 decl_view Function = function_name
@@ -33,7 +33,7 @@ abbrev pub names_by_path : KeptNames → PackageNames
 names_by_path packages = text_at packages.names
 
 -- what the use means that begins at the offset of that file
-abbrev pub answer_in : {S : Type 0} → Option (IndexMap ℕ Decl S) → ℕ → Option Meaning
+abbrev pub answer_in : {S : Type 0} → Option (IndexMap ℕ NameMeaning S) → ℕ → Option Meaning
 answer_in None at = None
 answer_in (Some answers) at = option_map decl_view (get nat_eq answers at)
 

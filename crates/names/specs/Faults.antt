@@ -1,8 +1,8 @@
 -- Why names can't be resolved.
 use Rattle.std.specs.Prelude.{◌≡◌, ⊤, List, Some}
 use Rattle.tree.specs.Syntax.{SourceFile}
-use Rattle.names.specs.declared.decl.NameFault.{NameFault}
-use Rattle.names.specs.declared.decl.NameFault.TheVariants.{TwoFunctions, Memory}
+use Rattle.names.specs.declared.meanings.NameFault.{NameFault}
+use Rattle.names.specs.declared.meanings.NameFault.TheVariants.{TwoFunctions, Memory}
 use Rattle.names.specs.Answers.{function_name_view}
 use Rattle.meaning.specs.TwoFunctions.{second_function}
 

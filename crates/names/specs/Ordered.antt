@@ -5,12 +5,12 @@ use Rattle.std.specs.Ordering.{nat_cmp}
 use Rattle.std.specs.Cmp.Lexicographic.{slice_cmp}
 use Rattle.std.specs.declared.cmp.Ordering.TheVariants.{Less}
 use Rattle.indexmap.specs.IndexMap.{IndexMap, values}
-use Rattle.scopes.specs.declared.naming.Local.{Local as KeptLocal}
+use Rattle.scopes.specs.declared.naming.LocalName.{LocalName as KeptLocal}
 use Rattle.scopes.specs.Views.{local_view}
-use Rattle.meaning.specs.Scopes.{Local}
+use Rattle.meaning.specs.Scopes.{LocalName}
 use Rattle.meaning.specs.Declarations.{first_locals}
 
-abbrev pub locals_view : List KeptLocal → List Local
+abbrev pub locals_view : List KeptLocal → List LocalName
 locals_view ls = map local_view ls
 
 -- the key is the name of the local and the start of its block
@@ -18,26 +18,26 @@ abbrev pub FitsKey : (Bor (List ℕ) × ℕ) × KeptLocal → Type 0
 FitsKey entry = (entry.0.0.now ≡ entry.1.name.now) × (entry.0.1 ≡ entry.1.block.start)
 
 -- the map has those of the locals that count, in their order, each under its own key
-pub record AreFirst {S : Type 0} (m : IndexMap (Bor (List ℕ) × ℕ) KeptLocal S) (locals : List Local) : Type 0 where
+pub record AreFirst {S : Type 0} (m : IndexMap (Bor (List ℕ) × ℕ) KeptLocal S) (locals : List LocalName) : Type 0 where
   pub first : locals_view (values m) ≡ first_locals locals
   pub fit : All FitsKey m.entries
 
 -- the local does not come after the other: by name, and of one name by the start of its block
-abbrev pub IsNotAfter : Local → Local → Type 0
+abbrev pub IsNotAfter : LocalName → LocalName → Type 0
 IsNotAfter l m =
     (slice_cmp nat_cmp l.name m.name ≡ Less) ⊎ ((l.name ≡ m.name) × (l.block.start ≤ m.block.start))
 
 -- each local, and all that stand after it
-abbrev pub AreOrdered : List Local → Type 0
+abbrev pub AreOrdered : List LocalName → Type 0
 AreOrdered locals = AllPairs IsNotAfter locals
 
 -- From the link of a local up to the local itself no block ends after its own.
-pub record IsLink (locals : List Local) (index link : ℕ) : Type 0 where
+pub record IsLink (locals : List LocalName) (index link : ℕ) : Type 0 where
   pub back : link ≤ index
   pub ended :
-      (i : ℕ) (l m : Local) → link ≤ i → i < index → slice_get locals i ≡ Some l → slice_get locals index ≡ Some m
+      (i : ℕ) (l m : LocalName) → link ≤ i → i < index → slice_get locals i ≡ Some l → slice_get locals index ≡ Some m
       → l.block.end ≤ m.block.end
 
-pub record AreLinks (locals : List Local) (links : List ℕ) : Type 0 where
+pub record AreLinks (locals : List LocalName) (links : List ℕ) : Type 0 where
   pub as_many : length links ≡ length locals
   pub each : (index link : ℕ) → slice_get links index ≡ Some link → IsLink locals index link

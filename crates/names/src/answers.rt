@@ -9,29 +9,29 @@ ghost use Rattle.meaning.specs.Declarations.{local_or_around, import_or_around, 
 ghost use Rattle.scopes.specs.Views.{naming_view};
 ghost use Rattle.tree.specs.View.{file_syntax};
 
-use crate::decl::Decl;
 use crate::first::keep_first;
 use crate::imports::file_imports;
 use crate::innermost::{innermost, links};
 use crate::locals::{FirstLocals, first_locals, is_assigned};
+use crate::meanings::NameMeaning;
 use crate::order::ordered;
 use crate::package_names::PackageNames;
 use indexmap::IndexMap;
-use scopes::{Local, Naming, file_names};
+use scopes::{LocalName, Naming, file_names};
 use std::alloc::{AllocError, Global};
 use tree::File;
 
 /// The blocks around a use, from the innermost one out.
 #[derive(Clone, Copy)]
 struct Blocks<'b, 'a> {
-    locals: &'b [Local<'a>],
+    locals: &'b [LocalName<'a>],
     links: &'b [usize],
     imports: &'b IndexMap<&'a str, &'a str>,
     block: &'b IndexMap<&'a str, bool>,
 }
 
 /// What the name means at the offset.
-fn meaning<'a>(blocks: Blocks<'_, 'a>, name: &str, at: u32) -> Decl<'a>
+fn meaning<'a>(blocks: Blocks<'_, 'a>, name: &str, at: u32) -> NameMeaning<'a>
     requires ordered { AreOrdered (locals_view blocks.locals.now) }
     requires links { AreLinks (locals_view blocks.locals.now) blocks.links.now }
     ensures { decl_view result ≡ local_or_around (innermost name.now at (locals_view blocks.entry.locals.now))
@@ -39,20 +39,20 @@ fn meaning<'a>(blocks: Blocks<'_, 'a>, name: &str, at: u32) -> Decl<'a>
         (at_name blocks.entry.block.now name.now))) }
 {
     if let Some(local) = innermost(blocks.locals, blocks.links, name, at) {
-        return Decl::Local(local.number, local.kind);
+        return NameMeaning::Local(local.number, local.kind);
     }
     if let Some(path) = blocks.imports.get(name) {
-        return Decl::Import(*path);
+        return NameMeaning::Import(*path);
     }
     match blocks.block.get(name) {
         Some(is_function) => {
             if *is_function {
-                Decl::Function
+                NameMeaning::Function
             } else {
-                Decl::PackageLevel
+                NameMeaning::PackageLevel
             }
         }
-        None => Decl::Universe,
+        None => NameMeaning::Universe,
     }
 }
 
@@ -83,7 +83,7 @@ pub fn file_answers<'a>(
     packages: &PackageNames<'a>,
     block: &IndexMap<&'a str, bool>,
     file: &'a File,
-) -> Result<IndexMap<u32, Decl<'a>>, AllocError>
+) -> Result<IndexMap<u32, NameMeaning<'a>>, AllocError>
     ensures { IfOk result (λ answers. (at : ℕ) → option_map decl_view (get nat_eq answers at) ≡ meant_at
         (at_name block.now) (names_by_path packages.now) (file_syntax file.now) at) }
 {

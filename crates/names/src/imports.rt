@@ -12,6 +12,12 @@ use indexmap::IndexMap;
 use std::alloc::{AllocError, Global};
 use tree::{BLANK, File, ImportDecl, ImportSpec};
 
+/// The path of the package of contexts.
+pub const CONTEXT: &str = "context";
+
+/// The path of the package of groups.
+pub const ERRGROUP: &str = "golang.org/x/sync/errgroup";
+
 /// What follows the last slash of a path.
 fn last_element(path: &str) -> &str
     ensures { result.now ≡ last_element path.now }
@@ -40,7 +46,7 @@ fn import_name<'a>(packages: &PackageNames<'a>, spec: &'a ImportSpec) -> &'a str
 fn is_first_path(path: &str) -> bool
     ensures { result ≡ is_first_path path.now }
 {
-    path == "context" || path == "golang.org/x/sync/errgroup"
+    path == CONTEXT || path == ERRGROUP
 }
 
 /// Adds what the import declares.

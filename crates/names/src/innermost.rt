@@ -6,7 +6,7 @@ ghost use Rattle.names.specs.Before.{comes_before, IsNumberBefore};
 ghost use Rattle.names.specs.Ordered.{AreOrdered, AreLinks, locals_view};
 ghost use Rattle.scopes.specs.Views.{local_view};
 
-use scopes::Local;
+use scopes::LocalName;
 use std::alloc::{AllocError, Global};
 use std::cmp::Ordering;
 
@@ -16,7 +16,7 @@ use std::cmp::Ordering;
 /// # Errors
 ///
 /// Memory was refused.
-pub fn links(alloc: Global, ordered: &[Local<'_>]) -> Result<Vec<usize>, AllocError>
+pub fn links(alloc: Global, ordered: &[LocalName<'_>]) -> Result<Vec<usize>, AllocError>
     ensures { IfOk result (λ links. AreLinks (locals_view ordered.now) links.items) }
 {
     let mut links: Vec<usize> = Vec::new(alloc);
@@ -31,7 +31,7 @@ pub fn links(alloc: Global, ordered: &[Local<'_>]) -> Result<Vec<usize>, AllocEr
 }
 
 /// Whether the local comes before those of that name whose block begins after the offset.
-fn is_before(local: &Local<'_>, name: &str, at: u32) -> bool
+fn is_before(local: &LocalName<'_>, name: &str, at: u32) -> bool
     ensures { result ≡ comes_before name.now at (local_view local.now) }
 {
     match local.name.cmp(name) {
@@ -42,7 +42,7 @@ fn is_before(local: &Local<'_>, name: &str, at: u32) -> bool
 }
 
 /// The number of locals before those of that name whose block begins after the offset.
-fn number_before(ordered: &[Local<'_>], name: &str, at: u32) -> usize
+fn number_before(ordered: &[LocalName<'_>], name: &str, at: u32) -> usize
     requires { AreOrdered (locals_view ordered.now) }
     ensures { IsNumberBefore (locals_view ordered.now) name.now at result }
 {
@@ -61,11 +61,11 @@ fn number_before(ordered: &[Local<'_>], name: &str, at: u32) -> usize
 
 /// The innermost local of the name whose scope covers the offset.
 pub fn innermost<'b, 'a>(
-    ordered: &'b [Local<'a>],
+    ordered: &'b [LocalName<'a>],
     links: &[usize],
     name: &str,
     at: u32,
-) -> Option<&'b Local<'a>>
+) -> Option<&'b LocalName<'a>>
     requires ordered { AreOrdered (locals_view ordered.now) }
     requires links { AreLinks (locals_view ordered.now) links.now }
     ensures { option_map (λ l. local_view l.now) result ≡ innermost name.now at (locals_view ordered.now) }

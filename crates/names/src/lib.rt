@@ -3,18 +3,19 @@
 #![tactic(auto)]
 
 mod answers;
-pub mod decl;
 mod first;
 mod imports;
 mod innermost;
 mod locals;
+pub mod meanings;
 mod order;
 mod package_block;
 mod package_names;
 mod resolution;
 mod second;
 
-pub use decl::{Decl, NameFault};
+pub use imports::{CONTEXT, ERRGROUP};
+pub use meanings::{NameFault, NameMeaning};
 pub use package_block::{INIT, can_be_meant};
 pub use package_names::PackageNames;
 pub use resolution::{Names, resolve};

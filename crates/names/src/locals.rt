@@ -2,17 +2,17 @@
 
 ghost use Rattle.std.specs.Prelude.{◌≡◌, IfOk, OnOk, All, ◌&&◌, List, [], ◌∷◌, ◌++◌};
 ghost use Rattle.indexmap.specs.IndexMap.{values};
-ghost use Rattle.meaning.specs.Scopes.{Local as Declared};
+ghost use Rattle.meaning.specs.Scopes.{LocalName as Declared};
 ghost use Rattle.meaning.specs.Declarations.{locals_of, is_in_scope};
 ghost use Rattle.names.specs.Ordered.{AreFirst, FitsKey, locals_view};
 ghost use Rattle.scopes.specs.Views.{local_view, namings_view};
 
 use indexmap::IndexMap;
-use scopes::{Local, Naming};
+use scopes::{LocalName, Naming};
 use std::alloc::{AllocError, Global};
 
 /// The locals that count, each under its name and the offset at which its block begins.
-pub type FirstLocals<'a> = IndexMap<(&'a str, u32), Local<'a>>;
+pub type FirstLocals<'a> = IndexMap<(&'a str, u32), LocalName<'a>>;
 
 /// The locals that count, in the order in which they are declared.
 ///
@@ -35,7 +35,7 @@ pub fn first_locals<'a>(
 }
 
 /// Adds the local, unless one of its name and block is there.
-fn add_local<'a>(locals: &mut FirstLocals<'a>, local: &Local<'a>) -> Result<(), AllocError>
+fn add_local<'a>(locals: &mut FirstLocals<'a>, local: &LocalName<'a>) -> Result<(), AllocError>
     ensures { OnOk result ((before : List Declared) → AreFirst locals.old before → AreFirst locals.new
         (before ++ local_view local.now ∷ [])) }
 {
@@ -47,7 +47,7 @@ fn add_local<'a>(locals: &mut FirstLocals<'a>, local: &Local<'a>) -> Result<(), 
 }
 
 /// Whether the declaration, by `:=`, only assigns: its block has declared the name before.
-pub fn is_assigned(locals: &FirstLocals<'_>, local: &Local<'_>) -> bool
+pub fn is_assigned(locals: &FirstLocals<'_>, local: &LocalName<'_>) -> bool
     requires fit { All FitsKey locals.now.entries }
     ensures { result ≡ (local.now.is_short && is_in_scope (local_view local.now) (locals_view (values locals.now))) }
 {
@@ -55,7 +55,7 @@ pub fn is_assigned(locals: &FirstLocals<'_>, local: &Local<'_>) -> bool
 }
 
 /// Whether the scope of what the block declares by the local's name begins at or before the local.
-fn has_begun(locals: &FirstLocals<'_>, local: &Local<'_>) -> bool
+fn has_begun(locals: &FirstLocals<'_>, local: &LocalName<'_>) -> bool
     requires fit { All FitsKey locals.now.entries }
     ensures { result ≡ is_in_scope (local_view local.now) (locals_view (values locals.now)) }
 {

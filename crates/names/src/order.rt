@@ -6,7 +6,7 @@ ghost use Rattle.indexmap.specs.IndexMap.{values};
 ghost use Rattle.names.specs.Ordered.{AreOrdered, locals_view};
 
 use crate::locals::FirstLocals;
-use scopes::Local;
+use scopes::LocalName;
 use std::alloc::{AllocError, Global};
 
 /// The locals by name and block.
@@ -14,7 +14,10 @@ use std::alloc::{AllocError, Global};
 /// # Errors
 ///
 /// Memory was refused.
-pub fn ordered<'a>(alloc: Global, locals: &FirstLocals<'a>) -> Result<Vec<Local<'a>>, AllocError>
+pub fn ordered<'a>(
+    alloc: Global,
+    locals: &FirstLocals<'a>,
+) -> Result<Vec<LocalName<'a>>, AllocError>
     ensures same { IfOk result (λ ordered. IsPermutation (values locals.now) ordered.items) }
     ensures ordered { IfOk result (λ ordered. AreOrdered (locals_view ordered.items)) }
 {

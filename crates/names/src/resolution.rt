@@ -8,7 +8,7 @@ ghost use Rattle.names.specs.Faults.{IsSecond};
 ghost use Rattle.tree.specs.View.{file_syntax};
 
 use crate::answers::file_answers;
-use crate::decl::{Decl, NameFault};
+use crate::meanings::{NameFault, NameMeaning};
 use crate::package_block::package_block;
 use crate::package_names::PackageNames;
 use crate::second::second_function;
@@ -19,13 +19,13 @@ use tree::File;
 /// For each file of a package what each use in it means.
 #[derive(Drop)]
 pub struct Names<'a> {
-    files: Vec<IndexMap<u32, Decl<'a>>>,
+    files: Vec<IndexMap<u32, NameMeaning<'a>>>,
 }
 
 impl<'a> Names<'a> {
     /// What the use means that begins at the offset in the file of that number, and `None` where no use begins there.
     /// It takes no memory.
-    pub fn declaration(&self, file: usize, at: u32) -> Option<Decl<'a>>
+    pub fn declaration(&self, file: usize, at: u32) -> Option<NameMeaning<'a>>
         ensures { option_map decl_view result ≡ declared_at self.now file at }
     {
         match self.files.get(file) {
@@ -40,7 +40,7 @@ fn all_answers<'a>(
     alloc: Global,
     files: &'a [File],
     packages: &PackageNames<'a>,
-) -> Result<Vec<IndexMap<u32, Decl<'a>>>, AllocError>
+) -> Result<Vec<IndexMap<u32, NameMeaning<'a>>>, AllocError>
     ensures { IfOk result (λ answers. (file at : ℕ) → answer_in (slice_get answers.items file) at ≡
         declaration_of_use (map file_syntax files.now) (names_by_path packages.now) file at) }
 {

@@ -10,7 +10,7 @@ ghost use Rattle.parser_base.specs.Places.{cursor, seen, parts_of};
 use parser_base::cursor::{Read, SourceTokens, TokenPlace};
 use parser_base::fault::Stop;
 use parser_base::parts::Wanted;
-use parser_expressions::expressions::{expression_of, type_of, value_of};
+use parser_expressions::expressions::{WantedExpression, expression_of, type_of, value_of};
 use parser_statements::statements::statement_of;
 use tree::{Expr, Stmt};
 
@@ -53,7 +53,11 @@ pub fn node(source: SourceTokens<'_>, wanted: Wanted, place: TokenPlace) -> Read
     { statement_node(inner, place) };
     match wanted {
         Wanted::Expression(header, least) => {
-            expression_of(inner, &parts, &statements, header, least, place)
+            let wanted = WantedExpression {
+                in_header: header,
+                least,
+            };
+            expression_of(inner, &parts, &statements, wanted, place)
         }
         Wanted::TypeExpression => type_of(inner, &parts, place),
         Wanted::Element => value_of(inner, &parts, &statements, place),

@@ -36,6 +36,13 @@ pub struct TokenPlace {
 /// What is read, and the place after it.
 pub type Read<T> = Result<(T, TokenPlace), Stop>;
 
+/// What is read so far of something: where it began, what stands there first, and the place after that.
+pub struct Begun<T> {
+    pub from: TokenPlace,
+    pub first: T,
+    pub place: TokenPlace,
+}
+
 impl SourceTokens<'_> {
     ghost use Rattle.std.specs.Prelude.{◌≡◌, length, suc};
     ghost use Rattle.lexer.specs.Spelling.{same_kind};

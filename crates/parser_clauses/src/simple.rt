@@ -11,7 +11,7 @@ ghost use Rattle.tree_reader.specs.Reader.{as_identifier, as_identifiers, single
 ghost use Rattle.tree_reader.specs.Reading.{stands};
 
 use lexer::TokenKind;
-use parser_base::cursor::{Read, SourceTokens, TokenPlace};
+use parser_base::cursor::{Begun, Read, SourceTokens, TokenPlace};
 use parser_base::fault::Stop;
 use parser_base::holding;
 use parser_base::parts::{Wanted, expression, statement_fits};
@@ -86,7 +86,7 @@ pub fn single(source: SourceTokens<'_>, list: Vec<Expr>, place: TokenPlace) -> R
     }
 }
 
-/// A simple statement that began at `from` with one expression.
+/// A simple statement, after the one expression with which it begins.
 ///
 /// # Errors
 ///
@@ -96,17 +96,20 @@ fn one_operand<F: Fn(Wanted, TokenPlace) -> Read<Expr>>(
     source: SourceTokens<'_>,
     parts: &F,
     header: bool,
-    from: TokenPlace,
-    left: Expr,
-    place: TokenPlace,
+    begun: Begun<Expr>,
 ) -> Read<Stmt>
     requires expressions { ReadsExpressions source (F.pre parts.now) (F.post parts.now) }
-    requires defines_none { stands define_token (cursor source place) ≡ false }
-    requires assigns_none { stands assign_token (cursor source place) ≡ false }
+    requires defines_none { stands define_token (cursor source begun.place) ≡ false }
+    requires assigns_none { stands assign_token (cursor source begun.place) ≡ false }
     ensures { Gives (seen source.entry statement_syntax) result (read_simple_after source.entry.text.now (parts_of
-        source.entry) source.entry.below header (cursor source.entry from) (expression_and (expression_syntax left)
-        no_expression) (cursor source.entry place)) }
+        source.entry) source.entry.below header (cursor source.entry begun.from) (expression_and (expression_syntax
+        begun.first) no_expression) (cursor source.entry begun.place)) }
 {
+    let Begun {
+        from,
+        first: left,
+        place,
+    } = begun;
     let end = source.behind(place);
     if let Some(operator) = source.next_assigning_operator(place) {
         let (right, end) = holding!(expression: left; expression(source, parts, header, 1, end));
@@ -132,7 +135,7 @@ fn one_operand<F: Fn(Wanted, TokenPlace) -> Read<Expr>>(
     Ok((make::statement::expression_statement(left, span), place))
 }
 
-/// A simple statement that began at `from` with these expressions.
+/// A simple statement, after the expressions with which it begins.
 ///
 /// # Errors
 ///
@@ -142,15 +145,18 @@ pub fn simple_after<F: Fn(Wanted, TokenPlace) -> Read<Expr>>(
     source: SourceTokens<'_>,
     parts: &F,
     header: bool,
-    from: TokenPlace,
-    left: Vec<Expr>,
-    place: TokenPlace,
+    begun: Begun<Vec<Expr>>,
 ) -> Read<Stmt>
     requires { ReadsExpressions source (F.pre parts.now) (F.post parts.now) }
     ensures { Gives (seen source.entry statement_syntax) result (read_simple_after source.entry.text.now (parts_of
-        source.entry) source.entry.below header (cursor source.entry from) (expressions_syntax left.items) (cursor
-        source.entry place)) }
+        source.entry) source.entry.below header (cursor source.entry begun.from) (expressions_syntax
+        begun.first.items) (cursor source.entry begun.place)) }
 {
+    let Begun {
+        from,
+        first: left,
+        place,
+    } = begun;
     if source.stands(place, TokenKind::Define) {
         let names = names_of(source, left, place)?;
         let (right, end) = expressions(source, parts, header, source.behind(place))?;
@@ -164,7 +170,12 @@ pub fn simple_after<F: Fn(Wanted, TokenPlace) -> Read<Expr>>(
         return Ok((make::statement::assignment(left, right, span), end));
     }
     let only = single(source, left, place)?;
-    one_operand(source, parts, header, from, only, place)
+    let begun = Begun {
+        from,
+        first: only,
+        place,
+    };
+    one_operand(source, parts, header, begun)
 }
 
 /// A simple statement.
@@ -183,8 +194,13 @@ pub fn simple<F: Fn(Wanted, TokenPlace) -> Read<Expr>>(
     ensures { Gives (seen source.entry statement_syntax) result (read_simple source.entry.text.now (parts_of
         source.entry) source.entry.below header (cursor source.entry place)) }
 {
-    let (left, rest) = expressions(source, parts, header, place)?;
-    simple_after(source, parts, header, place, left, rest)
+    let (first, rest) = expressions(source, parts, header, place)?;
+    let begun = Begun {
+        from: place,
+        first,
+        place: rest,
+    };
+    simple_after(source, parts, header, begun)
 }
 
 /// A statement as a part of another.

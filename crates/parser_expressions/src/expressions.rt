@@ -15,7 +15,7 @@ ghost use Rattle.tree_reader.specs.Reading.{behind, spanned, steps, take};
 
 use crate::primaries::primary;
 use lexer::TokenKind;
-use parser_base::cursor::{Read, SourceTokens, TokenPlace};
+use parser_base::cursor::{Begun, Read, SourceTokens, TokenPlace};
 use parser_base::expressions::{named_type, next_operator};
 use parser_base::fault::Stop;
 use parser_base::holding;
@@ -28,6 +28,14 @@ use tree::{BinaryOperator, ChanDirection, Expr, Stmt};
 use tree_hold::{boxed, release};
 use tree_make as make;
 
+/// The least level of an expression that is to be read, and whether it stands in a header, where no composite literal
+/// of a bare type name is read.
+#[derive(Clone, Copy)]
+pub struct WantedExpression {
+    pub in_header: bool,
+    pub least: u32,
+}
+
 /// An expression of at least this level.
 ///
 /// # Errors
@@ -38,23 +46,28 @@ pub fn expression_of<F: Fn(Wanted, TokenPlace) -> Read<Expr>, S: Fn(TokenPlace) 
     source: SourceTokens<'_>,
     parts: &F,
     statements: &S,
-    header: bool,
-    least: u32,
+    wanted: WantedExpression,
     place: TokenPlace,
 ) -> Read<Expr>
     requires expressions { ReadsExpressions source (F.pre parts.now) (F.post parts.now) }
     requires statements { ReadsStatements source (S.pre statements.now) (S.post statements.now) }
     ensures { Gives (seen source.entry expression_syntax) result (read_expression_of source.entry.text.now (parts_of
-        source.entry) source.entry.below header least (cursor source.entry place)) }
+        source.entry) source.entry.below wanted.in_header wanted.least (cursor source.entry place)) }
 {
+    let WantedExpression { in_header, least } = wanted;
     if PRIMARY_LEVEL <= least {
-        return primary(source, parts, statements, header, place);
+        return primary(source, parts, statements, in_header, place);
     }
     if UNARY_LEVEL <= least {
-        return unary(source, parts, statements, header, place);
+        return unary(source, parts, statements, in_header, place);
     }
-    let (left, rest) = unary(source, parts, statements, header, place)?;
-    operators(source, parts, header, least, place, left, rest)
+    let (first, rest) = unary(source, parts, statements, in_header, place)?;
+    let begun = Begun {
+        from: place,
+        first,
+        place: rest,
+    };
+    operators(source, parts, wanted, begun)
 }
 
 /// An operator and its operand, or a primary expression.
@@ -103,7 +116,7 @@ fn unary<F: Fn(Wanted, TokenPlace) -> Read<Expr>, S: Fn(TokenPlace) -> Read<Stmt
     }
 }
 
-/// All operators of at least this level that follow a left operand, which began at `from`, and their right operands.
+/// All operators of at least this level that follow a left operand, and their right operands.
 ///
 /// # Errors
 ///
@@ -111,18 +124,17 @@ fn unary<F: Fn(Wanted, TokenPlace) -> Read<Expr>, S: Fn(TokenPlace) -> Read<Stmt
 fn operators<F: Fn(Wanted, TokenPlace) -> Read<Expr>>(
     source: SourceTokens<'_>,
     parts: &F,
-    header: bool,
-    least: u32,
-    from: TokenPlace,
-    left: Expr,
-    place: TokenPlace,
+    wanted: WantedExpression,
+    begun: Begun<Expr>,
 ) -> Read<Expr>
     requires { ReadsExpressions source (F.pre parts.now) (F.post parts.now) }
     ensures { Gives (seen source.entry expression_syntax) result (read_operators source.entry.text.now (parts_of
-        source.entry) source.entry.below header least (cursor source.entry from) (steps (cursor source.entry place))
-        (expression_syntax left) (cursor source.entry place)) }
+        source.entry) source.entry.below wanted.in_header wanted.least (cursor source.entry begun.from) (steps (cursor
+        source.entry begun.place)) (expression_syntax begun.first) (cursor source.entry begun.place)) }
 {
-    let mut grown = left;
+    let WantedExpression { in_header, least } = wanted;
+    let Begun { from, first, place } = begun;
+    let mut grown = first;
     let mut rest = place;
     for _ in 0..source.steps(place) {
         let operator = match next_operator(source, least, rest) {
@@ -133,7 +145,12 @@ fn operators<F: Fn(Wanted, TokenPlace) -> Read<Expr>>(
             release::expression(grown);
             return Err(Stop::TooDeep);
         }
-        let (longer, after) = binary(source, parts, header, operator, from, grown, rest)?;
+        let left = Begun {
+            from,
+            first: grown,
+            place: rest,
+        };
+        let (longer, after) = binary(source, parts, in_header, operator, left)?;
         grown = longer;
         rest = after;
     }
@@ -141,7 +158,7 @@ fn operators<F: Fn(Wanted, TokenPlace) -> Read<Expr>>(
     Err(source.unexpected(rest))
 }
 
-/// An operator and its right operand after a left one, which began at `from`.
+/// An operator and its right operand after a left one.
 ///
 /// # Errors
 ///
@@ -151,16 +168,19 @@ fn binary<F: Fn(Wanted, TokenPlace) -> Read<Expr>>(
     parts: &F,
     header: bool,
     operator: BinaryOperator,
-    from: TokenPlace,
-    left: Expr,
-    place: TokenPlace,
+    begun: Begun<Expr>,
 ) -> Read<Expr>
     requires { ReadsExpressions source (F.pre parts.now) (F.post parts.now) }
     ensures { Gives (seen source.entry expression_syntax) result (option_and_then (λ (right : Expression × Cursor).
-        Some (spanned (cursor source.entry from) (binary_expression operator (expression_syntax left) right.0)
-        right.1)) ((parts_of source.entry).read_expression header (suc (level_of operator)) (behind (cursor
-        source.entry place)))) }
+        Some (spanned (cursor source.entry begun.from) (binary_expression operator (expression_syntax begun.first)
+        right.0) right.1)) ((parts_of source.entry).read_expression header (suc (level_of operator)) (behind (cursor
+        source.entry begun.place)))) }
 {
+    let Begun {
+        from,
+        first: left,
+        place,
+    } = begun;
     let level = operator_level(operator) + 1;
     let next = source.behind(place);
     let (operand, end) = holding!(expression: left; expression(source, parts, header, level, next));
@@ -190,7 +210,11 @@ pub fn value_of<F: Fn(Wanted, TokenPlace) -> Read<Expr>, S: Fn(TokenPlace) -> Re
         source.entry) source.entry.below (cursor source.entry place)) }
 {
     if !source.stands(place, TokenKind::LeftBrace) {
-        return expression_of(source, parts, statements, false, 1, place);
+        let wanted = WantedExpression {
+            in_header: false,
+            least: 1,
+        };
+        return expression_of(source, parts, statements, wanted, place);
     }
     let (elements, end) = braced_elements(source, parts, place)?;
     Ok((

@@ -13,7 +13,7 @@ ghost use Rattle.tree_reader.specs.Reading.{Read as read_of, stands, behind, ste
 
 use crate::operands::operand;
 use lexer::TokenKind;
-use parser_base::cursor::{Read, SourceTokens, TokenPlace};
+use parser_base::cursor::{Begun, Read, SourceTokens, TokenPlace};
 use parser_base::expressions::{goes_on, selector};
 use parser_base::fault::Stop;
 use parser_base::holding;
@@ -42,10 +42,15 @@ pub fn primary<F: Fn(Wanted, TokenPlace) -> Read<Expr>, S: Fn(TokenPlace) -> Rea
         source.entry) source.entry.below header (cursor source.entry place)) }
 {
     let (first, rest) = operand(source, parts, statements, place)?;
-    suffixes(source, parts, header, place, first, rest)
+    let begun = Begun {
+        from: place,
+        first,
+        place: rest,
+    };
+    suffixes(source, parts, header, begun)
 }
 
-/// All that follows an operand that began at `from`, up to where the primary expression ends.
+/// All that follows an operand, up to where the primary expression ends.
 ///
 /// # Errors
 ///
@@ -54,16 +59,15 @@ fn suffixes<F: Fn(Wanted, TokenPlace) -> Read<Expr>>(
     source: SourceTokens<'_>,
     parts: &F,
     header: bool,
-    from: TokenPlace,
-    operand: Expr,
-    place: TokenPlace,
+    begun: Begun<Expr>,
 ) -> Read<Expr>
     requires { ReadsExpressions source (F.pre parts.now) (F.post parts.now) }
     ensures { Gives (seen source.entry expression_syntax) result (read_suffixes source.entry.text.now (parts_of
-        source.entry) source.entry.below header (cursor source.entry from) (steps (cursor source.entry place))
-        (expression_syntax operand) (cursor source.entry place)) }
+        source.entry) source.entry.below header (cursor source.entry begun.from) (steps (cursor source.entry
+        begun.place)) (expression_syntax begun.first) (cursor source.entry begun.place)) }
 {
-    let mut grown = operand;
+    let Begun { from, first, place } = begun;
+    let mut grown = first;
     let mut rest = place;
     for _ in 0..source.steps(place) {
         if !goes_on(source, header, &grown, rest) {
@@ -223,7 +227,12 @@ fn index<F: Fn(Wanted, TokenPlace) -> Read<Expr>>(
     let (low, rest) =
         holding!(expression: operand; expression_unless(source, parts, TokenKind::Colon, false, inner));
     if source.stands(rest, TokenKind::Colon) {
-        return slice(source, parts, from, operand, low, rest);
+        let begun = Begun {
+            from,
+            first: operand,
+            place: rest,
+        };
+        return slice(source, parts, begun, low);
     }
     match low {
         Some(kept) => {
@@ -243,7 +252,7 @@ fn index<F: Fn(Wanted, TokenPlace) -> Read<Expr>>(
     }
 }
 
-/// The other bounds of a slice, after the first.
+/// The other bounds of a slice, after its operand and the first bound.
 ///
 /// # Errors
 ///
@@ -252,16 +261,19 @@ fn index<F: Fn(Wanted, TokenPlace) -> Read<Expr>>(
 fn slice<F: Fn(Wanted, TokenPlace) -> Read<Expr>>(
     source: SourceTokens<'_>,
     parts: &F,
-    from: TokenPlace,
-    operand: Expr,
+    begun: Begun<Expr>,
     low: Option<Box<Expr>>,
-    place: TokenPlace,
 ) -> Read<Expr>
     requires { ReadsExpressions source (F.pre parts.now) (F.post parts.now) }
     ensures { Gives (seen source.entry expression_syntax) result (read_slice source.entry.text.now (parts_of
-        source.entry) source.entry.below (cursor source.entry from) (expression_syntax operand)
-        (optional_expression_syntax low) (cursor source.entry place)) }
+        source.entry) source.entry.below (cursor source.entry begun.from) (expression_syntax begun.first)
+        (optional_expression_syntax low) (cursor source.entry begun.place)) }
 {
+    let Begun {
+        from,
+        first: operand,
+        place,
+    } = begun;
     let inner = source.behind(place);
     let (high, after) =
         holding!(expression: operand, optional_expression: low; second_bound(source, parts, inner));

@@ -11,7 +11,7 @@ ghost use Rattle.tree_reader.specs.Reader.{read_loop, read_post, read_clauses, r
 ghost use Rattle.tree_reader.specs.Reading.{stands, behind};
 
 use lexer::TokenKind;
-use parser_base::cursor::{Read, SourceTokens, TokenPlace};
+use parser_base::cursor::{Begun, Read, SourceTokens, TokenPlace};
 use parser_base::fault::Stop;
 use parser_base::holding;
 use parser_base::parts::{Wanted, expression};
@@ -61,22 +61,25 @@ fn loop_of<S: Fn(TokenPlace) -> Read<Stmt>>(
     ))
 }
 
-/// `range operand` and the block of a loop that began at `from` and assigns to these expressions.
+/// `range operand` and the block of a loop that assigns to the expressions with which it begins.
 #[tactic(auto, unfolding(tree_reader::specs::Reader::read_range, tree_reader::specs::Reader::read_loop))]
 fn assigned_range<F: Fn(Wanted, TokenPlace) -> Read<Expr>, S: Fn(TokenPlace) -> Read<Stmt>>(
     source: SourceTokens<'_>,
     parts: &F,
     statements: &S,
-    from: TokenPlace,
-    left: Vec<Expr>,
-    place: TokenPlace,
+    begun: Begun<Vec<Expr>>,
 ) -> Read<Stmt>
     requires expressions { ReadsExpressions source (F.pre parts.now) (F.post parts.now) }
     requires statements { ReadsStatements source (S.pre statements.now) (S.post statements.now) }
     ensures { Gives (seen source.entry statement_syntax) result (read_range source.entry.text.now (parts_of
-        source.entry) source.entry.below (cursor source.entry from) (range_assignment (expressions_syntax left.items))
-        (cursor source.entry place)) }
+        source.entry) source.entry.below (cursor source.entry begun.from) (range_assignment (expressions_syntax
+        begun.first.items)) (cursor source.entry begun.place)) }
 {
+    let Begun {
+        from,
+        first: left,
+        place,
+    } = begun;
     let (operand, rest) =
         holding!(expressions: left; expression(source, parts, true, 1, source.behind(place)));
     let kept = holding!(expressions: left; memory boxed::expression(source.alloc, operand));
@@ -86,22 +89,25 @@ fn assigned_range<F: Fn(Wanted, TokenPlace) -> Read<Expr>, S: Fn(TokenPlace) -> 
     Ok((make::control::range_assignment(left, kept, body, span), end))
 }
 
-/// `range operand` and the block of a loop that began at `from` and defines these names.
+/// `range operand` and the block of a loop that defines the names with which it begins.
 #[tactic(auto, unfolding(tree_reader::specs::Reader::read_range, tree_reader::specs::Reader::read_loop))]
 fn defined_range<F: Fn(Wanted, TokenPlace) -> Read<Expr>, S: Fn(TokenPlace) -> Read<Stmt>>(
     source: SourceTokens<'_>,
     parts: &F,
     statements: &S,
-    from: TokenPlace,
-    names: Vec<Identifier>,
-    place: TokenPlace,
+    begun: Begun<Vec<Identifier>>,
 ) -> Read<Stmt>
     requires expressions { ReadsExpressions source (F.pre parts.now) (F.post parts.now) }
     requires statements { ReadsStatements source (S.pre statements.now) (S.post statements.now) }
     ensures { Gives (seen source.entry statement_syntax) result (read_range source.entry.text.now (parts_of
-        source.entry) source.entry.below (cursor source.entry from) (range_definition (map identifier_syntax
-        names.items)) (cursor source.entry place)) }
+        source.entry) source.entry.below (cursor source.entry begun.from) (range_definition (map identifier_syntax
+        begun.first.items)) (cursor source.entry begun.place)) }
 {
+    let Begun {
+        from,
+        first: names,
+        place,
+    } = begun;
     let (operand, rest) = expression(source, parts, true, 1, source.behind(place))?;
     let kept = boxed::expression(source.alloc, operand)?;
     let (body, end) = holding!(boxed_expression: kept; block(source, statements, rest));
@@ -130,22 +136,25 @@ fn read_post<F: Fn(Wanted, TokenPlace) -> Read<Expr>>(
     Ok((kept, end))
 }
 
-/// `condition; post` and the block, after the first semicolon of a loop that began at `from`.
+/// `condition; post` and the block of a loop, after the statement with which it begins, or none, and a semicolon.
 #[tactic(auto, unfolding(tree_reader::specs::Reader::read_clauses))]
 fn clauses<F: Fn(Wanted, TokenPlace) -> Read<Expr>, S: Fn(TokenPlace) -> Read<Stmt>>(
     source: SourceTokens<'_>,
     parts: &F,
     statements: &S,
-    from: TokenPlace,
-    init: Option<Box<Stmt>>,
-    place: TokenPlace,
+    begun: Begun<Option<Box<Stmt>>>,
 ) -> Read<Stmt>
     requires expressions { ReadsExpressions source (F.pre parts.now) (F.post parts.now) }
     requires statements { ReadsStatements source (S.pre statements.now) (S.post statements.now) }
     ensures { Gives (seen source.entry statement_syntax) result (read_clauses source.entry.text.now (parts_of
-        source.entry) source.entry.below (cursor source.entry from) (optional_statement_syntax init) (cursor
-        source.entry place)) }
+        source.entry) source.entry.below (cursor source.entry begun.from) (optional_statement_syntax begun.first)
+        (cursor source.entry begun.place)) }
 {
+    let Begun {
+        from,
+        first: init,
+        place,
+    } = begun;
     let (condition, rest) =
         holding!(optional_statement: init; expression_unless(source, parts, TokenKind::Semicolon, true, place));
     holding!(optional_statement: init, optional_expression: condition; source.take(rest, TokenKind::Semicolon));
@@ -169,41 +178,57 @@ fn has_range(source: SourceTokens<'_>, kind: TokenKind, place: TokenPlace) -> bo
     source.stands(place, kind) && source.stands(source.behind(place), TokenKind::RangeKeyword)
 }
 
-/// A loop that began at `from` and whose header begins at `start` with these expressions.
+/// A loop that began at `from`, after the expressions with which its header begins.
 #[tactic(auto, unfolding(tree_reader::specs::Reader::read_for_after))]
 fn loop_after<F: Fn(Wanted, TokenPlace) -> Read<Expr>, S: Fn(TokenPlace) -> Read<Stmt>>(
     source: SourceTokens<'_>,
     parts: &F,
     statements: &S,
     from: TokenPlace,
-    start: TokenPlace,
-    left: Vec<Expr>,
-    place: TokenPlace,
+    header: Begun<Vec<Expr>>,
 ) -> Read<Stmt>
     requires expressions { ReadsExpressions source (F.pre parts.now) (F.post parts.now) }
     requires statements { ReadsStatements source (S.pre statements.now) (S.post statements.now) }
     ensures { Gives (seen source.entry statement_syntax) result (read_for_after source.entry.text.now (parts_of
-        source.entry) source.entry.below (cursor source.entry from) (cursor source.entry start) (expressions_syntax
-        left.items) (cursor source.entry place)) }
+        source.entry) source.entry.below (cursor source.entry from) (cursor source.entry header.from)
+        (expressions_syntax header.first.items) (cursor source.entry header.place)) }
 {
+    let Begun {
+        from: start,
+        first: left,
+        place,
+    } = header;
     if has_range(source, TokenKind::Define, place) {
         let names = names_of(source, left, place)?;
-        return defined_range(source, parts, statements, from, names, source.behind(place));
+        let begun = Begun {
+            from,
+            first: names,
+            place: source.behind(place),
+        };
+        return defined_range(source, parts, statements, begun);
     }
     if has_range(source, TokenKind::Assign, place) {
-        return assigned_range(source, parts, statements, from, left, source.behind(place));
+        let begun = Begun {
+            from,
+            first: left,
+            place: source.behind(place),
+        };
+        return assigned_range(source, parts, statements, begun);
     }
-    let (first, rest) = simple_after(source, parts, true, start, left, place)?;
+    let statement = Begun {
+        from: start,
+        first: left,
+        place,
+    };
+    let (first, rest) = simple_after(source, parts, true, statement)?;
     if source.stands(rest, TokenKind::Semicolon) {
         let init = as_part(source, first)?;
-        return clauses(
-            source,
-            parts,
-            statements,
+        let begun = Begun {
             from,
-            init,
-            source.behind_semicolon(rest),
-        );
+            first: init,
+            place: source.behind_semicolon(rest),
+        };
+        return clauses(source, parts, statements, begun);
     }
     let condition = only_expression(source, first, rest)?;
     let kept = boxed::expression(source.alloc, condition)?;
@@ -244,13 +269,26 @@ pub fn repetition<F: Fn(Wanted, TokenPlace) -> Read<Expr>, S: Fn(TokenPlace) -> 
         return loop_of(source, statements, place, head, start);
     }
     if source.stands(start, TokenKind::RangeKeyword) {
-        let left = Vec::new(source.alloc);
-        return assigned_range(source, parts, statements, place, left, start);
+        let begun = Begun {
+            from: place,
+            first: Vec::new(source.alloc),
+            place: start,
+        };
+        return assigned_range(source, parts, statements, begun);
     }
     if source.stands(start, TokenKind::Semicolon) {
-        let after = source.behind_semicolon(start);
-        return clauses(source, parts, statements, place, None, after);
+        let begun = Begun {
+            from: place,
+            first: None,
+            place: source.behind_semicolon(start),
+        };
+        return clauses(source, parts, statements, begun);
     }
-    let (left, rest) = expressions(source, parts, true, start)?;
-    loop_after(source, parts, statements, place, start, left, rest)
+    let (first, rest) = expressions(source, parts, true, start)?;
+    let header = Begun {
+        from: start,
+        first,
+        place: rest,
+    };
+    loop_after(source, parts, statements, place, header)
 }

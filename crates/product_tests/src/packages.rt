@@ -1,7 +1,7 @@
 //! Several packages in one run.
 
-use crate::real_folders::{Entry, make, new_folder};
-use crate::runs::expect_run;
+use crate::real_folders::{FolderEntry, make, new_folder};
+use crate::runs::{Expected, expect_run};
 use driver::{Fault, GivenPackage, report_of};
 use std::fs;
 use std::test::Fail;
@@ -71,14 +71,19 @@ const ROWS: &[Case] = &[
 fn packages_are_judged_together(rt: HostRuntime) -> Result<(), Fail> {
     let outer = new_folder(&rt, "packages")?;
     for (name, text) in FOLDERS {
-        make(&rt, outer.as_str(), *name, Entry::Folder)?;
+        make(&rt, outer.as_str(), *name, FolderEntry::Folder)?;
         if let Some(text) = text {
             let folder = format!(in rt.alloc(); "{outer}/{name}")?;
-            make(&rt, folder.as_str(), "x.go", Entry::Text(*text))?;
+            make(&rt, folder.as_str(), "x.go", FolderEntry::Text(*text))?;
         }
     }
     for (words, status, out, err) in ROWS {
-        expect_run(&rt, outer.as_str(), *words, *status, *out, *err)?;
+        let expected = Expected {
+            status: *status,
+            out: *out,
+            err: *err,
+        };
+        expect_run(&rt, outer.as_str(), *words, expected)?;
     }
     Ok(fs::remove_dir_all(&rt, outer.as_str())?)
 }

@@ -8,7 +8,7 @@ use std::{env, fs, process};
 
 /// What stands in a folder under a name.
 #[derive(Clone, Copy)]
-pub enum Entry {
+pub enum FolderEntry {
     Text(&'static str),
     /// So many NUL bytes, which take no room on the disk.
     Sparse(u64),
@@ -30,23 +30,23 @@ pub fn new_folder(rt: &HostRuntime, name: &str) -> Result<String, Fail> {
 }
 
 /// Puts an entry of this name into the folder.
-pub fn make(rt: &HostRuntime, folder: &str, name: &str, entry: Entry) -> Result<(), Fail> {
+pub fn make(rt: &HostRuntime, folder: &str, name: &str, entry: FolderEntry) -> Result<(), Fail> {
     let path = format!(in rt.alloc(); "{folder}/{name}")?;
     match entry {
-        Entry::Text(text) => fs::write(rt, path, text)?,
-        Entry::Sparse(size) => File::create(rt, path)?.set_len(size)?,
-        Entry::Folder => fs::create_dir(rt, path)?,
-        Entry::Link(target) => symlink(rt, target, path)?,
+        FolderEntry::Text(text) => fs::write(rt, path, text)?,
+        FolderEntry::Sparse(size) => File::create(rt, path)?.set_len(size)?,
+        FolderEntry::Folder => fs::create_dir(rt, path)?,
+        FolderEntry::Link(target) => symlink(rt, target, path)?,
     }
     Ok(())
 }
 
-const EMPTY: Entry = Entry::Text("");
+const EMPTY: FolderEntry = FolderEntry::Text("");
 
 /// What stands in a folder, and what the program answers: its status, its report and its fault, where a
 /// `DIR` stands for the folder.
 type Case = (
-    &'static [(&'static str, Entry)],
+    &'static [(&'static str, FolderEntry)],
     u8,
     &'static str,
     &'static str,
@@ -61,7 +61,7 @@ const ROWS: &[Case] = &[
             ("notes.txt", EMPTY),
             ("go", EMPTY),
             ("line\nbreak", EMPTY),
-            ("x.go", Entry::Folder),
+            ("x.go", FolderEntry::Folder),
         ],
         0,
         "yes a\n",
@@ -78,9 +78,9 @@ const ROWS: &[Case] = &[
     (
         &[
             ("text", EMPTY),
-            ("inner", Entry::Folder),
-            ("a.go", Entry::Link("inner")),
-            ("b.go", Entry::Link("text")),
+            ("inner", FolderEntry::Folder),
+            ("a.go", FolderEntry::Link("inner")),
+            ("b.go", FolderEntry::Link("text")),
         ],
         1,
         "DIR/b.go:1:1: LC02 - unexpected token\nno a\n",
@@ -88,22 +88,22 @@ const ROWS: &[Case] = &[
     ),
     // No file stands there: nothing, a device, a link to itself.
     (
-        &[("a.go", EMPTY), ("d.go", Entry::Link("none"))],
+        &[("a.go", EMPTY), ("d.go", FolderEntry::Link("none"))],
         2,
         "",
         "ctxvet: cannot read: DIR/d.go\n",
     ),
     (
         &[
-            ("c.go", Entry::Link("/dev/null")),
-            ("d.go", Entry::Link("none")),
+            ("c.go", FolderEntry::Link("/dev/null")),
+            ("d.go", FolderEntry::Link("none")),
         ],
         2,
         "",
         "ctxvet: cannot read: DIR/c.go\n",
     ),
     (
-        &[("b.go", Entry::Link("b.go"))],
+        &[("b.go", FolderEntry::Link("b.go"))],
         2,
         "",
         "ctxvet: cannot read: DIR/b.go\n",
@@ -118,15 +118,15 @@ const ROWS: &[Case] = &[
     (&[("\x7f.go", EMPTY)], 2, "", "ctxvet: cannot read: DIR\n"),
     // 1 MiB, one byte more, and 2 GiB, of which no more is read.
     (
-        &[("a.go", Entry::Sparse(1_048_576))],
+        &[("a.go", FolderEntry::Sparse(1_048_576))],
         1,
         "DIR/a.go:1:1: LC01 - NUL byte\nno a\n",
         "",
     ),
     (
         &[
-            ("a.go", Entry::Sparse(1_048_577)),
-            ("b.go", Entry::Sparse(2_147_483_648)),
+            ("a.go", FolderEntry::Sparse(1_048_577)),
+            ("b.go", FolderEntry::Sparse(2_147_483_648)),
         ],
         1,
         "DIR/a.go:1:1: LC01 - file over 1 MiB\nDIR/b.go:1:1: LC01 - file over 1 MiB\nno a\n",
@@ -167,7 +167,7 @@ fn names_of_folders(rt: HostRuntime) -> Result<(), Fail> {
         expect_check(&rt, folder.as_str(), 1, out.as_str(), "")?;
     }
     // No folder, and folders that no line could name.
-    make(&rt, outer.as_str(), "line\nbreak", Entry::Folder)?;
+    make(&rt, outer.as_str(), "line\nbreak", FolderEntry::Folder)?;
     for (name, told) in [
         ("none", "none"),
         ("inner/a.go", "inner/a.go"),

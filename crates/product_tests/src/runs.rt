@@ -24,26 +24,32 @@ pub fn run_words<R: Files + AllocGlobal, S: AsStr>(rt: &R, words: &[S]) -> Resul
     Ok(Ended { status, out, err })
 }
 
-/// Runs the program with these words, and compares what it left. In the words, `out` and `err` a `DIR` stands for the
-/// folder.
+/// What a run is to leave: its status, and the texts on its two streams.
+#[derive(Clone, Copy)]
+pub struct Expected<'a> {
+    pub status: u8,
+    pub out: &'a str,
+    pub err: &'a str,
+}
+
+/// Runs the program with these words, and compares what it left. In the words and in what is expected a `DIR` stands
+/// for the folder.
 pub fn expect_run<R: Files + AllocGlobal + Abort>(
     rt: &R,
     folder: &str,
     words: &[&str],
-    status: u8,
-    out: &str,
-    err: &str,
+    expected: Expected<'_>,
 ) -> Result<(), Fail> {
     let mut given = Vec::new(rt.alloc());
     for word in words {
         given.push(word.replace(rt.alloc(), "DIR", folder)?)?;
     }
     let ended = run_words(rt, given.as_slice())?;
-    let out = out.replace(rt.alloc(), "DIR", folder)?;
-    let err = err.replace(rt.alloc(), "DIR", folder)?;
+    let out = expected.out.replace(rt.alloc(), "DIR", folder)?;
+    let err = expected.err.replace(rt.alloc(), "DIR", folder)?;
     assert_eq!(rt; ended.out.as_str(), out.as_str());
     assert_eq!(rt; ended.err.as_str(), err.as_str());
-    assert_eq!(rt; ended.status, status);
+    assert_eq!(rt; ended.status, expected.status);
     Ok(())
 }
 
@@ -55,5 +61,6 @@ pub fn expect_check<R: Files + AllocGlobal + Abort>(
     out: &str,
     err: &str,
 ) -> Result<(), Fail> {
-    expect_run(rt, folder, ["check", "a=DIR"].as_slice(), status, out, err)
+    let expected = Expected { status, out, err };
+    expect_run(rt, folder, ["check", "a=DIR"].as_slice(), expected)
 }

@@ -9,7 +9,7 @@ use itoa::Buffer;
 
 /// A piece of a line: a text, or a number, which is written in decimal digits.
 #[derive(Clone, Copy)]
-pub enum Piece<'a> {
+pub enum TextPiece<'a> {
     Text(&'a str),
     Number(usize),
 }
@@ -19,7 +19,7 @@ pub enum Piece<'a> {
 /// # Errors
 ///
 /// A put failed or took nothing. A beginning of the text is taken then, and not all of it.
-pub fn put_pieces<S: Sink>(pieces: &[Piece], sink: &mut S) -> Result<(), WriteFault>
+pub fn put_pieces<S: Sink>(pieces: &[TextPiece], sink: &mut S) -> Result<(), WriteFault>
     ensures taken { IsWritten (flat_map piece_text pieces.now) (S.taken sink.old) (S.taken sink.new) result }
     ensures refusals { S.refusals sink.new ≡ refusals_after (S.refusals sink.old) result }
 {
@@ -29,12 +29,12 @@ pub fn put_pieces<S: Sink>(pieces: &[Piece], sink: &mut S) -> Result<(), WriteFa
     Ok(())
 }
 
-fn put_piece<S: Sink>(piece: &Piece, sink: &mut S) -> Result<(), WriteFault>
+fn put_piece<S: Sink>(piece: &TextPiece, sink: &mut S) -> Result<(), WriteFault>
     ensures taken { IsWritten (piece_text piece.now) (S.taken sink.old) (S.taken sink.new) result }
     ensures refusals { S.refusals sink.new ≡ refusals_after (S.refusals sink.old) result }
 {
     match *piece {
-        Piece::Text(text) => put_all(text.as_bytes(), sink),
-        Piece::Number(number) => put_all(Buffer::new().format(number).as_bytes(), sink),
+        TextPiece::Text(text) => put_all(text.as_bytes(), sink),
+        TextPiece::Number(number) => put_all(Buffer::new().format(number).as_bytes(), sink),
     }
 }

@@ -7,7 +7,7 @@ ghost use Rattle.report.specs.Writing.{refusals_after, IsWritten};
 
 use crate::cursors::{first_byte, moved};
 use crate::diagnostics::{Diagnostic, PackageReport};
-use crate::pieces::Piece::{Number, Text};
+use crate::pieces::TextPiece::{Number, Text};
 use crate::pieces::put_pieces;
 use crate::sinks::{Sink, WriteFault};
 use lexer::{Place, Source};

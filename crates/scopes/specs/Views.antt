@@ -1,11 +1,11 @@
 -- What the names that the program keeps stand for.
 use Rattle.std.specs.Prelude.{List, map, ◌≡◌, ◌++◌}
-use Rattle.scopes.specs.declared.naming.Local.{Local as KeptLocal}
+use Rattle.scopes.specs.declared.naming.LocalName.{LocalName as KeptLocal}
 use Rattle.scopes.specs.declared.naming.Naming.{Naming as KeptNaming}
 use Rattle.scopes.specs.declared.naming.Naming.TheVariants.{Use, Declaration}
-use Rattle.meaning.specs.Scopes.{Local, Naming, uses_name, declares_name}
+use Rattle.meaning.specs.Scopes.{LocalName, Naming, uses_name, declares_name}
 
-abbrev pub local_view : KeptLocal → Local
+abbrev pub local_view : KeptLocal → LocalName
 local_view l = record {
   name = l.name.now;
   number = l.number;

@@ -8,12 +8,12 @@ ghost use Rattle.tree.specs.declared.expression.Literal.{out-Literal};
 ghost use Rattle.tree.specs.declared.operator.DeclKeyword.TheVariants.{Var};
 ghost use Rattle.tree.specs.declared.statement.Block.{out-Block};
 
-use crate::naming::{Local, Naming, Scope};
+use crate::naming::{LocalName, Naming, Scope};
 use std::alloc::AllocError;
 use tree::{BLANK, DeclKeyword, Expr, Identifier, Literal, Param, Signature, Span};
 
 /// Adds the declaration, but for one of the blank identifier.
-pub fn declare<'a>(namings: &mut Vec<Naming<'a>>, local: Local<'a>) -> Result<(), AllocError>
+pub fn declare<'a>(namings: &mut Vec<Naming<'a>>, local: LocalName<'a>) -> Result<(), AllocError>
     ensures { OnOk result (Adds namings.old.items namings.new.items (declared (local_view local.entry))) }
 {
     if local.name != BLANK {
@@ -34,7 +34,7 @@ pub fn declare_names<'a>(
         is_short (map identifier_syntax names.now))) }
 {
     for name in names {
-        let local = Local {
+        let local = LocalName {
             name: name.text.as_str(),
             number: name.span.start,
             kind,
@@ -74,7 +74,7 @@ fn declare_parameter<'a>(
     ensures { OnOk result (Adds namings.old.items namings.new.items (parameter_name block
         (identifier_syntax name.now))) }
 {
-    let local = Local {
+    let local = LocalName {
         name: name.text.as_str(),
         number: name.span.start,
         kind: DeclKeyword::Var,
@@ -152,7 +152,7 @@ pub fn declare_type<'a>(
     ensures { OnOk result (Adds namings.old.items namings.new.items (type_declared block
         (identifier_syntax name.now))) }
 {
-    let local = Local {
+    let local = LocalName {
         name: name.text.as_str(),
         number: name.span.start,
         kind: DeclKeyword::Type,
@@ -185,7 +185,7 @@ pub fn declare_guard<'a>(
 {
     match guard {
         Some(name) => {
-            let local = Local {
+            let local = LocalName {
                 name: name.text.as_str(),
                 number: clause.start,
                 kind: DeclKeyword::Var,

@@ -8,4 +8,4 @@ mod names;
 pub mod naming;
 
 pub use file::file_names;
-pub use naming::{Local, Naming};
+pub use naming::{LocalName, Naming};

@@ -13,7 +13,7 @@ pub struct Scope {
 
 /// A name that a function declares.
 #[derive(Clone, Copy)]
-pub struct Local<'a> {
+pub struct LocalName<'a> {
     pub name: &'a str,
     /// The offset of the name that declares it; in a clause of a type switch, that of the clause's keyword.
     pub number: u32,
@@ -33,5 +33,5 @@ pub enum Naming<'a> {
     /// A use, with the offset at which it begins.
     Use(&'a str, u32),
     /// A declaration in a function.
-    Declaration(Local<'a>),
+    Declaration(LocalName<'a>),
 }

@@ -15,11 +15,11 @@ use Rattle.meaning.specs.Tracked.{LocalRole, Local, item_local, find_local}
 use Rattle.names.proofs.Adding.{or_else-assoc, or_else-none, first_of, map-or_else}
 use Rattle.tracked.specs.declared.table.Entries.{Entries}
 use Rattle.tracked.specs.declared.table.Locals.{Locals}
-use Rattle.tracked.specs.LocalViews.{Entry, entry_in, fresh, numbers_of, new_numbers, update_entry, HasNoLocals, AddsLocals, HasLocals}
+use Rattle.tracked.specs.LocalViews.{SeenLocal, entry_in, fresh, numbers_of, new_numbers, update_entry, HasNoLocals, AddsLocals, HasLocals}
 use Rattle.tracked.proofs.Numbers.{keeps_all, keeps_both, is_among, distinct-append, has_number, neither_of}
 
 -- what these locals are before any mark is seen of them
-abbrev pub fresh_in : List Local → ℕ → Option Entry
+abbrev pub fresh_in : List Local → ℕ → Option SeenLocal
 fresh_in ls n = option_map fresh (find_local ls n)
 
 find_local-append : (xs ys : List Local) (n : ℕ) → find_local (xs ++ ys) n ≡ or_else (find_local xs n) (find_local ys n)
@@ -117,7 +117,7 @@ module _ (a b : Locals) (l : Local) where
     numbers = sym (append-nil a.numbers.items) ∙ ap (λ t. a.numbers.items ++ (if not t then l.number ∷ [] else [])) (sym there);
   }
     where
-      kept : (o : Option Entry) → is_some o ≡ true → o ≡ or_else o (Some (fresh l))
+      kept : (o : Option SeenLocal) → is_some o ≡ true → o ≡ or_else o (Some (fresh l))
       kept None e = absurd (true≢false (sym e))
       kept (Some e) h = refl
 
@@ -134,7 +134,7 @@ module _ (a b : Locals) (l : Local) where
     numbers = pushes ∙ ap (λ t. a.numbers.items ++ (if not t then l.number ∷ [] else [])) (sym missing);
   }
     where
-      first : (o : Option Entry) → is_some o ≡ false → Some (fresh l) ≡ or_else o (Some (fresh l))
+      first : (o : Option SeenLocal) → is_some o ≡ false → Some (fresh l) ≡ or_else o (Some (fresh l))
       first None e = refl
       first (Some e) h = absurd (true≢false h)
 

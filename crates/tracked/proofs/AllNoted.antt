@@ -9,7 +9,7 @@ use Rattle.meaning.specs.Uses.{Seen, seen_in, is_own, is_of_local, mentions_insi
 use Rattle.mentions.specs.declared.mark.Mark.{Mark as KeptMark}
 use Rattle.mentions.specs.MarkViews.{marks_view}
 use Rattle.tracked.specs.declared.table.Entries.{Entries}
-use Rattle.tracked.specs.LocalViews.{Entry, entry_in, fresh, noted, noted_all, entry_of}
+use Rattle.tracked.specs.LocalViews.{SeenLocal, entry_in, fresh, noted, noted_all, entry_of}
 use Rattle.tracked.proofs.Added.{fresh_in}
 
 or_false : (b : Bool) → (b || false) ≡ b
@@ -25,7 +25,7 @@ same_variable None l = refl
 same_variable (Some n) l = refl
 
 -- an entry with what a mark, or what marks, add to it
-abbrev with_flags : Entry → Bool → Bool → Bool → Entry
+abbrev with_flags : SeenLocal → Bool → Bool → Bool → SeenLocal
 with_flags e obtained made inside = record {
   local = e.local;
   is_obtained = e.is_obtained || obtained;
@@ -33,7 +33,7 @@ with_flags e obtained made inside = record {
   is_in_literal = e.is_in_literal || inside;
 }
 
-with_none : (e : Entry) → e ≡ with_flags e false false false
+with_none : (e : SeenLocal) → e ≡ with_flags e false false false
 with_none e = λ i. record {
   local = e.local;
   is_obtained = sym (or_false e.is_obtained) i;
@@ -41,7 +41,7 @@ with_none e = λ i. record {
   is_in_literal = sym (or_false e.is_in_literal) i;
 }
 
-with_both : (e : Entry) (o m l p n k : Bool)
+with_both : (e : SeenLocal) (o m l p n k : Bool)
     → with_flags (with_flags e o m l) p n k ≡ with_flags e (o || p) (m || n) (l || k)
 with_both e o m l p n k = λ i. record {
   local = e.local;
@@ -52,7 +52,7 @@ with_both e o m l p n k = λ i. record {
 
 module _ (known : Known) where
   -- what one mark does to the local
-  noted-flags : (bodies : List BodyPlace) (m : Mark) (e : Entry)
+  noted-flags : (bodies : List BodyPlace) (m : Mark) (e : SeenLocal)
       → noted known e.local.number bodies m e
       ≡ with_flags e (obtains_in known e.local.number m) (makes_in known e.local.number m)
       (mentions_inside known e.local bodies m)
@@ -65,7 +65,7 @@ module _ (known : Known) where
   noted-flags bodies (opens b) e = with_none e
   noted-flags bodies closes e = with_none e
 
-  noted_all-flags : (ps : List Placed) (e : Entry)
+  noted_all-flags : (ps : List Placed) (e : SeenLocal)
       → noted_all known e.local.number ps e
       ≡ with_flags e (list_any (λ p. obtains_in known e.local.number p.mark) ps)
       (list_any (λ p. makes_in known e.local.number p.mark) ps)

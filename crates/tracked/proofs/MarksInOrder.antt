@@ -9,7 +9,7 @@ use Rattle.meaning.specs.Mentions.{BodyPlace, Mark, mentions, defers_literal, re
 use Rattle.meaning.specs.Tracked.{Known, Local, placed, locals_of, locals_there}
 use Rattle.tracked.specs.declared.table.Entries.{Entries}
 use Rattle.tracked.specs.declared.table.Locals.{Locals}
-use Rattle.tracked.specs.LocalViews.{Entry, bodies_at, entry_in, noted, noted_all, HasNoLocals, AddsLocals, HasLocals, NotesMark}
+use Rattle.tracked.specs.LocalViews.{SeenLocal, bodies_at, entry_in, noted, noted_all, HasNoLocals, AddsLocals, HasLocals, NotesMark}
 use Rattle.tracked.proofs.Added.{adds_then, adds_nothing, adds_same, has_added}
 
 module _ (known : Known) (bs : List BodyPlace) where
@@ -25,7 +25,7 @@ module _ (known : Known) (bs : List BodyPlace) where
   locals_of-mark (opens b) ms = refl
   locals_of-mark closes ms = refl
 
-  noted_all-mark : (n : ℕ) (m : Mark) (ms : List Mark) (e : Entry)
+  noted_all-mark : (n : ℕ) (m : Mark) (ms : List Mark) (e : SeenLocal)
       → noted_all known n (placed bs (m ∷ ms)) e
       ≡ noted_all known n (placed (bodies_at bs m) ms) (noted known n (bodies_at bs m) m e)
   unfolding placed
@@ -36,7 +36,7 @@ module _ (known : Known) (bs : List BodyPlace) where
   noted_all-mark n closes ms e = refl
 
 -- a function after another one
-twice : (f g h : Entry → Entry) → ((e : Entry) → h e ≡ g (f e)) → (o : Option Entry)
+twice : (f g h : SeenLocal → SeenLocal) → ((e : SeenLocal) → h e ≡ g (f e)) → (o : Option SeenLocal)
     → option_map g (option_map f o) ≡ option_map h o
 twice f g h same None = refl
 twice f g h same (Some e) = ap Some (sym (same e))
@@ -69,17 +69,17 @@ module _ (known : Known) (marks : List KeptMark) (i : ℕ) (m : KeptMark)
       (adds_same a b (there (map body_view slice)) (there (map body_view after))
       (ap (λ (bs : List KeptBody). there (map body_view bs)) seen) adds) others_added))
 
-  pub more_noted : (n : ℕ) (a b : Entries) (whole : Option Entry)
+  pub more_noted : (n : ℕ) (a b : Entries) (whole : Option SeenLocal)
       → NotesMark known (map body_view slice) (mark_view m) a b
       → option_map (noted_all known n (placed (map body_view before) (marks_view (drop i marks)))) (entry_in a n) ≡ whole
       → option_map (noted_all known n (placed (map body_view after) (marks_view (drop (i + 1) marks)))) (entry_in b n)
       ≡ whole
   more_noted n a b whole notes so_far =
       let rest : List Mark = marks_view (drop (i + 1) marks) in
-      let one : List BodyPlace → Entry → Entry = λ bs. noted known n bs (mark_view m) in
-      let others : List BodyPlace → Entry → Entry = λ bs. noted_all known n (placed bs rest) in
+      let one : List BodyPlace → SeenLocal → SeenLocal = λ bs. noted known n bs (mark_view m) in
+      let others : List BodyPlace → SeenLocal → SeenLocal = λ bs. noted_all known n (placed bs rest) in
       let split
-      : (e : Entry) → noted_all known n (placed (map body_view before) (marks_view (drop i marks))) e
+      : (e : SeenLocal) → noted_all known n (placed (map body_view before) (marks_view (drop i marks))) e
       ≡ others (map body_view after) (one (map body_view after) e) =
       λ e.
       ap (λ (ms : List KeptMark). noted_all known n (placed (map body_view before) (marks_view ms)) e)
@@ -102,7 +102,7 @@ adds_from_none none known marks bs outside is_none end adds =
     (adds_same none end (locals_of known (placed bs (marks_view marks))) (locals_of known (placed [] (marks_view marks)))
     (ap (λ os. locals_of known (placed os (marks_view marks))) outside) adds)
 
-mapped : (o : Option Entry) → option_map (λ e. e) o ≡ o
+mapped : (o : Option SeenLocal) → option_map (λ e. e) o ≡ o
 mapped None = refl
 mapped (Some e) = refl
 
@@ -117,7 +117,7 @@ module _ (known : Known) (marks : List KeptMark) (i : ℕ) (past : length marks 
       (adds_same a a [] (locals_of known (placed bs (marks_view (drop i marks))))
       (sym (at_drop_all (λ (ms : List KeptMark). locals_of known (placed bs (marks_view ms))) marks i past)) (adds_nothing a))
 
-  pub all_noted_there : (n : ℕ) (a : Entries) (whole : Option Entry)
+  pub all_noted_there : (n : ℕ) (a : Entries) (whole : Option SeenLocal)
       → option_map (noted_all known n (placed bs (marks_view (drop i marks)))) (entry_in a n) ≡ whole
       → entry_in a n ≡ whole
   unfolding placed

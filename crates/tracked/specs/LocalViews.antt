@@ -5,7 +5,7 @@ use Rattle.indexmap.specs.IndexMap.{get}
 use Rattle.tracked.specs.declared.local.LocalRole.{LocalRole as KeptRole}
 use Rattle.tracked.specs.declared.local.LocalRole.TheVariants.{Parameter, Receiver, Variadic, Result, InBlock}
 use Rattle.tracked.specs.declared.local.Local.{Local as KeptLocal}
-use Rattle.tracked.specs.declared.local.Entry.{Entry as KeptEntry}
+use Rattle.tracked.specs.declared.local.SeenLocal.{SeenLocal as KeptSeenLocal}
 use Rattle.tracked.specs.declared.table.Entries.{Entries}
 use Rattle.tracked.specs.declared.table.Locals.{Locals}
 use Rattle.tracked.specs.declared.seen.Seen.{Seen as KeptSeen}
@@ -49,13 +49,13 @@ local_view l = record {
 }
 
 -- a local, and what the marks of the file do to it
-pub record Entry : Type 0 where
+pub record SeenLocal : Type 0 where
   pub local : Local
   pub is_obtained : Bool
   pub is_made : Bool
   pub is_in_literal : Bool
 
-abbrev pub entry_view : KeptEntry → Entry
+abbrev pub entry_view : KeptSeenLocal → SeenLocal
 entry_view e = record {
   local = local_view e.local;
   is_obtained = e.is_obtained;
@@ -64,12 +64,12 @@ entry_view e = record {
 }
 
 -- no mark has been seen of it
-abbrev pub fresh : Local → Entry
+abbrev pub fresh : Local → SeenLocal
 fresh l = record { local = l; is_obtained = false; is_made = false; is_in_literal = false }
 
 -- Tables of locals
 
-abbrev pub entry_in : Entries → ℕ → Option Entry
+abbrev pub entry_in : Entries → ℕ → Option SeenLocal
 entry_in entries n = option_map entry_view (get nat_eq entries.by_number n)
 
 abbrev pub numbers_of : List Local → List ℕ
@@ -94,7 +94,7 @@ pub record HasLocals (locals : Locals) (ls : List Local) : Type 0 where
   pub entries : (n : ℕ) → entry_in locals.entries n ≡ option_map fresh (find_local ls n)
   pub numbers : locals.numbers.items ≡ distinct (numbers_of ls)
 
-abbrev pub update_entry : ℕ → Entry → Option Entry → ℕ → Option Entry
+abbrev pub update_entry : ℕ → SeenLocal → Option SeenLocal → ℕ → Option SeenLocal
 update_entry number e known n = if nat_eq number n then Some e else known
 
 -- What marks do to the local of a number
@@ -103,7 +103,7 @@ update_entry number e known n = if nat_eq number n then Some e else known
 abbrev pub is_inside : Known → ℕ → Local → List BodyPlace → Mention → Bool
 is_inside known n l bodies m = is_variable (variable_of known m) n && not (is_own l bodies)
 
-abbrev pub noted_mention : Known → ℕ → List BodyPlace → Mention → Entry → Entry
+abbrev pub noted_mention : Known → ℕ → List BodyPlace → Mention → SeenLocal → SeenLocal
 noted_mention known n bodies m e = record {
   local = e.local;
   is_obtained = e.is_obtained || obtains_in known n (mentions m);
@@ -111,14 +111,14 @@ noted_mention known n bodies m e = record {
   is_in_literal = e.is_in_literal || is_inside known n e.local bodies m;
 }
 
-abbrev pub noted : Known → ℕ → List BodyPlace → Mark → Entry → Entry
+abbrev pub noted : Known → ℕ → List BodyPlace → Mark → SeenLocal → SeenLocal
 noted known n bodies (mentions m) e = noted_mention known n bodies m e
 noted known n bodies (defers_literal site at) e = e
 noted known n bodies (returns at es) e = e
 noted known n bodies (opens b) e = e
 noted known n bodies closes e = e
 
-abbrev pub noted_all : Known → ℕ → List Placed → Entry → Entry
+abbrev pub noted_all : Known → ℕ → List Placed → SeenLocal → SeenLocal
 noted_all known n [] e = e
 noted_all known n (p ∷ ps) e = noted_all known n ps (noted known n p.bodies p.mark e)
 
@@ -132,7 +132,7 @@ abbrev pub seen_view : KeptSeen → Seen
 seen_view seen = seen_in (known_view seen.known) (marks_view seen.marks.items)
 
 -- what the marks of the file do to a local
-abbrev pub entry_of : Seen → Local → Entry
+abbrev pub entry_of : Seen → Local → SeenLocal
 entry_of seen l = record {
   local = l;
   is_obtained = list_any (λ p. obtains_in seen.known l.number p.mark) seen.marks;
@@ -151,8 +151,8 @@ pub record Sees (seen : KeptSeen) : Type 0 where
 abbrev pub kind_by_flags : Bool → Bool → Option VariableKind
 kind_by_flags is_obtained is_made = if is_obtained then Some cancel else if is_made then Some group else None
 
-abbrev pub kind_of_entry : Entry → Option VariableKind
+abbrev pub kind_of_entry : SeenLocal → Option VariableKind
 kind_of_entry e = or_else e.local.typed (kind_by_flags e.is_obtained e.is_made)
 
-abbrev pub tracked_kind_of_entry : Entry → Option VariableKind
+abbrev pub tracked_kind_of_entry : SeenLocal → Option VariableKind
 tracked_kind_of_entry e = if may_be_tracked e.local.role then kind_of_entry e else None

@@ -8,8 +8,8 @@ ghost use Rattle.tree.specs.View.{expression_syntax, expressions_syntax};
 
 use crate::known::{Known, facts_of, is_named};
 use crate::lefts::{count, may_bind};
-use facts::CONTEXT;
 use mentions::{Call, CallPlace, Named, Row, call_of};
+use names::CONTEXT;
 use tree::{Expr, ExprKind};
 
 /// The positions of the results that are cancel functions, and the number of results.

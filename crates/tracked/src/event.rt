@@ -10,7 +10,7 @@ ghost use Rattle.tracked.specs.RowViews.{known_view};
 use crate::known::{Known, meaning};
 use crate::makings::GroupState;
 use mentions::Named;
-use names::Decl;
+use names::NameMeaning;
 
 /// A function, of the import of that path, or of this package.
 #[derive(Clone, Copy)]
@@ -107,11 +107,11 @@ pub fn last_name<'a>(named: Named<'a>) -> &'a str
     }
 }
 
-fn path_of<'a>(meaning: Option<Decl<'a>>) -> Option<&'a str>
+fn path_of<'a>(meaning: Option<NameMeaning<'a>>) -> Option<&'a str>
     ensures { option_map (λ p. p.now) result ≡ path_meant (option_map decl_view meaning.entry) }
 {
     match meaning {
-        Some(Decl::Import(path)) => Some(path),
+        Some(NameMeaning::Import(path)) => Some(path),
         _ => None,
     }
 }

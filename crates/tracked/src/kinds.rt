@@ -5,12 +5,12 @@ ghost use Rattle.facts.specs.FactViews.{kind_view};
 ghost use Rattle.meaning.specs.Uses.{may_be_tracked};
 ghost use Rattle.tracked.specs.LocalViews.{local_role_view, entry_view, kind_of_entry, tracked_kind_of_entry};
 
-use crate::local::{Entry, LocalRole};
+use crate::local::{LocalRole, SeenLocal};
 use facts::VariableKind;
 
 /// The kind of a local, whatever its role is: that of its type; else cancel, if some row obtains it; else group, if
 /// some row makes it.
-pub fn kind(entry: Entry<'_>) -> Option<VariableKind>
+pub fn kind(entry: SeenLocal<'_>) -> Option<VariableKind>
     ensures { option_map kind_view result ≡ kind_of_entry (entry_view entry.entry) }
 {
     if entry.local.typed.is_some() {
@@ -37,7 +37,7 @@ pub fn may_be_tracked(role: LocalRole) -> bool
 }
 
 /// What the local is tracked as.
-pub fn tracked_kind(entry: Entry<'_>) -> Option<VariableKind>
+pub fn tracked_kind(entry: SeenLocal<'_>) -> Option<VariableKind>
     ensures { option_map kind_view result ≡ tracked_kind_of_entry (entry_view entry.entry) }
 {
     if may_be_tracked(entry.local.role) {

@@ -10,7 +10,7 @@ ghost use Rattle.tracked.specs.RowViews.{known_view};
 
 use facts::{FunctionFacts, Imported, Table, is_of};
 use mentions::Named;
-use names::{Decl, Names};
+use names::{NameMeaning, Names};
 
 /// What the uses of the file of that number mean, and the facts of functions: of this package's, and of given imports'.
 #[derive(Clone, Copy)]
@@ -22,7 +22,7 @@ pub struct Known<'k, 'a> {
 }
 
 /// What the use at the offset means.
-pub fn meaning<'a>(known: Known<'_, 'a>, at: u32) -> Option<Decl<'a>>
+pub fn meaning<'a>(known: Known<'_, 'a>, at: u32) -> Option<NameMeaning<'a>>
     ensures { option_map decl_view result ≡ (known_view known.entry).means at }
 {
     known.names.declaration(known.file, at)
@@ -34,8 +34,8 @@ pub fn facts_of<'k>(known: Known<'k, '_>, named: Named<'_>) -> Option<&'k Functi
         (named_view named.entry) }
 {
     match (named.selected, meaning(known, named.at)) {
-        (None, Some(Decl::Function)) => known.table.facts(named.name),
-        (Some(member), Some(Decl::Import(path))) => known.imported.facts(path, member),
+        (None, Some(NameMeaning::Function)) => known.table.facts(named.name),
+        (Some(member), Some(NameMeaning::Import(path))) => known.imported.facts(path, member),
         _ => None,
     }
 }
@@ -48,7 +48,7 @@ pub fn is_of_universe(known: Known<'_, '_>, name: &str, named: Named<'_>) -> boo
         return false;
     }
     match meaning(known, named.at) {
-        Some(Decl::Universe) => true,
+        Some(NameMeaning::Universe) => true,
         _ => false,
     }
 }
@@ -66,7 +66,7 @@ pub fn local_meant(known: Known<'_, '_>, at: u32, declares: Option<u32>) -> Opti
 {
     match meaning(known, at) {
         None => declares,
-        Some(Decl::Local(number, _)) => Some(number),
+        Some(NameMeaning::Local(number, _)) => Some(number),
         Some(_) => None,
     }
 }

@@ -24,7 +24,7 @@ pub use event::{Callee, Event, Handed, VariableAt, callee_of, last_name};
 pub use kinds::{kind, may_be_tracked, tracked_kind};
 pub use known::{Known, facts_of, is_named, is_of_universe, local_meant, meaning};
 pub use lefts::{Left, count, is_binding_form, is_blank_at, left_of, local_at, may_bind};
-pub use local::{Entry, Local, LocalRole};
+pub use local::{Local, LocalRole, SeenLocal};
 pub use makings::{GroupState, are_locals, is_in, row_clears, row_makes, row_obtains};
 pub use noted::variable_of;
 pub use seen::{Seen, see};

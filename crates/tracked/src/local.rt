@@ -29,7 +29,7 @@ pub struct Local<'a> {
 
 /// A local, and what the marks of the file do to it.
 #[derive(Clone, Copy)]
-pub struct Entry<'a> {
+pub struct SeenLocal<'a> {
     pub local: Local<'a>,
     /// Some row obtains it.
     pub is_obtained: bool,

@@ -11,8 +11,8 @@ ghost use Rattle.tree.specs.View.{expression_syntax, expressions_syntax};
 use crate::calls::{call_in, only, row_giving};
 use crate::known::{Known, is_named, is_of_universe};
 use crate::lefts::{count, local_at, may_bind};
-use facts::{CONTEXT, ERRGROUP};
 use mentions::{Call, Named, Row, RowForm, as_bare, as_named, as_new_literal};
+use names::{CONTEXT, ERRGROUP};
 use tree::{Expr, ExprKind};
 
 /// The state in which a group is made.

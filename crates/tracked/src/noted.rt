@@ -8,7 +8,7 @@ ghost use Rattle.meaning.specs.Tracked.{variable_of, is_obtained_by, is_made_by}
 ghost use Rattle.tracked.specs.RowViews.{known_view};
 
 use crate::known::{Known, local_meant};
-use crate::local::Entry;
+use crate::local::SeenLocal;
 use crate::makings::{row_makes, row_obtains};
 use crate::table::Entries;
 use mentions::{BodyPlace, Mark, Mention, Role, is_body};
@@ -48,13 +48,13 @@ fn noted<'a>(
     known: Known<'_, 'a>,
     bodies: &[BodyPlace<'a>],
     mention: Mention<'a>,
-    entry: Entry<'a>,
-) -> Entry<'a>
+    entry: SeenLocal<'a>,
+) -> SeenLocal<'a>
     ensures { (n : ℕ) → variable_of (known_view known.entry) (mention_view mention.entry) ≡ Some n →
         entry_view result ≡ noted_mention (known_view known.entry) n (map body_view bodies.now)
         (mention_view mention.entry) (entry_view entry.entry) }
 {
-    Entry {
+    SeenLocal {
         local: entry.local,
         is_obtained: entry.is_obtained || is_obtained(known, mention),
         is_made: entry.is_made || is_made(known, mention),

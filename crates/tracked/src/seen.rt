@@ -14,7 +14,7 @@ use crate::around::enter;
 use crate::declared::add_locals;
 use crate::kinds::{kind, tracked_kind};
 use crate::known::Known;
-use crate::local::Entry;
+use crate::local::SeenLocal;
 use crate::noted::note;
 use crate::table::{Entries, Locals};
 use facts::VariableKind;
@@ -91,7 +91,7 @@ pub fn see<'k, 'a>(
 
 impl<'k, 'a> Seen<'k, 'a> {
     /// The local of that number.
-    pub fn entry(&self, number: Option<u32>) -> Option<Entry<'a>>
+    pub fn entry(&self, number: Option<u32>) -> Option<SeenLocal<'a>>
         requires { Sees self.now }
         ensures { option_map entry_view result ≡ option_map (entry_of (seen_view self.now))
             (found (seen_view self.now) number) }

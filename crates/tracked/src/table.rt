@@ -3,14 +3,14 @@
 ghost use Rattle.std.specs.Prelude.{◌≡◌, ◌∷◌, [], ℕ, OnOk, is_some, option_map};
 ghost use Rattle.tracked.specs.LocalViews.{entry_view, entry_in, local_view, AddsLocals, HasNoLocals, update_entry};
 
-use crate::local::{Entry, Local};
+use crate::local::{Local, SeenLocal};
 use indexmap::IndexMap;
 use std::alloc::{AllocError, Global};
 
 /// What is known of each local, by its number.
 #[derive(Drop)]
 pub struct Entries<'a> {
-    by_number: IndexMap<u32, Entry<'a>>,
+    by_number: IndexMap<u32, SeenLocal<'a>>,
 }
 
 /// The locals of a file; of those with one number, which no tree of a text has, the first.
@@ -23,7 +23,7 @@ pub struct Locals<'a> {
 
 impl<'a> Entries<'a> {
     /// The local of that number.
-    pub fn entry(&self, number: u32) -> Option<Entry<'a>>
+    pub fn entry(&self, number: u32) -> Option<SeenLocal<'a>>
         ensures { option_map entry_view result ≡ entry_in self.now number }
     {
         match self.by_number.get(&number) {
@@ -44,7 +44,7 @@ impl<'a> Entries<'a> {
     /// # Errors
     ///
     /// Memory was refused.
-    pub fn put(&mut self, number: u32, entry: Entry<'a>) -> Result<(), AllocError>
+    pub fn put(&mut self, number: u32, entry: SeenLocal<'a>) -> Result<(), AllocError>
         ensures { OnOk result ((n : ℕ) → entry_in self.new n ≡ update_entry number (entry_view entry.entry)
             (entry_in self.old n) n) }
     {
@@ -77,7 +77,7 @@ impl<'a> Locals<'a> {
         if self.entries.has(local.number) {
             return Ok(());
         }
-        let entry = Entry {
+        let entry = SeenLocal {
             local,
             is_obtained: false,
             is_made: false,

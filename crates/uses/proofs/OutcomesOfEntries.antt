@@ -1,6 +1,6 @@
 -- What a mention of a local gives, by what the marks of its file do to the local.
 use Rattle.std.proofs.Common.{◌≡◌, List, Option, Some, None, option_map, refl, ap, ◌∙◌}
-use Rattle.tracked.specs.LocalViews.{Entry, entry_of, tracked_kind_of_entry, kind_of_entry}
+use Rattle.tracked.specs.LocalViews.{SeenLocal, entry_of, tracked_kind_of_entry, kind_of_entry}
 use Rattle.uses.specs.OutcomeViews.{binding_outcome_of, mention_outcome_of, row_outcome_of, role_outcome_of}
 use Rattle.meaning.specs.FunctionFacts.{VariableKind}
 use Rattle.meaning.specs.Mentions.{BodyPlace, Row, Role, elsewhere, called, called_in_brackets, argument, returned, left, names_type, new_literal, parameter_pointer, Mention}
@@ -38,7 +38,7 @@ module _ (s : Seen) (l : Local) (bs : List BodyPlace) (m : Mention) where
   role_same (new_literal row) = mention_same (tracked_kind s (Some l))
   role_same parameter_pointer = mention_same (tracked_kind s (Some l))
 
-pub entry_same : (s : Seen) (bs : List BodyPlace) (m : Mention) (e : Entry) (l : Option Local)
+pub entry_same : (s : Seen) (bs : List BodyPlace) (m : Mention) (e : SeenLocal) (l : Option Local)
     → Some e ≡ option_map (entry_of s) l → role_outcome_of s e bs m m.role ≡ local_outcome s bs m l
 entry_same s bs m e None is = absurd cc
 entry_same s bs m e (Some l) is =

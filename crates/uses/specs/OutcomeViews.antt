@@ -7,7 +7,7 @@ use Rattle.uses.specs.declared.bindings.Binding.{Binding as KeptBinding}
 use Rattle.uses.specs.declared.bindings.Binding.TheVariants.{Obtained, Cleared, Made}
 use Rattle.tracked.specs.declared.event.Event.{Event as KeptEvent}
 use Rattle.tracked.specs.EventViews.{event_view}
-use Rattle.tracked.specs.LocalViews.{Entry, kind_of_entry, tracked_kind_of_entry}
+use Rattle.tracked.specs.LocalViews.{SeenLocal, kind_of_entry, tracked_kind_of_entry}
 use Rattle.tracked.specs.RowViews.{state_view}
 use Rattle.meaning.specs.FunctionFacts.{VariableKind}
 use Rattle.meaning.specs.Mentions.{Row, BodyPlace, Role, elsewhere, called, called_in_brackets, argument, returned, left, names_type, new_literal, parameter_pointer, Mention}
@@ -43,12 +43,12 @@ Gives before after event outcome = AddsFaults before after outcome.faults × (ev
 
 -- Outcomes of a local with what the marks of its file do to it
 
-abbrev pub again_of : Known → Entry → Mention → List UseFault
+abbrev pub again_of : Known → SeenLocal → Mention → List UseFault
 again_of known e m =
     if e.is_in_literal && not (is_some (declared_by known m)) then fault_at m.named.at bound_again e.local.name else []
 
 abbrev pub binding_outcome_of
-    : Known → Entry → VariableKind → List BodyPlace → Mention → Row → Event → LocalRole → Outcome
+    : Known → SeenLocal → VariableKind → List BodyPlace → Mention → Row → Event → LocalRole → Outcome
 binding_outcome_of known e kind bodies m row event result =
     only_faults (fault_at m.named.at bound_again e.local.name)
 binding_outcome_of known e kind bodies m row event variadic =
@@ -62,22 +62,22 @@ binding_outcome_of known e kind bodies m row event in_block = record {
   events = event_here e.local bodies event;
 }
 
-abbrev pub mention_outcome_of : Seen → Entry → Option VariableKind → List BodyPlace → Mention → Outcome
+abbrev pub mention_outcome_of : Seen → SeenLocal → Option VariableKind → List BodyPlace → Mention → Outcome
 mention_outcome_of seen e None bodies m = nothing
 mention_outcome_of seen e (Some kind) bodies m = use_outcome kind e.local m (kind_use seen e.local kind bodies m)
 
 abbrev pub row_outcome_of
-    : Seen → Entry → Option VariableKind → List BodyPlace → Mention → Row → Option Binding → Outcome
+    : Seen → SeenLocal → Option VariableKind → List BodyPlace → Mention → Row → Option Binding → Outcome
 row_outcome_of seen e None bodies m row binding = nothing
 row_outcome_of seen e (Some kind) bodies m row None = mention_outcome_of seen e (tracked_kind_of_entry e) bodies m
 row_outcome_of seen e (Some kind) bodies m row (Some binding) =
     binding_outcome_of seen.known e kind bodies m row (binding_event seen.known e.local m row binding) e.local.role
 
-abbrev pub role_outcome_of : Seen → Entry → List BodyPlace → Mention → Role → Outcome
+abbrev pub role_outcome_of : Seen → SeenLocal → List BodyPlace → Mention → Role → Outcome
 role_outcome_of seen e bodies m (left k row) =
     row_outcome_of seen e (kind_of_entry e) bodies m row (binding_at seen row k)
 role_outcome_of seen e bodies m role = mention_outcome_of seen e (tracked_kind_of_entry e) bodies m
 
-abbrev pub entry_outcome : Seen → List BodyPlace → Mention → Option Entry → Outcome
+abbrev pub entry_outcome : Seen → List BodyPlace → Mention → Option SeenLocal → Outcome
 entry_outcome seen bodies m None = nothing
 entry_outcome seen bodies m (Some e) = role_outcome_of seen e bodies m m.role

@@ -9,8 +9,9 @@ ghost use Rattle.meaning.specs.FunctionFacts.{is_selected};
 
 use crate::bindings::makes_group;
 use crate::faults::{UseCode, UseFault, add_last};
-use facts::{ERRGROUP, is_import};
+use facts::is_import;
 use mentions::{CallPlace, Mention, Named, Role};
+use names::ERRGROUP;
 use std::alloc::{AllocError, Global};
 use tracked::{Seen, is_of_universe, meaning};
 

@@ -20,7 +20,7 @@ use facts::VariableKind;
 use mentions::{Mention, Role, Row, Standing, is_body};
 use std::alloc::{AllocError, Global};
 use tracked::{
-    Callee, Entry, Event, Known, Local, LocalRole, callee_of, declared_by, kind, only_call,
+    Callee, Event, Known, Local, LocalRole, SeenLocal, callee_of, declared_by, kind, only_call,
     tracked_kind, variable_of,
 };
 
@@ -28,7 +28,7 @@ use tracked::{
 #[derive(Clone, Copy)]
 struct Found<'s, 'a> {
     at: At<'s, 'a>,
-    entry: Entry<'a>,
+    entry: SeenLocal<'a>,
 }
 
 /// The function that is called as the only value of the row.
@@ -72,7 +72,7 @@ fn binding_event<'a>(
 /// A variable that is bound again although a literal mentions it.
 fn add_again<'a>(
     known: Known<'_, 'a>,
-    entry: Entry<'a>,
+    entry: SeenLocal<'a>,
     mention: Mention<'a>,
     faults: &mut Vec<UseFault<'a>>,
 ) -> Result<(), AllocError>
@@ -151,7 +151,7 @@ fn binding_outcome<'a>(
 /// A binding of a parameter, which gives no event.
 fn parameter_bound<'a>(
     known: Known<'_, 'a>,
-    entry: Entry<'a>,
+    entry: SeenLocal<'a>,
     kind: VariableKind,
     mention: Mention<'a>,
     faults: &mut Vec<UseFault<'a>>,

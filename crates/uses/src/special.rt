@@ -9,9 +9,8 @@ ghost use Rattle.meaning.specs.Tracked.{is_universe};
 ghost use Rattle.names.specs.Answers.{decl_view};
 
 use crate::faults::{UseCode, UseFault, add_fault, add_last};
-use facts::CONTEXT;
 use mentions::{Mention, Named};
-use names::Decl;
+use names::{CONTEXT, NameMeaning};
 use std::alloc::AllocError;
 use tracked::{Known, is_named, meaning};
 
@@ -39,11 +38,11 @@ pub fn add_cause<'a>(
     Ok(())
 }
 
-fn is_universe(meaning: Option<Decl<'_>>) -> bool
+fn is_universe(meaning: Option<NameMeaning<'_>>) -> bool
     ensures { result ≡ is_universe (option_map decl_view meaning.entry) }
 {
     match meaning {
-        Some(Decl::Universe) => true,
+        Some(NameMeaning::Universe) => true,
         _ => false,
     }
 }

@@ -1,4 +1,3 @@
-pub mod ImportsOf
 mod KeptPackages
 mod NumberedTrees
 mod SecondPlaces

@@ -21,7 +21,7 @@ use Rattle.meaning_reports.specs.WholeFaults.{ImportsAt, import_entry, IsWholeFa
 use Rattle.whole_packages.specs.declared.loaded_package.Reading.{Reading as KeptReading}
 use Rattle.whole_packages.specs.declared.loaded_package.Reading.TheVariants.{Tree, NoTokens, NoTree}
 use Rattle.whole_packages.specs.LoadedViews.{readings_of}
-use Rattle.whole_packages.proofs.ImportsOf.{gives, given_by, only_one, import_there, first_import, no_rank_above}
+use Rattle.meaning_reports.proofs.ImportsOf.{gives, given_by, only_one, import_there, first_import, no_rank_above}
 use Rattle.whole_packages.specs.WholeEntries.{failure, failure_entries, failures_from, second_at, second_entries, is_set, is_set_at, is_marked, spec_entries, tree_entries, TellsOrder}
 
 from_start : (k : ℕ) → 0 + k ≡ k

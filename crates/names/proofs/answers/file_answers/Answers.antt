@@ -4,7 +4,7 @@ use Rattle.indexmap.specs.IndexMap.{get}
 use Rattle.names.specs.Answers.{at_name, text_at, names_by_path}
 use Rattle.names.specs.Ordered.{AreFirst}
 use Rattle.names.specs.Uses.{meant}
-use Rattle.meaning.specs.Scopes.{Local, Naming, file_names}
+use Rattle.meaning.specs.Scopes.{LocalName, Naming, file_names}
 use Rattle.meaning.specs.Declarations.{Use, Meaning, locals_of}
 use Rattle.scopes.specs.Views.{namings_view}
 use Rattle.tree.specs.Syntax.{SourceFile}
@@ -26,7 +26,7 @@ loop-naming-init c =
 pub loop-naming-preserved : goal.loop-naming-preserved
 loop-naming-preserved c =
     let file : SourceFile = file_syntax c.args.file.now in
-    let all : List Local = locals_of (file_names file) in
+    let all : List LocalName = locals_of (file_names file) in
     let means : Use → Meaning = meant (at_name c.args.block.now) (names_by_path c.args.packages.now) file in
     let firsts : AreFirst c.in_ok-firsts.firsts all =
     subst (λ (ns : List Naming). AreFirst c.in_ok-firsts.firsts (locals_of ns))

@@ -7,4 +7,4 @@ use Rattle.parser_expressions.proofs.primaries.suffixes.Given as goal
 
 abbrev pub invariant-loop : goal.invariant-loop
 invariant-loop g l =
-    read_suffixes l.source.text.now (parts_of l.source) l.source.below l.header (cursor l.source l.fn.from) (l.end - l.counter) (expression_syntax l.grown) (cursor l.source l.rest) ≡ read_suffixes l.source.text.now (parts_of l.source) l.source.below l.header (cursor l.source l.fn.from) (steps (cursor l.source l.fn.place)) (expression_syntax l.fn.operand) (cursor l.source l.fn.place)
+    read_suffixes l.source.text.now (parts_of l.source) l.source.below l.header (cursor l.source l.fn.begun.from) (l.end - l.counter) (expression_syntax l.grown) (cursor l.source l.rest) ≡ read_suffixes l.source.text.now (parts_of l.source) l.source.below l.header (cursor l.source l.fn.begun.from) (steps (cursor l.source l.fn.begun.place)) (expression_syntax l.fn.begun.first) (cursor l.source l.fn.begun.place)

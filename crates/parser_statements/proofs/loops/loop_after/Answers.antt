@@ -6,4 +6,4 @@ use Rattle.parser_statements.proofs.loops.loop_after.Goals as goal
 
 pub returns-then-has_range : goal.returns-then-has_range
 returns-then-has_range g c =
-    rw (names-range c.args.source.text.now (parts_of c.args.source) c.args.source.below (cursor c.args.source c.args.from) (cursor c.args.source c.args.start) (expressions_syntax c.args.left.items) (cursor c.args.source c.args.place) _ (sym c.has_range.ensures ∙ c.if-has_range.true) c.in_ok-names.ensures, sym c.behind.ensures) c.defined_range.ensures
+    rw (names-range c.args.source.text.now (parts_of c.args.source) c.args.source.below (cursor c.args.source c.args.from) (cursor c.args.source c.args.header.from) (expressions_syntax c.args.header.first.items) (cursor c.args.source c.args.header.place) _ (sym c.has_range.ensures ∙ c.if-has_range.true) c.in_ok-names.ensures, sym c.behind.ensures) c.defined_range.ensures

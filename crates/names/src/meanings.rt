@@ -1,14 +1,14 @@
 //! What a use of a name means, and why names cannot be resolved.
 
 ghost use Rattle.std.specs.Prelude.{◌≡◌};
-ghost use Rattle.names.specs.declared.decl.NameFault.TheVariants.{Memory};
+ghost use Rattle.names.specs.declared.meanings.NameFault.TheVariants.{Memory};
 
 use std::alloc::AllocError;
 use tree::{DeclKeyword, Identifier};
 
 /// What a use of a name means.
 #[derive(Clone, Copy)]
-pub enum Decl<'a> {
+pub enum NameMeaning<'a> {
     /// A local: its number, and whether it is a constant, a variable or a type. The number is the offset of the name
     /// that declares it; in a clause of a type switch, that of the clause's keyword.
     Local(u32, DeclKeyword),

@@ -1,0 +1,177 @@
+-- Given packages have one report. They are loaded in one way, but for the reasons why trees are missing; and where one is
+-- missing, the package is no yes in either report.
+use Rattle.std.proofs.Common.{◌≡◌, ℕ, zero, suc, ◌⊎◌, inl, inr, Bool, true, false, ◌&&◌, List, [], ◌∷◌, map, Some, None, Contains, refl, sym, ap, ◌∙◌, subst, arith}
+use Rattle.std.specs.Prelude.{slice_get, option_map}
+use Rattle.std.specs.List.{list_all}
+use Rattle.std.proofs.lemmas.List.Sorted.{Contains-permutation, IsPermutation-sym}
+use Rattle.std.proofs.lemmas.Option.{same_Some, slice_get_within, get_or_from_slice_get, slice_get-map}
+use Rattle.lexer.specs.declared.source.Source.{Source}
+use Rattle.meaning.proofs.Membership.{contains_nil, contains_unmap}
+use Rattle.report.specs.declared.diagnostics.Diagnostic.{Diagnostic}
+use Rattle.report.specs.Entries.{Entry, entry_of}
+use Rattle.meaning_reports.specs.Loaded.{Reading, has_tree, has_text_fault, has_tree_fault, LoadedPackage}
+use Rattle.meaning_reports.specs.WholeFaults.{IsWholeFault, has_no_tree}
+use Rattle.meaning_reports.specs.PackageReports.{of_whole, Said, IsReportOf}
+use Rattle.meaning_reports.proofs.OneReport.{one_report}
+use Rattle.load.specs.declared.packages.GivenPackage.{GivenPackage}
+use Rattle.load.specs.Readings.{IsReadingOf}
+use Rattle.load.specs.GivenPackages.{PathAndFiles, entry_of as path_and_files, AreLoaded}
+use Rattle.all_packages.specs.declared.judged.Judged.{Judged}
+use Rattle.all_packages.specs.Judgments.{table_view}
+use Rattle.all_packages.specs.Reports.{report_in, said_view, says_nothing, is_yes}
+use Rattle.judge.specs.Reports.{Report, IsReport}
+use Rattle.judge.specs.OneReport.{HaveTrees, GivenPackagesHaveOneReport}
+use Rattle.judge.proofs.LoadedPackages.{are_as_many, each_loaded}
+use Rattle.judge.proofs.SourcePlaces.{source_there, there}
+use Rattle.judge.proofs.SameTexts.{one_text}
+use Rattle.judge.proofs.OneLoad.{one_order, HasTreeFault, HasNoTreeIn, one_way, one_source}
+
+-- Verdicts
+
+-- there is no entry
+abbrev is_empty : List Entry → Bool
+is_empty [] = true
+is_empty (x ∷ xs) = false
+
+abbrev is_quiet : Said → Bool
+is_quiet said = is_empty said.entries
+
+nothing_said : (ds : List Diagnostic) → says_nothing ds ≡ is_empty (map entry_of ds)
+nothing_said [] = refl
+nothing_said (d ∷ ds) = refl
+
+all_quiet : (said : List Judged) → list_all is_yes (map report_in said) ≡ list_all is_quiet (map said_view said)
+all_quiet [] = refl
+all_quiet (j ∷ js) =
+    let first = nothing_said j.report.diagnostics.items in
+    let rest = all_quiet js in
+    λ i. first i && rest i
+
+not_all : (said : List Said) (i : ℕ) (s : Said) → slice_get said i ≡ Some s → is_quiet s ≡ false → list_all is_quiet said ≡ false
+not_all [] zero s is loud = let bad : None ≡ Some s = is in cc
+not_all [] (suc i) s is loud = let bad : None ≡ Some s = is in cc
+not_all (x ∷ xs) zero s is loud =
+    ap (λ (b : Bool). b && list_all is_quiet xs) (ap is_quiet (same_Some x s is) ∙ loud)
+not_all (x ∷ xs) (suc i) s is loud = by (is_quiet x) (not_all xs i s is loud)
+  where
+    by : (b : Bool) → list_all is_quiet xs ≡ false → (b && list_all is_quiet xs) ≡ false
+    by true rest = rest
+    by false rest = refl
+
+some_entry : (xs : List Entry) (x : Entry) → Contains xs x → is_empty xs ≡ false
+some_entry [] x h = absurd (contains_nil x h)
+some_entry (y ∷ ys) x h = refl
+
+whole_fault : (ps : List LoadedPackage) (h : HasNoTreeIn ps) → (x : Entry) × IsWholeFault ps h.place x
+whole_fault ps h = by h.file.reading h.file.is_there h.file.is_fault
+  where
+    by : (r : Reading) → slice_get h.loaded.files h.file.place ≡ Some r → HasTreeFault r → (x : Entry) × IsWholeFault ps h.place x
+    by (has_tree tree) is fault = absurd fault
+    by (has_text_fault at why) is fault = absurd fault
+    by (has_tree_fault at why) is fault = (_, has_no_tree h.loaded h.file.place at why h.is_there is)
+
+-- a package in which a tree is missing is no yes
+no_yes : (ps : List LoadedPackage) (said : List Said) → IsReportOf ps said → HasNoTreeIn ps → list_all is_quiet said ≡ false
+no_yes ps said reports h =
+    let within = slice_get_within ps h.place h.loaded h.is_there in
+    let long = reports.is_as_long in
+    let s = there said h.place (omega (arith, within, long)) in
+    let findings = (reports.of_package h.place h.loaded s.0 h.is_there s.1).1 in
+    let fault = whole_fault ps h in
+    not_all said h.place s.0 s.1 (some_entry s.0.entries fault.0 ((findings.each fault.0).1 (of_whole fault.1)))
+
+-- Two reports
+
+module _ (given : List GivenPackage) (one other : Report) (h : IsReport given one) (k : IsReport given other) where
+  order : h.load.in_order ≡ k.load.in_order
+  order = one_order (map path_and_files given) h.packages k.packages h.load k.load
+
+  -- what is kept in the second report, of the entries in the order of the first
+  loaded_too : AreLoaded h.load.in_order k.load.meant k.packages
+  loaded_too = subst (λ (es : List PathAndFiles). AreLoaded es k.load.meant k.packages) (sym order) k.load.are_loaded
+
+  ways : (h.load.meant ≡ k.load.meant) ⊎ (HasNoTreeIn h.load.meant × HasNoTreeIn k.load.meant)
+  ways = one_way h.load.in_order h.load.meant k.load.meant h.packages k.packages h.load.are_loaded loaded_too
+
+  -- the second report as one of the packages of the first
+  report_too : h.load.meant ≡ k.load.meant → IsReportOf h.load.meant (map said_view k.said)
+  report_too same =
+      subst (λ (ps : List LoadedPackage). IsReportOf ps (map said_view k.said)) (sym same) k.are_reports.is_report
+
+  verdicts : list_all is_quiet (map said_view h.said) ≡ list_all is_quiet (map said_view k.said)
+  verdicts = by ways
+    where
+      by : (h.load.meant ≡ k.load.meant) ⊎ (HasNoTreeIn h.load.meant × HasNoTreeIn k.load.meant)
+          → list_all is_quiet (map said_view h.said) ≡ list_all is_quiet (map said_view k.said)
+      by (inl same) =
+          ap (list_all is_quiet) (one_report h.load.meant (map said_view h.said) (map said_view k.said) h.are_reports.is_report (report_too same))
+      by (inr w) =
+          no_yes h.load.meant (map said_view h.said) h.are_reports.is_report w.0
+          ∙ sym (no_yes k.load.meant (map said_view k.said) k.are_reports.is_report w.1)
+
+  same_verdict : one.yes ≡ other.yes
+  same_verdict =
+      h.told.verdict ∙ (all_quiet h.said ∙ (verdicts ∙ (sym (all_quiet k.said) ∙ sym k.told.verdict)))
+
+  -- no tree is missing
+  none_missing : HaveTrees given → HasNoTreeIn h.load.meant → ⊥
+  none_missing trees w =
+      let within = slice_get_within h.load.meant w.place w.loaded w.is_there in
+      let long = are_as_many h.load.in_order h.load.meant h.packages h.load.are_loaded in
+      let kept = there h.packages w.place (omega (arith, within, long)) in
+      let own = each_loaded h.load.in_order h.load.meant h.packages h.load.are_loaded w.place w.loaded kept.0 w.is_there kept.1 in
+      let s = source_there kept.0.sources.items w.loaded.files own.loaded.are_files w.file.place w.file.reading w.file.is_there in
+      let among : Contains kept.0.sources.items s.0 =
+      (w.file.place, slice_get_within kept.0.sources.items w.file.place s.0 s.1, get_or_from_slice_get kept.0.sources.items w.file.place s.0 s.0 s.1) in
+      let by_name = own.loaded.by_name.same in
+      let its = Contains-permutation kept.0.sources.items own.of.1.items s.0
+      (IsPermutation-sym own.of.1.items kept.0.sources.items by_name) among in
+      let entry = Contains-permutation h.load.in_order (map path_and_files given) own.of
+      (IsPermutation-sym (map path_and_files given) h.load.in_order h.load.same) own.is_given in
+      let g = contains_unmap path_and_files given own.of entry in
+      let in_given : Contains g.0.sources.items s.0 =
+      subst (λ (e : PathAndFiles). Contains e.1.items s.0) (sym g.2) its in
+      by g.0 s.0 g.1 in_given w.file.reading s.2 w.file.is_fault
+    where
+      by : (g : GivenPackage) (s : Source) → Contains given g → Contains g.sources.items s → (r : Reading)
+          → IsReadingOf s.bytes.items r
+          → HasTreeFault r
+          → ⊥
+      by g s among its (has_tree tree) read fault = fault
+      by g s among its (has_text_fault at why) read fault = fault
+      by g s among its (has_tree_fault at why) read fault =
+          let tree = trees g s read.tokens among its read.cut in read.no_tree tree.0 tree.1
+
+  sources : (i : ℕ) (a b : Judged) → slice_get h.said i ≡ Some a → slice_get k.said i ≡ Some b
+      → a.report.sources.now ≡ b.report.sources.now
+  sources i a b is that =
+      let first = slice_get-map said_view h.said i ∙ ap (option_map said_view) is in
+      let second = slice_get-map said_view k.said i ∙ ap (option_map said_view) that in
+      let in_first = slice_get_within (map said_view h.said) i (said_view a) first in
+      let in_second = slice_get_within (map said_view k.said) i (said_view b) second in
+      let long = h.are_reports.is_report.is_as_long in
+      let long_too = k.are_reports.is_report.is_as_long in
+      let many = are_as_many h.load.in_order h.load.meant h.packages h.load.are_loaded in
+      let many_too = are_as_many k.load.in_order k.load.meant k.packages k.load.are_loaded in
+      let kept = there h.packages i (omega (arith, in_first, long, many)) in
+      let others = there k.packages i (omega (arith, in_second, long_too, many_too)) in
+      (h.are_reports.are_told i kept.0 a kept.1 is).are_sources
+      ∙ (one_source h.load.in_order h.load.meant k.load.meant h.packages k.packages h.load.are_loaded loaded_too i kept.0 others.0 kept.1 others.1
+      ∙ sym (k.are_reports.are_told i others.0 b others.1 that).are_sources)
+
+  same_text : HaveTrees given → one.text.items ≡ other.text.items
+  same_text trees = by ways
+    where
+      by : (h.load.meant ≡ k.load.meant) ⊎ (HasNoTreeIn h.load.meant × HasNoTreeIn k.load.meant)
+          → one.text.items ≡ other.text.items
+      by (inl same) =
+          h.told.is_text
+          ∙ (one_text report_in table_view h.load.meant h.said k.said h.are_reports.is_report (report_too same) sources
+          ∙ sym k.told.is_text)
+      by (inr w) = absurd (none_missing trees w.0)
+
+pub given_packages_have_one_report : GivenPackagesHaveOneReport
+given_packages_have_one_report = record {
+  one_verdict = same_verdict;
+  one_text = λ given one other trees h k. same_text given one other h k trees;
+}

@@ -1,0 +1,113 @@
+-- In the tree of a text the names of its marks stand in the text.
+use Rattle.std.proofs.Common.{ℕ, ◌≤◌, Bool, true, false, List, [], ◌∷◌, length, Option, Some, None, Contains, subst, inl, inr, arith}
+use Rattle.lexer.specs.declared.token.Token.{Token}
+use Rattle.tree.specs.declared.operator.DeclKeyword.{DeclKeyword}
+use Rattle.tree.specs.Syntax.{Parameters, Specs, no_spec, value_and, type_and, declaration_of, Block, Function, TopLevelDeclaration, function_declaration, general_declaration, ImportSpec, ImportDeclaration, SourceFile}
+use Rattle.meaning.specs.Mentions.{part_of, expressions_marks, receiver_marks, function_body, function_marks, outer_specs_marks, top_level_marks, top_levels_marks, file_marks}
+use Rattle.meaning.specs.TreeOfText.{first_place, IsTreeOf}
+use Rattle.meaning.specs.Grammar.{as_type, as_expression, SpellsSpecs, SpellsDeclaration, SpellsImportSpec, SpellsImportSpecs, SpellsOneImport, SpellsImports, SpellsReceiver, SpellsFunction, SpellsTopLevel, SpellsTopLevels, SpellsFile}
+use Rattle.meaning.proofs.Membership.{contains_nil, contains_cases}
+use Rattle.meaning_runs.specs.NamePlaces.{ReceiverLies, NamesLieInTexts}
+use Rattle.meaning_runs.proofs.BodyOffsetsTokens.{Ordered, first_ordered, tokens_ordered, tokens_under}
+use Rattle.meaning_runs.proofs.BodyOffsetsSpelled.{no_expressions}
+use Rattle.meaning_runs.proofs.BodyOffsets.{no_outer_specs}
+use Rattle.meaning_runs.proofs.NameRules.{IsInside, Says, Keeps, AllLie, none_lie, both_lie, says_nothing, keeps_nothing, says_never, keeps_token, says_both, behind, ending, says_chosen, so, given, spanned, keeps_only_if, enclosed, keeps_string, keeps_semicolon, says_identifier, keeps_optional_identifier, says_identifiers, both}
+use Rattle.meaning_runs.proofs.NameParts.{body_lies, says_perhaps, says_expressions}
+use Rattle.meaning_runs.proofs.NamesSpelled.{says_last, of_expression, of_each, of_optional, of_signature, of_items, of_statements}
+
+module _ (text : List ℕ) (n : ℕ) where
+  receiver : (site : ℕ) (ps : Option Parameters)
+      → Says n (AllLie n (receiver_marks site ps) × ReceiverLies n ps) (SpellsReceiver text ps)
+  receiver site None = says_nothing (none_lie, tt)
+  receiver site (Some ps) = given (enclosed _ _ (of_items text n true true site ps))
+
+  -- a function by its parts
+  with_block : (f : Function) (b : Option Block)
+      → Says n (AllLie n (function_marks f b)) (SpellsFunction text record f { body = b })
+  with_block f None =
+      spanned (behind (keeps_token _) (so (λ w. both_lie w.0.0 w.1.0)
+      (says_both (receiver f.span.start f.receiver) (behind (says_identifier text f.name)
+      (ending (of_signature text n f.span.start f.signature) keeps_nothing)))))
+  with_block f (Some b) =
+      spanned (behind (keeps_token _)
+      (so (λ w. body_lies (function_body f b) (w.0.1, w.1.0.1) (both_lie (both_lie w.0.0 w.1.0.0) w.1.1))
+      (says_both (receiver f.span.start f.receiver) (behind (says_identifier text f.name)
+      (says_both (of_signature text n f.span.start f.signature)
+      (spanned (enclosed _ _ (of_statements text n b.statements))))))))
+
+  outer_specs : (keyword : DeclKeyword) (is_grouped : Bool) (specs : Specs)
+      → Says n (AllLie n (outer_specs_marks specs)) (SpellsSpecs text keyword is_grouped specs)
+  unfolding SpellsSpecs
+  outer_specs keyword is_grouped no_spec = says_chosen is_grouped (says_nothing none_lie) says_never
+  outer_specs keyword is_grouped (value_and names t es span specs) =
+      given (so (λ w. both_lie w.0.0 (both_lie w.0.1 w.1))
+      (says_both (spanned (behind (says_identifiers text names)
+      (says_both (of_optional text n as_type span.start t)
+      (says_perhaps es (expressions_marks (part_of span.start)) (no_expressions (part_of span.start))
+      (behind (keeps_token _)
+      (says_expressions n text as_expression (part_of span.start) es tt (of_each text n as_expression es)))))))
+      (says_chosen is_grouped (behind keeps_semicolon (outer_specs keyword true specs))
+      (says_last n (outer_specs_marks specs) specs (no_outer_specs specs)))))
+  outer_specs keyword is_grouped (type_and name is_alias t span specs) =
+      given (both (spanned (behind (says_identifier text name)
+      (behind (keeps_only_if is_alias (keeps_token _)) (of_expression text n as_type (part_of span.start) t tt))))
+      (says_chosen is_grouped (behind keeps_semicolon (outer_specs keyword true specs))
+      (says_last n (outer_specs_marks specs) specs (no_outer_specs specs))))
+
+  top_level : (d : TopLevelDeclaration) → Says n (AllLie n (top_level_marks d)) (SpellsTopLevel text d)
+  unfolding SpellsDeclaration
+  top_level (function_declaration f) = with_block f f.body
+  top_level (general_declaration (declaration_of keyword specs is_grouped span)) =
+      spanned (behind (keeps_token _)
+      (says_chosen is_grouped (enclosed _ _ (outer_specs keyword true specs)) (outer_specs keyword false specs)))
+
+  top_levels : (ds : List TopLevelDeclaration) → Says n (AllLie n (top_levels_marks ds)) (SpellsTopLevels text ds)
+  top_levels [] = says_nothing none_lie
+  top_levels (d ∷ ds) = both (top_level d) (behind keeps_semicolon (top_levels ds))
+
+  import_spec : (i : ImportSpec) → Keeps n (SpellsImportSpec text i)
+  import_spec i = given (spanned (behind (keeps_optional_identifier text i.name) (spanned keeps_string)))
+
+  import_specs : (is : List ImportSpec) → Keeps n (SpellsImportSpecs text is)
+  import_specs [] = keeps_nothing
+  import_specs (i ∷ is) = behind (import_spec i) (behind keeps_semicolon (import_specs is))
+
+  one_import : (is : List ImportSpec) → Keeps n (SpellsOneImport text is)
+  one_import [] = says_never
+  one_import (i ∷ []) = import_spec i
+  one_import (i ∷ j ∷ is) = says_never
+
+  imports : (ds : List ImportDeclaration) → Keeps n (SpellsImports text ds)
+  imports [] = keeps_nothing
+  imports (d ∷ ds) =
+      behind (spanned (behind (keeps_token _)
+      (says_chosen d.is_grouped (enclosed _ _ (import_specs d.specs)) (one_import d.specs))))
+      (behind keeps_semicolon (imports ds))
+
+  whole_file : (file : SourceFile) → Says n (AllLie n (file_marks file)) (SpellsFile text file)
+  whole_file file =
+      spanned (behind (keeps_token _) (behind (says_identifier text file.package_name) (behind keeps_semicolon
+      (behind (imports file.imports) (top_levels file.declarations)))))
+
+-- a token begins before it ends
+begins_first : (lo : ℕ) (ts : List Token) → Ordered lo ts → (t : Token) → Contains ts t → t.start ≤ t.end
+begins_first lo [] h t none = absurd (contains_nil t none)
+begins_first lo (x ∷ ts) h t among =
+    let k = first_ordered lo x ts h in
+    elim (contains_cases x t ts among) [
+      | inl same ↦ subst (λ (y : Token). y.start ≤ y.end) same k.0.ends
+      | inr later ↦ begins_first x.end ts k.1 t later
+    ]
+
+all_inside : (text : List ℕ) (tree : SourceFile) → (t : IsTreeOf text tree) → IsInside (length text) (first_place t.tokens)
+all_inside text tree t = record {
+  end = omega arith;
+  tokens = λ x among.
+      let begins = begins_first 0 t.tokens (tokens_ordered text t.tokens t.cut) x among in
+      let under = tokens_under text t.tokens t.cut x among in
+      (omega (arith, begins, under), under);
+}
+
+pub names_lie_in_texts : NamesLieInTexts
+names_lie_in_texts text tree m t among =
+    (whole_file text (length text) tree (first_place t.tokens) t.last (all_inside text tree t) t.spelled).holds.each m among
