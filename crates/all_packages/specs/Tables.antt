@@ -3,11 +3,11 @@ use Rattle.std.specs.Prelude.{ℕ, ◌+◌, ◌≡◌, Bool, true, false, ◌&&�
 use Rattle.std.specs.List.Sorted.{IsStrictlySortedBy}
 use Rattle.tree.specs.Syntax.{SourceFile, TopLevelDeclaration, function_declaration, general_declaration}
 use Rattle.tree.specs.View.{file_syntax}
-use Rattle.meaning.specs.FunctionFacts.{FunctionFacts, TrackedParameter, VariableKind, cancel, group}
+use Rattle.meaning.specs.FunctionFacts.{CancelType, plain, with_cause, is_same_type, TrackedType, cancel_type, group_type, TrackedParameter, CancelResult, FunctionFacts}
 use Rattle.whole_packages.specs.declared.loaded_package.LoadedPackage.{LoadedPackage as KeptPackage}
 use Rattle.whole_packages.specs.LoadedViews.{TellPackages, HaveDistinctPaths}
 use Rattle.table_json.specs.declared.table.Parameter.{Parameter}
-use Rattle.table_json.specs.declared.table.Parameter.TheVariants.{Cancel, Group}
+use Rattle.table_json.specs.declared.table.Parameter.TheVariants.{Cancel, Cause, Group}
 use Rattle.table_json.specs.declared.table.Table.{Table}
 use Rattle.table_json.specs.Parts.{if_fits}
 use Rattle.table_json.specs.Tables.{Entry, by_bytes, entries_of}
@@ -24,18 +24,24 @@ as_list (Some a) = a ∷ []
 abbrev pub position_told : ℕ → List ℕ
 position_told n = as_list (if_fits n)
 
-abbrev pub parameter_kept : (ℕ → Bool) → TrackedParameter → VariableKind → ℕ → Parameter
-parameter_kept calls p cancel at = Cancel at (calls p.position)
-parameter_kept calls p group at = Group at
+abbrev pub parameter_kept : (ℕ → Bool) → TrackedParameter → TrackedType → ℕ → Parameter
+parameter_kept calls p (cancel_type plain) at = Cancel at (calls p.position)
+parameter_kept calls p (cancel_type with_cause) at = Cause at (calls p.position)
+parameter_kept calls p group_type at = Group at
 
 abbrev pub parameter_told : (ℕ → Bool) → TrackedParameter → Option Parameter
-parameter_told calls p = option_map (parameter_kept calls p p.kind) (if_fits p.position)
+parameter_told calls p = option_map (parameter_kept calls p p.typed) (if_fits p.position)
+
+-- the position of a result of that type
+abbrev pub result_told : CancelType → CancelResult → List ℕ
+result_told t r = if is_same_type t r.type then position_told r.position else []
 
 -- what is told of the function of that name, of whose parameters these are known to be called
 abbrev pub entry_told : (ℕ → Bool) → List ℕ → FunctionFacts → Entry
 entry_told calls name facts = record {
   name = name;
-  gives = flat_map position_told facts.gives;
+  gives = flat_map (result_told plain) facts.gives;
+  causes = flat_map (result_told with_cause) facts.gives;
   params = flat_map (λ p. as_list (parameter_told calls p)) facts.parameters;
 }
 
@@ -45,7 +51,7 @@ is_none_of (x ∷ xs) = false
 
 -- a function of which nothing is told is left out
 abbrev pub if_told : Entry → List Entry
-if_told e = if is_none_of e.gives && is_none_of e.params then [] else e ∷ []
+if_told e = if is_none_of e.gives && (is_none_of e.causes && is_none_of e.params) then [] else e ∷ []
 
 abbrev pub entries_with : (ℕ → Bool) → List ℕ → Option FunctionFacts → List Entry
 entries_with calls name None = []

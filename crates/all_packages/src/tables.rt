@@ -2,8 +2,8 @@
 
 ghost use Rattle.std.specs.Prelude.{◌≡◌, ◌++◌, IfOk, OnOk, flat_map, map};
 ghost use Rattle.all_packages.specs.Judgments.{table_view};
-ghost use Rattle.all_packages.specs.Tables.{as_list, declared_name, declared_names, entries_for, entry_told, if_told, is_none_of, parameter_kept, parameter_told, position_told, AreInOrder, AreTablesFrom, IsTableAt, TellsNames, TellsTables};
-ghost use Rattle.facts.specs.FactViews.{facts_view, kind_view, parameter_view};
+ghost use Rattle.all_packages.specs.Tables.{as_list, declared_name, declared_names, entries_for, entry_told, if_told, is_none_of, parameter_kept, parameter_told, result_told, AreInOrder, AreTablesFrom, IsTableAt, TellsNames, TellsTables};
+ghost use Rattle.facts.specs.FactViews.{cancel_result_view, facts_view, parameter_view, tracked_type_view, type_view};
 ghost use Rattle.imports.specs.Views.{text_views};
 ghost use Rattle.calls_flags.specs.KnownCalls.{is_called};
 ghost use Rattle.table_json.specs.Parts.{if_fits};
@@ -13,7 +13,7 @@ ghost use Rattle.tree.specs.View.{file_syntax, top_level_syntax};
 use crate::judged::Judged;
 use crate::packages::check;
 use calls_flags::Called;
-use facts::{FunctionFacts, TrackedParameter, VariableKind};
+use facts::{CancelResult, CancelType, FunctionFacts, TrackedParameter, TrackedType};
 use std::alloc::{AllocError, Global};
 use table_json::{Function, Parameter, Table};
 use tree::{File, TopLevelDecl};
@@ -74,37 +74,55 @@ fn if_fits(position: usize) -> Option<u32>
     u32::try_from(position).ok()
 }
 
-/// Adds a position, if it is one that a table can have.
-fn add_position(position: usize, positions: &mut Vec<u32>) -> Result<(), AllocError>
-    ensures { OnOk result (positions.new.items ≡ positions.old.items ++ position_told position) }
+/// Adds the position of a result, if it is of that type and a table can have it.
+fn add_result(
+    wanted: CancelType,
+    given: CancelResult,
+    positions: &mut Vec<u32>,
+) -> Result<(), AllocError>
+    ensures { OnOk result (positions.new.items ≡ positions.old.items
+        ++ result_told (type_view wanted) (cancel_result_view given)) }
 {
-    if let Some(position) = if_fits(position) {
+    if !wanted.is_same(given.cancel_type) {
+        return Ok(());
+    }
+    if let Some(position) = if_fits(given.position) {
         positions.push(position)?;
     }
     Ok(())
 }
 
-fn positions_of(alloc: Global, positions: &[usize]) -> Result<Vec<u32>, AllocError>
-    ensures { IfOk result (λ found. found.items ≡ flat_map position_told positions.now) }
+/// The positions of the results of that type.
+fn positions_of(
+    alloc: Global,
+    wanted: CancelType,
+    gives: &[CancelResult],
+) -> Result<Vec<u32>, AllocError>
+    ensures { IfOk result (λ found. found.items ≡ flat_map (result_told (type_view wanted))
+        (map cancel_result_view gives.now)) }
 {
     let mut found = Vec::new(alloc);
-    for position in positions {
-        add_position(*position, &mut found)?;
+    for given in gives {
+        add_result(wanted, *given, &mut found)?;
     }
     Ok(found)
 }
 
 /// A parameter of the function of that name, as a table has it.
 fn parameter_kept(name: &str, tracked: TrackedParameter, at: u32, called: &Called<'_>) -> Parameter
-    ensures { result ≡ parameter_kept (is_called called.now name.now) (parameter_view tracked) (kind_view tracked.kind)
-        at }
+    ensures { result ≡ parameter_kept (is_called called.now name.now) (parameter_view tracked)
+        (tracked_type_view tracked.typed) at }
 {
-    match tracked.kind {
-        VariableKind::Cancel => Parameter::Cancel {
+    match tracked.typed {
+        TrackedType::Cancel(CancelType::Plain) => Parameter::Cancel {
             at,
             calls: called.has(name, tracked.position),
         },
-        VariableKind::Group => Parameter::Group { at },
+        TrackedType::Cancel(CancelType::WithCause) => Parameter::Cause {
+            at,
+            calls: called.has(name, tracked.position),
+        },
+        TrackedType::Group => Parameter::Group { at },
     }
 }
 
@@ -150,11 +168,13 @@ fn function_of(
     ensures { IfOk result (λ function. entry_of function
         ≡ entry_told (is_called called.now name.now) name.now (facts_view facts.now)) }
 {
-    let gives = positions_of(alloc, &facts.gives)?;
+    let gives = positions_of(alloc, CancelType::Plain, &facts.gives)?;
+    let causes = positions_of(alloc, CancelType::WithCause, &facts.gives)?;
     let params = parameters_of(alloc, name, &facts.parameters, called)?;
     Ok(Function {
         name: String::from_str(alloc, name)?,
         gives,
+        causes,
         params,
     })
 }
@@ -171,7 +191,7 @@ fn add_told(function: Function, functions: &mut Vec<Function>) -> Result<(), All
     ensures { OnOk result (map entry_of functions.new.items ≡ map entry_of functions.old.items
         ++ if_told (entry_of function)) }
 {
-    if is_none_of(&function.gives) && is_none_of(&function.params) {
+    if is_none_of(&function.gives) && is_none_of(&function.causes) && is_none_of(&function.params) {
         return Ok(());
     }
     functions.push(function)?;

@@ -1,25 +1,42 @@
-//! Calls and passes of cancel functions.
+//! Calls, passes and returns of cancel functions.
 
-ghost use Rattle.std.specs.Prelude.{◌≡◌, option_map};
-ghost use Rattle.meaning.specs.Uses.{variable_at, cancel_called, cancel_passed};
+ghost use Rattle.std.specs.Prelude.{◌≡◌, false, option_map};
+ghost use Rattle.meaning.specs.Uses.{variable_at, has_its_arguments, cancel_called, cancel_passed};
 ghost use Rattle.allowed_uses.specs.UseViews.{use_view};
+ghost use Rattle.facts.specs.FactViews.{type_view};
 ghost use Rattle.mentions.specs.MarkViews.{call_view, mention_view};
 ghost use Rattle.tracked.specs.LocalViews.{local_view};
 ghost use Rattle.tracked.specs.RowViews.{known_view};
 
 use crate::allowed_use::Use;
+use crate::groups::only_argument;
 use crate::local_mention::{LocalMention, variable_at};
 use crate::places::{has_no_argument, is_call_place, is_deferred_place, is_statement_place, takes};
-use facts::VariableKind;
+use facts::{CancelType, TrackedType};
 use mentions::Call;
 use tracked::{Event, Known, callee_of};
 
-/// `c()` as a statement, and `defer c()`, in literals too.
-pub fn cancel_called<'a>(number: u32, selected: Option<&str>, call: Call<'a>) -> Use<'a>
-    ensures { use_view result ≡ cancel_called number (option_map (λ m. m.now) selected.entry)
-        (call_view call.entry) }
+/// `()`, or `(e)` where the function takes a cause.
+fn has_its_arguments(cancel_type: CancelType, call: Call<'_>) -> bool
+    ensures { result ≡ has_its_arguments (type_view cancel_type) (call_view call.entry) }
 {
-    if selected.is_some() || !has_no_argument(call) {
+    match cancel_type {
+        CancelType::Plain => has_no_argument(call),
+        CancelType::WithCause => only_argument(call).is_some(),
+    }
+}
+
+/// `c()` as a statement, and `defer c()`, or `c(e)` and `defer c(e)` where it takes a cause; in literals too.
+pub fn cancel_called<'a>(
+    cancel_type: CancelType,
+    number: u32,
+    selected: Option<&str>,
+    call: Call<'a>,
+) -> Use<'a>
+    ensures { use_view result ≡ cancel_called (type_view cancel_type) number
+        (option_map (λ m. m.now) selected.entry) (call_view call.entry) }
+{
+    if selected.is_some() || !has_its_arguments(cancel_type, call) {
         return Use::NotAllowed;
     }
     if is_statement_place(call.place) {
@@ -31,20 +48,21 @@ pub fn cancel_called<'a>(number: u32, selected: Option<&str>, call: Call<'a>) ->
     Use::NotAllowed
 }
 
-/// Argument c of a function at a position of type `context.CancelFunc`, at a call place or under `defer`.
+/// Argument c, without `&`, of a function that takes one of its type at that position, at a call place or under
+/// `defer`.
 pub fn cancel_passed<'a>(
     known: Known<'_, 'a>,
+    cancel_type: CancelType,
     here: LocalMention<'_, 'a>,
     position: usize,
-    has_address: bool,
     call: Call<'a>,
 ) -> Use<'a>
-    ensures { use_view result ≡ cancel_passed (known_view known.entry)
+    ensures { use_view result ≡ cancel_passed (known_view known.entry) (type_view cancel_type)
         (variable_at (local_view here.entry.local) (mention_view here.entry.mention))
-        (mention_view here.entry.mention).named.selected position has_address (call_view call.entry) }
+        (mention_view here.entry.mention).named.selected position false (call_view call.entry) }
 {
     let selected = here.mention.named.selected;
-    if selected.is_some() || has_address || !takes(known, call, VariableKind::Cancel, position) {
+    if selected.is_some() || !takes(known, call, TrackedType::Cancel(cancel_type), position) {
         return Use::NotAllowed;
     }
     let variable = variable_at(here.local, here.mention);

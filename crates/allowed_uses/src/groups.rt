@@ -16,7 +16,7 @@ use crate::places::{
     has_no_argument, is_call_place, is_deferred_place, is_item_place, is_statement_or_value,
     is_statement_place, takes,
 };
-use facts::VariableKind;
+use facts::TrackedType;
 use mentions::{Call, is_body};
 use tracked::{Event, Known, callee_of, only};
 use tree::{Expr, ExprKind};
@@ -147,7 +147,7 @@ pub fn group_lent<'a>(
     if here.mention.named.selected.is_some() || !is_body(here.local.body, here.bodies) {
         return Use::NotAllowed;
     }
-    let is_allowed = takes(known, call, VariableKind::Group, position) && is_call_place(call.place);
+    let is_allowed = takes(known, call, TrackedType::Group, position) && is_call_place(call.place);
     allowed_if(
         is_allowed,
         Event::Lend {

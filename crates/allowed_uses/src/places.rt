@@ -2,12 +2,12 @@
 
 ghost use Rattle.std.specs.Prelude.{◌≡◌};
 ghost use Rattle.meaning.specs.Uses.{is_value_place, is_statement_place, is_item_place, is_deferred_place, is_statement_or_value, is_call_place, is_empty, has_no_argument, takes};
-ghost use Rattle.facts.specs.FactViews.{kind_view};
+ghost use Rattle.facts.specs.FactViews.{tracked_type_view};
 ghost use Rattle.mentions.specs.MarkViews.{place_view, call_view};
 ghost use Rattle.tracked.specs.RowViews.{known_view};
 ghost use Rattle.tree.specs.View.{expressions_syntax};
 
-use facts::VariableKind;
+use facts::TrackedType;
 use mentions::{Call, CallPlace};
 use tracked::{Known, facts_of, is_binding_form};
 use tree::Expr;
@@ -79,13 +79,13 @@ pub fn has_no_argument(call: Call<'_>) -> bool
     is_empty(call.arguments) && !call.has_ellipsis
 }
 
-/// Whether the function takes a variable of that kind at that position.
-pub fn takes(known: Known<'_, '_>, call: Call<'_>, kind: VariableKind, position: usize) -> bool
+/// Whether the function takes what is of that type at that position.
+pub fn takes(known: Known<'_, '_>, call: Call<'_>, typed: TrackedType, position: usize) -> bool
     ensures { result ≡ takes (known_view known.entry) (call_view call.entry)
-        (kind_view kind) position }
+        (tracked_type_view typed) position }
 {
     match facts_of(known, call.callee) {
-        Some(facts) => facts.takes(kind, position),
+        Some(facts) => facts.takes(typed, position),
         None => false,
     }
 }

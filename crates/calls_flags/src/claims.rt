@@ -86,7 +86,7 @@ fn add_variable<'a>(
     let Some(position) = claimed_as(variable) else {
         return Ok(());
     };
-    if function.facts.takes(VariableKind::Cancel, position) {
+    if function.facts.takes_kind(VariableKind::Cancel, position) {
         let parameter = FunctionParameter {
             name: function.name,
             position,

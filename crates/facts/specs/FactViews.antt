@@ -3,17 +3,30 @@ use Rattle.std.specs.Prelude.{ℕ, List, Option, Some, None, option_map, map}
 use Rattle.names.specs.Answers.{at_name}
 use Rattle.facts.specs.declared.kinds.VariableKind.{VariableKind as KeptKind}
 use Rattle.facts.specs.declared.kinds.VariableKind.TheVariants.{Cancel, Group}
+use Rattle.facts.specs.declared.kinds.CancelType.{CancelType as KeptCancelType}
+use Rattle.facts.specs.declared.kinds.CancelType.TheVariants.{Plain, WithCause}
+use Rattle.facts.specs.declared.kinds.TrackedType.{TrackedType as KeptType}
+use Rattle.facts.specs.declared.kinds.TrackedType.TheVariants.{Cancel as CancelTyped, Group as GroupTyped}
 use Rattle.facts.specs.declared.items.Item.{Item as KeptItem}
 use Rattle.facts.specs.declared.facts.TrackedParameter.{TrackedParameter as KeptParameter}
+use Rattle.facts.specs.declared.facts.CancelResult.{CancelResult as KeptResult}
 use Rattle.facts.specs.declared.facts.FunctionFacts.{FunctionFacts as KeptFacts}
 use Rattle.facts.specs.declared.table.Table.{Table}
 use Rattle.facts.specs.declared.table.Imported.{Imported}
 use Rattle.tree.specs.View.{identifier_syntax, expression_syntax, optional_expression_of}
-use Rattle.meaning.specs.FunctionFacts.{VariableKind, cancel, group, Item, TrackedParameter, FunctionFacts}
+use Rattle.meaning.specs.FunctionFacts.{CancelType, plain, with_cause, TrackedType, cancel_type, group_type, VariableKind, cancel, group, Item, TrackedParameter, CancelResult, FunctionFacts}
 
 abbrev pub kind_view : KeptKind → VariableKind
 kind_view Cancel = cancel
 kind_view Group = group
+
+abbrev pub type_view : KeptCancelType → CancelType
+type_view Plain = plain
+type_view WithCause = with_cause
+
+abbrev pub tracked_type_view : KeptType → TrackedType
+tracked_type_view (CancelTyped t) = cancel_type (type_view t)
+tracked_type_view GroupTyped = group_type
 
 abbrev pub item_view : KeptItem → Item
 item_view i = record {
@@ -23,12 +36,15 @@ item_view i = record {
 }
 
 abbrev pub parameter_view : KeptParameter → TrackedParameter
-parameter_view p = record { position = p.position; kind = kind_view p.kind }
+parameter_view p = record { position = p.position; typed = tracked_type_view p.typed }
+
+abbrev pub cancel_result_view : KeptResult → CancelResult
+cancel_result_view g = record { position = g.position; type = type_view g.cancel_type }
 
 abbrev pub facts_view : KeptFacts → FunctionFacts
 facts_view f = record {
   parameters = map parameter_view f.parameters.items;
-  gives = f.gives.items;
+  gives = map cancel_result_view f.gives.items;
   results = f.results;
 }
 

@@ -1,68 +1,71 @@
 //! What signatures say.
 
 ghost use Rattle.std.specs.Prelude.{◌≡◌, ℕ, List, [], ◌∷◌, ◌++◌, IfOk, OnOk, map, option_map};
-ghost use Rattle.meaning.specs.FunctionFacts.{given_at, given_positions, parameter_at, tracked_parameters, signature_facts, facts_in, package_facts};
+ghost use Rattle.meaning.specs.FunctionFacts.{given_at, cancel_results, parameter_at, tracked_parameters, signature_facts, facts_in, package_facts};
 ghost use Rattle.meaning.specs.OuterBlocks.{or_else};
 ghost use Rattle.names.specs.Answers.{declared_at};
-ghost use Rattle.facts.specs.FactViews.{kind_view, item_view, parameter_view, facts_view, facts_by_name};
+ghost use Rattle.facts.specs.FactViews.{tracked_type_view, item_view, parameter_view, cancel_result_view, facts_view, facts_by_name};
 ghost use Rattle.tree.specs.Syntax.{function_declaration};
 ghost use Rattle.tree.specs.View.{signature_syntax, function_syntax, file_syntax, top_level_syntax};
 
-use crate::facts::{FunctionFacts, TrackedParameter};
+use crate::facts::{CancelResult, FunctionFacts, TrackedParameter};
 use crate::items::{Item, parameter_items};
-use crate::kinds::{VariableKind, item_kind};
+use crate::kinds::{TrackedType, item_type};
 use crate::table::Table;
 use names::{Names, can_be_meant};
 use std::alloc::{AllocError, Global};
 use tree::{File, Func, Signature, TopLevelDecl};
 
-/// Adds the position of a result of that kind.
+/// Adds a result of that type, if it is a cancel function.
 fn add_given(
-    positions: &mut Vec<usize>,
+    gives: &mut Vec<CancelResult>,
     position: usize,
-    kind: Option<VariableKind>,
+    typed: Option<TrackedType>,
 ) -> Result<(), AllocError>
-    ensures { OnOk result (positions.new.items ≡ positions.old.items ++ given_at position
-        (option_map kind_view kind)) }
+    ensures { OnOk result (map cancel_result_view gives.new.items ≡ map cancel_result_view gives.old.items ++
+        given_at position (option_map tracked_type_view typed)) }
 {
-    if let Some(VariableKind::Cancel) = kind {
-        positions.push(position)?;
+    if let Some(TrackedType::Cancel(cancel_type)) = typed {
+        gives.push(CancelResult {
+            position,
+            cancel_type,
+        })?;
     }
     Ok(())
 }
 
-/// The positions of results of type `context.CancelFunc`.
+/// The results that are cancel functions.
 ///
 /// # Errors
 ///
 /// Memory was refused.
-pub fn given_positions(
+pub fn cancel_results(
     alloc: Global,
     names: &Names<'_>,
     file: usize,
     results: &[Item<'_>],
-) -> Result<Vec<usize>, AllocError>
-    ensures { IfOk result (λ positions. positions.items ≡ given_positions (declared_at names.now file) 0
+) -> Result<Vec<CancelResult>, AllocError>
+    ensures { IfOk result (λ gives. map cancel_result_view gives.items ≡ cancel_results (declared_at names.now file) 0
         (map item_view results.now)) }
 {
-    let mut positions: Vec<usize> = Vec::new(alloc);
+    let mut gives: Vec<CancelResult> = Vec::new(alloc);
     for (position, item) in results.iter().enumerate() {
-        add_given(&mut positions, position, item_kind(names, file, item))?;
+        add_given(&mut gives, position, item_type(names, file, item))?;
     }
-    Ok(positions)
+    Ok(gives)
 }
 
-/// Adds a parameter at that position, if its kind is tracked.
+/// Adds a parameter at that position, if its type is tracked.
 fn add_tracked(
     tracked: &mut Vec<TrackedParameter>,
     position: usize,
-    kind: Option<VariableKind>,
+    typed: Option<TrackedType>,
 ) -> Result<(), AllocError>
     ensures { OnOk result (map parameter_view tracked.new.items ≡ map parameter_view tracked.old.items ++
-        parameter_at position (option_map kind_view kind)) }
+        parameter_at position (option_map tracked_type_view typed)) }
 {
-    if let Some(kind) = kind {
-        tracked.push(TrackedParameter { position, kind })?;
+    if let Some(typed) = typed {
+        tracked.push(TrackedParameter { position, typed })?;
     }
     Ok(())
 }
@@ -78,7 +81,7 @@ fn tracked_parameters(
 {
     let mut tracked: Vec<TrackedParameter> = Vec::new(alloc);
     for (position, item) in params.iter().enumerate() {
-        add_tracked(&mut tracked, position, item_kind(names, file, item))?;
+        add_tracked(&mut tracked, position, item_type(names, file, item))?;
     }
     Ok(tracked)
 }
@@ -96,7 +99,7 @@ fn signature_facts(
     let results = parameter_items(alloc, &signature.results)?;
     Ok(FunctionFacts {
         parameters: tracked_parameters(alloc, names, file, &params)?,
-        gives: given_positions(alloc, names, file, &results)?,
+        gives: cancel_results(alloc, names, file, &results)?,
         results: results.len(),
     })
 }

@@ -8,8 +8,11 @@ pub mod items;
 pub mod kinds;
 pub mod table;
 
-pub use by_signature::{given_positions, signatures};
-pub use facts::{FunctionFacts, TrackedParameter};
+pub use by_signature::{cancel_results, signatures};
+pub use facts::{CancelResult, FunctionFacts, TrackedParameter};
 pub use items::{Item, parameter_items};
-pub use kinds::{VariableKind, is_import, is_of, item_kind, kind_of_type};
+pub use kinds::{
+    CancelType, TrackedType, VariableKind, cancel_type_named, is_import, is_of, item_type,
+    tracked_type,
+};
 pub use table::{Imported, Table};

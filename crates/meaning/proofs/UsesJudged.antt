@@ -5,7 +5,7 @@ use Rattle.std.proofs.lemmas.Bool.Decides.{eqb_tells}
 use Rattle.meaning.specs.FunctionFacts.{VariableKind, cancel, group}
 use Rattle.meaning.specs.Mentions.{BodyPlace, Row, Role, elsewhere, called, called_in_brackets, argument, returned, left, names_type, new_literal, parameter_pointer, Mention, Mark, mentions, defers_literal, returns, opens, closes}
 use Rattle.meaning.specs.Tracked.{variable_of, Local, kind_of_local}
-use Rattle.meaning.specs.Uses.{Seen, found, may_be_tracked, tracked_kind, kind_of, Binding, binding_at, Event, kind_use, cancel_use, group_use, use_outcome, mention_outcome, row_outcome, role_outcome, local_outcome, variable_outcome}
+use Rattle.meaning.specs.Uses.{Seen, found, may_be_tracked, tracked_kind, kind_of, Binding, binding_at, Event, kind_use, cancel_type_of, cancel_use, group_use, use_outcome, mention_outcome, row_outcome, role_outcome, local_outcome, variable_outcome}
 use Rattle.meaning.specs.BodyEvents.{mark_events, is_site}
 use Rattle.meaning.specs.UseLaws.{IsMentionOf, binding_of, IsOneOfThree, binds, is_allowed, is_fault, EachMentionIsOneOfThree, EventsStandAtOneSite}
 
@@ -39,7 +39,7 @@ module _ (seen : Seen) (bodies : List BodyPlace) (m : Mention) (l : Local) (kind
 
   no_use_at_left : (k : ℕ) (row : Row) → m.role ≡ left k row → (kind : VariableKind)
       → kind_use seen l kind bodies m ≡ None
-  no_use_at_left k row e cancel = ap (cancel_use seen.known l bodies m) e
+  no_use_at_left k row e cancel = ap (cancel_use seen.known (cancel_type_of seen l) l bodies m) e
   no_use_at_left k row e group = ap (group_use seen l bodies m) e
 
   at_left : (k : ℕ) (row : Row) → m.role ≡ left k row → (b : Option Binding) → binding_at seen row k ≡ b

@@ -2,7 +2,7 @@
 -- the tracked ones that it declares outside its inner literals, and those declared outside it that it or a literal in
 -- it mentions. Parameters come first; then the name that occurs first comes first. Of a body with too many variables
 -- its use faults alone are told. Faults are listed as the marks come, and one may come twice: two clauses of a type
--- switch declare the name of one guard.
+-- switch declare the name of one guard, and a binding may break two rules of one code.
 -- (This tool's rules.)
 use Rattle.std.specs.Prelude.{ℕ, zero, suc, ◌+◌, ◌==◌, Bool, true, false, not, ◌&&◌, ◌||◌, if◌then◌else◌, List, [], ◌∷◌, ◌++◌, Option, Some, None, is_some, map, codes, nat_lt, nat_le}
 use Rattle.std.specs.List.{list_any, filter}
@@ -10,9 +10,9 @@ use Rattle.tree.specs.Syntax.{Expression, Expressions, no_expression, expression
 use Rattle.meaning.specs.declared.TheConstants.{MOST_CANCELS, MOST_GROUPS}
 use Rattle.meaning.specs.StatementCode.{Sites}
 use Rattle.meaning.specs.Mentions.{Named, as_bare, Role, called, Mention, BodyPlace, Mark, mentions, defers_literal, returns, opens, closes, file_marks}
-use Rattle.meaning.specs.FunctionFacts.{VariableKind, cancel, group}
-use Rattle.meaning.specs.Tracked.{Known, is_of_universe, local_meant_or, variable_of, is_in, Placed, LocalRole, parameter, receiver, variadic, result, in_block, Local, body_locals}
-use Rattle.meaning.specs.Uses.{Seen, seen_in, found, tracked_kind, is_outside, is_of_local, is_body, body_gives, is_statement_place, Handed, Event, other, defer_literal, return_event, too_many_variables, UseFault, fault_at, variable_outcome, mention_faults, result_faults, is_cancel}
+use Rattle.meaning.specs.FunctionFacts.{VariableKind, cancel, group, CancelResult}
+use Rattle.meaning.specs.Tracked.{Known, is_of_universe, local_meant_or, variable_of, Placed, LocalRole, parameter, receiver, variadic, result, in_block, Local, body_locals}
+use Rattle.meaning.specs.Uses.{Seen, seen_in, found, tracked_kind, cancel_type_of, is_given_as, is_outside, is_of_local, is_body, body_gives, is_statement_place, Handed, Event, other, defer_literal, return_event, too_many_variables, UseFault, fault_at, variable_outcome, mention_faults, result_faults, is_cancel}
 
 -- Bodies of a file
 
@@ -67,23 +67,24 @@ faults_of seen body (p ∷ ps) =
 -- Events
 
 -- the variable that an item of a return hands on
-abbrev pub handed_there : ℕ → List ℕ → Option VariableKind → Option ℕ → List Handed
-handed_there k gives None number = []
-handed_there k gives (Some group) number = []
-handed_there k gives (Some cancel) None = []
-handed_there k gives (Some cancel) (Some number) =
-    if is_in k gives then record { number = number; position = k } ∷ [] else []
+abbrev pub handed_at : Seen → ℕ → List CancelResult → Option VariableKind → Local → List Handed
+handed_at seen k gives None l = []
+handed_at seen k gives (Some group) l = []
+handed_at seen k gives (Some cancel) l =
+    if is_given_as k (cancel_type_of seen l) gives then record { number = l.number; position = k } ∷ [] else []
+
+abbrev pub handed_there : Seen → ℕ → List CancelResult → Option Local → List Handed
+handed_there seen k gives None = []
+handed_there seen k gives (Some l) = handed_at seen k gives (tracked_kind seen (Some l)) l
 
 abbrev pub item_variable : Known → Option Named → Option ℕ
 item_variable known None = None
 item_variable known (Some n) = local_meant_or (known.means n.at) None
 
-abbrev pub handed_item : Seen → List ℕ → ℕ → Expression → List Handed
-handed_item seen gives k e =
-    let number = item_variable seen.known (as_bare e) in
-    handed_there k gives (tracked_kind seen (found seen number)) number
+abbrev pub handed_item : Seen → List CancelResult → ℕ → Expression → List Handed
+handed_item seen gives k e = handed_there seen k gives (found seen (item_variable seen.known (as_bare e)))
 
-abbrev pub handed_on : Seen → List ℕ → ℕ → Expressions → List Handed
+abbrev pub handed_on : Seen → List CancelResult → ℕ → Expressions → List Handed
 handed_on seen gives k no_expression = []
 handed_on seen gives k (expression_and e es) = handed_item seen gives k e ++ handed_on seen gives (k + 1) es
 

@@ -1,9 +1,10 @@
 -- What a function's signature says of cancel functions and groups: at which positions it takes them, and at which
--- results it gives cancel functions. Positions count single parameters and single results from 0; a receiver has none.
--- A type is told by its name alone: `CancelFunc` of an import of `context`, and `*Group` of an import of `errgroup`.
--- In brackets, or under another name, a type is another type. A variadic parameter is not of its element's type.
+-- results it gives cancel functions, each with its type. Positions count single parameters and single results from 0;
+-- a receiver has none. A type is told by its name alone: `CancelFunc` and `CancelCauseFunc` of an import of `context`,
+-- and `*Group` of an import of `errgroup`. In brackets, or under another name, a type is another type. A variadic
+-- parameter is not of its element's type.
 -- (The Go specification, "Function types"; the documentation of `context` and `golang.org/x/sync/errgroup`.)
-use Rattle.std.specs.Prelude.{ℕ, ◌+◌, Bool, false, ◌&&◌, if◌then◌else◌, List, [], ◌∷◌, ◌++◌, Option, Some, None, codes, length}
+use Rattle.std.specs.Prelude.{ℕ, ◌+◌, Bool, true, false, ◌&&◌, if◌then◌else◌, List, [], ◌∷◌, ◌++◌, Option, Some, None, is_some, codes, length}
 use Rattle.std.specs.Str.{bytes_eq}
 use Rattle.tree.specs.Syntax.{Identifier, Expression, OptionalExpression, missing_expression, present_expression, Signature, signature_of, Parameters, no_parameter, named_and, unnamed_and, name_alone_and, TopLevelDeclaration, function_declaration, general_declaration, SourceFile}
 use Rattle.meaning.specs.Declarations.{Meaning, local_name, import_name, function_name, package_name, universe_name}
@@ -40,23 +41,64 @@ abbrev pub is_of_some : Meanings → List ℕ → List ℕ → Option Named → 
 is_of_some means path name None = false
 is_of_some means path name (Some n) = is_of means path name n
 
+-- Types
+
+-- the types of cancel functions
+pub data CancelType : Type 0 where
+  -- `context.CancelFunc`
+  plain : CancelType
+  -- `context.CancelCauseFunc`, which is called with a cause
+  with_cause : CancelType
+
+abbrev pub is_same_type : CancelType → CancelType → Bool
+is_same_type plain plain = true
+is_same_type plain with_cause = false
+is_same_type with_cause plain = false
+is_same_type with_cause with_cause = true
+
+abbrev pub cancel_type_of_name : Meanings → Option Named → Option CancelType
+cancel_type_of_name means n =
+    if is_of_some means context_path (codes "CancelFunc") n then Some plain
+    else if is_of_some means context_path (codes "CancelCauseFunc") n then Some with_cause
+    else None
+
 abbrev pub is_cancel_type : Meanings → Expression → Bool
-is_cancel_type means t = is_of_some means context_path (codes "CancelFunc") (as_named t)
+is_cancel_type means t = is_some (cancel_type_of_name means (as_named t))
 
 abbrev pub is_group_pointer : Meanings → Expression → Bool
 is_group_pointer means t = is_of_some means errgroup_path (codes "Group") (as_pointer t)
+
+-- the types of what is tracked: cancel functions, and `*errgroup.Group`
+pub data TrackedType : Type 0 where
+  cancel_type : CancelType → TrackedType
+  group_type : TrackedType
+
+abbrev pub group_or_none : Bool → Option TrackedType
+group_or_none is_group = if is_group then Some group_type else None
+
+abbrev pub cancel_or_group : Option CancelType → Bool → Option TrackedType
+cancel_or_group (Some t) is_group = Some (cancel_type t)
+cancel_or_group None is_group = group_or_none is_group
+
+abbrev pub tracked_type : Meanings → OptionalExpression → Option TrackedType
+tracked_type means missing_expression = None
+tracked_type means (present_expression t) =
+    cancel_or_group (cancel_type_of_name means (as_named t)) (is_group_pointer means t)
+
+abbrev pub is_same_tracked : TrackedType → TrackedType → Bool
+is_same_tracked (cancel_type t) (cancel_type u) = is_same_type t u
+is_same_tracked (cancel_type t) group_type = false
+is_same_tracked group_type (cancel_type u) = false
+is_same_tracked group_type group_type = true
 
 -- what a tracked variable holds
 pub data VariableKind : Type 0 where
   cancel : VariableKind
   group : VariableKind
 
-abbrev pub kind_of_type : Meanings → OptionalExpression → Option VariableKind
-kind_of_type means missing_expression = None
-kind_of_type means (present_expression t) =
-    if is_cancel_type means t then Some cancel
-    else if is_group_pointer means t then Some group
-    else None
+abbrev pub kind_of_type : TrackedType → VariableKind
+kind_of_type (cancel_type t) = cancel
+kind_of_type group_type = group
 
 -- Items of a list of parameters or results
 
@@ -78,44 +120,49 @@ items_of (unnamed_and ellipsis t ps) =
     record { name = None; is_variadic = ellipsis; type = present_expression t } ∷ items_of ps
 items_of (name_alone_and n ps) = alone n (items_of ps) ∷ items_of ps
 
-abbrev pub item_kind : Meanings → Item → Option VariableKind
-item_kind means i = if i.is_variadic then None else kind_of_type means i.type
+abbrev pub item_type : Meanings → Item → Option TrackedType
+item_type means i = if i.is_variadic then None else tracked_type means i.type
 
 -- Facts
 
 -- a parameter that is tracked
 pub record TrackedParameter : Type 0 where
   pub position : ℕ
-  pub kind : VariableKind
+  pub typed : TrackedType
+
+-- a result that is a cancel function
+pub record CancelResult : Type 0 where
+  pub position : ℕ
+  pub type : CancelType
 
 pub record FunctionFacts : Type 0 where
   pub parameters : List TrackedParameter
-  -- the positions of results of type `context.CancelFunc`
-  pub gives : List ℕ
+  -- the results that are cancel functions
+  pub gives : List CancelResult
   -- the number of results
   pub results : ℕ
 
-abbrev pub parameter_at : ℕ → Option VariableKind → List TrackedParameter
+abbrev pub parameter_at : ℕ → Option TrackedType → List TrackedParameter
 parameter_at k None = []
-parameter_at k (Some kind) = record { position = k; kind = kind } ∷ []
+parameter_at k (Some t) = record { position = k; typed = t } ∷ []
 
 abbrev pub tracked_parameters : Meanings → ℕ → List Item → List TrackedParameter
 tracked_parameters means k [] = []
-tracked_parameters means k (i ∷ is) = parameter_at k (item_kind means i) ++ tracked_parameters means (k + 1) is
+tracked_parameters means k (i ∷ is) = parameter_at k (item_type means i) ++ tracked_parameters means (k + 1) is
 
-abbrev pub given_at : ℕ → Option VariableKind → List ℕ
+abbrev pub given_at : ℕ → Option TrackedType → List CancelResult
 given_at k None = []
-given_at k (Some cancel) = k ∷ []
-given_at k (Some group) = []
+given_at k (Some (cancel_type t)) = record { position = k; type = t } ∷ []
+given_at k (Some group_type) = []
 
-abbrev pub given_positions : Meanings → ℕ → List Item → List ℕ
-given_positions means k [] = []
-given_positions means k (i ∷ is) = given_at k (item_kind means i) ++ given_positions means (k + 1) is
+abbrev pub cancel_results : Meanings → ℕ → List Item → List CancelResult
+cancel_results means k [] = []
+cancel_results means k (i ∷ is) = given_at k (item_type means i) ++ cancel_results means (k + 1) is
 
 abbrev pub signature_facts : Meanings → Signature → FunctionFacts
 signature_facts means (signature_of ps rs brackets) = record {
   parameters = tracked_parameters means 0 (items_of ps);
-  gives = given_positions means 0 (items_of rs);
+  gives = cancel_results means 0 (items_of rs);
   results = length (items_of rs);
 }
 

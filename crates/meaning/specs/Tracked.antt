@@ -1,10 +1,11 @@
 -- Which variables are tracked, and which left sides bind them. A maker is `WithCancel`, `WithTimeout` or `WithDeadline`
--- of an import of `context`; a giver is a function with a result of type `context.CancelFunc`. A cancel variable is a
--- local that some row obtains from one of them, or that is declared with that type; a group variable is a local that
--- some row makes, or a parameter of type `*errgroup.Group`. A row binds only variables of its own kind: where one of
--- its variables is of another kind, it binds nothing. Named results and variadic parameters are never tracked.
+-- of an import of `context`, or one of these with a cause; a giver is a function with a result of type
+-- `context.CancelFunc` or `context.CancelCauseFunc`. A cancel variable is a local that some row obtains from one of
+-- them, or that is declared with one of these types; a group variable is a local that some row makes, or a parameter of
+-- type `*errgroup.Group`. A row binds only variables of its own kind: where one of its variables is of another kind, it
+-- binds nothing. Named results and variadic parameters are never tracked.
 -- (The documentation of `context` and `golang.org/x/sync/errgroup`; this tool's rules.)
-use Rattle.std.specs.Prelude.{ℕ, zero, suc, ◌+◌, ◌==◌, Bool, true, false, ◌&&◌, ◌||◌, if◌then◌else◌, List, [], ◌∷◌, ◌++◌, Option, Some, None, is_none, is_some, map, slice_get, codes, length}
+use Rattle.std.specs.Prelude.{ℕ, zero, suc, ◌+◌, ◌==◌, Bool, true, false, ◌&&◌, ◌||◌, if◌then◌else◌, List, [], ◌∷◌, ◌++◌, Option, Some, None, is_none, is_some, option_map, map, slice_get, codes, length}
 use Rattle.std.specs.List.{list_any, list_all}
 use Rattle.std.specs.Str.{bytes_eq}
 use Rattle.tree.specs.declared.operator.DeclKeyword.TheVariants.{Const, Var, «Type» as type_keyword}
@@ -13,7 +14,7 @@ use Rattle.meaning.specs.Scopes.{is_blank}
 use Rattle.meaning.specs.OuterBlocks.{or_else}
 use Rattle.meaning.specs.Declarations.{Meaning, local_name, import_name, function_name, package_name, universe_name}
 use Rattle.meaning.specs.Mentions.{Named, bare, as_bare, as_named, as_new_literal, RowForm, defines, assigns, declares, Standing, ordinary, first_of_for, communication, Row, Call, call_of, only_value, Role, left, Mention, BodyPlace, Mark, mentions, defers_literal, returns, opens, closes, number_of}
-use Rattle.meaning.specs.FunctionFacts.{Meanings, context_path, errgroup_path, is_of, is_of_some, VariableKind, cancel, group, kind_of_type, Item, items_of, item_kind, FunctionFacts}
+use Rattle.meaning.specs.FunctionFacts.{Meanings, context_path, errgroup_path, is_of, is_of_some, CancelType, plain, with_cause, TrackedType, cancel_type, group_type, tracked_type, VariableKind, cancel, group, kind_of_type, Item, items_of, item_type, CancelResult, FunctionFacts}
 
 -- What is known
 
@@ -43,28 +44,50 @@ is_of_universe known name n = is_none n.selected && (bytes_eq n.name name && is_
 
 -- Makers and givers
 
-abbrev pub is_maker : Known → Named → Bool
-is_maker known n = is_of known.means context_path (codes "WithCancel") n
-    || (is_of known.means context_path (codes "WithTimeout") n
-    || is_of known.means context_path (codes "WithDeadline") n)
+abbrev pub is_one_of_context : Known → List (List ℕ) → Named → Bool
+is_one_of_context known names n = list_any (λ name. is_of known.means context_path name n) names
 
--- the positions of the results that are cancel functions, and the number of results
+-- those that give a `context.CancelFunc`; the last two take the cause at once
+abbrev pub plain_makers : List (List ℕ)
+plain_makers = codes "WithCancel" ∷ codes "WithTimeout" ∷ codes "WithDeadline"
+    ∷ codes "WithTimeoutCause" ∷ codes "WithDeadlineCause" ∷ []
+
+-- those that give a `context.CancelCauseFunc`
+abbrev pub cause_makers : List (List ℕ)
+cause_makers = codes "WithCancelCause" ∷ []
+
+abbrev pub is_plain_maker : Known → Named → Bool
+is_plain_maker known = is_one_of_context known plain_makers
+
+abbrev pub is_cause_maker : Known → Named → Bool
+is_cause_maker known = is_one_of_context known cause_makers
+
+abbrev pub is_maker : Known → Named → Bool
+is_maker known n = is_plain_maker known n || is_cause_maker known n
+
+-- the results that are cancel functions, and the number of results
 pub record Giving : Type 0 where
-  pub positions : List ℕ
+  pub gives : List CancelResult
   pub results : ℕ
 
-abbrev pub is_empty : List ℕ → Bool
+abbrev pub is_empty : List CancelResult → Bool
 is_empty [] = true
-is_empty (n ∷ ns) = false
+is_empty (g ∷ gs) = false
 
 abbrev pub facts_giving : Option FunctionFacts → Option Giving
 facts_giving None = None
-facts_giving (Some f) = if is_empty f.gives then None else Some record { positions = f.gives; results = f.results }
+facts_giving (Some f) = if is_empty f.gives then None else Some record { gives = f.gives; results = f.results }
+
+-- a maker has two results, a context and a cancel function of that type
+abbrev pub maker_giving : CancelType → Giving
+maker_giving t = record { gives = record { position = 1; type = t } ∷ []; results = 2 }
 
 -- what a maker or a giver gives
 abbrev pub giving_of : Known → Named → Option Giving
 giving_of known n =
-    if is_maker known n then Some record { positions = 1 ∷ []; results = 2 } else facts_giving (facts_of known n)
+    if is_plain_maker known n then Some (maker_giving plain)
+    else if is_cause_maker known n then Some (maker_giving with_cause)
+    else facts_giving (facts_of known n)
 
 abbrev pub call_giving : Known → Option Call → Option Giving
 call_giving known None = None
@@ -172,15 +195,15 @@ abbrev pub row_giving : Known → Row → Option Giving
 row_giving known row =
     if may_bind row.standing row.form then fits row (call_giving known (only_call row row.values)) else None
 
-abbrev pub is_in : ℕ → List ℕ → Bool
-is_in k = list_any (λ n. n == k)
+abbrev pub is_given : ℕ → List CancelResult → Bool
+is_given k = list_any (λ g. g.position == k)
 
-abbrev pub are_locals : Known → Row → List ℕ → Bool
-are_locals known row = list_all (λ k. is_some (local_at known row k))
+abbrev pub are_locals : Known → Row → List CancelResult → Bool
+are_locals known row = list_all (λ g. is_some (local_at known row g.position))
 
 abbrev pub obtains_there : Known → Row → ℕ → Option Giving → Bool
 obtains_there known row k None = false
-obtains_there known row k (Some g) = is_in k g.positions && are_locals known row g.positions
+obtains_there known row k (Some g) = is_given k g.gives && are_locals known row g.gives
 
 -- the row obtains what stands on its left side k, by its form: a local stands at each position that is given
 abbrev pub row_obtains : Known → Row → ℕ → Bool
@@ -281,12 +304,12 @@ pub record Local : Type 0 where
   -- the offset of the name that declares it
   pub at : ℕ
   pub role : LocalRole
-  -- its kind by the type that it is declared with
-  pub typed : Option VariableKind
+  -- the type that it is declared with, if that is tracked
+  pub typed : Option TrackedType
   -- the body that declares it, by the offset of its `func`
   pub body : ℕ
 
-abbrev pub item_local : BodyPlace → LocalRole → Option VariableKind → Option Identifier → List Local
+abbrev pub item_local : BodyPlace → LocalRole → Option TrackedType → Option Identifier → List Local
 item_local b role typed None = []
 item_local b role typed (Some n) =
     if is_blank n.text then []
@@ -308,24 +331,24 @@ parameter_role role i = if i.is_variadic then variadic else role
 abbrev pub parameter_locals : Known → BodyPlace → ℕ → List Item → List Local
 parameter_locals known b k [] = []
 parameter_locals known b k (i ∷ is) =
-    item_local b (parameter_role (parameter k) i) (item_kind known.means i) i.name
+    item_local b (parameter_role (parameter k) i) (item_type known.means i) i.name
     ++ parameter_locals known b (k + 1) is
 
 abbrev pub receiver_locals : Known → BodyPlace → List Item → List Local
 receiver_locals known b [] = []
 receiver_locals known b (i ∷ is) =
-    item_local b (parameter_role receiver i) (item_kind known.means i) i.name ++ receiver_locals known b is
+    item_local b (parameter_role receiver i) (item_type known.means i) i.name ++ receiver_locals known b is
 
 -- a result is no parameter, so that a type of groups says nothing of it
-abbrev pub only_cancel : Option VariableKind → Option VariableKind
+abbrev pub only_cancel : Option TrackedType → Option TrackedType
 only_cancel None = None
-only_cancel (Some cancel) = Some cancel
-only_cancel (Some group) = None
+only_cancel (Some (cancel_type t)) = Some (cancel_type t)
+only_cancel (Some group_type) = None
 
 abbrev pub result_locals : Known → BodyPlace → List Item → List Local
 result_locals known b [] = []
 result_locals known b (i ∷ is) =
-    item_local b result (only_cancel (item_kind known.means i)) i.name ++ result_locals known b is
+    item_local b result (only_cancel (item_type known.means i)) i.name ++ result_locals known b is
 
 abbrev pub receiver_items : Option Parameters → List Item
 receiver_items None = []
@@ -339,13 +362,13 @@ abbrev pub body_locals : Known → BodyPlace → List Local
 body_locals known b =
     receiver_locals known b (receiver_items b.receiver) ++ signature_locals known b b.signature
 
--- the kind of a variable or constant by the type of its spec
-abbrev pub row_typed : Known → RowForm → Option VariableKind
+-- the type of a variable or constant by that of its spec
+abbrev pub row_typed : Known → RowForm → Option TrackedType
 row_typed known (defines ns) = None
 row_typed known (assigns ls) = None
-row_typed known (declares keyword ns t) = only_cancel (kind_of_type known.means t)
+row_typed known (declares keyword ns t) = only_cancel (tracked_type known.means t)
 
-abbrev pub role_typed : Known → Role → Option VariableKind
+abbrev pub role_typed : Known → Role → Option TrackedType
 role_typed known (left k row) = row_typed known row.form
 role_typed known role = None
 
@@ -412,4 +435,4 @@ kind_by_rows known marks number =
     else None
 
 abbrev pub kind_of_local : Known → List Placed → Local → Option VariableKind
-kind_of_local known marks l = or_else l.typed (kind_by_rows known marks l.number)
+kind_of_local known marks l = or_else (option_map kind_of_type l.typed) (kind_by_rows known marks l.number)

@@ -1,9 +1,9 @@
 -- What each mention of a tracked variable does, and which uses the rules don't allow. A mention is a binding, one of
 -- the allowed mentions below, or a fault. In the body that declares a variable more is allowed than in the literals in
--- it. Besides, makers, givers, `errgroup`, the makers with a cause and the universe's `recover` may be named only as
--- the rules say.
+-- it. A cancel variable has one type: a binding, call, pass or return by the other type is a fault. Besides, makers,
+-- givers, `errgroup` and the universe's `recover` may be named only as the rules say.
 -- (The documentation of `context` and `golang.org/x/sync/errgroup`; this tool's rules.)
-use Rattle.std.specs.Prelude.{ℕ, zero, suc, ◌+◌, ◌==◌, Bool, true, false, not, ◌&&◌, ◌||◌, if◌then◌else◌, List, [], ◌∷◌, ◌++◌, Option, Some, None, is_some, codes, length}
+use Rattle.std.specs.Prelude.{ℕ, zero, suc, ◌+◌, ◌==◌, Bool, true, false, not, ◌&&◌, ◌||◌, if◌then◌else◌, List, [], ◌∷◌, ◌++◌, Option, Some, None, is_some, option_map, codes, length, nat_le}
 use Rattle.std.specs.List.{list_any, list_all}
 use Rattle.std.specs.Str.{bytes_eq}
 use Rattle.tree.specs.declared.operator.DeclKeyword.TheVariants.{Const, Var, «Type» as type_keyword}
@@ -12,8 +12,8 @@ use Rattle.meaning.specs.Scopes.{is_blank}
 use Rattle.meaning.specs.OuterBlocks.{is_init}
 use Rattle.meaning.specs.Declarations.{Meaning, import_name}
 use Rattle.meaning.specs.Mentions.{Named, as_bare, RowForm, defines, assigns, declares, Standing, ordinary, first_of_for, communication, Row, Call, CallPlace, nowhere, as_statement, only_value, return_item, deferred, Role, called, called_in_brackets, argument, returned, left, names_type, new_literal, parameter_pointer, Mention, LiteralUse, other_use, deferred_call, started_by, BodyPlace, Mark, mentions, defers_literal, returns, opens, closes, expression_marks, part_of}
-use Rattle.meaning.specs.FunctionFacts.{context_path, errgroup_path, is_import, is_selected, is_of, is_cancel_type, VariableKind, cancel, group, TrackedParameter, FunctionFacts, items_of, given_positions}
-use Rattle.meaning.specs.Tracked.{Known, facts_of, is_universe, is_of_universe, is_maker, Giving, giving_of, local_meant_or, variable_of, declared_by, left_local, lefts_of, local_at, is_blank_at, is_binding_form, may_bind, only_call, row_giving, is_in, are_locals, row_obtains, GroupState, row_makes, Placed, placed, LocalRole, parameter, receiver, variadic, result, in_block, Local, find_local, locals_of, kind_of_local}
+use Rattle.meaning.specs.FunctionFacts.{errgroup_path, is_import, is_selected, CancelType, plain, with_cause, is_same_type, is_cancel_type, TrackedType, cancel_type, group_type, is_same_tracked, VariableKind, cancel, group, kind_of_type, TrackedParameter, CancelResult, FunctionFacts, items_of, cancel_results}
+use Rattle.meaning.specs.Tracked.{Known, facts_of, is_universe, is_of_universe, is_maker, Giving, giving_of, local_meant_or, variable_of, declared_by, left_local, lefts_of, local_at, is_blank_at, is_binding_form, may_bind, only_call, row_giving, are_locals, row_obtains, GroupState, row_makes, Placed, placed, LocalRole, parameter, receiver, variadic, result, in_block, Local, find_local, locals_of, is_variable, kind_of_local}
 
 -- A file with what is known of it
 
@@ -118,11 +118,71 @@ kind_at seen row k = kind_of seen (found seen (local_at seen.known row k))
 
 abbrev pub are_cancels : Seen → Row → Option Giving → Bool
 are_cancels seen row None = false
-are_cancels seen row (Some g) = list_all (λ k. is_cancel (kind_at seen row k)) g.positions
+are_cancels seen row (Some g) = list_all (λ p. is_cancel (kind_at seen row p.position)) g.gives
 
 -- the row binds all cancel variables that it obtains
 abbrev pub row_binds : Seen → Row → Bool
 row_binds seen row = are_cancels seen row (row_giving seen.known row)
+
+-- The type of a cancel variable
+
+abbrev pub type_given : ℕ → List CancelResult → CancelType
+type_given k [] = plain
+type_given k (g ∷ gs) = if g.position == k then g.type else type_given k gs
+
+-- the type of the position from which a row obtains what stands on its left side k
+abbrev pub type_from : ℕ → Option Giving → CancelType
+type_from k None = plain
+type_from k (Some g) = type_given k g.gives
+
+-- a binding that obtains a cancel function: the offset of its name, and the type of the position
+pub record Obtaining : Type 0 where
+  pub at : ℕ
+  pub type : CancelType
+
+abbrev pub obtained_by_row : Seen → ℕ → ℕ → Row → Option Obtaining
+obtained_by_row seen at k row =
+    if row_obtains seen.known row k && row_binds seen row
+    then Some record { at = at; type = type_from k (row_giving seen.known row) }
+    else None
+
+abbrev pub obtained_in_role : Seen → ℕ → Role → Option Obtaining
+obtained_in_role seen at (left k row) = obtained_by_row seen at k row
+obtained_in_role seen at role = None
+
+abbrev pub obtained_there : Seen → ℕ → Mark → Option Obtaining
+obtained_there seen number (mentions m) =
+    if is_variable (variable_of seen.known m) number then obtained_in_role seen m.named.at m.role else None
+obtained_there seen number mark = None
+
+abbrev pub first_of_both : Obtaining → Obtaining → Obtaining
+first_of_both a b = if nat_le a.at b.at then a else b
+
+abbrev pub first_of_some : Option Obtaining → Option Obtaining → Option Obtaining
+first_of_some None b = b
+first_of_some (Some a) None = Some a
+first_of_some (Some a) (Some b) = Some (first_of_both a b)
+
+-- the first binding of the local, by place, that obtains it; in literals too, and whether it gives an event or none
+abbrev pub first_obtaining : Seen → ℕ → List Placed → Option Obtaining
+first_obtaining seen number [] = None
+first_obtaining seen number (p ∷ ps) =
+    first_of_some (obtained_there seen number p.mark) (first_obtaining seen number ps)
+
+abbrev pub type_obtained : Option Obtaining → CancelType
+type_obtained None = plain
+type_obtained (Some o) = o.type
+
+abbrev pub type_by : Option TrackedType → Option Obtaining → CancelType
+type_by (Some (cancel_type t)) first = t
+type_by (Some group_type) first = type_obtained first
+type_by None first = type_obtained first
+
+-- that which it is declared with; else that of the first binding that obtains it; plain where none does
+abbrev pub cancel_type_of : Seen → Local → CancelType
+cancel_type_of seen l = type_by l.typed (first_obtaining seen l.number seen.marks)
+
+-- Rows that clear
 
 -- a function literal, or the universe's `nil`
 abbrev pub is_empty_value : Known → Expression → Bool
@@ -241,17 +301,17 @@ is_started_by_it known l (started_by n) = is_of_local l (local_meant_or (known.m
 abbrev pub is_member_of : Known → Local → BodyPlace → Bool
 is_member_of known l b = is_started_by_it known l b.literal
 
--- The positions of a body's results that are cancel functions: what its returns may hand on. Methods, literals, and
--- functions that are called `_` or `init` have none.
-abbrev pub named_gives : Known → Identifier → Signature → List ℕ
+-- The results of a body that are cancel functions: what its returns may hand on. Methods, literals, and functions that
+-- are called `_` or `init` have none.
+abbrev pub named_gives : Known → Identifier → Signature → List CancelResult
 named_gives known n (signature_of ps rs brackets) =
-    if is_blank n.text || is_init n.text then [] else given_positions known.means 0 (items_of rs)
+    if is_blank n.text || is_init n.text then [] else cancel_results known.means 0 (items_of rs)
 
-abbrev pub gives_of : Known → Option Identifier → Option Parameters → Signature → List ℕ
+abbrev pub gives_of : Known → Option Identifier → Option Parameters → Signature → List CancelResult
 gives_of known (Some n) None signature = named_gives known n signature
 gives_of known name of signature = []
 
-abbrev pub body_gives : Known → List BodyPlace → List ℕ
+abbrev pub body_gives : Known → List BodyPlace → List CancelResult
 body_gives known [] = []
 body_gives known (b ∷ bs) = gives_of known b.name b.receiver b.signature
 
@@ -331,15 +391,22 @@ is_same_kind cancel k = is_cancel (Some k)
 is_same_kind group k = is_group (Some k)
 
 abbrev pub has_kind_at : VariableKind → ℕ → TrackedParameter → Bool
-has_kind_at kind k p = is_same_kind kind p.kind && (p.position == k)
+has_kind_at kind k p = is_same_kind kind (kind_of_type p.typed) && (p.position == k)
 
 abbrev pub facts_take : VariableKind → ℕ → Option FunctionFacts → Bool
 facts_take kind k None = false
 facts_take kind k (Some f) = list_any (has_kind_at kind k) f.parameters
 
--- the function takes a variable of that kind at that position
-abbrev pub takes : Known → Call → VariableKind → ℕ → Bool
-takes known c kind k = facts_take kind k (facts_of known c.callee)
+abbrev pub has_type_at : TrackedType → ℕ → TrackedParameter → Bool
+has_type_at t k p = is_same_tracked t p.typed && (p.position == k)
+
+abbrev pub facts_take_type : TrackedType → ℕ → Option FunctionFacts → Bool
+facts_take_type t k None = false
+facts_take_type t k (Some f) = list_any (has_type_at t k) f.parameters
+
+-- the function takes what is of that type at that position
+abbrev pub takes : Known → Call → TrackedType → ℕ → Bool
+takes known c t k = facts_take_type t k (facts_of known c.callee)
 
 abbrev pub is_empty : Expressions → Bool
 is_empty no_expression = true
@@ -357,39 +424,50 @@ abbrev pub either_use : Option (List Event) → Option (List Event) → Option (
 either_use None second_use = second_use
 either_use (Some events) second_use = Some events
 
--- `c()` and `defer c()`, in literals too
-abbrev pub cancel_called : ℕ → Option (List ℕ) → Call → Option (List Event)
-cancel_called v (Some m) c = None
-cancel_called v None c = either_use
-    (allowed_if (has_no_argument c && is_statement_place c.place) (call v ∷ []))
-    (allowed_if (has_no_argument c && is_deferred_place c.place) (defer_call v ∷ []))
-
-abbrev pub variable_at : Local → Mention → VariableAt
-variable_at l m = record { number = l.number; at = m.named.at }
-
--- argument c of a function at a position of type `context.CancelFunc`, at a call place or under `defer`
-abbrev pub cancel_passed : Known → VariableAt → Option (List ℕ) → ℕ → Bool → Call → Option (List Event)
-cancel_passed known v None k false c = either_use
-    (allowed_if (takes known c cancel k && is_call_place c.place) (pass v (callee_of known c.callee) k ∷ []))
-    (allowed_if (takes known c cancel k && is_deferred_place c.place) (defer_pass v (callee_of known c.callee) k ∷ []))
-cancel_passed known v selected k has_address c = None
-
--- What a mention of a cancel variable gives, if it is allowed. `own`: it stands in the body that declares the variable.
-abbrev pub cancel_use : Known → Local → List BodyPlace → Mention → Role → Option (List Event)
-cancel_use known l bodies m (called c) = cancel_called l.number m.named.selected c
-cancel_use known l bodies m (argument k has_address c) =
-    if is_own l bodies then cancel_passed known (variable_at l m) m.named.selected k has_address c else None
--- an item of a return list at the position of such a result is handed on by the return
-cancel_use known l bodies m (returned k) =
-    allowed_if (is_own l bodies && is_in k (body_gives known bodies)) []
-cancel_use known l bodies m role = None
-
 abbrev pub only_argument : Call → Option Expression
 only_argument c = only c.arguments c.has_ellipsis
   where
     only : Expressions → Bool → Option Expression
     only (expression_and e no_expression) false = Some e
     only es ellipsis = None
+
+-- `()`, or `(e)` where the function takes a cause
+abbrev pub has_its_arguments : CancelType → Call → Bool
+has_its_arguments plain c = has_no_argument c
+has_its_arguments with_cause c = is_some (only_argument c)
+
+-- `c()` and `defer c()`, or `c(e)` and `defer c(e)` where it takes a cause; in literals too
+abbrev pub cancel_called : CancelType → ℕ → Option (List ℕ) → Call → Option (List Event)
+cancel_called t v (Some m) c = None
+cancel_called t v None c = either_use
+    (allowed_if (has_its_arguments t c && is_statement_place c.place) (call v ∷ []))
+    (allowed_if (has_its_arguments t c && is_deferred_place c.place) (defer_call v ∷ []))
+
+abbrev pub variable_at : Local → Mention → VariableAt
+variable_at l m = record { number = l.number; at = m.named.at }
+
+-- argument c of a function that takes one of its type at that position, at a call place or under `defer`
+abbrev pub cancel_passed : Known → CancelType → VariableAt → Option (List ℕ) → ℕ → Bool → Call → Option (List Event)
+cancel_passed known t v None k false c = either_use
+    (allowed_if (takes known c (cancel_type t) k && is_call_place c.place)
+    (pass v (callee_of known c.callee) k ∷ []))
+    (allowed_if (takes known c (cancel_type t) k && is_deferred_place c.place)
+    (defer_pass v (callee_of known c.callee) k ∷ []))
+cancel_passed known t v selected k has_address c = None
+
+-- a result of that number is a cancel function of that type
+abbrev pub is_given_as : ℕ → CancelType → List CancelResult → Bool
+is_given_as k t = list_any (λ g. (g.position == k) && is_same_type t g.type)
+
+-- what a mention of a cancel variable of that type gives, if it is allowed
+abbrev pub cancel_use : Known → CancelType → Local → List BodyPlace → Mention → Role → Option (List Event)
+cancel_use known t l bodies m (called c) = cancel_called t l.number m.named.selected c
+cancel_use known t l bodies m (argument k has_address c) =
+    if is_own l bodies then cancel_passed known t (variable_at l m) m.named.selected k has_address c else None
+-- an item of a return list at the position of such a result is handed on by the return
+cancel_use known t l bodies m (returned k) =
+    allowed_if (is_own l bodies && is_given_as k t (body_gives known bodies)) []
+cancel_use known t l bodies m role = None
 
 abbrev pub literal_at : Expression → Option ℕ
 literal_at (expression_node (function_literal signature ss braces) span) = Some span.start
@@ -441,7 +519,7 @@ group_called seen l bodies (Some m) c =
 -- argument g or `&g` at a position of type `*errgroup.Group`, at a call place
 abbrev pub group_lent : Known → Local → List BodyPlace → Option (List ℕ) → ℕ → Call → Option (List Event)
 group_lent known l bodies None k c = allowed_if
-    (is_own l bodies && (takes known c group k && is_call_place c.place))
+    (is_own l bodies && (takes known c group_type k && is_call_place c.place))
     (lend l.number (callee_of known c.callee) k ∷ [])
 group_lent known l bodies (Some m) k c = None
 
@@ -513,6 +591,14 @@ again_faults seen l m =
     if is_in_literal seen l && not (is_some (declared_by seen.known m))
     then fault_at m.named.at bound_again l.name else []
 
+-- obtained from a position of the other type
+abbrev pub type_faults : Seen → Local → Mention → Row → Binding → List UseFault
+type_faults seen l m row (obtained k) =
+    if_not (is_same_type (cancel_type_of seen l) (type_from k (row_giving seen.known row)))
+    (fault_at m.named.at cancel_used_otherwise l.name)
+type_faults seen l m row cleared = []
+type_faults seen l m row (made state) = []
+
 abbrev pub first_faults : Standing → VariableKind → Local → Mention → List UseFault
 first_faults ordinary kind l m = []
 first_faults first_of_for kind l m = fault_at m.named.at (otherwise kind) l.name
@@ -523,16 +609,16 @@ abbrev pub event_here : Local → List BodyPlace → Event → List Event
 event_here l bodies e = if is_own l bodies then e ∷ [] else []
 
 abbrev pub binding_outcome
-    : Seen → Local → VariableKind → List BodyPlace → Mention → Row → Event → LocalRole → Outcome
-binding_outcome seen l kind bodies m row e result = only_faults (fault_at m.named.at bound_again l.name)
-binding_outcome seen l kind bodies m row e variadic = only_faults (fault_at m.named.at (otherwise kind) l.name)
-binding_outcome seen l kind bodies m row e (parameter k) =
+    : Seen → Local → VariableKind → List BodyPlace → Mention → Row → Binding → LocalRole → Outcome
+binding_outcome seen l kind bodies m row b result = only_faults (fault_at m.named.at bound_again l.name)
+binding_outcome seen l kind bodies m row b variadic = only_faults (fault_at m.named.at (otherwise kind) l.name)
+binding_outcome seen l kind bodies m row b (parameter k) =
     only_faults (fault_at m.named.at (otherwise kind) l.name ++ again_faults seen l m)
-binding_outcome seen l kind bodies m row e receiver =
+binding_outcome seen l kind bodies m row b receiver =
     only_faults (fault_at m.named.at (otherwise kind) l.name ++ again_faults seen l m)
-binding_outcome seen l kind bodies m row e in_block = record {
-  faults = first_faults row.standing kind l m ++ again_faults seen l m;
-  events = event_here l bodies e;
+binding_outcome seen l kind bodies m row b in_block = record {
+  faults = first_faults row.standing kind l m ++ (type_faults seen l m row b ++ again_faults seen l m);
+  events = event_here l bodies (binding_event seen.known l m row b);
 }
 
 -- Mentions of variables
@@ -542,7 +628,7 @@ use_outcome kind l m None = only_faults (fault_at m.named.at (otherwise kind) l.
 use_outcome kind l m (Some events) = record { faults = []; events = events }
 
 abbrev pub kind_use : Seen → Local → VariableKind → List BodyPlace → Mention → Option (List Event)
-kind_use seen l cancel bodies m = cancel_use seen.known l bodies m m.role
+kind_use seen l cancel bodies m = cancel_use seen.known (cancel_type_of seen l) l bodies m m.role
 kind_use seen l group bodies m = group_use seen l bodies m m.role
 
 -- a mention that binds nothing
@@ -555,7 +641,7 @@ abbrev pub row_outcome
 row_outcome seen l None bodies m row binding = nothing
 row_outcome seen l (Some kind) bodies m row None = mention_outcome seen l (tracked_kind seen (Some l)) bodies m
 row_outcome seen l (Some kind) bodies m row (Some binding) =
-    binding_outcome seen l kind bodies m row (binding_event seen.known l m row binding) l.role
+    binding_outcome seen l kind bodies m row binding l.role
 
 abbrev pub role_outcome : Seen → Local → List BodyPlace → Mention → Role → Outcome
 role_outcome seen l bodies m (left k row) =
@@ -574,19 +660,19 @@ variable_outcome seen bodies m = local_outcome seen bodies m (found seen (variab
 abbrev pub last_fault : UseCode → Named → List UseFault
 last_fault code n = fault_at n.at code (last_name n)
 
-abbrev pub has_blank : Row → List ℕ → Bool
-has_blank row = list_any (is_blank_at row)
+abbrev pub has_blank : Row → List CancelResult → Bool
+has_blank row = list_any (λ g. is_blank_at row g.position)
 
 abbrev pub row_call_faults : Seen → Named → Row → Option Giving → List UseFault
 row_call_faults seen n row None = last_fault cancel_used_otherwise n
 row_call_faults seen n row (Some g) =
-    if has_blank row g.positions then fault_at row.statement cancel_discarded (last_name n)
-    else if are_locals seen.known row g.positions && row_binds seen row then []
+    if has_blank row g.gives then fault_at row.statement cancel_discarded (last_name n)
+    else if are_locals seen.known row g.gives && row_binds seen row then []
     else last_fault cancel_used_otherwise n
 
--- a return item that is such a call hands on all that it gives
-abbrev pub hands_on : List ℕ → ℕ → Giving → Bool
-hands_on gives k g = list_all (λ p. is_in (k + p) gives) g.positions
+-- a return item that is such a call hands on all that it gives, each at a position of its type
+abbrev pub hands_on : List CancelResult → ℕ → Giving → Bool
+hands_on gives k g = list_all (λ p. is_given_as (k + p.position) p.type gives) g.gives
 
 abbrev pub call_faults : Seen → List BodyPlace → Mention → Giving → CallPlace → List UseFault
 call_faults seen bodies m g nowhere = last_fault cancel_used_otherwise m.named
@@ -633,14 +719,7 @@ errgroup_faults seen m =
     then if_not (is_made_or_parameter seen m m.role) (last_fault group_used_otherwise m.named)
     else []
 
--- Makers with a cause, and `recover`
-
-abbrev pub is_cause : Known → Named → Bool
-is_cause known n = list_any (λ name. is_of known.means context_path name n)
-    (codes "WithCancelCause" ∷ codes "WithTimeoutCause" ∷ codes "WithDeadlineCause" ∷ codes "CancelCauseFunc" ∷ [])
-
-abbrev pub cause_faults : Known → Mention → List UseFault
-cause_faults known m = if is_cause known m.named then last_fault cancel_used_otherwise m.named else []
+-- The universe's `recover`
 
 abbrev pub recover_faults : Known → Mention → List UseFault
 recover_faults known m =
@@ -653,7 +732,7 @@ abbrev pub mention_faults : Seen → List BodyPlace → Mention → List UseFaul
 mention_faults seen bodies m =
     (variable_outcome seen bodies m).faults
     ++ (giving_faults seen bodies m (giving_of seen.known m.named)
-    ++ (errgroup_faults seen m ++ (cause_faults seen.known m ++ recover_faults seen.known m)))
+    ++ (errgroup_faults seen m ++ recover_faults seen.known m))
 
 abbrev pub is_result : LocalRole → Bool
 is_result (parameter k) = false
@@ -662,9 +741,10 @@ is_result variadic = false
 is_result result = true
 is_result in_block = false
 
--- a named result of type `context.CancelFunc`
+-- a named result that is a cancel function
 abbrev pub result_faults : List Local → List UseFault
 result_faults [] = []
 result_faults (l ∷ ls) =
-    if is_result l.role && is_cancel l.typed then fault_at l.at bound_again l.name ++ result_faults ls
+    if is_result l.role && is_cancel (option_map kind_of_type l.typed)
+    then fault_at l.at bound_again l.name ++ result_faults ls
     else result_faults ls

@@ -92,19 +92,19 @@ module _ (b : Body) (bodies : List BodyPlace) (here : is_body b.place.at bodies 
           is_in_block = role;
         }
 
-    by_local_role : (kind : VariableKind) (row : Row) (x : Event) (r : LocalRole) → l.role ≡ r → (BindsCancel x u → l.number ≡ u.number) → Contains (binding_outcome b.file l kind bodies m row x r).events e → IsBound b u
-    by_local_role kind row x (parameter k) q number h = absurd (contains_nil e h)
-    by_local_role kind row x receiver q number h = absurd (contains_nil e h)
-    by_local_role kind row x variadic q number h = absurd (contains_nil e h)
-    by_local_role kind row x result q number h = absurd (contains_nil e h)
-    by_local_role kind row x in_block q number h = by_place (is_own l bodies) x refl number q h
+    by_local_role : (kind : VariableKind) (row : Row) (binding : Binding) (r : LocalRole) → l.role ≡ r → Contains (binding_outcome b.file l kind bodies m row binding r).events e → IsBound b u
+    by_local_role kind row binding (parameter k) q h = absurd (contains_nil e h)
+    by_local_role kind row binding receiver q h = absurd (contains_nil e h)
+    by_local_role kind row binding variadic q h = absurd (contains_nil e h)
+    by_local_role kind row binding result q h = absurd (contains_nil e h)
+    by_local_role kind row binding in_block q h =
+        by_place (is_own l bodies) (binding_event b.file.known l m row binding) refl (bound_number b.file.known l m row binding u) q h
 
     by_row : (kind : Option VariableKind) (row : Row) (binding : Option Binding) → Contains (row_outcome b.file l kind bodies m row binding).events e → IsBound b u
     by_row None row None h = absurd (contains_nil e h)
     by_row None row (Some binding) h = absurd (contains_nil e h)
     by_row (Some kind) row None h = absurd (mention_harmless b.file l (tracked_kind b.file (Some l)) bodies m e h u binds)
-    by_row (Some kind) row (Some binding) h =
-        by_local_role kind row (binding_event b.file.known l m row binding) l.role refl (bound_number b.file.known l m row binding u) h
+    by_row (Some kind) row (Some binding) h = by_local_role kind row binding l.role refl h
 
     by_role : (r : Role) → Contains (role_outcome b.file l bodies m r).events e → IsBound b u
     by_role (left k row) h = by_row (kind_of b.file (Some l)) row (binding_at b.file row k) h

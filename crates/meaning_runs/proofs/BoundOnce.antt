@@ -11,8 +11,8 @@ use Rattle.meaning.specs.Scopes.{is_blank}
 use Rattle.meaning.specs.Declarations.{Meaning}
 use Rattle.meaning.specs.FunctionFacts.{VariableKind}
 use Rattle.meaning.specs.Mentions.{Named, bare, as_bare, RowForm, defines, assigns, declares, Row, Role, elsewhere, called, called_in_brackets, argument, returned, left, names_type, new_literal, parameter_pointer, Mention, BodyPlace, Mark, mentions, defers_literal, returns, opens, closes}
-use Rattle.meaning.specs.Tracked.{Known, Giving, local_meant_or, variable_of, declared_there, declared_by, blank_left, name_left, other_left, left_name, left_of_name, left_of_named, lefts_of_expressions, lefts_of, left_local, local_at, may_bind, row_giving, is_in, are_locals, obtains_there, row_obtains, row_makes, made_by_form, Placed, LocalRole, parameter, receiver, variadic, result, in_block, Local}
-use Rattle.meaning.specs.Uses.{Seen, found, kind_of, tracked_kind, VariableAt, Event, other, defer_literal, return_event, Binding, obtained, cleared, made, is_cancel, kind_at, row_binds, row_clears, made_binding, binding_at, binding_event, is_in_literal, fault_at, bound_again, UseFault, first_faults, again_faults, binding_outcome, row_outcome, role_outcome, local_outcome, variable_outcome, is_own, is_body, body_gives}
+use Rattle.meaning.specs.Tracked.{Known, Giving, local_meant_or, variable_of, declared_there, declared_by, blank_left, name_left, other_left, left_name, left_of_name, left_of_named, lefts_of_expressions, lefts_of, left_local, local_at, may_bind, row_giving, is_given, are_locals, obtains_there, row_obtains, row_makes, made_by_form, Placed, LocalRole, parameter, receiver, variadic, result, in_block, Local}
+use Rattle.meaning.specs.Uses.{Seen, found, kind_of, tracked_kind, VariableAt, Event, other, defer_literal, return_event, Binding, obtained, cleared, made, is_cancel, kind_at, row_binds, row_clears, made_binding, binding_at, binding_event, is_in_literal, fault_at, bound_again, UseFault, first_faults, type_faults, again_faults, binding_outcome, row_outcome, role_outcome, local_outcome, variable_outcome, is_own, is_body, body_gives}
 use Rattle.meaning.specs.BodyEvents.{handed_on, mark_events, mark_faults, faults_of, variables_of, too_many_faults, body_faults}
 use Rattle.meaning.proofs.Membership.{contains_here, contains_cases, contains_nil}
 use Rattle.meaning_packages.specs.PathFaults.{BindsCancel, obtains, clears}
@@ -69,8 +69,8 @@ at_left (declares keyword ns t) k n d e = at_names ns k n d e
 obtained_is_local : (known : Known) (row : Row) (k : ℕ) (g : Option Giving) → obtains_there known row k g ≡ true → is_some (local_at known row k) ≡ true
 obtained_is_local known row k None e = let bad : false ≡ true = e in cc
 obtained_is_local known row k (Some g) e =
-    let parts = and_parts (is_in k g.positions) (are_locals known row g.positions) e in
-    each_of (λ j. is_some (local_at known row j)) g.positions k parts.0 parts.1
+    let parts = and_parts (is_given k g.gives) (are_locals known row g.gives) e in
+    each_of (λ j. is_some (local_at known row j)) g.gives k parts.0 parts.1
 
 cancel_is_local : (seen : Seen) (o : Option ℕ) → is_cancel (kind_of seen (found seen o)) ≡ true → is_some o ≡ true
 cancel_is_local seen None e = let bad : false ≡ true = e in cc
@@ -148,13 +148,19 @@ module _ (seen : Seen) (bodies : List BodyPlace) (m : Mention) (e : Event) (u : 
         let same : x ≡ e = elim (contains_cases x e [] h) [ inl k ↦ k | inr n ↦ absurd (contains_nil e n) ] in
         f (subst (λ y. BindsCancel y u) (sym same) binds)
 
-    by_local_role : (kind : VariableKind) (row : Row) (x : Event) (r : LocalRole) → (IsWithout (again_faults seen l m) → BindsCancel x u → IsOnce seen u l) → IsWithout (binding_outcome seen l kind bodies m row x r).faults → Contains (binding_outcome seen l kind bodies m row x r).events e → IsOnce seen u l
-    by_local_role kind row x (parameter k) f none h = absurd (contains_nil e h)
-    by_local_role kind row x receiver f none h = absurd (contains_nil e h)
-    by_local_role kind row x variadic f none h = absurd (contains_nil e h)
-    by_local_role kind row x result f none h = absurd (contains_nil e h)
-    by_local_role kind row x in_block f none h =
-        by_place (is_own l bodies) x (f (λ y k. none y (Contains-append_right (first_faults row.standing kind l m) (again_faults seen l m) y k))) h
+    -- the last of the faults of a binding
+    none_again : (kind : VariableKind) (row : Row) (b : Binding) → IsWithout (first_faults row.standing kind l m ++ (type_faults seen l m row b ++ again_faults seen l m)) → IsWithout (again_faults seen l m)
+    none_again kind row b none y k =
+        none y (Contains-append_right (first_faults row.standing kind l m) (type_faults seen l m row b ++ again_faults seen l m) y
+        (Contains-append_right (type_faults seen l m row b) (again_faults seen l m) y k))
+
+    by_local_role : (kind : VariableKind) (row : Row) (b : Binding) (r : LocalRole) → (IsWithout (again_faults seen l m) → BindsCancel (binding_event seen.known l m row b) u → IsOnce seen u l) → IsWithout (binding_outcome seen l kind bodies m row b r).faults → Contains (binding_outcome seen l kind bodies m row b r).events e → IsOnce seen u l
+    by_local_role kind row b (parameter k) f none h = absurd (contains_nil e h)
+    by_local_role kind row b receiver f none h = absurd (contains_nil e h)
+    by_local_role kind row b variadic f none h = absurd (contains_nil e h)
+    by_local_role kind row b result f none h = absurd (contains_nil e h)
+    by_local_role kind row b in_block f none h =
+        by_place (is_own l bodies) (binding_event seen.known l m row b) (f (none_again kind row b none)) h
 
     once : (row : Row) (k : ℕ) (binding : Binding) → Fits m.named m.declares (left k row) → binding_at seen row k ≡ Some binding → IsWithout (again_faults seen l m) → BindsCancel (binding_event seen.known l m row binding) u → IsOnce seen u l
     once row k binding fits q none b =
@@ -166,7 +172,7 @@ module _ (seen : Seen) (bodies : List BodyPlace) (m : Mention) (e : Event) (u : 
     by_row None row k (Some binding) fits q none h = absurd (contains_nil e h)
     by_row (Some kind) row k None fits q none h = absurd (mention_harmless seen l (tracked_kind seen (Some l)) bodies m e h u binds)
     by_row (Some kind) row k (Some binding) fits q none h =
-        by_local_role kind row (binding_event seen.known l m row binding) l.role (once row k binding fits q) none h
+        by_local_role kind row binding l.role (once row k binding fits q) none h
 
     by_role : (r : Role) → Fits m.named m.declares r → IsWithout (role_outcome seen l bodies m r).faults → Contains (role_outcome seen l bodies m r).events e → IsOnce seen u l
     by_role (left k row) fits none h = by_row (kind_of seen (Some l)) row k (binding_at seen row k) fits refl none h

@@ -1,14 +1,14 @@
 -- Where the marks of a file have their names within the first bytes of a text, its use faults stand there, and so do the
 -- faults of paths and passes at a name.
 use Rattle.std.proofs.Common.{◌≡◌, ℕ, zero, suc, ◌+◌, ◌≤◌, Bool, true, false, cond, inl, inr, List, [], ◌∷◌, ◌++◌, map, Option, Some, None, Contains, refl, sym, subst, true≢false}
-use Rattle.std.specs.Prelude.{◌&&◌, if◌then◌else◌, not, nat_le}
+use Rattle.std.specs.Prelude.{◌&&◌, if◌then◌else◌, not, nat_le, option_map}
 use Rattle.std.specs.List.{filter}
 use Rattle.std.proofs.lemmas.List.Elements.{Contains-append_cases, Contains-append_right}
 use Rattle.tree.specs.Syntax.{Identifier, Parameters, no_parameter, named_and, unnamed_and, name_alone_and, Signature, signature_of}
 use Rattle.meaning.specs.Scopes.{is_blank}
 use Rattle.meaning.specs.Code.{Occurrence}
 use Rattle.meaning.specs.Lists.{Reaches, stopped}
-use Rattle.meaning.specs.FunctionFacts.{VariableKind, Item, alone, items_of, item_kind}
+use Rattle.meaning.specs.FunctionFacts.{VariableKind, TrackedType, kind_of_type, Item, alone, items_of, item_type}
 use Rattle.meaning.specs.Mentions.{BodyPlace, Mention, Mark, mentions, defers_literal, returns, opens, closes}
 use Rattle.meaning.specs.Tracked.{Known, Placed, LocalRole, parameter, receiver, result, Local, item_local, parameter_role, parameter_locals, receiver_locals, only_cancel, result_locals, receiver_items, signature_locals, body_locals, declared_by, declared_local, locals_there, locals_of}
 use Rattle.meaning.specs.Uses.{Seen, VariableAt, Event, defer_literal, return_event, found, tracked_kind, is_outside, is_body, body_gives, too_many_variables, bound_again, is_result, is_cancel, result_faults}
@@ -74,7 +74,7 @@ module _ (n : ℕ) where
   items_lie (name_alone_and name ps) h = (alone_lies name (items_of ps) h.0, items_lie ps h.1)
 
   module _ (known : Known) (b : BodyPlace) where
-    item_lies : (role : LocalRole) (typed : Option VariableKind) (o : Option Identifier) → NameIn n o
+    item_lies : (role : LocalRole) (typed : Option TrackedType) (o : Option Identifier) → NameIn n o
         → LocalsLie n (item_local b role typed o)
     item_lies role typed None h = no_local
     item_lies role typed (Some name) h = by (is_blank name.text) (one_local _ h)
@@ -86,18 +86,18 @@ module _ (n : ℕ) where
     parameters_lie : (k : ℕ) (is : List Item) → ItemsLie n is → LocalsLie n (parameter_locals known b k is)
     parameters_lie k [] h = no_local
     parameters_lie k (i ∷ is) h =
-        both_locals (item_lies (parameter_role (parameter k) i) (item_kind known.means i) i.name h.0)
+        both_locals (item_lies (parameter_role (parameter k) i) (item_type known.means i) i.name h.0)
         (parameters_lie (k + 1) is h.1)
 
     receivers_lie : (is : List Item) → ItemsLie n is → LocalsLie n (receiver_locals known b is)
     receivers_lie [] h = no_local
     receivers_lie (i ∷ is) h =
-        both_locals (item_lies (parameter_role receiver i) (item_kind known.means i) i.name h.0) (receivers_lie is h.1)
+        both_locals (item_lies (parameter_role receiver i) (item_type known.means i) i.name h.0) (receivers_lie is h.1)
 
     results_lie : (is : List Item) → ItemsLie n is → LocalsLie n (result_locals known b is)
     results_lie [] h = no_local
     results_lie (i ∷ is) h =
-        both_locals (item_lies result (only_cancel (item_kind known.means i)) i.name h.0) (results_lie is h.1)
+        both_locals (item_lies result (only_cancel (item_type known.means i)) i.name h.0) (results_lie is h.1)
 
     receiver_items_lie : (o : Option Parameters) → ReceiverLies n o → ItemsLie n (receiver_items o)
     receiver_items_lie None h = tt
@@ -164,7 +164,7 @@ module _ (n : ℕ) (seen : Seen) (lies : FileLies n seen) where
   results_faults_lie [] h = no_fault
   results_faults_lie (l ∷ ls) h =
       let rest = results_faults_lie ls record { each = λ k among. h.each k (contains_there l k ls among) } in
-      faults_if (is_result l.role && is_cancel l.typed)
+      faults_if (is_result l.role && is_cancel (option_map kind_of_type l.typed))
       (both_faults (one_fault l.at bound_again l.name (h.each l (contains_here l ls))) rest) rest
 
   mark_lies : (bodies : List BodyPlace) (mark : Mark) → MarkLies n mark → FaultsLie n (mark_faults seen bodies mark)

@@ -4,10 +4,10 @@ use Rattle.std.proofs.Common.{◌≡◌, ℕ, Bool, true, false, inl, inr, List,
 use Rattle.std.specs.Prelude.{◌&&◌, ◌||◌, if◌then◌else◌, codes}
 use Rattle.std.specs.List.{list_all}
 use Rattle.std.specs.Str.{bytes_eq}
-use Rattle.meaning.specs.FunctionFacts.{VariableKind, cancel, group}
+use Rattle.meaning.specs.FunctionFacts.{CancelType, cancel_type, group_type, VariableKind, cancel, group}
 use Rattle.meaning.specs.Mentions.{BodyPlace, Row, Call, Role, elsewhere, called, called_in_brackets, argument, returned, left, names_type, new_literal, parameter_pointer, Mention}
-use Rattle.meaning.specs.Tracked.{Known, is_in, variable_of, LocalRole, parameter, receiver, variadic, result, in_block, Local}
-use Rattle.meaning.specs.Uses.{Seen, found, kind_of, tracked_kind, VariableAt, Event, other, obtain, clear, call, defer_call, pass, defer_pass, lend, start, try, wait, defer_wait, make, defer_literal, return_event, Binding, obtained, cleared, made, binding_at, binding_event, allowed_if, either_use, variable_at, cancel_called, cancel_passed, cancel_use, group_started, group_tried, group_awaited, group_limited, group_called, group_lent, group_use, kind_use, use_outcome, mention_outcome, binding_outcome, row_outcome, role_outcome, local_outcome, variable_outcome, is_own, has_no_argument, is_statement_place, is_deferred_place, takes, is_call_place, callee_of, body_gives, is_free, only_argument, started_literal, is_member_of, literals_between, is_statement_or_value, is_item_place, is_deferred}
+use Rattle.meaning.specs.Tracked.{Known, variable_of, LocalRole, parameter, receiver, variadic, result, in_block, Local}
+use Rattle.meaning.specs.Uses.{Seen, found, kind_of, tracked_kind, VariableAt, Event, other, obtain, clear, call, defer_call, pass, defer_pass, lend, start, try, wait, defer_wait, make, defer_literal, return_event, Binding, obtained, cleared, made, binding_at, binding_event, allowed_if, either_use, variable_at, cancel_called, cancel_passed, cancel_use, group_started, group_tried, group_awaited, group_limited, group_called, group_lent, group_use, kind_use, use_outcome, mention_outcome, binding_outcome, row_outcome, role_outcome, local_outcome, variable_outcome, is_own, has_no_argument, has_its_arguments, is_statement_place, is_deferred_place, takes, is_given_as, cancel_type_of, is_call_place, callee_of, body_gives, is_free, only_argument, started_literal, is_member_of, literals_between, is_statement_or_value, is_item_place, is_deferred}
 use Rattle.meaning.proofs.Membership.{contains_cases, contains_nil}
 use Rattle.meaning_runs.specs.RunLists.{is_return}
 
@@ -86,35 +86,37 @@ module _ (P : Event → Type 0) where
     if_so true o k h m = h
     if_so false o k h m = m
 
-    cancel_called_fits : (v : ℕ) (selected : Option (List ℕ)) (c : Call) → AllFitIf (cancel_called v selected c)
-    cancel_called_fits v (Some m) c = tt
-    cancel_called_fits v None c =
-        one_allowed (has_no_argument c && is_statement_place c.place) (has_no_argument c && is_deferred_place c.place)
-        (call v) (defer_call v) refl refl
+    cancel_called_fits : (t : CancelType) (v : ℕ) (selected : Option (List ℕ)) (c : Call)
+        → AllFitIf (cancel_called t v selected c)
+    cancel_called_fits t v (Some m) c = tt
+    cancel_called_fits t v None c =
+        one_allowed (has_its_arguments t c && is_statement_place c.place)
+        (has_its_arguments t c && is_deferred_place c.place) (call v) (defer_call v) refl refl
 
-    cancel_passed_fits : (known : Known) (v : VariableAt) (selected : Option (List ℕ)) (k : ℕ) (b : Bool) (c : Call)
-        → AllFitIf (cancel_passed known v selected k b c)
-    cancel_passed_fits known v None k false c =
-        one_allowed (takes known c cancel k && is_call_place c.place)
-        (takes known c cancel k && is_deferred_place c.place) (pass v (callee_of known c.callee) k)
+    cancel_passed_fits : (known : Known) (t : CancelType) (v : VariableAt) (selected : Option (List ℕ)) (k : ℕ)
+        (b : Bool) (c : Call)
+        → AllFitIf (cancel_passed known t v selected k b c)
+    cancel_passed_fits known t v None k false c =
+        one_allowed (takes known c (cancel_type t) k && is_call_place c.place)
+        (takes known c (cancel_type t) k && is_deferred_place c.place) (pass v (callee_of known c.callee) k)
         (defer_pass v (callee_of known c.callee) k) refl refl
-    cancel_passed_fits known v None k true c = tt
-    cancel_passed_fits known v (Some m) k b c = tt
+    cancel_passed_fits known t v None k true c = tt
+    cancel_passed_fits known t v (Some m) k b c = tt
 
-    cancel_use_fits : (known : Known) (l : Local) (bodies : List BodyPlace) (m : Mention) (r : Role)
-        → AllFitIf (cancel_use known l bodies m r)
-    cancel_use_fits known l bodies m elsewhere = tt
-    cancel_use_fits known l bodies m (called c) = cancel_called_fits l.number m.named.selected c
-    cancel_use_fits known l bodies m called_in_brackets = tt
-    cancel_use_fits known l bodies m (argument k b c) =
-        if_so (is_own l bodies) (cancel_passed known (variable_at l m) m.named.selected k b c) None
-        (cancel_passed_fits known (variable_at l m) m.named.selected k b c) tt
-    cancel_use_fits known l bodies m (returned k) =
-        allowed (is_own l bodies && is_in k (body_gives known bodies)) [] none_given
-    cancel_use_fits known l bodies m (left k row) = tt
-    cancel_use_fits known l bodies m (names_type row) = tt
-    cancel_use_fits known l bodies m (new_literal row) = tt
-    cancel_use_fits known l bodies m parameter_pointer = tt
+    cancel_use_fits : (known : Known) (t : CancelType) (l : Local) (bodies : List BodyPlace) (m : Mention) (r : Role)
+        → AllFitIf (cancel_use known t l bodies m r)
+    cancel_use_fits known t l bodies m elsewhere = tt
+    cancel_use_fits known t l bodies m (called c) = cancel_called_fits t l.number m.named.selected c
+    cancel_use_fits known t l bodies m called_in_brackets = tt
+    cancel_use_fits known t l bodies m (argument k b c) =
+        if_so (is_own l bodies) (cancel_passed known t (variable_at l m) m.named.selected k b c) None
+        (cancel_passed_fits known t (variable_at l m) m.named.selected k b c) tt
+    cancel_use_fits known t l bodies m (returned k) =
+        allowed (is_own l bodies && is_given_as k t (body_gives known bodies)) [] none_given
+    cancel_use_fits known t l bodies m (left k row) = tt
+    cancel_use_fits known t l bodies m (names_type row) = tt
+    cancel_use_fits known t l bodies m (new_literal row) = tt
+    cancel_use_fits known t l bodies m parameter_pointer = tt
 
     group_called_fits : (seen : Seen) (l : Local) (bodies : List BodyPlace) (selected : Option (List ℕ)) (c : Call)
         → AllFitIf (group_called seen l bodies selected c)
@@ -146,7 +148,7 @@ module _ (P : Event → Type 0) where
         (List ℕ)) (k : ℕ) (c : Call)
         → AllFitIf (group_lent known l bodies selected k c)
     group_lent_fits known l bodies None k c =
-        allowed (is_own l bodies && (takes known c group k && is_call_place c.place))
+        allowed (is_own l bodies && (takes known c group_type k && is_call_place c.place))
         (lend l.number (callee_of known c.callee) k ∷ [])
         (one_fits (lend l.number (callee_of known c.callee) k) (fits (lend l.number (callee_of known c.callee) k) refl))
     group_lent_fits known l bodies (Some m) k c = tt
@@ -165,7 +167,7 @@ module _ (P : Event → Type 0) where
 
     kind_use_fits : (seen : Seen) (l : Local) (kind : VariableKind) (bodies : List BodyPlace) (m : Mention)
         → AllFitIf (kind_use seen l kind bodies m)
-    kind_use_fits seen l cancel bodies m = cancel_use_fits seen.known l bodies m m.role
+    kind_use_fits seen l cancel bodies m = cancel_use_fits seen.known (cancel_type_of seen l) l bodies m m.role
     kind_use_fits seen l group bodies m = group_use_fits seen l bodies m m.role
 
     use_outcome_fits : (kind : VariableKind) (l : Local) (m : Mention) (o : Option (List Event))
@@ -199,14 +201,14 @@ module _ (P : Event → Type 0) where
     here_fits false x q = none_given
 
     bound_fits : (seen : Seen) (l : Local) (kind : VariableKind) (bodies : List BodyPlace) (m : Mention) (row : Row)
-        (x : Event) (r : LocalRole)
-        → P x
-        → AllFit (binding_outcome seen l kind bodies m row x r).events
-    bound_fits seen l kind bodies m row x (parameter k) q = none_given
-    bound_fits seen l kind bodies m row x receiver q = none_given
-    bound_fits seen l kind bodies m row x variadic q = none_given
-    bound_fits seen l kind bodies m row x result q = none_given
-    bound_fits seen l kind bodies m row x in_block q = here_fits (is_own l bodies) x q
+        (binding : Binding) (r : LocalRole)
+        → AllFit (binding_outcome seen l kind bodies m row binding r).events
+    bound_fits seen l kind bodies m row binding (parameter k) = none_given
+    bound_fits seen l kind bodies m row binding receiver = none_given
+    bound_fits seen l kind bodies m row binding variadic = none_given
+    bound_fits seen l kind bodies m row binding result = none_given
+    bound_fits seen l kind bodies m row binding in_block =
+        here_fits (is_own l bodies) (binding_event seen.known l m row binding) (binding_fits seen.known l m row binding)
 
     row_fits : (seen : Seen) (l : Local) (kind : Option VariableKind) (bodies : List BodyPlace) (m : Mention)
         (row : Row) (binding : Option Binding)
@@ -214,9 +216,7 @@ module _ (P : Event → Type 0) where
     row_fits seen l None bodies m row None = none_given
     row_fits seen l None bodies m row (Some binding) = none_given
     row_fits seen l (Some kind) bodies m row None = unbound_fits seen l bodies m
-    row_fits seen l (Some kind) bodies m row (Some binding) =
-        bound_fits seen l kind bodies m row (binding_event seen.known l m row binding) l.role
-        (binding_fits seen.known l m row binding)
+    row_fits seen l (Some kind) bodies m row (Some binding) = bound_fits seen l kind bodies m row binding l.role
 
     role_fits : (seen : Seen) (l : Local) (bodies : List BodyPlace) (m : Mention) (r : Role)
         → AllFit (role_outcome seen l bodies m r).events

@@ -5,10 +5,10 @@ use Rattle.std.specs.Prelude.{◌&&◌, ◌||◌, if◌then◌else◌, not, is_s
 use Rattle.std.specs.List.{list_all}
 use Rattle.std.specs.Str.{bytes_eq}
 use Rattle.std.proofs.lemmas.List.Elements.{Contains-append_cases}
-use Rattle.meaning.specs.FunctionFacts.{VariableKind, cancel, group, errgroup_path, is_import}
+use Rattle.meaning.specs.FunctionFacts.{CancelType, is_same_type, cancel_type, group_type, VariableKind, cancel, group, errgroup_path, is_import}
 use Rattle.meaning.specs.Mentions.{BodyPlace, Standing, ordinary, first_of_for, communication, Row, Call, CallPlace, nowhere, as_statement, only_value, return_item, deferred, Role, elsewhere, called, called_in_brackets, argument, returned, left, names_type, new_literal, parameter_pointer, Mention}
-use Rattle.meaning.specs.Tracked.{is_in, is_universe, variable_of, declared_by, is_maker, Giving, giving_of, row_giving, are_locals, LocalRole, parameter, receiver, variadic, result, in_block, Local}
-use Rattle.meaning.specs.Uses.{Seen, found, kind_of, tracked_kind, last_name, Event, other, obtain, clear, call, defer_call, pass, defer_pass, lend, start, try, wait, defer_wait, make, defer_literal, return_event, Binding, obtained, cleared, made, binding_at, binding_event, row_binds, allowed_if, either_use, variable_at, cancel_called, cancel_passed, cancel_use, only_argument, group_started, group_tried, group_awaited, group_limited, group_called, group_lent, group_use, is_own, body_gives, has_no_argument, is_statement_place, is_deferred_place, is_item_place, is_statement_or_value, is_call_place, takes, callee_of, is_free, started_literal, is_member_of, literals_between, is_deferred, UseCode, recover_used, cancel_discarded, cancel_used_otherwise, group_used_otherwise, bound_again, UseFault, fault_at, otherwise, Outcome, if_not, again_faults, first_faults, binding_outcome, use_outcome, kind_use, mention_outcome, row_outcome, role_outcome, local_outcome, variable_outcome, last_fault, has_blank, row_call_faults, hands_on, call_faults, giving_role_faults, giving_faults, is_made_or_parameter, is_cause, mention_faults, is_in_literal}
+use Rattle.meaning.specs.Tracked.{is_universe, variable_of, declared_by, is_maker, Giving, giving_of, row_giving, are_locals, LocalRole, parameter, receiver, variadic, result, in_block, Local}
+use Rattle.meaning.specs.Uses.{Seen, found, kind_of, tracked_kind, last_name, Event, other, obtain, clear, call, defer_call, pass, defer_pass, lend, start, try, wait, defer_wait, make, defer_literal, return_event, Binding, obtained, cleared, made, binding_at, binding_event, row_binds, allowed_if, either_use, variable_at, cancel_called, cancel_passed, cancel_use, only_argument, group_started, group_tried, group_awaited, group_limited, group_called, group_lent, group_use, is_own, body_gives, has_no_argument, has_its_arguments, is_statement_place, is_deferred_place, is_item_place, is_statement_or_value, is_call_place, takes, is_given_as, cancel_type_of, type_from, callee_of, is_free, started_literal, is_member_of, literals_between, is_deferred, UseCode, recover_used, cancel_discarded, cancel_used_otherwise, group_used_otherwise, bound_again, UseFault, fault_at, otherwise, Outcome, if_not, again_faults, type_faults, first_faults, binding_outcome, use_outcome, kind_use, mention_outcome, row_outcome, role_outcome, local_outcome, variable_outcome, last_fault, has_blank, row_call_faults, hands_on, call_faults, giving_role_faults, giving_faults, is_made_or_parameter, mention_faults, is_in_literal}
 use Rattle.meaning.proofs.Membership.{contains_nil, contains_cases}
 use Rattle.meaning_runs.specs.NamePlaces.{PlaceLies, RoleLies}
 
@@ -103,30 +103,34 @@ module _ (n : ℕ) where
   module _ (seen : Seen) (l : Local) (bodies : List BodyPlace) (m : Mention) (low : m.named.at ≤ n) where
     -- what is allowed
 
-    called_lies : (selected : Option (List ℕ)) (c : Call) → EventsLieIf n (cancel_called l.number selected c)
+    abbrev its_type : CancelType
+    its_type = cancel_type_of seen l
+
+    called_lies : (selected : Option (List ℕ)) (c : Call) → EventsLieIf n (cancel_called its_type l.number selected c)
     called_lies (Some name) c = tt
     called_lies None c =
-        one_allowed (has_no_argument c && is_statement_place c.place) (has_no_argument c && is_deferred_place c.place)
-        (call l.number) (defer_call l.number) tt tt
+        one_allowed (has_its_arguments its_type c && is_statement_place c.place)
+        (has_its_arguments its_type c && is_deferred_place c.place) (call l.number) (defer_call l.number) tt tt
 
     passed_lies : (selected : Option (List ℕ)) (k : ℕ) (b : Bool) (c : Call)
-        → EventsLieIf n (cancel_passed seen.known (variable_at l m) selected k b c)
+        → EventsLieIf n (cancel_passed seen.known its_type (variable_at l m) selected k b c)
     passed_lies None k false c =
-        one_allowed (takes seen.known c cancel k && is_call_place c.place)
-        (takes seen.known c cancel k && is_deferred_place c.place)
+        one_allowed (takes seen.known c (cancel_type its_type) k && is_call_place c.place)
+        (takes seen.known c (cancel_type its_type) k && is_deferred_place c.place)
         (pass (variable_at l m) (callee_of seen.known c.callee) k)
         (defer_pass (variable_at l m) (callee_of seen.known c.callee) k) low low
     passed_lies None k true c = tt
     passed_lies (Some name) k b c = tt
 
-    cancel_lies : (r : Role) → EventsLieIf n (cancel_use seen.known l bodies m r)
+    cancel_lies : (r : Role) → EventsLieIf n (cancel_use seen.known its_type l bodies m r)
     cancel_lies elsewhere = tt
     cancel_lies (called c) = called_lies m.named.selected c
     cancel_lies called_in_brackets = tt
     cancel_lies (argument k b c) =
-        if_so (is_own l bodies) (cancel_passed seen.known (variable_at l m) m.named.selected k b c) None
+        if_so (is_own l bodies) (cancel_passed seen.known its_type (variable_at l m) m.named.selected k b c) None
         (passed_lies m.named.selected k b c) tt
-    cancel_lies (returned k) = allowed (is_own l bodies && is_in k (body_gives seen.known bodies)) [] no_event
+    cancel_lies (returned k) =
+        allowed (is_own l bodies && is_given_as k its_type (body_gives seen.known bodies)) [] no_event
     cancel_lies (left k row) = tt
     cancel_lies (names_type row) = tt
     cancel_lies (new_literal row) = tt
@@ -157,7 +161,7 @@ module _ (n : ℕ) where
 
     lent_lies : (selected : Option (List ℕ)) (k : ℕ) (c : Call) → EventsLieIf n (group_lent seen.known l bodies selected k c)
     lent_lies None k c =
-        allowed (is_own l bodies && (takes seen.known c group k && is_call_place c.place))
+        allowed (is_own l bodies && (takes seen.known c group_type k && is_call_place c.place))
         (lend l.number (callee_of seen.known c.callee) k ∷ [])
         (one_event (lend l.number (callee_of seen.known c.callee) k) tt)
     lent_lies (Some name) k c = tt
@@ -192,6 +196,13 @@ module _ (n : ℕ) where
         faults_if (is_in_literal seen l && not (is_some (declared_by seen.known m)))
         (one_fault m.named.at bound_again l.name low) no_fault
 
+    type_lies : (row : Row) (binding : Binding) → FaultsLie n (type_faults seen l m row binding)
+    type_lies row (obtained k) =
+        not_if (is_same_type its_type (type_from k (row_giving seen.known row)))
+        (one_fault m.named.at cancel_used_otherwise l.name low)
+    type_lies row cleared = no_fault
+    type_lies row (made state) = no_fault
+
     first_lies : (standing : Standing) (kind : VariableKind) → FaultsLie n (first_faults standing kind l m)
     first_lies ordinary kind = no_fault
     first_lies first_of_for kind = one_fault m.named.at (otherwise kind) l.name low
@@ -206,25 +217,27 @@ module _ (n : ℕ) where
     here_lies true x h = one_event x h
     here_lies false x h = no_event
 
-    bound_lies : (kind : VariableKind) (row : Row) (x : Event) (r : LocalRole) → EventLies n x
-        → OutcomeLies n (binding_outcome seen l kind bodies m row x r)
-    bound_lies kind row x (parameter k) h =
+    bound_lies : (kind : VariableKind) (row : Row) (binding : Binding) (r : LocalRole)
+        → OutcomeLies n (binding_outcome seen l kind bodies m row binding r)
+    bound_lies kind row binding (parameter k) =
         record { faults = both_faults (one_fault m.named.at (otherwise kind) l.name low) again_lies; events = no_event }
-    bound_lies kind row x receiver h =
+    bound_lies kind row binding receiver =
         record { faults = both_faults (one_fault m.named.at (otherwise kind) l.name low) again_lies; events = no_event }
-    bound_lies kind row x variadic h =
+    bound_lies kind row binding variadic =
         record { faults = one_fault m.named.at (otherwise kind) l.name low; events = no_event }
-    bound_lies kind row x result h = record { faults = one_fault m.named.at bound_again l.name low; events = no_event }
-    bound_lies kind row x in_block h =
-        record { faults = both_faults (first_lies row.standing kind) again_lies; events = here_lies (is_own l bodies) x h }
+    bound_lies kind row binding result =
+        record { faults = one_fault m.named.at bound_again l.name low; events = no_event }
+    bound_lies kind row binding in_block = record {
+      faults = both_faults (first_lies row.standing kind) (both_faults (type_lies row binding) again_lies);
+      events = here_lies (is_own l bodies) (binding_event seen.known l m row binding) (event_lies row binding);
+    }
 
     row_lies : (kind : Option VariableKind) (row : Row) (binding : Option Binding)
         → OutcomeLies n (row_outcome seen l kind bodies m row binding)
     row_lies None row None = record { faults = no_fault; events = no_event }
     row_lies None row (Some binding) = record { faults = no_fault; events = no_event }
     row_lies (Some kind) row None = unbound_lies (tracked_kind seen (Some l))
-    row_lies (Some kind) row (Some binding) =
-        bound_lies kind row (binding_event seen.known l m row binding) l.role (event_lies row binding)
+    row_lies (Some kind) row (Some binding) = bound_lies kind row binding l.role
 
     role_lies : (r : Role) → OutcomeLies n (role_outcome seen l bodies m r)
     role_lies (left k row) = row_lies (kind_of seen (Some l)) row (binding_at seen row k)
@@ -253,8 +266,8 @@ module _ (n : ℕ) where
     row_call_lies : (row : Row) (o : Option Giving) → row.statement ≤ n → FaultsLie n (row_call_faults seen m.named row o)
     row_call_lies row None starts = last_lies cancel_used_otherwise
     row_call_lies row (Some g) starts =
-        faults_if (has_blank row g.positions) (one_fault row.statement cancel_discarded (last_name m.named) starts)
-        (faults_if (are_locals seen.known row g.positions && row_binds seen row) no_fault (last_lies cancel_used_otherwise))
+        faults_if (has_blank row g.gives) (one_fault row.statement cancel_discarded (last_name m.named) starts)
+        (faults_if (are_locals seen.known row g.gives && row_binds seen row) no_fault (last_lies cancel_used_otherwise))
 
     call_lies : (g : Giving) (place : CallPlace) → m.site ≤ n → PlaceLies n place → FaultsLie n (call_faults seen bodies m g place)
     call_lies g nowhere site h = last_lies cancel_used_otherwise
@@ -290,6 +303,5 @@ module _ (n : ℕ) where
         (both_faults
         (faults_if (is_import errgroup_path (seen.known.means m.named.at))
         (not_if (is_made_or_parameter seen m m.role) (last_lies group_used_otherwise)) no_fault)
-        (both_faults (faults_if (is_cause seen.known m.named) (last_lies cancel_used_otherwise) no_fault)
         (faults_if (bytes_eq m.named.name (codes "recover") && is_universe (seen.known.means m.named.at))
-        (one_fault m.named.at recover_used (codes "-") low) no_fault))))
+        (one_fault m.named.at recover_used (codes "-") low) no_fault)))

@@ -5,9 +5,9 @@ use Rattle.std.specs.Prelude.{◌==◌, ◌&&◌, ◌||◌, if◌then◌else◌}
 use Rattle.std.specs.List.{list_all}
 use Rattle.tree.specs.Syntax.{SourceFile}
 use Rattle.meaning.specs.Scopes.{is_blank}
-use Rattle.meaning.specs.FunctionFacts.{VariableKind, cancel, group}
+use Rattle.meaning.specs.FunctionFacts.{VariableKind, cancel, group, CancelResult}
 use Rattle.meaning.specs.Mentions.{Named, Row, Role, elsewhere, called, called_in_brackets, argument, returned, left, names_type, new_literal, parameter_pointer, Mention, BodyPlace, Mark, mentions, defers_literal, returns, opens, closes}
-use Rattle.meaning.specs.Tracked.{Known, Giving, blank_left, name_left, left_name, left_local, local_meant_or, variable_of, is_in, are_locals, row_giving, obtains_there, row_obtains, GroupState, row_makes, Placed, LocalRole, parameter, receiver, variadic, result, in_block, Local, kind_of_local}
+use Rattle.meaning.specs.Tracked.{Known, Giving, blank_left, name_left, left_name, left_local, local_meant_or, variable_of, is_given, are_locals, row_giving, obtains_there, row_obtains, GroupState, row_makes, Placed, LocalRole, parameter, receiver, variadic, result, in_block, Local, kind_of_local}
 use Rattle.meaning.specs.Uses.{Seen, found, kind_of, may_be_tracked, tracked_kind, VariableAt, Event, other, defer_literal, return_event, Binding, obtained, cleared, made, is_cancel, kind_at, are_cancels, row_binds, row_clears, are_groups, is_second_free, made_binding, binding_at, binding_event, binding_outcome, row_outcome, role_outcome, local_outcome, is_own, body_gives}
 use Rattle.meaning.specs.BodyEvents.{handed_on, mark_events, seen_file}
 use Rattle.meaning.proofs.Membership.{contains_here, contains_there, contains_cases, contains_nil}
@@ -33,13 +33,14 @@ second_part : (b c : Bool) → (b && c) ≡ true → c ≡ true
 second_part true c e = e
 second_part false c e = let bad : false ≡ true = e in cc
 
-pub each_of : (test : ℕ → Bool) (ns : List ℕ) (k : ℕ) → is_in k ns ≡ true → list_all test ns ≡ true → test k ≡ true
+pub each_of : (test : ℕ → Bool) (gs : List CancelResult) (k : ℕ) → is_given k gs ≡ true → list_all (λ g. test g.position) gs ≡ true → test k ≡ true
 each_of test [] k e h = let bad : false ≡ true = e in cc
-each_of test (n ∷ ns) k e h =
-    by (n == k) refl e (λ r. each_of test ns k r (second_part (test n) (list_all test ns) h))
+each_of test (g ∷ gs) k e h =
+    by (g.position == k) refl e (λ r. each_of test gs k r (second_part (test g.position) (list_all (λ x. test x.position) gs) h))
   where
-    by : (b : Bool) → (n == k) ≡ b → (b || is_in k ns) ≡ true → (is_in k ns ≡ true → test k ≡ true) → test k ≡ true
-    by true q r f = subst (λ m. test m ≡ true) (eqb_is n k q) (first_part (test n) (list_all test ns) h)
+    by : (b : Bool) → (g.position == k) ≡ b → (b || is_given k gs) ≡ true → (is_given k gs ≡ true → test k ≡ true) → test k ≡ true
+    by true q r f =
+        subst (λ m. test m ≡ true) (eqb_is g.position k q) (first_part (test g.position) (list_all (λ x. test x.position) gs) h)
     by false q r f = f r
 
 is_cancel_kind : (kind : Option VariableKind) → is_cancel kind ≡ true → kind ≡ Some cancel
@@ -72,7 +73,7 @@ makes_none seen row (Some state) binding e c = by (are_groups seen row row.form 
 obtained_is_cancel : (seen : Seen) (row : Row) (k : ℕ) (g : Option Giving) → obtains_there seen.known row k g ≡ true → are_cancels seen row g ≡ true → is_cancel (kind_at seen row k) ≡ true
 obtained_is_cancel seen row k None o c = let bad : false ≡ true = o in cc
 obtained_is_cancel seen row k (Some g) o c =
-    each_of (λ j. is_cancel (kind_at seen row j)) g.positions k (first_part (is_in k g.positions) (are_locals seen.known row g.positions) o) c
+    each_of (λ j. is_cancel (kind_at seen row j)) g.gives k (first_part (is_given k g.gives) (are_locals seen.known row g.gives) o) c
 
 -- what a row obtains or clears on its left side k is of that kind
 left_is_cancel : (seen : Seen) (row : Row) (k : ℕ) (binding : Binding) → binding_at seen row k ≡ Some binding → is_of_cancel binding ≡ true → is_cancel (kind_at seen row k) ≡ true
@@ -123,19 +124,19 @@ module _ (seen : Seen) (bodies : List BodyPlace) (m : Mention) (e : Event) (u : 
         let same : x ≡ e = elim (contains_cases x e [] h) [ inl k ↦ k | inr n ↦ absurd (contains_nil e n) ] in
         f (subst (λ y. BindsCancel y u) (sym same) binds)
 
-    by_local_role : (kind : VariableKind) (row : Row) (x : Event) (r : LocalRole) → (BindsCancel x u → IsOfKind seen u l) → Contains (binding_outcome seen l kind bodies m row x r).events e → IsOfKind seen u l
-    by_local_role kind row x (parameter k) f h = absurd (contains_nil e h)
-    by_local_role kind row x receiver f h = absurd (contains_nil e h)
-    by_local_role kind row x variadic f h = absurd (contains_nil e h)
-    by_local_role kind row x result f h = absurd (contains_nil e h)
-    by_local_role kind row x in_block f h = by_place (is_own l bodies) x f h
+    by_local_role : (kind : VariableKind) (row : Row) (b : Binding) (r : LocalRole) → (BindsCancel (binding_event seen.known l m row b) u → IsOfKind seen u l) → Contains (binding_outcome seen l kind bodies m row b r).events e → IsOfKind seen u l
+    by_local_role kind row b (parameter k) f h = absurd (contains_nil e h)
+    by_local_role kind row b receiver f h = absurd (contains_nil e h)
+    by_local_role kind row b variadic f h = absurd (contains_nil e h)
+    by_local_role kind row b result f h = absurd (contains_nil e h)
+    by_local_role kind row b in_block f h = by_place (is_own l bodies) (binding_event seen.known l m row b) f h
 
     by_row : (kind : Option VariableKind) (row : Row) (k : ℕ) (binding : Option Binding) → Fits m.named m.declares (left k row) → binding_at seen row k ≡ binding → Contains (row_outcome seen l kind bodies m row binding).events e → IsOfKind seen u l
     by_row None row k None fits q h = absurd (contains_nil e h)
     by_row None row k (Some binding) fits q h = absurd (contains_nil e h)
     by_row (Some kind) row k None fits q h = absurd (mention_harmless seen l (tracked_kind seen (Some l)) bodies m e h u binds)
     by_row (Some kind) row k (Some binding) fits q h =
-        by_local_role kind row (binding_event seen.known l m row binding) l.role (λ x. let r = binding_is_of_cancel seen.known l m row binding u x in (r.1, mention_is_cancel seen m row k l fits is (left_is_cancel seen row k binding q r.0))) h
+        by_local_role kind row binding l.role (λ x. let r = binding_is_of_cancel seen.known l m row binding u x in (r.1, mention_is_cancel seen m row k l fits is (left_is_cancel seen row k binding q r.0))) h
 
     by_role : (r : Role) → Fits m.named m.declares r → Contains (role_outcome seen l bodies m r).events e → IsOfKind seen u l
     by_role (left k row) fits h = by_row (kind_of seen (Some l)) row k (binding_at seen row k) fits refl h

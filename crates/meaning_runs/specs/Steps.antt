@@ -3,10 +3,12 @@
 -- has no step.
 -- (The Go specification, "Calls", "Return statements", "Defer statements", "Go statements"; the documentation of
 -- `context`.)
-use Rattle.std.specs.Prelude.{◌≡◌, ℕ, ◌<◌, ◌&&◌, ◌||◌, ◌++◌, Bool, true, false, List, [], ◌∷◌, Option, Some, None, map, codes, Contains}
+use Rattle.std.specs.Prelude.{◌≡◌, ℕ, ◌<◌, ◌&&◌, ◌++◌, Bool, true, false, List, [], ◌∷◌, Option, Some, None, map, Contains}
+use Rattle.std.specs.List.{list_any}
 use Rattle.std.specs.Str.{bytes_eq}
 use Rattle.meaning.specs.Code.{Occurrence, Code}
 use Rattle.meaning.specs.FunctionFacts.{context_path}
+use Rattle.meaning.specs.Tracked.{plain_makers, cause_makers}
 use Rattle.meaning.specs.Uses.{Callee, VariableAt, Handed, Event, other, obtain, clear, call, defer_call, pass, defer_pass, defer_literal, return_event}
 use Rattle.meaning.specs.BodyEvents.{Variable, own_parameter}
 use Rattle.meaning_runs.specs.Bodies.{Program, Body, IsOf, variables_in, IsOutermost, IsLiteralIn, IsFunction}
@@ -47,10 +49,7 @@ pub record IsAtEnd (f : Frame) : Type 0 where
 -- Obtaining
 
 abbrev pub is_maker : Callee → Bool
-is_maker f =
-    is_context f.path
-    && (bytes_eq f.name (codes "WithCancel")
-    || (bytes_eq f.name (codes "WithTimeout") || bytes_eq f.name (codes "WithDeadline")))
+is_maker f = is_context f.path && list_any (λ name. bytes_eq f.name name) (plain_makers ++ cause_makers)
   where
     is_context : Option (List ℕ) → Bool
     is_context None = false

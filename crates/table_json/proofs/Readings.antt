@@ -1,21 +1,24 @@
 -- Lists, functions and tables, from what is found in their values.
-use Rattle.std.proofs.Common.{◌≡◌, ℕ, List, [], ◌∷◌, ◌++◌, Option, Some, None, Result, IfErr, map, get_or, length, ◌<◌, zero, suc, refl, sym, ap, subst, ◌∙◌, arith}
+use Rattle.std.proofs.Common.{◌≡◌, inl, inr, ℕ, true, false, true≢false, List, [], ◌∷◌, ◌++◌, Option, Some, None, Result, IfErr, map, get_or, length, ◌<◌, zero, suc, refl, sym, ap, subst, ◌∙◌, arith}
 use Rattle.std.proofs.lemmas.Cmp.{nat_cmp_total, nat_list_cmp_total}
 use Rattle.std.proofs.lemmas.List.{append-nil}
 use Rattle.std.proofs.lemmas.Result.{err_from_is_err_and}
-use Rattle.std.specs.List.{AllZip}
+use Rattle.std.specs.List.{AllZip, list_all}
 use Rattle.std.specs.Ordering.{nat_cmp}
 use Rattle.std.specs.Result.{IsErrAnd}
 use Rattle.serde_json.specs.Data.{Data, Items}
 use Rattle.serde_json.specs.View.{items_of}
 use Rattle.table_json.specs.declared.fault.TableFault.{TableFault}
 use Rattle.table_json.specs.declared.fault.TableFault.TheVariants.{NotJson, WrongVersion, WrongShape, OutOfMemory}
-use Rattle.table_json.specs.Parts.{all_of, function_in, functions_in, parameter_in, position_in, Refuses}
-use Rattle.table_json.specs.Tables.{Entry, by_bytes, itself, name_of, position_of, IsArranged}
+use Rattle.table_json.specs.declared.read.Version.{Version}
+use Rattle.table_json.specs.declared.read.Version.TheVariants.{Older, Newer}
+use Rattle.table_json.specs.declared.table.Parameter.{Parameter}
+use Rattle.table_json.specs.Parts.{all_of, function_in, functions_in, number_of, older_function_in, parameter_in, position_in, IsFunctionIn, IsValueFault, Refuses}
+use Rattle.table_json.specs.Tables.{Entry, are_apart, by_bytes, itself, name_of, position_of, IsArranged}
 use Rattle.table_json.specs.TableTexts.{version_of}
-use Rattle.table_json.specs.TableValues.{whole, parameter_value, function_with, AreValuesOf, IsFunctionValue, IsTableValue}
+use Rattle.table_json.specs.TableValues.{is_older, whole, parameter_value, function_with, older_function_with, AreValuesOf, IsFunctionValue, IsOlderFunctionValue, IsTableIn, IsTableValue}
 use Rattle.table_json.proofs.Arranged.{one_arrangement}
-use Rattle.table_json.proofs.ValueParts.{Finds, finds_positions, finds_parameters, of_all, all_there, of_function, function_there, of_functions, functions_there, same_items, some_same}
+use Rattle.table_json.proofs.ValueParts.{Finds, finds_positions, finds_parameters, of_all, all_there, of_function, function_there, of_older_function, older_function_there, of_functions, functions_there, same_items, some_same}
 
 -- Nothing is read
 
@@ -71,42 +74,49 @@ module _ {A : Type 0} (value_of : A → Data) (position : A → ℕ) (find : Dat
       one_arrangement nat_cmp_total position k.given a b
       (subst (λ g. IsArranged nat_cmp position g a) same h.arranged) k.arranged
 
--- Functions
+-- Functions of the newer version
 
-FoundAs : Data → List ℕ → List Data → List Data → Type 0
-FoundAs value name gives params = function_in value ≡ Some (name, items_of gives, items_of params)
-
-pub record HasParts (gives params : List Data) (f : Entry) : Type 0 where
+pub record HasParts (gives causes params : List Data) (f : Entry) : Type 0 where
   pub are_gives : AreValuesOf whole itself gives f.gives
+  pub are_causes : AreValuesOf whole itself causes f.causes
   pub are_params : AreValuesOf parameter_value position_of params f.params
 
-pub parts_of : (value : Data) (name : List ℕ) (gives params : List Data) (f : Entry)
-    → function_in value ≡ Some (name, items_of gives, items_of params)
+pub parts_of : (value : Data) (name : List ℕ) (gives causes params : List Data) (f : Entry)
+    → function_in value ≡ Some (name, items_of gives, items_of causes, items_of params)
     → IsFunctionValue value f
-    → HasParts gives params f
-parts_of value name gives params f e h =
+    → HasParts gives causes params f
+parts_of value name gives causes params f e h =
     let same =
-    some_same {A = List ℕ × Items × Items} (f.name, items_of h.gives, items_of h.params) (name, items_of gives, items_of params)
-    (sym (function_there f.name h.gives h.params) ∙ (ap function_in (sym h.is_value) ∙ e)) in
+    some_same {A = List ℕ × Items × Items × Items} (f.name, items_of h.gives, items_of h.causes, items_of h.params) (name, items_of gives, items_of causes, items_of params)
+    (sym (function_there f.name h.gives h.causes h.params) ∙ (ap function_in (sym h.is_value) ∙ e)) in
     record {
       are_gives =
           subst (λ vs. AreValuesOf whole itself vs f.gives) (same_items h.gives gives (ap (λ p. p.1) same)) h.are_gives;
+      are_causes =
+          subst (λ vs. AreValuesOf whole itself vs f.causes) (same_items h.causes causes (ap (λ p. p.2) same))
+          h.are_causes;
       are_params =
           subst (λ vs. AreValuesOf parameter_value position_of vs f.params)
-          (same_items h.params params (ap (λ p. p.2) same)) h.are_params;
+          (same_items h.params params (ap (λ p. p.3) same)) h.are_params;
     }
 
-pub is_function : (value : Data) (name : List ℕ) (gives params : List Data) (f : Entry)
-    → function_in value ≡ Some (name, items_of gives, items_of params)
+pub is_function : (value : Data) (name : List ℕ) (gives causes params : List Data) (f : Entry)
+    → function_in value ≡ Some (name, items_of gives, items_of causes, items_of params)
     → f.name ≡ name
     → AreValuesOf whole itself gives f.gives
+    → AreValuesOf whole itself causes f.causes
+    → are_apart f.gives f.causes ≡ true
     → AreValuesOf parameter_value position_of params f.params
     → IsFunctionValue value f
-is_function value name gives params f e same_name are_gives are_params = record {
+is_function value name gives causes params f e same_name are_gives are_causes apart are_params = record {
   gives = gives;
+  causes = causes;
   params = params;
-  is_value = of_function value name gives params e ∙ (λ i. function_with (sym same_name i) gives params);
+  is_value =
+      of_function value name gives causes params e ∙ (λ i. function_with (sym same_name i) gives causes params);
   are_gives = are_gives;
+  are_causes = are_causes;
+  apart = apart;
   are_params = are_params;
 }
 
@@ -115,90 +125,238 @@ none_some o a e h = cc
 
 pub no_function : (value : Data) → function_in value ≡ None → (f : Entry) → ¬ IsFunctionValue value f
 no_function value e f h =
-    none_some (function_in value) _ e (ap function_in h.is_value ∙ function_there f.name h.gives h.params)
+    none_some (function_in value) _ e (ap function_in h.is_value ∙ function_there f.name h.gives h.causes h.params)
 
--- Tables
+-- a position stands in both lists
+pub not_apart : (value : Data) (name : List ℕ) (gives causes params : List Data) (given caused : List ℕ)
+    → function_in value ≡ Some (name, items_of gives, items_of causes, items_of params)
+    → AreValuesOf whole itself gives given
+    → AreValuesOf whole itself causes caused
+    → are_apart given caused ≡ false
+    → (f : Entry)
+    → ¬ IsFunctionValue value f
+not_apart value name gives causes params given caused e are_gives are_causes none f h =
+    let parts = parts_of value name gives causes params f e h in
+    let same_gives = one_kept whole itself position_in finds_positions gives f.gives given parts.are_gives are_gives in
+    let same_causes =
+    one_kept whole itself position_in finds_positions causes f.causes caused parts.are_causes are_causes in
+    true≢false (sym h.apart ∙ ((λ i. are_apart (same_gives i) (same_causes i)) ∙ none))
 
-pub functions_of : (value : Data) (functions : List Data) (table : List Entry)
+one_name : (value : Data) (f g : Entry) (h : IsFunctionValue value f) (k : IsFunctionValue value g) → f.name ≡ g.name
+one_name value f g h k =
+    ap (λ p. p.0)
+    (some_same {A = List ℕ × Items × Items × Items} (f.name, items_of h.gives, items_of h.causes, items_of h.params) (g.name, items_of k.gives, items_of k.causes, items_of k.params)
+    (sym (function_there f.name h.gives h.causes h.params)
+    ∙ (ap function_in (sym h.is_value ∙ k.is_value) ∙ function_there g.name k.gives k.causes k.params)))
+
+one_function : (value : Data) (f g : Entry) → IsFunctionValue value f → IsFunctionValue value g → f ≡ g
+one_function value f g h k =
+    let found = ap function_in k.is_value ∙ function_there g.name k.gives k.causes k.params in
+    let parts = parts_of value g.name k.gives k.causes k.params f found h in
+    let gives = one_kept whole itself position_in finds_positions k.gives f.gives g.gives parts.are_gives k.are_gives in
+    let causes =
+    one_kept whole itself position_in finds_positions k.causes f.causes g.causes parts.are_causes k.are_causes in
+    let params =
+    one_kept parameter_value position_of parameter_in finds_parameters k.params f.params g.params parts.are_params
+    k.are_params in
+    let name = one_name value f g h k in
+    λ i. record { name = name i; gives = gives i; causes = causes i; params = params i }
+
+-- Functions of the older version
+
+pub record HasOlderParts (gives params : List Data) (f : Entry) : Type 0 where
+  pub are_gives : AreValuesOf whole itself gives f.gives
+  pub are_params : AreValuesOf parameter_value position_of params f.params
+
+pub older_parts_of : (value : Data) (name : List ℕ) (gives params : List Data) (f : Entry)
+    → older_function_in value ≡ Some (name, items_of gives, items_of params)
+    → IsOlderFunctionValue value f
+    → HasOlderParts gives params f
+older_parts_of value name gives params f e h =
+    let same =
+    some_same {A = List ℕ × Items × Items} (f.name, items_of h.gives, items_of h.params) (name, items_of gives, items_of params)
+    (sym (older_function_there f.name h.gives h.params) ∙ (ap older_function_in (sym h.is_value) ∙ e)) in
+    record {
+      are_gives =
+          subst (λ vs. AreValuesOf whole itself vs f.gives) (same_items h.gives gives (ap (λ p. p.1) same)) h.are_gives;
+      are_params =
+          subst (λ vs. AreValuesOf parameter_value position_of vs f.params)
+          (same_items h.params params (ap (λ p. p.2) same)) h.are_params;
+    }
+
+pub is_older_function : (value : Data) (name : List ℕ) (gives params : List Data) (f : Entry)
+    → older_function_in value ≡ Some (name, items_of gives, items_of params)
+    → f.name ≡ name
+    → AreValuesOf whole itself gives f.gives
+    → f.causes ≡ []
+    → AreValuesOf parameter_value position_of params f.params
+    → list_all is_older f.params ≡ true
+    → IsOlderFunctionValue value f
+is_older_function value name gives params f e same_name are_gives no_causes are_params are_older = record {
+  gives = gives;
+  params = params;
+  is_value =
+      of_older_function value name gives params e ∙ (λ i. older_function_with (sym same_name i) gives params);
+  are_gives = are_gives;
+  no_causes = no_causes;
+  are_params = are_params;
+  are_older = are_older;
+}
+
+pub no_older_function : (value : Data) → older_function_in value ≡ None → (f : Entry) → ¬ IsOlderFunctionValue value f
+no_older_function value e f h =
+    none_some (older_function_in value) _ e (ap older_function_in h.is_value ∙ older_function_there f.name h.gives h.params)
+
+-- one of the parameters is of a kind that the older version has not
+pub not_older : (value : Data) (name : List ℕ) (gives params : List Data) (kept : List Parameter)
+    → older_function_in value ≡ Some (name, items_of gives, items_of params)
+    → AreValuesOf parameter_value position_of params kept
+    → list_all is_older kept ≡ false
+    → (f : Entry)
+    → ¬ IsOlderFunctionValue value f
+not_older value name gives params kept e are_params none f h =
+    let parts = older_parts_of value name gives params f e h in
+    let same =
+    one_kept parameter_value position_of parameter_in finds_parameters params f.params kept parts.are_params are_params in
+    true≢false (sym h.are_older ∙ (ap (list_all is_older) same ∙ none))
+
+one_older_name : (value : Data) (f g : Entry) (h : IsOlderFunctionValue value f) (k : IsOlderFunctionValue value g)
+    → f.name ≡ g.name
+one_older_name value f g h k =
+    ap (λ p. p.0)
+    (some_same {A = List ℕ × Items × Items} (f.name, items_of h.gives, items_of h.params) (g.name, items_of k.gives, items_of k.params)
+    (sym (older_function_there f.name h.gives h.params)
+    ∙ (ap older_function_in (sym h.is_value ∙ k.is_value) ∙ older_function_there g.name k.gives k.params)))
+
+one_older_function : (value : Data) (f g : Entry) → IsOlderFunctionValue value f → IsOlderFunctionValue value g → f ≡ g
+one_older_function value f g h k =
+    let found = ap older_function_in k.is_value ∙ older_function_there g.name k.gives k.params in
+    let parts = older_parts_of value g.name k.gives k.params f found h in
+    let gives = one_kept whole itself position_in finds_positions k.gives f.gives g.gives parts.are_gives k.are_gives in
+    let params =
+    one_kept parameter_value position_of parameter_in finds_parameters k.params f.params g.params parts.are_params
+    k.are_params in
+    let name = one_older_name value f g h k in
+    let causes = h.no_causes ∙ sym k.no_causes in
+    λ i. record { name = name i; gives = gives i; causes = causes i; params = params i }
+
+-- Lists of functions, and tables of one version
+
+one_in : (version : Version) (value : Data) (f g : Entry) → IsFunctionIn version value f → IsFunctionIn version value g
+    → f ≡ g
+one_in Older = one_older_function
+one_in Newer = one_function
+
+one_list : (version : Version) (values : List Data) (fs gs : List Entry) → AllZip (IsFunctionIn version) values fs
+    → AllZip (IsFunctionIn version) values gs
+    → fs ≡ gs
+one_list version [] [] [] h k = refl
+one_list version [] [] (g ∷ gs) h k = absurd k
+one_list version [] (f ∷ fs) gs h k = absurd h
+one_list version (v ∷ values) [] gs h k = absurd h
+one_list version (v ∷ values) (f ∷ fs) [] h k = absurd k
+one_list version (v ∷ values) (f ∷ fs) (g ∷ gs) h k =
+    let first = one_in version v f g h.0 k.0 in
+    let rest = one_list version values fs gs h.1 k.1 in
+    λ i. first i ∷ rest i
+
+pub functions_of : (version : Version) (value : Data) (functions : List Data) (table : List Entry)
     → functions_in value ≡ Some (items_of functions)
-    → IsTableValue value table
-    → (given : List Entry) × (AllZip IsFunctionValue functions given) × IsArranged by_bytes name_of given table
-functions_of value functions table e h =
+    → IsTableIn (number_of version) (IsFunctionIn version) value table
+    → (given : List Entry) × (AllZip (IsFunctionIn version) functions given) × IsArranged by_bytes name_of given table
+functions_of version value functions table e h =
     let same =
     same_items h.functions functions
     (some_same (items_of h.functions) (items_of functions)
-    (sym (functions_there h.functions) ∙ (ap functions_in (sym h.is_value) ∙ e))) in
-    (h.given, subst (λ vs. AllZip IsFunctionValue vs h.given) same h.are_functions, h.arranged)
+    (sym (functions_there (number_of version) h.functions) ∙ (ap functions_in (sym h.is_value) ∙ e))) in
+    (h.given, subst (λ vs. AllZip (IsFunctionIn version) vs h.given) same h.are_functions, h.arranged)
 
-pub is_table : (value : Data) (functions : List Data) (given table : List Entry)
+pub is_table : (version : Version) (value : Data) (functions : List Data) (given table : List Entry)
     → functions_in value ≡ Some (items_of functions)
-    → version_of value ≡ Some 1
-    → AllZip IsFunctionValue functions given
+    → version_of value ≡ Some (number_of version)
+    → AllZip (IsFunctionIn version) functions given
     → IsArranged by_bytes name_of given table
-    → IsTableValue value table
-is_table value functions given table e version are_functions arranged = record {
+    → IsTableIn (number_of version) (IsFunctionIn version) value table
+is_table version value functions given table e at_version are_functions arranged = record {
   functions = functions;
-  is_value = of_functions value functions e version;
+  is_value = of_functions (number_of version) value functions e at_version;
   given = given;
   are_functions = are_functions;
   arranged = arranged;
 }
 
-pub no_table : (value : Data) → functions_in value ≡ None → (table : List Entry) → ¬ IsTableValue value table
-no_table value e table h =
-    none_some (functions_in value) _ e (ap functions_in h.is_value ∙ functions_there h.functions)
+pub no_table : (version : Version) (value : Data) → functions_in value ≡ None → (table : List Entry)
+    → ¬ IsTableIn (number_of version) (IsFunctionIn version) value table
+no_table version value e table h =
+    none_some (functions_in value) _ e (ap functions_in h.is_value ∙ functions_there (number_of version) h.functions)
+
+pub none_ordered : (version : Version) (value : Data) (functions : List Data) (given : List Entry)
+    → functions_in value ≡ Some (items_of functions)
+    → AllZip (IsFunctionIn version) functions given
+    → ((other : List Entry) → ¬ IsArranged by_bytes name_of given other)
+    → (table : List Entry)
+    → ¬ IsTableIn (number_of version) (IsFunctionIn version) value table
+none_ordered version value functions given e are_functions none table h =
+    let found = functions_of version value functions table e h in
+    none table
+    (subst (λ g. IsArranged by_bytes name_of g table) (one_list version functions found.0 given found.1 are_functions) found.2)
 
 -- There is one table of a value
 
-one_name : (value : Data) (f g : Entry) (h : IsFunctionValue value f) (k : IsFunctionValue value g) → f.name ≡ g.name
-one_name value f g h k =
-    ap (λ p. p.0)
-    (some_same {A = List ℕ × Items × Items} (f.name, items_of h.gives, items_of h.params) (g.name, items_of k.gives, items_of k.params)
-    (sym (function_there f.name h.gives h.params)
-    ∙ (ap function_in (sym h.is_value ∙ k.is_value) ∙ function_there g.name k.gives k.params)))
-
-one_function : (value : Data) (f g : Entry) → IsFunctionValue value f → IsFunctionValue value g → f ≡ g
-one_function value f g h k =
-    let found = ap function_in k.is_value ∙ function_there g.name k.gives k.params in
-    let parts = parts_of value g.name k.gives k.params f found h in
-    let gives = one_kept whole itself position_in finds_positions k.gives f.gives g.gives parts.are_gives k.are_gives in
-    let params =
-    one_kept parameter_value position_of parameter_in finds_parameters k.params f.params g.params parts.are_params
-    k.are_params in
-    let name = one_name value f g h k in
-    λ i. record { name = name i; gives = gives i; params = params i }
-
-one_list : (values : List Data) (fs gs : List Entry) → AllZip IsFunctionValue values fs
-    → AllZip IsFunctionValue values gs
-    → fs ≡ gs
-one_list [] [] [] h k = refl
-one_list [] [] (g ∷ gs) h k = absurd k
-one_list [] (f ∷ fs) gs h k = absurd h
-one_list (v ∷ values) [] gs h k = absurd h
-one_list (v ∷ values) (f ∷ fs) [] h k = absurd k
-one_list (v ∷ values) (f ∷ fs) (g ∷ gs) h k =
-    let first = one_function v f g h.0 k.0 in
-    let rest = one_list values fs gs h.1 k.1 in
-    λ i. first i ∷ rest i
-
-pub one_table : (value : Data) (a b : List Entry) → IsTableValue value a → IsTableValue value b → a ≡ b
-one_table value a b h k =
-    let found = ap functions_in k.is_value ∙ functions_there k.functions in
-    let of_h = functions_of value k.functions a found h in
-    let same = one_list k.functions of_h.0 k.given of_h.1 k.are_functions in
+one_table_in : (version : Version) (value : Data) (a b : List Entry)
+    → IsTableIn (number_of version) (IsFunctionIn version) value a
+    → IsTableIn (number_of version) (IsFunctionIn version) value b
+    → a ≡ b
+one_table_in version value a b h k =
+    let found = ap functions_in k.is_value ∙ functions_there (number_of version) k.functions in
+    let of_h = functions_of version value k.functions a found h in
+    let same = one_list version k.functions of_h.0 k.given of_h.1 k.are_functions in
     one_arrangement nat_list_cmp_total name_of k.given a b
     (subst (λ g. IsArranged by_bytes name_of g a) same of_h.2) k.arranged
 
-pub none_ordered : (value : Data) (functions : List Data) (given : List Entry)
-    → functions_in value ≡ Some (items_of functions)
-    → AllZip IsFunctionValue functions given
-    → ((other : List Entry) → ¬ IsArranged by_bytes name_of given other)
-    → (table : List Entry)
-    → ¬ IsTableValue value table
-none_ordered value functions given e are_functions none table h =
-    let found = functions_of value functions table e h in
-    none table
-    (subst (λ g. IsArranged by_bytes name_of g table) (one_list functions found.0 given found.1 are_functions) found.2)
+pub version_there : (version : ℕ) (IsFunction : Data → Entry → Type 0) (value : Data) (table : List Entry)
+    → IsTableIn version IsFunction value table
+    → version_of value ≡ Some version
+version_there version IsFunction value table h = ap version_of h.is_value
+
+-- no value is one of both versions
+pub not_both : (value : Data) → version_of value ≡ Some 1 → version_of value ≡ Some 2 → ⊥
+not_both value e h = cc (some_same 1 2 (sym e ∙ h))
+
+pub one_table : (value : Data) (a b : List Entry) → IsTableValue value a → IsTableValue value b → a ≡ b
+one_table value a b (inl h) (inl k) = one_table_in Newer value a b h k
+one_table value a b (inr h) (inr k) = one_table_in Older value a b h k
+one_table value a b (inl h) (inr k) =
+    absurd (not_both value (version_there 1 IsOlderFunctionValue value b k) (version_there 2 IsFunctionValue value a h))
+one_table value a b (inr h) (inl k) =
+    absurd (not_both value (version_there 1 IsOlderFunctionValue value a h) (version_there 2 IsFunctionValue value b k))
+
+-- Which version is read
+
+-- where the version is right, what is refused in that version is no table
+pub refused_older : (value : Data) (fault : TableFault) → version_of value ≡ Some 1
+    → Refuses (IsTableIn 1 IsOlderFunctionValue value) fault
+    → IsValueFault value fault
+refused_older value NotJson e h = h
+refused_older value WrongVersion e h = absurd h
+refused_older value WrongShape e h = inr (inl e, no)
+  where
+    no : (table : List Entry) → ¬ IsTableValue value table
+    no table (inl k) = not_both value e (version_there 2 IsFunctionValue value table k)
+    no table (inr k) = h table k
+refused_older value OutOfMemory e h = tt
+
+pub refused_newer : (value : Data) (fault : TableFault) → version_of value ≡ Some 2
+    → Refuses (IsTableIn 2 IsFunctionValue value) fault
+    → IsValueFault value fault
+refused_newer value NotJson e h = h
+refused_newer value WrongVersion e h = absurd h
+refused_newer value WrongShape e h = inr (inr e, no)
+  where
+    no : (table : List Entry) → ¬ IsTableValue value table
+    no table (inl k) = h table k
+    no table (inr k) = not_both value (version_there 1 IsOlderFunctionValue value table k) e
+refused_newer value OutOfMemory e h = tt
 
 -- Lists that are read one by one
 

@@ -1,17 +1,19 @@
 -- The text of a table in order is that of this table, and of no other; and why a text is none.
-use Rattle.std.proofs.Common.{◌≡◌, ◌≤◌, inl, inr, ℕ, List, [], ◌∷◌, Some, map, refl, sym, ap, subst, ◌∙◌}
+use Rattle.std.proofs.Common.{◌≡◌, ◌≤◌, inl, inr, ℕ, true, List, [], ◌∷◌, Some, None, map, refl, sym, ap, subst, ◌∙◌}
 use Rattle.std.proofs.lemmas.List.Sorted.{IsPermutation-refl}
 use Rattle.std.specs.List.{AllByRecursion, AllZip}
+use Rattle.std.specs.List.Sorted.{IsStrictlySortedBy}
+use Rattle.std.specs.Ordering.{nat_cmp}
 use Rattle.serde_json.specs.Data.{Data, depth}
 use Rattle.serde_json.specs.Read.{read}
 use Rattle.table_json.specs.declared.fault.TableFault.{TableFault}
 use Rattle.table_json.specs.declared.fault.TableFault.TheVariants.{NotJson, WrongVersion, WrongShape, OutOfMemory}
 use Rattle.table_json.specs.Parts.{HasFits, IsTextFault, IsValueFault}
-use Rattle.table_json.specs.Tables.{Entry, HasOrder, IsInOrder}
-use Rattle.table_json.specs.TableTexts.{version_of, HasWrongShape, IsTableFault, IsTableText}
-use Rattle.table_json.specs.TableValues.{whole, parameter_value, function_value, table_value, IsFunctionValue, IsTableValue}
+use Rattle.table_json.specs.Tables.{Entry, are_apart, itself, HasOrder, IsInOrder, Rise}
+use Rattle.table_json.specs.TableTexts.{version_of, HasKnownVersion, HasWrongShape, HasWrongVersion, IsTableFault, IsTableText}
+use Rattle.table_json.specs.TableValues.{whole, parameter_value, function_value, table_value, IsFunctionValue, IsOlderFunctionValue, IsTableIn, IsTableValue}
 use Rattle.table_json.proofs.Arranged.{each_permuted}
-use Rattle.table_json.proofs.Readings.{none_some, one_table}
+use Rattle.table_json.proofs.Readings.{none_some, one_table, version_there}
 use Rattle.table_json.proofs.ValueParts.{some_same}
 use Rattle.table_json.proofs.Writing.{table-depth}
 
@@ -20,6 +22,7 @@ use Rattle.table_json.proofs.Writing.{table-depth}
 function_back : (f : Entry) → HasOrder f → HasFits f → IsFunctionValue (function_value f) f
 function_back f order fits = record {
   gives = map whole f.gives;
+  causes = map whole f.causes;
   params = map parameter_value f.params;
   is_value = refl;
   are_gives = record {
@@ -28,6 +31,13 @@ function_back f order fits = record {
     fit = fits.gives_fit;
     arranged = record { same = IsPermutation-refl f.gives; rise = order.gives_rise };
   };
+  are_causes = record {
+    given = f.causes;
+    are_values = refl;
+    fit = fits.causes_fit;
+    arranged = record { same = IsPermutation-refl f.causes; rise = order.causes_rise };
+  };
+  apart = order.apart;
   are_params = record {
     given = f.params;
     are_values = refl;
@@ -43,13 +53,13 @@ functions_back (f ∷ fs) order fits = (function_back f order.0 fits.0, function
 
 table_back : (table : List Entry) → IsInOrder table → AllByRecursion HasFits table
     → IsTableValue (table_value table) table
-table_back table order fits = record {
+table_back table order fits = inl (record {
   functions = map function_value table;
   is_value = refl;
   given = table;
   are_functions = functions_back table order.each_in_order fits;
   arranged = record { same = IsPermutation-refl table; rise = order.names_rise };
-}
+})
 
 pub text_back : (value : Data) (table : List Entry) (text : List ℕ) → value ≡ table_value table
     → AllByRecursion HasFits table
@@ -64,22 +74,48 @@ text_back value table text is fits reads order = record {
 
 -- What is read is in order
 
-each_in_order : (values : List Data) (given : List Entry) → AllZip IsFunctionValue values given
-    → AllByRecursion HasOrder given
-each_in_order [] [] h = tt
-each_in_order [] (f ∷ fs) h = absurd h
-each_in_order (v ∷ values) [] h = absurd h
-each_in_order (v ∷ values) (f ∷ fs) h = (
-  record { gives_rise = h.0.are_gives.arranged.rise; params_rise = h.0.are_params.arranged.rise },
-  each_in_order values fs h.1,
-)
+newer_in_order : (value : Data) (f : Entry) → IsFunctionValue value f → HasOrder f
+newer_in_order value f h = record {
+  gives_rise = h.are_gives.arranged.rise;
+  causes_rise = h.are_causes.arranged.rise;
+  apart = h.apart;
+  params_rise = h.are_params.arranged.rise;
+}
+
+none_apart : (gives : List ℕ) → are_apart gives [] ≡ true
+none_apart [] = refl
+none_apart (n ∷ gives) = none_apart gives
+
+none_rise : Rise nat_cmp itself []
+unfolding IsStrictlySortedBy
+none_rise = tt
+
+older_in_order : (value : Data) (f : Entry) → IsOlderFunctionValue value f → HasOrder f
+older_in_order value f h = record {
+  gives_rise = h.are_gives.arranged.rise;
+  causes_rise = subst (Rise nat_cmp itself) (sym h.no_causes) none_rise;
+  apart = ap (are_apart f.gives) h.no_causes ∙ none_apart f.gives;
+  params_rise = h.are_params.arranged.rise;
+}
+
+module _ (version : ℕ) (IsFunction : Data → Entry → Type 0) (each : (value : Data) (f : Entry) → IsFunction value f → HasOrder f) where
+  each_in_order : (values : List Data) (given : List Entry) → AllZip IsFunction values given
+      → AllByRecursion HasOrder given
+  each_in_order [] [] h = tt
+  each_in_order [] (f ∷ fs) h = absurd h
+  each_in_order (v ∷ values) [] h = absurd h
+  each_in_order (v ∷ values) (f ∷ fs) h = (each v f h.0, each_in_order values fs h.1)
+
+  in_order_of : (value : Data) (table : List Entry) → IsTableIn version IsFunction value table → IsInOrder table
+  in_order_of value table h = record {
+    names_rise = h.arranged.rise;
+    each_in_order =
+        each_permuted HasOrder h.given table h.arranged.same (each_in_order h.functions h.given h.are_functions);
+  }
 
 pub in_order : (value : Data) (table : List Entry) → IsTableValue value table → IsInOrder table
-in_order value table h = record {
-  names_rise = h.arranged.rise;
-  each_in_order =
-      each_permuted HasOrder h.given table h.arranged.same (each_in_order h.functions h.given h.are_functions);
-}
+in_order value table (inl h) = in_order_of 2 IsFunctionValue newer_in_order value table h
+in_order value table (inr h) = in_order_of 1 IsOlderFunctionValue older_in_order value table h
 
 -- A text is that of one table at most
 
@@ -93,25 +129,32 @@ no_other text value table other e h k =
 
 -- A text that is a table's is read, unless memory is refused
 
-version_there : (value : Data) (table : List Entry) → IsTableValue value table → version_of value ≡ Some 1
-version_there value table h = ap version_of h.is_value
+known_version : (value : Data) (table : List Entry) → IsTableValue value table → HasKnownVersion value
+known_version value table (inl h) = inr (version_there 2 IsFunctionValue value table h)
+known_version value table (inr h) = inl (version_there 1 IsOlderFunctionValue value table h)
+
+not_wrong_version : (value : Data) → HasKnownVersion value → HasWrongVersion value → ⊥
+not_wrong_version value (inl e) h = h.2 (some_same h.0 1 (sym h.1 ∙ e))
+not_wrong_version value (inr e) h = h.3 (some_same h.0 2 (sym h.1 ∙ e))
+
+not_none : (value : Data) → HasKnownVersion value → version_of value ≡ None → ⊥
+not_none value (inl e) none = none_some (version_of value) 1 none e
+not_none value (inr e) none = none_some (version_of value) 2 none e
+
+not_wrong_shape : (value : Data) (table : List Entry) → IsTableValue value table → HasWrongShape value → ⊥
+not_wrong_shape value table h (inl none) = not_none value (known_version value table h) none
+not_wrong_shape value table h (inr no_table) = no_table.1 table h
 
 pub only_memory : (text : List ℕ) (fault : TableFault) → IsTableFault text fault → (table : List Entry)
     → IsTableText text table
     → fault ≡ OutOfMemory
 only_memory text NotJson h table k = absurd (none_some (read text) k.value h k.is_json)
 only_memory text WrongVersion h table k =
-    let same = some_same k.value h.0 (sym k.is_json ∙ h.1) in
-    let version = version_there k.value table k.is_table in
-    absurd (h.2.2 (some_same h.2.0 1 (sym h.2.1 ∙ (ap version_of (sym same) ∙ version))))
-only_memory text WrongShape h table k = absurd (by h.2)
-  where
-    by : HasWrongShape h.0 → ⊥
-    by (inl none) =
-        none_some (version_of h.0) 1 none
-        (ap version_of (some_same h.0 k.value (sym h.1 ∙ k.is_json)) ∙ version_there k.value table k.is_table)
-    by (inr no_table) =
-        no_table.1 table (subst (λ v. IsTableValue v table) (some_same k.value h.0 (sym k.is_json ∙ h.1)) k.is_table)
+    let is = subst (λ v. IsTableValue v table) (some_same k.value h.0 (sym k.is_json ∙ h.1)) k.is_table in
+    absurd (not_wrong_version h.0 (known_version h.0 table is) h.2)
+only_memory text WrongShape h table k =
+    let is = subst (λ v. IsTableValue v table) (some_same k.value h.0 (sym k.is_json ∙ h.1)) k.is_table in
+    absurd (not_wrong_shape h.0 table is h.2)
 only_memory text OutOfMemory h table k = refl
 
 pub of_text_fault : (text : List ℕ) (fault : TableFault) → IsTextFault text fault → IsTableFault text fault

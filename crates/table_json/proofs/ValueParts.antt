@@ -8,11 +8,11 @@ use Rattle.serde_json.specs.Data.{Num, unsigned, negative, float, Data, null, bo
 use Rattle.serde_json.specs.Find.{as_number, as_u64, as_bool, as_str, as_array, as_object}
 use Rattle.serde_json.specs.View.{items_of}
 use Rattle.table_json.specs.declared.table.Parameter.{Parameter}
-use Rattle.table_json.specs.declared.table.Parameter.TheVariants.{Cancel, Group}
-use Rattle.table_json.specs.Parts.{first_member, only_if_last, two_members, three_members, if_fits, position_in, if_text, cancel_in, group_in, first_found, parameter_in, function_in, functions_in, all_of}
+use Rattle.table_json.specs.declared.table.Parameter.TheVariants.{Cancel, Cause, Group}
+use Rattle.table_json.specs.Parts.{first_member, only_if_last, two_members, three_members, four_members, if_fits, position_in, if_text, called_in, group_in, first_found, parameter_in, function_in, older_function_in, functions_in, all_of}
 use Rattle.table_json.specs.Tables.{itself, position_of}
 use Rattle.table_json.specs.TableTexts.{version_of}
-use Rattle.table_json.specs.TableValues.{whole, parameter_value, function_with, table_with, Fits}
+use Rattle.table_json.specs.TableValues.{whole, called_with, parameter_value, function_with, older_function_with, table_with, Fits}
 
 -- One step of what may be missing
 
@@ -125,6 +125,26 @@ of_three first second third value found e =
     ∙ ap (member third c.0.0) last.1)))
     ∙ (λ i. object (member first (last.0 i).0 (member second (last.0 i).1 (member third (last.0 i).2 no_members))))
 
+of_four : (first second third fourth : List ℕ) (value : Data) (found : Data × Data × Data × Data)
+    → four_members first second third fourth value ≡ Some found
+    → value ≡ object (member first found.0 (member second found.1 (member third found.2 (member fourth found.3 no_members))))
+unfolding four_members
+of_four first second third fourth value found e =
+    let ms = and_then _ (as_object value) found e in
+    let a = and_then _ (first_member first ms.0) found ms.2 in
+    let b = and_then _ (first_member second a.0.1) found a.2 in
+    let c = and_then _ (first_member third b.0.1) found b.2 in
+    let d = and_then _ (first_member fourth c.0.1) found c.2 in
+    let last = of_last (a.0.0, b.0.0, c.0.0, d.0.0) found d.0.1 d.2 in
+    of_object value ms.0 ms.1
+    ∙ ap object (of_first first ms.0 a.0.0 a.0.1 a.1
+    ∙ ap (member first a.0.0) (of_first second a.0.1 b.0.0 b.0.1 b.1
+    ∙ ap (member second b.0.0) (of_first third b.0.1 c.0.0 c.0.1 c.1
+    ∙ ap (member third c.0.0) (of_first fourth c.0.1 d.0.0 d.0.1 d.1
+    ∙ ap (member fourth d.0.0) last.1))))
+    ∙ (λ i. object (member first (last.0 i).0 (member second (last.0 i).1 (member third (last.0 i).2
+    (member fourth (last.0 i).3 no_members)))))
+
 -- Positions
 
 of_position : (value : Data) (n : ℕ) → position_in value ≡ Some n → (value ≡ whole n) × Fits n
@@ -152,19 +172,20 @@ of_text wanted found (Some t) a e =
 IsParameter : Data → Parameter → Type 0
 IsParameter value p = (value ≡ parameter_value p) × Fits (position_of p)
 
-of_cancel : (value : Data) (p : Parameter) → cancel_in value ≡ Some p → IsParameter value p
-unfolding cancel_in IsParameter
-of_cancel value p e =
-    let ms = and_then _ (three_members (codes "at") (codes "calls") (codes "kind") value) p e in
-    let kind = of_text (codes "cancel") _ (as_str ms.0.2) p ms.2 in
-    let at = and_then _ (position_in ms.0.0) p kind.1 in
-    let calls = mapped _ (as_bool ms.0.1) p at.2 in
+of_called : (kind : List ℕ) (value : Data) (c : ℕ × Bool) → called_in kind value ≡ Some c
+    → (value ≡ called_with kind c.0 c.1) × Fits c.0
+unfolding called_in
+of_called wanted value c e =
+    let ms = and_then _ (three_members (codes "at") (codes "calls") (codes "kind") value) c e in
+    let kind = of_text wanted _ (as_str ms.0.2) c ms.2 in
+    let at = and_then _ (position_in ms.0.0) c kind.1 in
+    let calls = mapped _ (as_bool ms.0.1) c at.2 in
     let place = of_position ms.0.0 at.0 at.1 in
-    let whole_value : value ≡ parameter_value (Cancel at.0 calls.0) =
+    let whole_value : value ≡ called_with wanted at.0 calls.0 =
     of_three _ _ _ value ms.0 ms.1
     ∙ (λ i. object (member (codes "at") (place.0 i) (member (codes "calls") (of_bool ms.0.1 calls.0 calls.1 i)
-    (member (codes "kind") (of_string ms.0.2 (codes "cancel") kind.0 i) no_members)))) in
-    subst (λ q. (value ≡ parameter_value q) × Fits (position_of q)) calls.2 (whole_value, place.1)
+    (member (codes "kind") (of_string ms.0.2 wanted kind.0 i) no_members)))) in
+    subst (λ d. (value ≡ called_with wanted d.0 d.1) × Fits d.0) calls.2 (whole_value, place.1)
 
 of_group : (value : Data) (p : Parameter) → group_in value ≡ Some p → IsParameter value p
 unfolding group_in IsParameter
@@ -186,26 +207,74 @@ of_first_found : (value : Data) (a b : Option Parameter) (p : Parameter) → (a 
 of_first_found value None b p first second e = second e
 of_first_found value (Some q) b p first second e = first e
 
+of_cancel : (value : Data) (p : Parameter)
+    → option_map (λ c. Cancel c.0 c.1) (called_in (codes "cancel") value) ≡ Some p
+    → IsParameter value p
+unfolding IsParameter
+of_cancel value p e =
+    let c = mapped _ (called_in (codes "cancel") value) p e in
+    subst (λ q. (value ≡ parameter_value q) × Fits (position_of q)) c.2 (of_called (codes "cancel") value c.0 c.1)
+
+of_cause : (value : Data) (p : Parameter)
+    → option_map (λ c. Cause c.0 c.1) (called_in (codes "cause") value) ≡ Some p
+    → IsParameter value p
+unfolding IsParameter
+of_cause value p e =
+    let c = mapped _ (called_in (codes "cause") value) p e in
+    subst (λ q. (value ≡ parameter_value q) × Fits (position_of q)) c.2 (of_called (codes "cause") value c.0 c.1)
+
 of_parameter : (value : Data) (p : Parameter) → parameter_in value ≡ Some p
     → (value ≡ parameter_value p) × Fits (position_of p)
 unfolding parameter_in IsParameter
 of_parameter value p e =
-    of_first_found value (cancel_in value) (group_in value) p (of_cancel value p) (of_group value p) e
+    of_first_found value _ _ p (of_cancel value p) (of_first_found value _ _ p (of_cause value p) (of_group value p)) e
 
 pub parameter_there : (p : Parameter) → Fits (position_of p) → parameter_in (parameter_value p) ≡ Some p
-unfolding parameter_in cancel_in group_in three_members two_members
+unfolding parameter_in called_in group_in three_members two_members
 parameter_there (Cancel at calls) small =
-    ap (λ o. first_found (option_and_then (λ n. Some (Cancel n calls)) o) (group_in (parameter_value (Cancel at calls))))
+    let value = parameter_value (Cancel at calls) in
+    ap (λ o. first_found (option_map (λ (c : ℕ × Bool). Cancel c.0 c.1) (option_and_then (λ n. Some (n, calls)) o))
+    (first_found (option_map (λ (c : ℕ × Bool). Cause c.0 c.1) (called_in (codes "cause") value)) (group_in value)))
+    (position_there at small)
+parameter_there (Cause at calls) small =
+    let value = parameter_value (Cause at calls) in
+    ap (λ o. first_found (option_map (λ (c : ℕ × Bool). Cause c.0 c.1) (option_and_then (λ n. Some (n, calls)) o)) (group_in value))
     (position_there at small)
 parameter_there (Group at) small = ap (λ o. option_map (λ n. Group n) o) (position_there at small)
 
 -- Functions
 
-pub of_function : (value : Data) (name : List ℕ) (gives params : List Data)
-    → function_in value ≡ Some (name, items_of gives, items_of params)
-    → value ≡ function_with name gives params
+pub of_function : (value : Data) (name : List ℕ) (gives causes params : List Data)
+    → function_in value ≡ Some (name, items_of gives, items_of causes, items_of params)
+    → value ≡ function_with name gives causes params
 unfolding function_in
-of_function value name gives params e =
+of_function value name gives causes params e =
+    let found : List ℕ × Items × Items × Items = (name, items_of gives, items_of causes, items_of params) in
+    let ms =
+    and_then _ (four_members (codes "causes") (codes "gives") (codes "name") (codes "params") value) found e in
+    let cs = and_then _ (as_array ms.0.0) found ms.2 in
+    let gs = and_then _ (as_array ms.0.1) found cs.2 in
+    let text = and_then _ (as_str ms.0.2) found gs.2 in
+    let ps = mapped _ (as_array ms.0.3) found text.2 in
+    of_four _ _ _ _ value ms.0 ms.1
+    ∙ (λ i. object (member (codes "causes") (of_array ms.0.0 cs.0 cs.1 i)
+    (member (codes "gives") (of_array ms.0.1 gs.0 gs.1 i)
+    (member (codes "name") (of_string ms.0.2 text.0 text.1 i)
+    (member (codes "params") (of_array ms.0.3 ps.0 ps.1 i) no_members)))))
+    ∙ (λ i. object (member (codes "causes") (array (ps.2 i).2) (member (codes "gives") (array (ps.2 i).1)
+    (member (codes "name") (string (ps.2 i).0) (member (codes "params") (array (ps.2 i).3) no_members)))))
+
+pub function_there : (name : List ℕ) (gives causes params : List Data)
+    → function_in (function_with name gives causes params)
+    ≡ Some (name, items_of gives, items_of causes, items_of params)
+unfolding function_in four_members
+function_there name gives causes params = refl
+
+pub of_older_function : (value : Data) (name : List ℕ) (gives params : List Data)
+    → older_function_in value ≡ Some (name, items_of gives, items_of params)
+    → value ≡ older_function_with name gives params
+unfolding older_function_in
+of_older_function value name gives params e =
     let found : List ℕ × Items × Items = (name, items_of gives, items_of params) in
     let ms = and_then _ (three_members (codes "gives") (codes "name") (codes "params") value) found e in
     let gs = and_then _ (as_array ms.0.0) found ms.2 in
@@ -218,26 +287,30 @@ of_function value name gives params e =
     ∙ (λ i. object (member (codes "gives") (array (ps.2 i).1) (member (codes "name") (string (ps.2 i).0)
     (member (codes "params") (array (ps.2 i).2) no_members))))
 
-pub function_there : (name : List ℕ) (gives params : List Data)
-    → function_in (function_with name gives params) ≡ Some (name, items_of gives, items_of params)
-unfolding function_in three_members
-function_there name gives params = refl
+pub older_function_there : (name : List ℕ) (gives params : List Data)
+    → older_function_in (older_function_with name gives params) ≡ Some (name, items_of gives, items_of params)
+unfolding older_function_in three_members
+older_function_there name gives params = refl
 
-pub of_functions : (value : Data) (functions : List Data) → functions_in value ≡ Some (items_of functions)
-    → version_of value ≡ Some 1
-    → value ≡ table_with functions
+-- Tables
+
+pub of_functions : (version : ℕ) (value : Data) (functions : List Data)
+    → functions_in value ≡ Some (items_of functions)
+    → version_of value ≡ Some version
+    → value ≡ table_with version functions
 unfolding functions_in
-of_functions value functions e version =
+of_functions version value functions e at_version =
     let ms = and_then _ (two_members (codes "functions") (codes "version") value) (items_of functions) e in
     let is = of_two _ _ value ms.0 ms.1 in
-    let one = of_number ms.0.1 1 (ap version_of (sym is) ∙ version) in
+    let number = of_number ms.0.1 version (ap version_of (sym is) ∙ at_version) in
     is
     ∙ (λ i. object (member (codes "functions") (of_array ms.0.0 (items_of functions) ms.2 i)
-    (member (codes "version") (one i) no_members)))
+    (member (codes "version") (number i) no_members)))
 
-pub functions_there : (functions : List Data) → functions_in (table_with functions) ≡ Some (items_of functions)
+pub functions_there : (version : ℕ) (functions : List Data)
+    → functions_in (table_with version functions) ≡ Some (items_of functions)
 unfolding functions_in two_members
-functions_there functions = refl
+functions_there version functions = refl
 
 list_of : Items → List Data
 list_of no_items = []

@@ -4,7 +4,7 @@ use Rattle.serde_json.specs.Data.{Data, depth, items_depth}
 use Rattle.serde_json.specs.View.{items_of}
 use Rattle.serde_json.specs.Written.{has_float, items_have_float, compact_text}
 use Rattle.table_json.specs.declared.table.Parameter.{Parameter}
-use Rattle.table_json.specs.declared.table.Parameter.TheVariants.{Cancel, Group}
+use Rattle.table_json.specs.declared.table.Parameter.TheVariants.{Cancel, Cause, Group}
 use Rattle.table_json.specs.Tables.{Entry}
 use Rattle.table_json.specs.TableValues.{whole, parameter_value, function_value, table_value}
 
@@ -20,24 +20,28 @@ module _ {A : Type 0} (value_of : A → Data) where
 
 parameter-has_float : (p : Parameter) → has_float (parameter_value p) ≡ false
 parameter-has_float (Cancel at calls) = refl
+parameter-has_float (Cause at calls) = refl
 parameter-has_float (Group at) = refl
 
 function-has_float : (f : Entry) → has_float (function_value f) ≡ false
 function-has_float f =
     let gives = none_float whole (λ n. refl) f.gives in
+    let causes = none_float whole (λ n. refl) f.causes in
     let params = none_float parameter_value parameter-has_float f.params in
-    λ i. gives i || (false || (params i || false))
+    λ i. causes i || (gives i || (false || (params i || false)))
 
 pub table-has_float : (table : List Entry) → has_float (table_value table) ≡ false
 table-has_float table = λ i. none_float function_value function-has_float table i || (false || false)
 
 parameter-depth : (p : Parameter) → depth (parameter_value p) ≤ 1
 parameter-depth (Cancel at calls) = omega arith
+parameter-depth (Cause at calls) = omega arith
 parameter-depth (Group at) = omega arith
 
 function-depth : (f : Entry) → depth (function_value f) ≤ 3
 function-depth f =
     let gives = not_deep whole 1 (λ n. omega arith) f.gives in
+    let causes = not_deep whole 1 (λ n. omega arith) f.causes in
     let params = not_deep parameter_value 1 parameter-depth f.params in
     omega arith
 

@@ -1,17 +1,17 @@
 -- A list whose keys rise is the only one that is the same in order.
-use Rattle.std.proofs.Common.{◌≡◌, ℕ, zero, suc, ◌+◌, ◌<◌, ◌⊎◌, inl, inr, Bool, true, false, not, ◌&&◌, List, [], ◌∷◌, map, length, get_or, IsPermutation, refl, sym, ap, subst, ◌∙◌, add-one, arith}
-use Rattle.std.specs.Prelude.{◌==◌, if◌then◌else◌}
+use Rattle.std.proofs.Common.{◌≡◌, ℕ, zero, suc, ◌+◌, ◌<◌, ◌⊎◌, inl, inr, Bool, true, false, List, [], ◌∷◌, map, length, get_or, refl, sym, ap, subst, ◌∙◌, add-one, arith}
+use Rattle.std.specs.Prelude.{if◌then◌else◌}
 use Rattle.std.specs.Cmp.{IsTotalOrder}
 use Rattle.std.specs.declared.cmp.Ordering.{Ordering}
-use Rattle.std.specs.List.{AllAdjacentBelow, AllByRecursion, AllZip, filter, list_all}
+use Rattle.std.specs.List.{AllByRecursion, AllZip, filter, list_all}
 use Rattle.std.specs.List.Sorted.{IsSortedByKey}
-use Rattle.std.specs.Ordering.{is_lt, nat_cmp}
+use Rattle.std.specs.Ordering.{is_lt}
 use Rattle.std.proofs.lemmas.Cmp.{nat_cmp_total, nat_list_cmp_total}
 use Rattle.std.proofs.lemmas.List.Sorted.{IsPermutation-refl}
 use Rattle.std.proofs.lemmas.Bool.{and_parts}
 use Rattle.std.proofs.lemmas.List.{get_or-map, length-map}
-use Rattle.table_json.specs.Tables.{Entry, Rise, IsArranged, HasOrder, IsInOrder, by_bytes, itself, name_of, position_of}
-use Rattle.table_json.specs.WrittenTables.{is_told, IsOrdered, IsWrittenAs, AreWritten, TablesInOrderAreWritten}
+use Rattle.table_json.specs.Tables.{Entry, Rise, HasOrder, by_bytes, itself, name_of, position_of}
+use Rattle.table_json.specs.WrittenTables.{is_told, IsOrdered, IsWrittenAs, TablesInOrderAreWritten}
 use Rattle.table_json.proofs.Arranged.{rise_of_adjacent, none_arranged, one_arrangement}
 
 module _ {A K : Type 0} {cmp : K → K → Ordering} (total : IsTotalOrder cmp) (key : A → K) where
@@ -71,6 +71,7 @@ entry_as_it_stands : (f w : Entry) → HasOrder f → IsWrittenAs f w → w ≡ 
 entry_as_it_stands f w order is = λ i. record {
   name = is.is_name i;
   gives = ordered_is nat_cmp_total itself f.gives w.gives order.gives_rise is.are_gives i;
+  causes = ordered_is nat_cmp_total itself f.causes w.causes order.causes_rise is.are_causes i;
   params = ordered_is nat_cmp_total position_of f.params w.params order.params_rise is.are_params i;
 }
 

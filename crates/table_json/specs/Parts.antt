@@ -1,16 +1,18 @@
 -- What serves the proofs: the parts of a table's value, one by one.
-use Rattle.std.specs.Prelude.{ℕ, ◌≡◌, ◌^◌, List, [], ◌∷◌, Option, Some, None, option_and_then, option_map, if◌then◌else◌, ⊤, nat_lt, codes}
+use Rattle.std.specs.Prelude.{ℕ, ◌≡◌, ◌^◌, List, [], ◌∷◌, Option, Some, None, option_and_then, option_map, Bool, if◌then◌else◌, ⊤, nat_lt, codes}
 use Rattle.std.specs.Str.{bytes_eq}
 use Rattle.serde_json.specs.Data.{Data, Items, Members, no_members, member}
 use Rattle.serde_json.specs.Find.{as_number, as_u64, as_bool, as_str, as_array, as_object}
 use Rattle.serde_json.specs.Read.{read}
 use Rattle.table_json.specs.declared.fault.TableFault.{TableFault}
 use Rattle.table_json.specs.declared.fault.TableFault.TheVariants.{NotJson, WrongVersion, WrongShape, OutOfMemory}
+use Rattle.table_json.specs.declared.read.Version.{Version}
+use Rattle.table_json.specs.declared.read.Version.TheVariants.{Older, Newer}
 use Rattle.table_json.specs.declared.table.Parameter.{Parameter}
-use Rattle.table_json.specs.declared.table.Parameter.TheVariants.{Cancel, Group}
+use Rattle.table_json.specs.declared.table.Parameter.TheVariants.{Cancel, Cause, Group}
 use Rattle.table_json.specs.Tables.{Entry, itself, position_of}
 use Rattle.table_json.specs.TableTexts.{HasWrongShape, HasWrongVersion}
-use Rattle.table_json.specs.TableValues.{AllFit}
+use Rattle.table_json.specs.TableValues.{AllFit, IsFunctionValue, IsOlderFunctionValue}
 
 -- the value of the first member, where it has this key, and the members behind it
 abbrev pub first_member : List ℕ → Members → Option (Data × Members)
@@ -37,6 +39,16 @@ three_members first second third value =
     option_and_then (λ c. only_if_last (a.0, b.0, c.0) c.1)
     (first_member third b.1)) (first_member second a.1)) (first_member first ms)) (as_object value)
 
+unfoldable pub four_members : List ℕ → List ℕ → List ℕ → List ℕ → Data → Option (Data × Data × Data × Data)
+four_members first second third fourth value =
+    option_and_then (λ ms.
+    option_and_then (λ a.
+    option_and_then (λ b.
+    option_and_then (λ c.
+    option_and_then (λ d. only_if_last (a.0, b.0, c.0, d.0) d.1)
+    (first_member fourth c.1)) (first_member third b.1)) (first_member second a.1)) (first_member first ms))
+    (as_object value)
+
 abbrev pub if_fits : ℕ → Option ℕ
 if_fits n = if nat_lt n (2 ^ 32) then Some n else None
 
@@ -47,11 +59,12 @@ abbrev pub if_text : {A : Type 0} → List ℕ → Option A → Option (List ℕ
 if_text wanted found None = None
 if_text wanted found (Some text) = if bytes_eq text wanted then found else None
 
-unfoldable pub cancel_in : Data → Option Parameter
-cancel_in value =
+-- where a cancel function of this kind stands, and whether it is called
+unfoldable pub called_in : List ℕ → Data → Option (ℕ × Bool)
+called_in kind value =
     option_and_then (λ ms.
-    if_text (codes "cancel")
-    (option_and_then (λ at. option_map (λ calls. Cancel at calls) (as_bool ms.1)) (position_in ms.0))
+    if_text kind
+    (option_and_then (λ at. option_map (λ calls. (at, calls)) (as_bool ms.1)) (position_in ms.0))
     (as_str ms.2))
     (three_members (codes "at") (codes "calls") (codes "kind") value)
 
@@ -65,11 +78,24 @@ first_found (Some a) other = Some a
 first_found None other = other
 
 unfoldable pub parameter_in : Data → Option Parameter
-parameter_in value = first_found (cancel_in value) (group_in value)
+parameter_in value =
+    first_found (option_map (λ c. Cancel c.0 c.1) (called_in (codes "cancel") value))
+    (first_found (option_map (λ c. Cause c.0 c.1) (called_in (codes "cause") value)) (group_in value))
 
--- the name, and the values of what is given and of the parameters
-unfoldable pub function_in : Data → Option (List ℕ × Items × Items)
+-- the name, and the values of what is given, of what is given with a cause, and of the parameters
+unfoldable pub function_in : Data → Option (List ℕ × Items × Items × Items)
 function_in value =
+    option_and_then (λ ms.
+    option_and_then (λ causes.
+    option_and_then (λ gives.
+    option_and_then (λ name.
+    option_map (λ params. (name, gives, causes, params))
+    (as_array ms.3)) (as_str ms.2)) (as_array ms.1)) (as_array ms.0))
+    (four_members (codes "causes") (codes "gives") (codes "name") (codes "params") value)
+
+-- the same in the older version
+unfoldable pub older_function_in : Data → Option (List ℕ × Items × Items)
+older_function_in value =
     option_and_then (λ ms.
     option_and_then (λ gives.
     option_and_then (λ name.
@@ -90,7 +116,17 @@ all_of f (x ∷ xs) = option_and_then (λ y. option_map (λ ys. y ∷ ys) (all_o
 -- the positions of a function fit, as do all that are kept in memory
 pub record HasFits (f : Entry) : Type 0 where
   pub gives_fit : AllFit itself f.gives
+  pub causes_fit : AllFit itself f.causes
   pub params_fit : AllFit position_of f.params
+
+abbrev pub number_of : Version → ℕ
+number_of Older = 1
+number_of Newer = 2
+
+-- this is the value of the function in this version
+abbrev pub IsFunctionIn : Version → Data → Entry → Type 0
+IsFunctionIn Older = IsOlderFunctionValue
+IsFunctionIn Newer = IsFunctionValue
 
 -- nothing is kept of what is read, for this reason
 abbrev pub Refuses : {A : Type 0} → (A → Type 0) → TableFault → Type 0

@@ -18,13 +18,17 @@ pub record IsTableText (text : List ℕ) (table : List Entry) : Type 0 where
 abbrev pub version_of : Data → Option ℕ
 version_of value = option_and_then as_u64 (option_and_then as_number (get (codes "version") value))
 
--- the version is missing or unfit, or it is right and this is the value of no table
+-- the version is one that is read
+abbrev pub HasKnownVersion : Data → Type 0
+HasKnownVersion value = (version_of value ≡ Some 1) ⊎ (version_of value ≡ Some 2)
+
+-- the version is missing or unfit, or it is one that is read and this is the value of no table
 abbrev pub HasWrongShape : Data → Type 0
 HasWrongShape value =
-    (version_of value ≡ None) ⊎ ((version_of value ≡ Some 1) × ((table : List Entry) → ¬ IsTableValue value table))
+    (version_of value ≡ None) ⊎ (HasKnownVersion value × ((table : List Entry) → ¬ IsTableValue value table))
 
 abbrev pub HasWrongVersion : Data → Type 0
-HasWrongVersion value = (version : ℕ) × (version_of value ≡ Some version) × (version ≢ 1)
+HasWrongVersion value = (version : ℕ) × (version_of value ≡ Some version) × (version ≢ 1) × (version ≢ 2)
 
 -- why a text is not read
 abbrev pub IsTableFault : List ℕ → TableFault → Type 0

@@ -17,11 +17,12 @@ pub record IsOrdered {A K : Type 0} (cmp : K → K → Ordering) (key : A → K)
 
 -- anything is told but the name
 abbrev pub is_told : Entry → Bool
-is_told f = not ((length f.gives == 0) && (length f.params == 0))
+is_told f = not ((length f.gives == 0) && (length f.causes == 0) && (length f.params == 0))
 
 pub record IsWrittenAs (f written : Entry) : Type 0 where
   pub is_name : written.name ≡ f.name
   pub are_gives : IsOrdered nat_cmp itself f.gives written.gives
+  pub are_causes : IsOrdered nat_cmp itself f.causes written.causes
   pub are_params : IsOrdered nat_cmp position_of f.params written.params
 
 pub record AreWritten (table written : List Entry) : Type 0 where
@@ -29,8 +30,8 @@ pub record AreWritten (table written : List Entry) : Type 0 where
   pub are_told : IsOrdered by_bytes name_of (filter is_told table) told
   pub each : AllZip IsWrittenAs told written
 
--- the text of what is written of the table; where no name comes twice in that, and no position of a function, it reads
--- back as that
+-- the text of what is written of the table; where no name comes twice in that, and no position among the results or the
+-- parameters of a function, it reads back as that
 pub record IsWrittenText (table : List Entry) (text : List ℕ) : Type 0 where
   pub written : List Entry
   pub are_written : AreWritten table written

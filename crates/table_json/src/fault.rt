@@ -7,9 +7,9 @@ use std::alloc::{AllocError, AllocFailed};
 pub enum TableFault {
     /// The text is no JSON, or it nests deeper than 127.
     NotJson,
-    /// Its version is a whole number other than 1.
+    /// Its version is a whole number other than 1 and 2.
     WrongVersion,
-    /// The version is missing or no whole number, or it is 1 and the rest is no table.
+    /// The version is missing or no whole number, or it is 1 or 2 and the rest is no table of that version.
     WrongShape,
     /// Memory was refused.
     OutOfMemory,

@@ -2,7 +2,7 @@
 
 ghost use Rattle.std.specs.Prelude.{◌≡◌, option_map};
 ghost use Rattle.serde_json.specs.View.{view, items_view, members_view};
-ghost use Rattle.table_json.specs.Parts.{cancel_in, first_member, function_in, functions_in, group_in, parameter_in, position_in, three_members, two_members};
+ghost use Rattle.table_json.specs.Parts.{called_in, first_member, four_members, function_in, functions_in, group_in, older_function_in, parameter_in, position_in, three_members, two_members};
 
 use crate::table::Parameter;
 use serde_json::Value;
@@ -57,6 +57,29 @@ fn three_members<'a>(
     Some((one, two, three))
 }
 
+/// The values of an object that has these four keys and no others.
+#[tactic(auto, unfolding(crate::specs::Parts::four_members))]
+fn four_members<'a>(
+    value: &'a Value,
+    first: &str,
+    second: &str,
+    third: &str,
+    fourth: &str,
+) -> Option<(&'a Value, &'a Value, &'a Value, &'a Value)>
+    ensures { option_map (λ found. (view found.0.now, view found.1.now, view found.2.now, view found.3.now)) result
+        ≡ four_members first.now second.now third.now fourth.now (view value.now) }
+{
+    let mut members = value.as_object()?.iter();
+    let one = next_member(&mut members, first)?;
+    let two = next_member(&mut members, second)?;
+    let three = next_member(&mut members, third)?;
+    let four = next_member(&mut members, fourth)?;
+    if members.next().is_some() {
+        return None;
+    }
+    Some((one, two, three, four))
+}
+
 /// A position: a whole number of at most 32 bits.
 #[tactic(auto, unfolding(crate::specs::Parts::position_in))]
 pub(crate) fn position_in(value: &Value) -> Option<u32>
@@ -66,19 +89,16 @@ pub(crate) fn position_in(value: &Value) -> Option<u32>
     u32::try_from(number).ok()
 }
 
-/// A cancel function, with whether it is called.
-#[tactic(auto, unfolding(crate::specs::Parts::cancel_in))]
-fn cancel_in(value: &Value) -> Option<Parameter>
-    ensures { result ≡ cancel_in (view value.now) }
+/// Where a cancel function of this kind stands, and whether it is called.
+#[tactic(auto, unfolding(crate::specs::Parts::called_in))]
+fn called_in(value: &Value, wanted: &str) -> Option<(u32, bool)>
+    ensures { result ≡ called_in wanted.now (view value.now) }
 {
     let (at, calls, kind) = three_members(value, "at", "calls", "kind")?;
-    if kind.as_str()? != "cancel" {
+    if kind.as_str()? != wanted {
         return None;
     }
-    Some(Parameter::Cancel {
-        at: position_in(at)?,
-        calls: calls.as_bool()?,
-    })
+    Some((position_in(at)?, calls.as_bool()?))
 }
 
 /// A group, of which no call is told.
@@ -100,8 +120,11 @@ fn group_in(value: &Value) -> Option<Parameter>
 pub(crate) fn parameter_in(value: &Value) -> Option<Parameter>
     ensures { result ≡ parameter_in (view value.now) }
 {
-    match cancel_in(value) {
-        Some(parameter) => Some(parameter),
+    if let Some((at, calls)) = called_in(value, "cancel") {
+        return Some(Parameter::Cancel { at, calls });
+    }
+    match called_in(value, "cause") {
+        Some((at, calls)) => Some(Parameter::Cause { at, calls }),
         None => group_in(value),
     }
 }
@@ -111,18 +134,47 @@ pub(crate) fn parameter_in(value: &Value) -> Option<Parameter>
 pub(crate) struct FunctionParts<'a> {
     pub(crate) name: &'a str,
     pub(crate) gives: &'a Vec<Value>,
+    pub(crate) causes: &'a Vec<Value>,
     pub(crate) params: &'a Vec<Value>,
 }
 
 /// The parts of a function, each still as it stands.
 #[tactic(auto, unfolding(crate::specs::Parts::function_in))]
 pub(crate) fn function_in<'a>(value: &'a Value) -> Option<FunctionParts<'a>>
-    ensures { option_map
-        (λ found. (found.name.now, items_view found.gives.now.items, items_view found.params.now.items)) result
+    ensures { option_map (λ found. (
+      found.name.now,
+      items_view found.gives.now.items,
+      items_view found.causes.now.items,
+      items_view found.params.now.items,
+    )) result
         ≡ function_in (view value.now) }
 {
-    let (gives, name, params) = three_members(value, "gives", "name", "params")?;
+    let (causes, gives, name, params) = four_members(value, "causes", "gives", "name", "params")?;
     Some(FunctionParts {
+        causes: causes.as_array()?,
+        gives: gives.as_array()?,
+        name: name.as_str()?,
+        params: params.as_array()?,
+    })
+}
+
+/// The parts of a function's object in the older version.
+#[derive(Clone, Copy)]
+pub(crate) struct OlderFunctionParts<'a> {
+    pub(crate) name: &'a str,
+    pub(crate) gives: &'a Vec<Value>,
+    pub(crate) params: &'a Vec<Value>,
+}
+
+/// The parts of a function of the older version.
+#[tactic(auto, unfolding(crate::specs::Parts::older_function_in))]
+pub(crate) fn older_function_in<'a>(value: &'a Value) -> Option<OlderFunctionParts<'a>>
+    ensures { option_map
+        (λ found. (found.name.now, items_view found.gives.now.items, items_view found.params.now.items)) result
+        ≡ older_function_in (view value.now) }
+{
+    let (gives, name, params) = three_members(value, "gives", "name", "params")?;
+    Some(OlderFunctionParts {
         gives: gives.as_array()?,
         name: name.as_str()?,
         params: params.as_array()?,

@@ -1,21 +1,30 @@
 //! The table of a text.
 
-ghost use Rattle.std.specs.Prelude.{◌≡◌, List, Some, IfErr, IfOk, map};
-ghost use Rattle.std.specs.List.{AllZip};
+ghost use Rattle.std.specs.Prelude.{◌≡◌, ◌==◌, List, Some, IfErr, IfOk, map};
+ghost use Rattle.std.specs.List.{AllZip, list_all, list_any};
 ghost use Rattle.serde_json.specs.Read.{read};
 ghost use Rattle.serde_json.specs.View.{view};
 ghost use Rattle.table_json.specs.declared.fault.TableFault.TheVariants.{OutOfMemory};
-ghost use Rattle.table_json.specs.Parts.{all_of, parameter_in, position_in, IsTextFault, IsValueFault, Refuses};
-ghost use Rattle.table_json.specs.Tables.{Entry, entries_of, entry_of, itself, position_of, IsInOrder};
+ghost use Rattle.table_json.specs.Parts.{all_of, number_of, parameter_in, position_in, IsFunctionIn, IsTextFault, IsValueFault, Refuses};
+ghost use Rattle.table_json.specs.Tables.{Entry, are_apart, entries_of, entry_of, itself, position_of, IsInOrder};
 ghost use Rattle.table_json.specs.TableTexts.{version_of, IsTableFault, IsTableText};
-ghost use Rattle.table_json.specs.TableValues.{parameter_value, whole, AreValuesOf, IsFunctionValue, IsTableValue};
+ghost use Rattle.table_json.specs.TableValues.{is_older, parameter_value, whole, AreValuesOf, IsFunctionValue, IsOlderFunctionValue, IsTableIn, IsTableValue};
 
 use crate::fault::TableFault;
 use crate::order::{functions_in_order, parameters_in_order, positions_in_order};
-use crate::parts::{function_in, functions_in, parameter_in, position_in};
-use crate::table::{Function, Parameter, Table, VERSION};
+use crate::parts::{function_in, functions_in, older_function_in, parameter_in, position_in};
+use crate::table::{Function, OLDER_VERSION, Parameter, Table, VERSION};
 use serde_json::Value;
 use std::alloc::Global;
+
+/// The versions that are read.
+#[derive(Clone, Copy)]
+enum Version {
+    /// `OLDER_VERSION`.
+    Older,
+    /// `VERSION`.
+    Newer,
+}
 
 /// Positions as they stand.
 fn positions_as_given(alloc: Global, values: &[Value]) -> Result<Vec<u32>, TableFault>
@@ -69,7 +78,27 @@ fn read_parameters(alloc: Global, values: &[Value]) -> Result<Vec<Parameter>, Ta
     }
 }
 
-fn read_function(alloc: Global, value: &Value) -> Result<Function, TableFault>
+/// Whether a position is one of these.
+fn is_in(position: u32, positions: &[u32]) -> bool
+    ensures { result ≡ list_any (λ n. n == position) positions.now }
+{
+    positions.contains(&position)
+}
+
+/// Whether no position is in both.
+fn are_apart(gives: &[u32], causes: &[u32]) -> bool
+    ensures { result ≡ are_apart gives.now causes.now }
+{
+    for position in gives {
+        if is_in(*position, causes) {
+            return false;
+        }
+    }
+    true
+}
+
+/// The function of a value in the newer version.
+fn read_newer_function(alloc: Global, value: &Value) -> Result<Function, TableFault>
     ensures ok { IfOk result (λ function. IsFunctionValue (view value.now) (entry_of function)) }
     ensures err { IfErr result (Refuses (IsFunctionValue (view value.now))) }
 {
@@ -77,36 +106,99 @@ fn read_function(alloc: Global, value: &Value) -> Result<Function, TableFault>
         return Err(TableFault::WrongShape);
     };
     let gives = read_positions(alloc, parts.gives)?;
+    let causes = read_positions(alloc, parts.causes)?;
+    if !are_apart(&gives, &causes) {
+        return Err(TableFault::WrongShape);
+    }
     let params = read_parameters(alloc, parts.params)?;
     Ok(Function {
         name: String::from_str(alloc, parts.name)?,
         gives,
+        causes,
         params,
     })
 }
 
-fn read_functions(alloc: Global, values: &[Value]) -> Result<Vec<Function>, TableFault>
+/// Whether the older version has this parameter.
+fn is_older(parameter: Parameter) -> bool
+    ensures { result ≡ is_older parameter }
+{
+    match parameter {
+        Parameter::Cause { .. } => false,
+        Parameter::Cancel { .. } | Parameter::Group { .. } => true,
+    }
+}
+
+/// Whether the older version has all of these.
+fn are_older(parameters: &[Parameter]) -> bool
+    ensures { result ≡ list_all is_older parameters.now }
+{
+    for parameter in parameters {
+        if !is_older(*parameter) {
+            return false;
+        }
+    }
+    true
+}
+
+/// The function of a value in the older version.
+fn read_older_function(alloc: Global, value: &Value) -> Result<Function, TableFault>
+    ensures ok { IfOk result (λ function. IsOlderFunctionValue (view value.now) (entry_of function)) }
+    ensures err { IfErr result (Refuses (IsOlderFunctionValue (view value.now))) }
+{
+    let Some(parts) = older_function_in(value) else {
+        return Err(TableFault::WrongShape);
+    };
+    let gives = read_positions(alloc, parts.gives)?;
+    let params = read_parameters(alloc, parts.params)?;
+    if !are_older(&params) {
+        return Err(TableFault::WrongShape);
+    }
+    Ok(Function {
+        name: String::from_str(alloc, parts.name)?,
+        gives,
+        causes: Vec::new(alloc),
+        params,
+    })
+}
+
+fn read_function(alloc: Global, version: Version, value: &Value) -> Result<Function, TableFault>
+    ensures ok { IfOk result (λ function. IsFunctionIn version (view value.now) (entry_of function)) }
+    ensures err { IfErr result (Refuses (IsFunctionIn version (view value.now))) }
+{
+    match version {
+        Version::Older => read_older_function(alloc, value),
+        Version::Newer => read_newer_function(alloc, value),
+    }
+}
+
+fn read_functions(
+    alloc: Global,
+    version: Version,
+    values: &[Value],
+) -> Result<Vec<Function>, TableFault>
     ensures ok { IfOk result
-        (λ given. AllZip IsFunctionValue (map view values.now) (map entry_of given.items)) }
-    ensures err { IfErr result (Refuses (AllZip IsFunctionValue (map view values.now))) }
+        (λ given. AllZip (IsFunctionIn version) (map view values.now) (map entry_of given.items)) }
+    ensures err { IfErr result (Refuses (AllZip (IsFunctionIn version) (map view values.now))) }
 {
     let mut given = Vec::new(alloc);
     for value in values {
-        given.push(read_function(alloc, value)?)?;
+        given.push(read_function(alloc, version, value)?)?;
     }
     Ok(given)
 }
 
-/// The table of a value with the right version.
-fn read_table(alloc: Global, value: &Value) -> Result<Table, TableFault>
-    requires { version_of (view value.now) ≡ Some 1 }
-    ensures ok { IfOk result (λ table. IsTableValue (view value.now) (entries_of table)) }
-    ensures err { IfErr result (Refuses (IsTableValue (view value.now))) }
+/// The table of a value with this version.
+fn read_table(alloc: Global, version: Version, value: &Value) -> Result<Table, TableFault>
+    requires { version_of (view value.now) ≡ Some (number_of version) }
+    ensures ok { IfOk result
+        (λ table. IsTableIn (number_of version) (IsFunctionIn version) (view value.now) (entries_of table)) }
+    ensures err { IfErr result (Refuses (IsTableIn (number_of version) (IsFunctionIn version) (view value.now))) }
 {
     let Some(values) = functions_in(value) else {
         return Err(TableFault::WrongShape);
     };
-    let given = read_functions(alloc, values)?;
+    let given = read_functions(alloc, version, values)?;
     match functions_in_order(given) {
         Some(functions) => Ok(Table { functions }),
         None => Err(TableFault::WrongShape),
@@ -125,7 +217,8 @@ fn read_value(alloc: Global, value: &Value) -> Result<Table, TableFault>
     ensures err { IfErr result (IsValueFault (view value.now)) }
 {
     match version_of(value) {
-        Some(VERSION) => read_table(alloc, value),
+        Some(VERSION) => read_table(alloc, Version::Newer, value),
+        Some(OLDER_VERSION) => read_table(alloc, Version::Older, value),
         Some(_) => Err(TableFault::WrongVersion),
         None => Err(TableFault::WrongShape),
     }
@@ -149,14 +242,15 @@ fn parse(alloc: Global, text: &str) -> Result<Value, TableFault>
 
 /// The table of a text, in order: its functions by the bytes of their names, and the positions of each as they rise. In
 /// the text the order of functions, positions and keys is free. A function without positions is kept, although a table
-/// that is written has none. So what `to_json` writes of a table in order reads back as that table.
+/// that is written has none. So what `to_json` writes of a table in order reads back as that table. A text of version 1
+/// is read by the rules of that version, which has no causes.
 ///
 /// # Errors
 ///
-/// The text is no JSON; its version is missing or no whole number; it is another than 1; the rest is no table, as a key
-/// is missing or unknown, a value of another kind, a position above 4,294,967,295, or a function or a position comes
-/// twice; or memory was refused. This is the order in which it is looked for them. A text that is a table's is refused
-/// for want of memory alone.
+/// The text is no JSON; its version is missing or no whole number; it is another than 1 and 2; the rest is no table of
+/// that version, as a key is missing or unknown, a value of another kind, a position above 4,294,967,295, a function or
+/// a position comes twice, or a position stands in both `gives` and `causes`; or memory was refused. This is the order
+/// in which it is looked for them. A text that is a table's is refused for want of memory alone.
 pub fn from_json(alloc: Global, text: &str) -> Result<Table, TableFault>
     ensures table { IfOk result (λ table. IsTableText text.now (entries_of table)) }
     ensures in_order { IfOk result (λ table. IsInOrder (entries_of table)) }

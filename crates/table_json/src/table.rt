@@ -1,13 +1,23 @@
 //! A table of facts: of each function, what its callers may rely on.
 
-/// The version of the format in which tables are written, and the only one that is read.
-pub(crate) const VERSION: u64 = 1;
+/// The version of the format in which tables are written.
+pub(crate) const VERSION: u64 = 2;
+
+/// The version before it, which knows of no causes. It is still read.
+pub(crate) const OLDER_VERSION: u64 = 1;
 
 /// A parameter that a function tracks. Positions count single parameters from 0, and a receiver is none of them.
 #[derive(Clone, Copy, Debug, Drop, PartialEq, Eq)]
 pub enum Parameter {
     /// A cancel function, and whether the function calls it.
     Cancel {
+        /// Its position.
+        at: u32,
+        /// Whether the function calls it on each of its ways.
+        calls: bool,
+    },
+    /// A cancel function with a cause, and whether the function calls it.
+    Cause {
         /// Its position.
         at: u32,
         /// Whether the function calls it on each of its ways.
@@ -29,7 +39,8 @@ impl Parameter {
         ensures { result ≡ position_of self.now }
     {
         match self {
-            Parameter::Cancel { at, .. } | Parameter::Group { at } => *at,
+            Parameter::Cancel { at, .. } | Parameter::Cause { at, .. } | Parameter::Group { at } =>
+                *at,
         }
     }
 }
@@ -39,8 +50,11 @@ impl Parameter {
 pub struct Function {
     /// Its name, without its package.
     pub name: String,
-    /// The positions of the results that it gives, counted from 0.
+    /// The positions of its results of type `context.CancelFunc`, counted from 0.
     pub gives: Vec<u32>,
+    /// The positions of its results of type `context.CancelCauseFunc`. In a table that is in order none of these is
+    /// among the others.
+    pub causes: Vec<u32>,
     /// The parameters that it tracks.
     pub params: Vec<Parameter>,
 }

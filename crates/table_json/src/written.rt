@@ -19,7 +19,7 @@ use std::alloc::{AllocError, Global};
 fn is_told(function: &Function) -> bool
     ensures { result ≡ is_told (entry_of function.now) }
 {
-    !(function.gives.is_empty() && function.params.is_empty())
+    !(function.gives.is_empty() && function.causes.is_empty() && function.params.is_empty())
 }
 
 /// The functions of which anything is told.
@@ -69,10 +69,12 @@ fn function_written(alloc: Global, function: &Function) -> Result<Function, Allo
     ensures { IfOk result (λ written. IsWrittenAs (entry_of function.now) (entry_of written)) }
 {
     let gives = positions_written(alloc, &function.gives)?;
+    let causes = positions_written(alloc, &function.causes)?;
     let params = parameters_written(alloc, &function.params)?;
     Ok(Function {
         name: String::from_str(alloc, function.name.as_str())?,
         gives,
+        causes,
         params,
     })
 }
@@ -119,6 +121,9 @@ fn parameter_value(alloc: Global, parameter: Parameter) -> Result<Value, AllocEr
         Parameter::Cancel { at, calls } => {
             json!(in alloc; {"at": at, "calls": calls, "kind": "cancel"})
         }
+        Parameter::Cause { at, calls } => {
+            json!(in alloc; {"at": at, "calls": calls, "kind": "cause"})
+        }
         Parameter::Group { at } => json!(in alloc; {"at": at, "kind": "group"}),
     }
 }
@@ -138,9 +143,10 @@ fn function_value(alloc: Global, function: &Function) -> Result<Value, AllocErro
     ensures value { IfOk result (λ value. view value ≡ function_value (entry_of function.now)) }
     ensures fits { IfOk result (λ value. HasFits (entry_of function.now)) }
 {
+    let causes = Value::Array(position_values(alloc, &function.causes)?);
     let gives = Value::Array(position_values(alloc, &function.gives)?);
     let params = Value::Array(parameter_values(alloc, &function.params)?);
-    json!(in alloc; {"gives": gives, "name": &function.name, "params": params})
+    json!(in alloc; {"causes": causes, "gives": gives, "name": &function.name, "params": params})
 }
 
 fn function_values(alloc: Global, functions: &[Function]) -> Result<Vec<Value>, AllocError>

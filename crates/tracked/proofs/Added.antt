@@ -9,7 +9,7 @@ use Rattle.tree.specs.Syntax.{Identifier}
 use Rattle.tree.proofs.Depths.{drop_item}
 use Rattle.meaning.specs.OuterBlocks.{or_else}
 use Rattle.meaning.specs.Mentions.{BodyPlace}
-use Rattle.meaning.specs.FunctionFacts.{VariableKind}
+use Rattle.meaning.specs.FunctionFacts.{TrackedType}
 use Rattle.meaning.specs.BodyEvents.{distinct}
 use Rattle.meaning.specs.Tracked.{LocalRole, Local, item_local, find_local}
 use Rattle.names.proofs.Adding.{or_else-assoc, or_else-none, first_of, map-or_else}
@@ -92,7 +92,7 @@ module _ {X : Type 0} (f g : List X → List Local) (xs : List X) (i : ℕ) wher
       so_far a (adds_same a a [] (f (drop i xs)) (sym (at_drop_all f xs i past ∙ none)) (adds_nothing a))
 
 -- the local of an item, in the words of what computed its role and its kind
-pub adds_item : (a b : Locals) (body : BodyPlace) (role is_role : LocalRole) (kind is_kind : Option VariableKind)
+pub adds_item : (a b : Locals) (body : BodyPlace) (role is_role : LocalRole) (kind is_kind : Option TrackedType)
     (name : Option Identifier) → role ≡ is_role → kind ≡ is_kind
     → AddsLocals a b (item_local body role kind name) → AddsLocals a b (item_local body is_role is_kind name)
 adds_item a b body role is_role kind is_kind name same equal h =

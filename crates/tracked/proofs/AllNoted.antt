@@ -9,7 +9,11 @@ use Rattle.meaning.specs.Uses.{Seen, seen_in, is_own, is_of_local, mentions_insi
 use Rattle.mentions.specs.declared.mark.Mark.{Mark as KeptMark}
 use Rattle.mentions.specs.MarkViews.{marks_view}
 use Rattle.tracked.specs.declared.table.Entries.{Entries}
-use Rattle.tracked.specs.LocalViews.{SeenLocal, entry_in, fresh, noted, noted_all, entry_of}
+use Rattle.meaning.specs.BodyEvents.{distinct}
+use Rattle.tracked.specs.declared.table.Locals.{Locals}
+use Rattle.tracked.specs.declared.seen.Seen.{Seen as KeptSeen}
+use Rattle.tracked.specs.RowViews.{known_view}
+use Rattle.tracked.specs.LocalViews.{SeenLocal, entry_in, fresh, noted, noted_all, numbers_of, HasLocals, entry_of, SeesLocals}
 use Rattle.tracked.proofs.Added.{fresh_in}
 
 or_false : (b : Bool) → (b || false) ≡ b
@@ -109,3 +113,18 @@ seen_entries known ms ns os same equal a b there noted_there n =
     ∙ ap (option_map (noted_all known n (placed [] (marks_view ms))))
     (there n ∙ ap (λ (l : List KeptMark). fresh_in (locals_of known (placed [] (marks_view l))) n) same)
     ∙ all_noted (seen_in known (marks_view ms)) (locals_of known (placed [] (marks_view ms))) n
+
+-- what is kept of a file so is what its marks do to its locals
+pub sees_locals : (seen : KeptSeen) (ns os : List KeptMark) → ns ≡ seen.marks.items → os ≡ seen.marks.items → (before : Locals)
+    → HasLocals before (locals_of (known_view seen.known) (placed [] (marks_view ns)))
+    → ((n : ℕ) → entry_in seen.locals.entries n ≡ option_map (noted_all (known_view seen.known) n (placed [] (marks_view os))) (entry_in before.entries n))
+    → seen.locals.numbers.items ≡ before.numbers.items
+    → SeesLocals seen
+sees_locals seen ns os same equal before has notes numbers = record {
+  entries =
+      seen_entries (known_view seen.known) seen.marks.items ns os same equal before.entries seen.locals.entries
+      has.entries notes;
+  numbers =
+      numbers ∙ (has.numbers
+      ∙ ap (λ (ms : List KeptMark). distinct (numbers_of (locals_of (known_view seen.known) (placed [] (marks_view ms))))) same);
+}

@@ -8,15 +8,17 @@ use Rattle.tracked.specs.declared.local.Local.{Local as KeptLocal}
 use Rattle.tracked.specs.declared.local.SeenLocal.{SeenLocal as KeptSeenLocal}
 use Rattle.tracked.specs.declared.table.Entries.{Entries}
 use Rattle.tracked.specs.declared.table.Locals.{Locals}
+use Rattle.tracked.specs.declared.obtainings.Obtaining.{Obtaining as KeptObtaining}
+use Rattle.tracked.specs.declared.obtainings.Obtainings.{Obtainings}
 use Rattle.tracked.specs.declared.seen.Seen.{Seen as KeptSeen}
-use Rattle.facts.specs.FactViews.{kind_view}
+use Rattle.facts.specs.FactViews.{type_view, tracked_type_view}
 use Rattle.mentions.specs.MarkViews.{marks_view}
 use Rattle.tracked.specs.RowViews.{known_view}
 use Rattle.meaning.specs.OuterBlocks.{or_else}
 use Rattle.meaning.specs.Mentions.{BodyPlace, Mention, Mark, mentions, defers_literal, returns, opens, closes}
-use Rattle.meaning.specs.FunctionFacts.{VariableKind, cancel, group}
+use Rattle.meaning.specs.FunctionFacts.{VariableKind, cancel, group, kind_of_type}
 use Rattle.meaning.specs.Tracked.{Known, variable_of, outer, Placed, LocalRole, parameter, receiver, variadic, result, in_block, Local, find_local, is_variable, obtains_in, makes_in}
-use Rattle.meaning.specs.Uses.{Seen, seen_in, may_be_tracked, is_own, is_in_literal}
+use Rattle.meaning.specs.Uses.{Seen, seen_in, may_be_tracked, is_own, is_in_literal, Obtaining, first_of_some, obtained_there, first_obtaining}
 use Rattle.meaning.specs.BodyEvents.{distinct}
 
 -- Bodies
@@ -44,7 +46,7 @@ local_view l = record {
   name = l.name.now;
   at = l.at;
   role = local_role_view l.role;
-  typed = option_map kind_view l.typed;
+  typed = option_map tracked_type_view l.typed;
   body = l.body;
 }
 
@@ -141,10 +143,38 @@ entry_of seen l = record {
 }
 
 -- the table has the locals of the file, each with what its marks do to it, and the number of each once
-pub record Sees (seen : KeptSeen) : Type 0 where
+pub record SeesLocals (seen : KeptSeen) : Type 0 where
   pub entries : (n : ℕ)
       → entry_in seen.locals.entries n ≡ option_map (entry_of (seen_view seen)) (find_local (seen_view seen).locals n)
   pub numbers : seen.locals.numbers.items ≡ distinct (numbers_of (seen_view seen).locals)
+
+-- Types
+
+abbrev pub obtaining_view : KeptObtaining → Obtaining
+obtaining_view o = record { at = o.at; type = type_view o.cancel_type }
+
+abbrev pub obtaining_in : Obtainings → ℕ → Option Obtaining
+obtaining_in obtainings n = option_map obtaining_view (get nat_eq obtainings.by_number n)
+
+abbrev pub obtaining_at : ℕ → Obtaining → ℕ → Option Obtaining
+obtaining_at number o n = if nat_eq number n then Some o else None
+
+abbrev pub update_obtaining : ℕ → Obtaining → Option Obtaining → ℕ → Option Obtaining
+update_obtaining number o known n = if nat_eq number n then Some o else known
+
+-- what a mark adds to those that are known
+abbrev pub NotesObtaining : Seen → Mark → Obtainings → Obtainings → Type 0
+NotesObtaining seen mark before after =
+    (n : ℕ) → obtaining_in after n ≡ first_of_some (obtaining_in before n) (obtained_there seen n mark)
+
+-- the first of each local, by place
+abbrev pub HasFirsts : Obtainings → Seen → Type 0
+HasFirsts obtainings seen = (n : ℕ) → obtaining_in obtainings n ≡ first_obtaining seen n seen.marks
+
+-- besides, the first binding of each local that obtains it is kept
+pub record Sees (seen : KeptSeen) : Type 0 where
+  pub locals : SeesLocals seen
+  pub obtainings : HasFirsts seen.obtainings (seen_view seen)
 
 -- Kinds
 
@@ -152,7 +182,7 @@ abbrev pub kind_by_flags : Bool → Bool → Option VariableKind
 kind_by_flags is_obtained is_made = if is_obtained then Some cancel else if is_made then Some group else None
 
 abbrev pub kind_of_entry : SeenLocal → Option VariableKind
-kind_of_entry e = or_else e.local.typed (kind_by_flags e.is_obtained e.is_made)
+kind_of_entry e = or_else (option_map kind_of_type e.local.typed) (kind_by_flags e.is_obtained e.is_made)
 
 abbrev pub tracked_kind_of_entry : SeenLocal → Option VariableKind
 tracked_kind_of_entry e = if may_be_tracked e.local.role then kind_of_entry e else None

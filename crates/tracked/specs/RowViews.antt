@@ -1,5 +1,5 @@
 -- What the program keeps of what is known, and of rows, and what it stands for.
-use Rattle.std.specs.Prelude.{Bool, Option, Some, None, length}
+use Rattle.std.specs.Prelude.{Bool, Option, Some, None, length, map}
 use Rattle.tracked.specs.declared.known.Known.{Known as KeptKnown}
 use Rattle.tracked.specs.declared.lefts.Left.{Left as KeptLeft}
 use Rattle.tracked.specs.declared.lefts.Left.TheVariants.{Blank, Name, Other}
@@ -7,7 +7,7 @@ use Rattle.tracked.specs.declared.calls.Giving.{Giving as KeptGiving}
 use Rattle.tracked.specs.declared.makings.GroupState.{GroupState as KeptState}
 use Rattle.tracked.specs.declared.makings.GroupState.TheVariants.{Idle, Live}
 use Rattle.names.specs.Answers.{declared_at}
-use Rattle.facts.specs.FactViews.{facts_by_name, facts_by_path}
+use Rattle.facts.specs.FactViews.{cancel_result_view, facts_by_name, facts_by_path}
 use Rattle.mentions.specs.MarkViews.{named_view}
 use Rattle.tree.specs.Syntax.{Expression, Expressions, no_expression, expression_and}
 use Rattle.meaning.specs.Mentions.{Row}
@@ -27,7 +27,7 @@ left_view (Name n number) = name_left (named_view n) number
 left_view Other = other_left
 
 abbrev pub giving_view : KeptGiving → Giving
-giving_view g = record { positions = g.positions.now; results = g.results }
+giving_view g = record { gives = map cancel_result_view g.gives.now; results = g.results }
 
 abbrev pub state_view : KeptState → GroupState
 state_view Idle = idle

@@ -2,7 +2,7 @@
 
 ghost use Rattle.std.specs.Prelude.{◌≡◌, ◌∷◌, [], OnOk, map, option_map};
 ghost use Rattle.meaning.specs.Tracked.{declared_by, row_typed, item_local, parameter_role, parameter_locals, receiver_locals, only_cancel, result_locals, receiver_items, signature_locals, body_locals, role_typed, declared_local, locals_there};
-ghost use Rattle.facts.specs.FactViews.{kind_view, item_view};
+ghost use Rattle.facts.specs.FactViews.{tracked_type_view, item_view};
 ghost use Rattle.tracked.specs.LocalViews.{local_role_view, AddsLocals};
 ghost use Rattle.mentions.specs.MarkViews.{form_view, role_view, mention_view, body_view, mark_view};
 ghost use Rattle.tracked.specs.RowViews.{known_view};
@@ -11,7 +11,7 @@ ghost use Rattle.tree.specs.View.{identifier_syntax, parameters_syntax, signatur
 use crate::known::{Known, meaning};
 use crate::local::{Local, LocalRole};
 use crate::table::Locals;
-use facts::{Item, VariableKind, item_kind, kind_of_type, parameter_items};
+use facts::{Item, TrackedType, item_type, parameter_items, tracked_type};
 use mentions::{BodyPlace, Mark, Mention, Role, RowForm};
 use std::alloc::{AllocError, Global};
 use tree::{BLANK, Identifier, Param, Signature};
@@ -20,12 +20,12 @@ use tree::{BLANK, Identifier, Param, Signature};
 fn add_item<'a>(
     body: BodyPlace<'a>,
     role: LocalRole,
-    typed: Option<VariableKind>,
+    typed: Option<TrackedType>,
     name: Option<&'a Identifier>,
     locals: &mut Locals<'a>,
 ) -> Result<(), AllocError>
     ensures { OnOk result (AddsLocals locals.old locals.new (item_local (body_view body.entry) (local_role_view role)
-        (option_map kind_view typed) (option_map (λ n. identifier_syntax n.now) name.entry))) }
+        (option_map tracked_type_view typed) (option_map (λ n. identifier_syntax n.now) name.entry))) }
 {
     match name {
         Some(name) => {
@@ -57,11 +57,11 @@ fn parameter_role(role: LocalRole, item: &Item<'_>) -> LocalRole
 }
 
 /// A result is no parameter, so that a type of groups says nothing of it.
-fn only_cancel(kind: Option<VariableKind>) -> Option<VariableKind>
-    ensures { option_map kind_view result ≡ only_cancel (option_map kind_view kind) }
+fn only_cancel(typed: Option<TrackedType>) -> Option<TrackedType>
+    ensures { option_map tracked_type_view result ≡ only_cancel (option_map tracked_type_view typed) }
 {
-    match kind {
-        Some(VariableKind::Cancel) => Some(VariableKind::Cancel),
+    match typed {
+        Some(TrackedType::Cancel(cancel)) => Some(TrackedType::Cancel(cancel)),
         _ => None,
     }
 }
@@ -77,7 +77,7 @@ fn add_parameters<'a>(
 {
     for (position, item) in items.iter().enumerate() {
         let role = parameter_role(LocalRole::Parameter(position), item);
-        let typed = item_kind(known.names, known.file, item);
+        let typed = item_type(known.names, known.file, item);
         add_item(body, role, typed, item.name, locals)?;
     }
     Ok(())
@@ -94,7 +94,7 @@ fn add_receivers<'a>(
 {
     for item in items {
         let role = parameter_role(LocalRole::Receiver, item);
-        let typed = item_kind(known.names, known.file, item);
+        let typed = item_type(known.names, known.file, item);
         add_item(body, role, typed, item.name, locals)?;
     }
     Ok(())
@@ -110,7 +110,7 @@ fn add_results<'a>(
         (body_view body.entry) (map item_view items.now))) }
 {
     for item in items {
-        let typed = only_cancel(item_kind(known.names, known.file, item));
+        let typed = only_cancel(item_type(known.names, known.file, item));
         add_item(body, LocalRole::Result, typed, item.name, locals)?;
     }
     Ok(())
@@ -165,21 +165,21 @@ fn add_body<'a>(
     add_signature(alloc, known, body, body.signature, locals)
 }
 
-/// The kind of a variable or constant by the type of its spec.
-fn row_typed(known: Known<'_, '_>, form: RowForm<'_>) -> Option<VariableKind>
-    ensures { option_map kind_view result ≡ row_typed (known_view known.entry)
+/// The type of a variable or constant by that of its spec.
+fn row_typed(known: Known<'_, '_>, form: RowForm<'_>) -> Option<TrackedType>
+    ensures { option_map tracked_type_view result ≡ row_typed (known_view known.entry)
         (form_view form.entry) }
 {
     match form {
         RowForm::Declares(_, _, Some(kind)) => {
-            only_cancel(kind_of_type(known.names, known.file, kind))
+            only_cancel(tracked_type(known.names, known.file, kind))
         }
         _ => None,
     }
 }
 
-fn role_typed(known: Known<'_, '_>, role: Role<'_>) -> Option<VariableKind>
-    ensures { option_map kind_view result ≡ role_typed (known_view known.entry) (role_view role.entry) }
+fn role_typed(known: Known<'_, '_>, role: Role<'_>) -> Option<TrackedType>
+    ensures { option_map tracked_type_view result ≡ role_typed (known_view known.entry) (role_view role.entry) }
 {
     match role {
         Role::Left(_, row) => row_typed(known, row.form),

@@ -13,8 +13,8 @@ use facts::VariableKind;
 pub fn kind(entry: SeenLocal<'_>) -> Option<VariableKind>
     ensures { option_map kind_view result ≡ kind_of_entry (entry_view entry.entry) }
 {
-    if entry.local.typed.is_some() {
-        return entry.local.typed;
+    if let Some(typed) = entry.local.typed {
+        return Some(typed.kind());
     }
     if entry.is_obtained {
         return Some(VariableKind::Cancel);

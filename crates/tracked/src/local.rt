@@ -1,6 +1,6 @@
 //! What is known of a local.
 
-use facts::VariableKind;
+use facts::TrackedType;
 
 /// How a local is declared.
 #[derive(Clone, Copy)]
@@ -21,8 +21,8 @@ pub struct Local<'a> {
     /// The offset of the name that declares it.
     pub at: u32,
     pub role: LocalRole,
-    /// Its kind by the type that it is declared with.
-    pub typed: Option<VariableKind>,
+    /// The type that it is declared with, if that is tracked.
+    pub typed: Option<TrackedType>,
     /// The body that declares it, by the offset of its `func`.
     pub body: u32,
 }

@@ -1,7 +1,8 @@
 //! What a row obtains, makes or clears, by its form.
 
-ghost use Rattle.std.specs.Prelude.{◌≡◌, ◌&&◌, ◌==◌, if◌then◌else◌, Some, None, option_map, length, is_some};
-ghost use Rattle.meaning.specs.Tracked.{lefts_of, is_in, are_locals, row_obtains, row_makes, idle, is_group_type, is_new_call, made_by_call, made_by_value, made_by_type, if_first};
+ghost use Rattle.std.specs.Prelude.{◌≡◌, ◌&&◌, ◌==◌, if◌then◌else◌, Some, None, option_map, map, length, is_some};
+ghost use Rattle.facts.specs.FactViews.{cancel_result_view};
+ghost use Rattle.meaning.specs.Tracked.{lefts_of, is_given, are_locals, row_obtains, row_makes, idle, is_group_type, is_new_call, made_by_call, made_by_value, made_by_type, if_first};
 ghost use Rattle.meaning.specs.Uses.{row_clears, clears_by_type, is_empty_value};
 ghost use Rattle.mentions.specs.MarkViews.{named_view, call_view, row_view};
 ghost use Rattle.tracked.specs.RowViews.{known_view, state_view, made_by_only, clears_by_only};
@@ -11,8 +12,9 @@ ghost use Rattle.tree.specs.View.{expression_syntax, expressions_syntax};
 use crate::calls::{call_in, only, row_giving};
 use crate::known::{Known, is_named, is_of_universe};
 use crate::lefts::{count, local_at, may_bind};
+use facts::{CancelResult, cancel_type_named};
 use mentions::{Call, Named, Row, RowForm, as_bare, as_named, as_new_literal};
-use names::{CONTEXT, ERRGROUP};
+use names::ERRGROUP;
 use tree::{Expr, ExprKind};
 
 /// The state in which a group is made.
@@ -22,20 +24,28 @@ pub enum GroupState {
     Live,
 }
 
-/// Whether the number is one of these.
-pub fn is_in(number: usize, list: &[usize]) -> bool
-    ensures { result ≡ is_in number list.now }
+/// Whether the result of that number is given.
+pub fn is_given(number: usize, gives: &[CancelResult]) -> bool
+    ensures { result ≡ is_given number (map cancel_result_view gives.now) }
 {
-    list.contains(&number)
+    for given in gives {
+        if given.position == number {
+            return true;
+        }
+    }
+    false
 }
 
 /// Whether a local stands on each of these left sides.
-pub fn are_locals(known: Known<'_, '_>, row: Row<'_>, positions: &[usize]) -> bool
-    ensures { result ≡ are_locals (known_view known.entry) (row_view row.entry) positions.now }
+pub fn are_locals(known: Known<'_, '_>, row: Row<'_>, gives: &[CancelResult]) -> bool
+    ensures { result ≡ are_locals (known_view known.entry) (row_view row.entry) (map cancel_result_view gives.now) }
 {
-    positions
-        .iter()
-        .all(|position| local_at(known, row, *position).is_some())
+    for given in gives {
+        if local_at(known, row, given.position).is_none() {
+            return false;
+        }
+    }
+    true
 }
 
 /// Whether the row obtains what stands on its left side of that number, by its form: a local stands at each position
@@ -44,9 +54,7 @@ pub fn row_obtains(known: Known<'_, '_>, row: Row<'_>, index: usize) -> bool
     ensures { result ≡ row_obtains (known_view known.entry) (row_view row.entry) index }
 {
     match row_giving(known, row) {
-        Some(giving) => {
-            is_in(index, giving.positions) && are_locals(known, row, giving.positions)
-        }
+        Some(giving) => { is_given(index, giving.gives) && are_locals(known, row, giving.gives) }
         None => false,
     }
 }
@@ -180,7 +188,7 @@ fn is_empty_value(known: Known<'_, '_>, value: &Expr) -> bool
     }
 }
 
-/// Whether names are of type `context.CancelFunc`, where they have no values.
+/// Whether names are of a type of cancel functions, where they have no values.
 fn clears_by_type(known: Known<'_, '_>, kind: &Expr, values: &[Expr]) -> bool
     ensures { result ≡ clears_by_type (known_view known.entry)
         (present_expression (expression_syntax kind.now)) (expressions_syntax values.now) }
@@ -188,10 +196,7 @@ fn clears_by_type(known: Known<'_, '_>, kind: &Expr, values: &[Expr]) -> bool
     if !values.is_empty() {
         return false;
     }
-    match as_named(kind) {
-        Some(named) => is_named(known, CONTEXT, "CancelFunc", named),
-        None => false,
-    }
+    cancel_type_named(known.names, known.file, as_named(kind)).is_some()
 }
 
 /// What the row may clear, if it is a cancel variable.

@@ -1,11 +1,11 @@
 //! A file with what is known of it.
 
 ghost use Rattle.std.specs.Prelude.{◌≡◌, ℕ, [], IfOk, OnOk, map, option_map};
-ghost use Rattle.facts.specs.FactViews.{kind_view};
-ghost use Rattle.tracked.specs.LocalViews.{entry_view, entry_in, noted_all, seen_view, entry_of, HasLocals, Sees};
+ghost use Rattle.facts.specs.FactViews.{kind_view, type_view};
+ghost use Rattle.tracked.specs.LocalViews.{local_view, entry_view, entry_in, noted_all, seen_view, entry_of, HasLocals, SeesLocals, Sees};
 ghost use Rattle.meaning.specs.BodyEvents.{distinct, seen_file};
 ghost use Rattle.meaning.specs.Tracked.{placed, locals_of};
-ghost use Rattle.meaning.specs.Uses.{found, kind_of, is_tracked};
+ghost use Rattle.meaning.specs.Uses.{found, kind_of, is_tracked, cancel_type_of};
 ghost use Rattle.mentions.specs.MarkViews.{mark_view, marks_view};
 ghost use Rattle.tracked.specs.RowViews.{known_view};
 ghost use Rattle.tree.specs.View.{file_syntax};
@@ -14,10 +14,11 @@ use crate::around::enter;
 use crate::declared::add_locals;
 use crate::kinds::{kind, tracked_kind};
 use crate::known::Known;
-use crate::local::SeenLocal;
+use crate::local::{Local, SeenLocal};
 use crate::noted::note;
+use crate::obtainings::{Obtainings, first_obtainings};
 use crate::table::{Entries, Locals};
-use facts::VariableKind;
+use facts::{CancelType, TrackedType, VariableKind};
 use mentions::{BodyPlace, Mark, file_marks};
 use std::alloc::{AllocError, Global};
 use tree::File;
@@ -28,6 +29,7 @@ pub struct Seen<'k, 'a> {
     pub known: Known<'k, 'a>,
     pub marks: Vec<Mark<'a>>,
     locals: Locals<'a>,
+    obtainings: Obtainings,
 }
 
 /// The locals that the marks declare.
@@ -82,17 +84,20 @@ pub fn see<'k, 'a>(
     let marks = file_marks(alloc, file)?;
     let mut locals = all_locals(alloc, known, &marks)?;
     note_all(alloc, known, &marks, &mut locals.entries)?;
-    Ok(Seen {
+    let mut seen = Seen {
         known,
         marks,
         locals,
-    })
+        obtainings: Obtainings::new(alloc),
+    };
+    seen.obtainings = first_obtainings(alloc, &seen)?;
+    Ok(seen)
 }
 
 impl<'k, 'a> Seen<'k, 'a> {
     /// The local of that number.
     pub fn entry(&self, number: Option<u32>) -> Option<SeenLocal<'a>>
-        requires { Sees self.now }
+        requires { SeesLocals self.now }
         ensures { option_map entry_view result ≡ option_map (entry_of (seen_view self.now))
             (found (seen_view self.now) number) }
     {
@@ -104,7 +109,7 @@ impl<'k, 'a> Seen<'k, 'a> {
 
     /// The numbers of the locals, each once, in the order in which the marks declare them.
     pub fn numbers(&self) -> &[u32]
-        requires { Sees self.now }
+        requires { SeesLocals self.now }
         ensures { result.now ≡ distinct (map (λ l. l.number) (seen_view self.now).locals) }
     {
         &self.locals.numbers
@@ -112,7 +117,7 @@ impl<'k, 'a> Seen<'k, 'a> {
 
     /// The kind of the local of that number, whatever its role is.
     pub fn kind_of(&self, number: Option<u32>) -> Option<VariableKind>
-        requires { Sees self.now }
+        requires { SeesLocals self.now }
         ensures { option_map kind_view result ≡ kind_of (seen_view self.now)
             (found (seen_view self.now) number) }
     {
@@ -124,12 +129,24 @@ impl<'k, 'a> Seen<'k, 'a> {
 
     /// Whether the local of that number is tracked.
     pub fn is_tracked(&self, number: Option<u32>) -> bool
-        requires { Sees self.now }
+        requires { SeesLocals self.now }
         ensures { result ≡ is_tracked (seen_view self.now) number }
     {
         match self.entry(number) {
             Some(entry) => tracked_kind(entry).is_some(),
             None => false,
+        }
+    }
+
+    /// The type of a cancel variable: that which it is declared with; else that of the first binding, by place, that
+    /// obtains it.
+    pub fn cancel_type_of(&self, local: Local<'a>) -> CancelType
+        requires { Sees self.now }
+        ensures { type_view result ≡ cancel_type_of (seen_view self.now) (local_view local.entry) }
+    {
+        match local.typed {
+            Some(TrackedType::Cancel(cancel_type)) => cancel_type,
+            _ => self.obtainings.type_obtained(local.number),
         }
     }
 }

@@ -1,8 +1,8 @@
 -- Faults of named results: those of a list of items, one after the other, and none of parameters.
-use Rattle.std.proofs.Common.{◌≡◌, ℕ, ◌+◌, Bool, true, false, ◌&&◌, if◌then◌else◌, List, [], ◌∷◌, ◌++◌, Option, Some, None, refl, sym, ap, ◌∙◌}
+use Rattle.std.proofs.Common.{◌≡◌, ℕ, ◌+◌, Bool, true, false, ◌&&◌, if◌then◌else◌, List, [], ◌∷◌, ◌++◌, Option, Some, None, option_map, refl, sym, ap, ◌∙◌}
 use Rattle.std.proofs.lemmas.List.{append-nil}
 use Rattle.tree.specs.Syntax.{Identifier, Signature, signature_of, Parameters}
-use Rattle.meaning.specs.FunctionFacts.{VariableKind, Item, items_of, item_kind}
+use Rattle.meaning.specs.FunctionFacts.{TrackedType, kind_of_type, Item, items_of, item_type}
 use Rattle.meaning.specs.Mentions.{BodyPlace}
 use Rattle.meaning.specs.Scopes.{is_blank}
 use Rattle.meaning.specs.Tracked.{Known, LocalRole, parameter, receiver, variadic, Local, item_local, parameter_role, parameter_locals, receiver_locals, receiver_items, only_cancel, result_locals, body_locals}
@@ -17,11 +17,11 @@ faults_step l false xs ys zs e = e
 pub faults-append : (xs ys : List Local) → result_faults (xs ++ ys) ≡ result_faults xs ++ result_faults ys
 faults-append [] ys = refl
 faults-append (l ∷ ls) ys =
-    faults_step l (is_result l.role && is_cancel l.typed) (result_faults ls) (result_faults ys) _ (faults-append ls ys)
+    faults_step l (is_result l.role && is_cancel (option_map kind_of_type l.typed)) (result_faults ls) (result_faults ys) _ (faults-append ls ys)
 
-module _ (b : BodyPlace) (role : LocalRole) (typed : Option VariableKind) (none : is_result role ≡ false) where
+module _ (b : BodyPlace) (role : LocalRole) (typed : Option TrackedType) (none : is_result role ≡ false) where
   if_no_result : (at : ℕ) (name : List ℕ) (test : Bool) → test ≡ false
-      → (if test && is_cancel typed then fault_at at bound_again name ++ [] else []) ≡ []
+      → (if test && is_cancel (option_map kind_of_type typed) then fault_at at bound_again name ++ [] else []) ≡ []
   if_no_result at name true e = absurd cc
   if_no_result at name false e = refl
 
@@ -46,17 +46,17 @@ module _ (known : Known) (b : BodyPlace) where
   parameters_none : (k : ℕ) (is : List Item) → result_faults (parameter_locals known b k is) ≡ []
   parameters_none k [] = refl
   parameters_none k (i ∷ is) =
-      faults-append (item_local b (parameter_role (parameter k) i) (item_kind known.means i) i.name) (parameter_locals known b (k + 1) is)
+      faults-append (item_local b (parameter_role (parameter k) i) (item_type known.means i) i.name) (parameter_locals known b (k + 1) is)
       ∙ ap (λ fs. fs ++ result_faults (parameter_locals known b (k + 1) is))
-      (item_none b (parameter_role (parameter k) i) (item_kind known.means i) (role_none (parameter k) refl i) i.name)
+      (item_none b (parameter_role (parameter k) i) (item_type known.means i) (role_none (parameter k) refl i) i.name)
       ∙ parameters_none (k + 1) is
 
   receivers_none : (is : List Item) → result_faults (receiver_locals known b is) ≡ []
   receivers_none [] = refl
   receivers_none (i ∷ is) =
-      faults-append (item_local b (parameter_role receiver i) (item_kind known.means i) i.name) (receiver_locals known b is)
+      faults-append (item_local b (parameter_role receiver i) (item_type known.means i) i.name) (receiver_locals known b is)
       ∙ ap (λ fs. fs ++ result_faults (receiver_locals known b is))
-      (item_none b (parameter_role receiver i) (item_kind known.means i) (role_none receiver refl i) i.name)
+      (item_none b (parameter_role receiver i) (item_type known.means i) (role_none receiver refl i) i.name)
       ∙ receivers_none is
 
   pub only_results : (ps rs : Parameters) (brackets : Bool) → b.signature ≡ signature_of ps rs brackets
@@ -74,6 +74,6 @@ module _ (known : Known) (b : BodyPlace) where
       → result_faults (result_locals known b (i ∷ is))
       ≡ result_faults (result_locals known b (i ∷ [])) ++ result_faults (result_locals known b is)
   results_split i is =
-      let here = item_local b Rattle.meaning.specs.Tracked.result (only_cancel (item_kind known.means i)) i.name in
+      let here = item_local b Rattle.meaning.specs.Tracked.result (only_cancel (item_type known.means i)) i.name in
       faults-append here (result_locals known b is)
       ∙ ap (λ ls. result_faults ls ++ result_faults (result_locals known b is)) (sym (append-nil here))

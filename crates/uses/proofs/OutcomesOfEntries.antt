@@ -1,15 +1,16 @@
 -- What a mention of a local gives, by what the marks of its file do to the local.
-use Rattle.std.proofs.Common.{◌≡◌, List, Option, Some, None, option_map, refl, ap, ◌∙◌}
+use Rattle.std.proofs.Common.{◌≡◌, ℕ, List, [], Option, Some, None, option_map, refl, ap, ◌∙◌}
 use Rattle.tracked.specs.LocalViews.{SeenLocal, entry_of, tracked_kind_of_entry, kind_of_entry}
 use Rattle.uses.specs.OutcomeViews.{binding_outcome_of, mention_outcome_of, row_outcome_of, role_outcome_of}
-use Rattle.meaning.specs.FunctionFacts.{VariableKind}
+use Rattle.meaning.specs.FunctionFacts.{VariableKind, CancelResult}
 use Rattle.meaning.specs.Mentions.{BodyPlace, Row, Role, elsewhere, called, called_in_brackets, argument, returned, left, names_type, new_literal, parameter_pointer, Mention}
 use Rattle.meaning.specs.Tracked.{LocalRole, parameter, receiver, variadic, result, in_block, Local}
-use Rattle.meaning.specs.Uses.{Seen, Binding, Event, tracked_kind, kind_of, binding_at, binding_event, binding_outcome, mention_outcome, row_outcome, role_outcome, local_outcome}
+use Rattle.meaning.specs.BodyEvents.{handed_at, handed_there}
+use Rattle.meaning.specs.Uses.{Seen, Binding, tracked_kind, kind_of, binding_at, binding_outcome, mention_outcome, row_outcome, role_outcome, local_outcome}
 
 module _ (s : Seen) (l : Local) (bs : List BodyPlace) (m : Mention) where
-  binding_same : (kind : VariableKind) (row : Row) (e : Event) (r : LocalRole)
-      → binding_outcome_of s.known (entry_of s l) kind bs m row e r ≡ binding_outcome s l kind bs m row e r
+  binding_same : (kind : VariableKind) (row : Row) (e : Binding) (r : LocalRole)
+      → binding_outcome_of s (entry_of s l) kind bs m row e r ≡ binding_outcome s l kind bs m row e r
   binding_same kind row e result = refl
   binding_same kind row e variadic = refl
   binding_same kind row e (parameter k) = refl
@@ -25,7 +26,7 @@ module _ (s : Seen) (l : Local) (bs : List BodyPlace) (m : Mention) where
       → row_outcome_of s (entry_of s l) kind bs m row b ≡ row_outcome s l kind bs m row b
   row_same None row b = refl
   row_same (Some kind) row None = mention_same (tracked_kind s (Some l))
-  row_same (Some kind) row (Some b) = binding_same kind row (binding_event s.known l m row b) l.role
+  row_same (Some kind) row (Some b) = binding_same kind row b l.role
 
   role_same : (r : Role) → role_outcome_of s (entry_of s l) bs m r ≡ role_outcome s l bs m r
   role_same (left k row) = row_same (kind_of s (Some l)) row (binding_at s row k)
@@ -44,3 +45,18 @@ entry_same s bs m e None is = absurd cc
 entry_same s bs m e (Some l) is =
     let same : e ≡ entry_of s l = cc in
     ap (λ x. role_outcome_of s x bs m m.role) same ∙ role_same s l bs m m.role
+
+-- what a return hands on of a local that an item names
+
+pub handed_same : (s : Seen) (k : ℕ) (gives : List CancelResult) (e : SeenLocal) (o : Option Local)
+    → Some e ≡ option_map (entry_of s) o
+    → handed_at s k gives (tracked_kind_of_entry e) e.local ≡ handed_there s k gives o
+handed_same s k gives e None is = absurd cc
+handed_same s k gives e (Some l) is =
+    let same : e ≡ entry_of s l = cc in
+    ap (λ (x : SeenLocal). handed_at s k gives (tracked_kind_of_entry x) x.local) same
+
+pub handed_nothing : (s : Seen) (k : ℕ) (gives : List CancelResult) (o : Option Local)
+    → None ≡ option_map (entry_of s) o → [] ≡ handed_there s k gives o
+handed_nothing s k gives None is = refl
+handed_nothing s k gives (Some l) is = absurd cc

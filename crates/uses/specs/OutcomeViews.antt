@@ -12,7 +12,7 @@ use Rattle.tracked.specs.RowViews.{state_view}
 use Rattle.meaning.specs.FunctionFacts.{VariableKind}
 use Rattle.meaning.specs.Mentions.{Row, BodyPlace, Role, elsewhere, called, called_in_brackets, argument, returned, left, names_type, new_literal, parameter_pointer, Mention}
 use Rattle.meaning.specs.Tracked.{Known, declared_by, LocalRole, parameter, receiver, variadic, result, in_block}
-use Rattle.meaning.specs.Uses.{Seen, Binding, obtained, cleared, made, Event, UseCode, recover_used, cancel_discarded, cancel_used_otherwise, group_used_otherwise, bound_again, too_many_variables, UseFault, fault_at, otherwise, Outcome, nothing, only_faults, binding_event, first_faults, event_here, use_outcome, kind_use, binding_at}
+use Rattle.meaning.specs.Uses.{Seen, Binding, obtained, cleared, made, Event, UseCode, recover_used, cancel_discarded, cancel_used_otherwise, group_used_otherwise, bound_again, too_many_variables, UseFault, fault_at, otherwise, Outcome, nothing, only_faults, binding_event, first_faults, type_faults, event_here, use_outcome, kind_use, binding_at}
 
 abbrev pub code_view : KeptCode → UseCode
 code_view RecoverUsed = recover_used
@@ -48,18 +48,19 @@ again_of known e m =
     if e.is_in_literal && not (is_some (declared_by known m)) then fault_at m.named.at bound_again e.local.name else []
 
 abbrev pub binding_outcome_of
-    : Known → SeenLocal → VariableKind → List BodyPlace → Mention → Row → Event → LocalRole → Outcome
-binding_outcome_of known e kind bodies m row event result =
+    : Seen → SeenLocal → VariableKind → List BodyPlace → Mention → Row → Binding → LocalRole → Outcome
+binding_outcome_of seen e kind bodies m row b result =
     only_faults (fault_at m.named.at bound_again e.local.name)
-binding_outcome_of known e kind bodies m row event variadic =
+binding_outcome_of seen e kind bodies m row b variadic =
     only_faults (fault_at m.named.at (otherwise kind) e.local.name)
-binding_outcome_of known e kind bodies m row event (parameter k) =
-    only_faults (fault_at m.named.at (otherwise kind) e.local.name ++ again_of known e m)
-binding_outcome_of known e kind bodies m row event receiver =
-    only_faults (fault_at m.named.at (otherwise kind) e.local.name ++ again_of known e m)
-binding_outcome_of known e kind bodies m row event in_block = record {
-  faults = first_faults row.standing kind e.local m ++ again_of known e m;
-  events = event_here e.local bodies event;
+binding_outcome_of seen e kind bodies m row b (parameter k) =
+    only_faults (fault_at m.named.at (otherwise kind) e.local.name ++ again_of seen.known e m)
+binding_outcome_of seen e kind bodies m row b receiver =
+    only_faults (fault_at m.named.at (otherwise kind) e.local.name ++ again_of seen.known e m)
+binding_outcome_of seen e kind bodies m row b in_block = record {
+  faults = first_faults row.standing kind e.local m
+      ++ (type_faults seen e.local m row b ++ again_of seen.known e m);
+  events = event_here e.local bodies (binding_event seen.known e.local m row b);
 }
 
 abbrev pub mention_outcome_of : Seen → SeenLocal → Option VariableKind → List BodyPlace → Mention → Outcome
@@ -71,7 +72,7 @@ abbrev pub row_outcome_of
 row_outcome_of seen e None bodies m row binding = nothing
 row_outcome_of seen e (Some kind) bodies m row None = mention_outcome_of seen e (tracked_kind_of_entry e) bodies m
 row_outcome_of seen e (Some kind) bodies m row (Some binding) =
-    binding_outcome_of seen.known e kind bodies m row (binding_event seen.known e.local m row binding) e.local.role
+    binding_outcome_of seen e kind bodies m row binding e.local.role
 
 abbrev pub role_outcome_of : Seen → SeenLocal → List BodyPlace → Mention → Role → Outcome
 role_outcome_of seen e bodies m (left k row) =

@@ -5,7 +5,7 @@ ghost use Rattle.std.specs.List.{list_all, list_any};
 ghost use Rattle.facts.specs.FactViews.{kind_view};
 ghost use Rattle.tracked.specs.LocalViews.{seen_view, Sees};
 ghost use Rattle.meaning.specs.Tracked.{lefts_of, left_local};
-ghost use Rattle.meaning.specs.Uses.{is_second_free, made_binding, binding_at, makes_group, is_cancel, is_group, kind_at, row_binds, is_group_or_none, are_groups, is_made};
+ghost use Rattle.meaning.specs.Uses.{is_second_free, made_binding, binding_at, makes_group, is_group, is_group_or_none, are_groups, is_made};
 ghost use Rattle.mentions.specs.MarkViews.{form_view, row_view};
 ghost use Rattle.tracked.specs.RowViews.{state_view};
 ghost use Rattle.uses.specs.OutcomeViews.{binding_view};
@@ -14,7 +14,10 @@ use crate::tracked_names::has_tracked;
 use facts::VariableKind;
 use mentions::{Row, RowForm};
 use std::alloc::{AllocError, Global};
-use tracked::{GroupState, Seen, count, local_at, row_clears, row_giving, row_makes, row_obtains};
+use tracked::{
+    GroupState, Seen, count, is_cancel, kind_at, local_at, row_binds, row_clears, row_makes,
+    row_obtains,
+};
 
 /// How a row binds a left side.
 #[derive(Clone, Copy)]
@@ -25,52 +28,11 @@ pub enum Binding {
     Made(GroupState),
 }
 
-fn is_cancel(kind: Option<VariableKind>) -> bool
-    ensures { result ≡ is_cancel (option_map kind_view kind) }
-{
-    match kind {
-        Some(kind) => kind.is_cancel(),
-        None => false,
-    }
-}
-
 fn is_group(kind: Option<VariableKind>) -> bool
     ensures { result ≡ is_group (option_map kind_view kind) }
 {
     match kind {
         Some(kind) => kind.is_group(),
-        None => false,
-    }
-}
-
-fn kind_at(seen: &Seen<'_, '_>, row: Row<'_>, index: usize) -> Option<VariableKind>
-    requires { Sees seen.now }
-    ensures { option_map kind_view result ≡ kind_at (seen_view seen.now) (row_view row.entry) index }
-{
-    seen.kind_of(local_at(seen.known, row, index))
-}
-
-/// Whether cancel variables stand on each of these left sides.
-fn are_cancels(seen: &Seen<'_, '_>, row: Row<'_>, positions: &[usize]) -> bool
-    requires { Sees seen.now }
-    ensures { result ≡ list_all (λ k. is_cancel (kind_at (seen_view seen.now) (row_view row.entry) k))
-        positions.now }
-{
-    for position in positions {
-        if !is_cancel(kind_at(seen, row, *position)) {
-            return false;
-        }
-    }
-    true
-}
-
-/// Whether the row binds all cancel variables that it obtains.
-pub fn row_binds(seen: &Seen<'_, '_>, row: Row<'_>) -> bool
-    requires { Sees seen.now }
-    ensures { result ≡ row_binds (seen_view seen.now) (row_view row.entry) }
-{
-    match row_giving(seen.known, row) {
-        Some(giving) => are_cancels(seen, row, giving.positions),
         None => false,
     }
 }

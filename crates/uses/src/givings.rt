@@ -9,13 +9,12 @@ ghost use Rattle.uses.specs.OutcomeViews.{AddsFaults};
 ghost use Rattle.meaning.specs.Tracked.{row_giving, giving_of};
 
 use crate::at::At;
-use crate::bindings::row_binds;
 use crate::blanks::has_blank;
 use crate::faults::{UseCode, UseFault, add_fault, add_last};
 use allowed_uses::{body_gives, hands_on};
 use mentions::{CallPlace, Named, Role, Row};
 use std::alloc::{AllocError, Global};
-use tracked::{Giving, Seen, are_locals, giving_of, is_maker, last_name, row_giving};
+use tracked::{Giving, Seen, are_locals, giving_of, is_maker, last_name, row_binds, row_giving};
 
 /// A maker or giver whose cancel function nothing obtains.
 fn add_discarded<'a>(
@@ -44,10 +43,10 @@ fn add_row_call<'a>(
         Some(giving) => giving,
         None => return add_last(faults, UseCode::CancelUsedOtherwise, named),
     };
-    if has_blank(row, giving.positions) {
+    if has_blank(row, giving.gives) {
         return add_discarded(faults, row.statement, named);
     }
-    if are_locals(seen.known, row, giving.positions) && row_binds(seen, row) {
+    if are_locals(seen.known, row, giving.gives) && row_binds(seen, row) {
         return Ok(());
     }
     add_last(faults, UseCode::CancelUsedOtherwise, named)

@@ -10,7 +10,7 @@ mod givings;
 mod group_names;
 mod mark;
 mod outcomes;
-mod special;
+mod recover;
 mod tracked_names;
 mod variables;
 

@@ -2,9 +2,9 @@
 
 ghost use Rattle.std.specs.Prelude.{◌≡◌, option_map, OnOk, IfOk, map, ◌∷◌, [], ◌++◌};
 ghost use Rattle.tracked.specs.EventViews.{handed_view};
-ghost use Rattle.facts.specs.FactViews.{kind_view, item_view};
-ghost use Rattle.tracked.specs.LocalViews.{seen_view, Sees};
-ghost use Rattle.meaning.specs.BodyEvents.{mark_faults, mark_events, item_variable, handed_there, handed_item, handed_on};
+ghost use Rattle.facts.specs.FactViews.{item_view, cancel_result_view};
+ghost use Rattle.tracked.specs.LocalViews.{local_view, entry_view, tracked_kind_of_entry, seen_view, Sees};
+ghost use Rattle.meaning.specs.BodyEvents.{mark_faults, mark_events, item_variable, handed_at, handed_item, handed_on};
 ghost use Rattle.meaning.specs.Tracked.{result_locals, body_locals};
 ghost use Rattle.meaning.specs.Uses.{mention_faults, variable_outcome, result_faults};
 ghost use Rattle.meaning.specs.Mentions.{as_bare};
@@ -18,13 +18,12 @@ use crate::faults::{UseCode, UseFault, add_fault};
 use crate::givings::add_giving;
 use crate::group_names::add_errgroup;
 use crate::outcomes::variable_outcome;
-use crate::special::{add_cause, add_recover};
-use crate::tracked_names::tracked_as;
-use allowed_uses::body_gives;
-use facts::{Item, VariableKind, item_kind, parameter_items};
+use crate::recover::add_recover;
+use allowed_uses::{body_gives, is_given_as};
+use facts::{CancelResult, Item, TrackedType, VariableKind, item_type, parameter_items};
 use mentions::{BodyPlace, Mark, as_bare};
 use std::alloc::{AllocError, Global};
-use tracked::{Event, Handed, Known, Seen, is_in, local_meant};
+use tracked::{Event, Handed, Known, Seen, SeenLocal, local_meant, tracked_kind};
 use tree::{BLANK, Expr};
 
 /// What a mention gives: faults, and at most one event.
@@ -44,12 +43,11 @@ fn mention_outcome<'a>(
     let event = variable_outcome(alloc, at, faults)?;
     add_giving(alloc, at, faults)?;
     add_errgroup(alloc, at.seen, at.mention, faults)?;
-    add_cause(at.seen.known, at.mention, faults)?;
     add_recover(at.seen.known, at.mention, faults)?;
     Ok(event)
 }
 
-/// A named result of type `context.CancelFunc`.
+/// A named result that is a cancel function.
 fn add_result<'a>(
     known: Known<'_, 'a>,
     body: BodyPlace<'a>,
@@ -59,8 +57,8 @@ fn add_result<'a>(
     ensures { OnOk result (AddsFaults faults.old.items faults.new.items (result_faults (result_locals
         (known_view known.entry) (body_view body.entry) (item_view item.now ∷ [])))) }
 {
-    match (item.name, item_kind(known.names, known.file, item)) {
-        (Some(name), Some(VariableKind::Cancel)) => {
+    match (item.name, item_type(known.names, known.file, item)) {
+        (Some(name), Some(TrackedType::Cancel(_))) => {
             if name.text.as_str() == BLANK {
                 return Ok(());
             }
@@ -113,54 +111,58 @@ fn item_variable(known: Known<'_, '_>, value: &Expr) -> Option<u32>
     }
 }
 
-/// Adds the variable of an item, if a return hands it on.
-fn add_there(
+/// Adds a local that an item of a return names, if the return hands it on.
+fn add_local(
+    seen: &Seen<'_, '_>,
+    gives: &[CancelResult],
     position: usize,
-    gives: &[usize],
-    kind: Option<VariableKind>,
-    number: Option<u32>,
+    entry: SeenLocal<'_>,
     handed: &mut Vec<Handed>,
 ) -> Result<(), AllocError>
+    requires { Sees seen.now }
     ensures { OnOk result (map handed_view handed.new.items ≡ map handed_view handed.old.items
-        ++ handed_there position gives.now (option_map kind_view kind) number) }
+        ++ handed_at (seen_view seen.now) position (map cancel_result_view gives.now)
+        (tracked_kind_of_entry (entry_view entry.entry)) (local_view entry.entry.local)) }
 {
-    match (kind, number) {
-        (Some(VariableKind::Cancel), Some(number)) => {
-            if is_in(position, gives) {
-                handed.push(Handed { number, position })?;
-            }
-            Ok(())
+    if let Some(VariableKind::Cancel) = tracked_kind(entry) {
+        if is_given_as(position, seen.cancel_type_of(entry.local), gives) {
+            handed.push(Handed {
+                number: entry.local.number,
+                position,
+            })?;
         }
-        _ => Ok(()),
     }
+    Ok(())
 }
 
 /// Adds what an item of a return hands on.
 fn add_handed(
     seen: &Seen<'_, '_>,
-    gives: &[usize],
+    gives: &[CancelResult],
     position: usize,
     value: &Expr,
     handed: &mut Vec<Handed>,
 ) -> Result<(), AllocError>
     requires { Sees seen.now }
     ensures { OnOk result (map handed_view handed.new.items ≡ map handed_view handed.old.items
-        ++ handed_item (seen_view seen.now) gives.now position (expression_syntax value.now)) }
+        ++ handed_item (seen_view seen.now) (map cancel_result_view gives.now) position (expression_syntax value.now)) }
 {
-    let number = item_variable(seen.known, value);
-    add_there(position, gives, tracked_as(seen, number), number, handed)
+    match seen.entry(item_variable(seen.known, value)) {
+        Some(entry) => add_local(seen, gives, position, entry, handed),
+        None => Ok(()),
+    }
 }
 
 /// What a return hands on.
 fn handed_on(
     alloc: Global,
     seen: &Seen<'_, '_>,
-    gives: &[usize],
+    gives: &[CancelResult],
     values: &[Expr],
 ) -> Result<Vec<Handed>, AllocError>
     requires { Sees seen.now }
-    ensures { IfOk result (λ handed. map handed_view handed.items ≡ handed_on (seen_view seen.now) gives.now 0
-        (expressions_syntax values.now)) }
+    ensures { IfOk result (λ handed. map handed_view handed.items ≡ handed_on (seen_view seen.now)
+        (map cancel_result_view gives.now) 0 (expressions_syntax values.now)) }
 {
     let mut handed: Vec<Handed> = Vec::new(alloc);
     for (position, value) in values.iter().enumerate() {

@@ -5,7 +5,7 @@ ghost use Rattle.tracked.specs.EventViews.{event_view, callee_view};
 ghost use Rattle.allowed_uses.specs.UseViews.{use_view};
 ghost use Rattle.facts.specs.FactViews.{kind_view};
 ghost use Rattle.tracked.specs.LocalViews.{local_view, local_role_view, entry_view, seen_view, Sees, tracked_kind_of_entry, kind_of_entry};
-ghost use Rattle.meaning.specs.Uses.{first_faults, only_faults, binding_event, called_in, fault_at, otherwise, use_outcome, binding_at, variable_outcome};
+ghost use Rattle.meaning.specs.Uses.{first_faults, type_faults, only_faults, binding_event, called_in, fault_at, otherwise, use_outcome, binding_at, variable_outcome};
 ghost use Rattle.mentions.specs.MarkViews.{standing_view, row_view, body_view, role_view, mention_view};
 ghost use Rattle.tracked.specs.RowViews.{known_view};
 ghost use Rattle.uses.specs.OutcomeViews.{binding_view, AddsFaults, Gives, again_of, binding_outcome_of, mention_outcome_of, row_outcome_of, role_outcome_of};
@@ -21,7 +21,7 @@ use mentions::{Mention, Role, Row, Standing, is_body};
 use std::alloc::{AllocError, Global};
 use tracked::{
     Callee, Event, Known, Local, LocalRole, SeenLocal, callee_of, declared_by, kind, only_call,
-    tracked_kind, variable_of,
+    row_giving, tracked_kind, type_from, variable_of,
 };
 
 /// A local that was found, at a mention of it.
@@ -107,6 +107,37 @@ fn add_first<'a>(
     }
 }
 
+/// A binding that obtains from a position of the other type.
+fn add_type<'a>(
+    found: Found<'_, 'a>,
+    row: Row<'a>,
+    binding: Binding,
+    faults: &mut Vec<UseFault<'a>>,
+) -> Result<(), AllocError>
+    requires { Sees found.at.seen.now }
+    ensures { OnOk result (AddsFaults faults.old.items faults.new.items (type_faults
+        (seen_view found.entry.at.seen.now) (local_view found.entry.entry.local)
+        (mention_view found.entry.at.mention) (row_view row.entry) (binding_view binding))) }
+{
+    let seen = found.at.seen;
+    let local = found.entry.local;
+    match binding {
+        Binding::Obtained(index) => {
+            let given = type_from(index, row_giving(seen.known, row));
+            if seen.cancel_type_of(local).is_same(given) {
+                return Ok(());
+            }
+            add_fault(
+                faults,
+                found.at.mention.named.at,
+                UseCode::CancelUsedOtherwise,
+                local.name,
+            )
+        }
+        _ => Ok(()),
+    }
+}
+
 /// A binding of a variable of that kind.
 fn binding_outcome<'a>(
     found: Found<'_, 'a>,
@@ -115,12 +146,11 @@ fn binding_outcome<'a>(
     binding: Binding,
     faults: &mut Vec<UseFault<'a>>,
 ) -> Result<Option<Event<'a>>, AllocError>
+    requires { Sees found.at.seen.now }
     ensures { IfOk result (λ event. Gives faults.old.items faults.new.items event (binding_outcome_of
-        (seen_view found.entry.at.seen.now).known (entry_view found.entry.entry) (kind_view kind)
+        (seen_view found.entry.at.seen.now) (entry_view found.entry.entry) (kind_view kind)
         (map body_view found.entry.at.bodies.now) (mention_view found.entry.at.mention) (row_view row.entry)
-        (binding_event (seen_view found.entry.at.seen.now).known (local_view found.entry.entry.local)
-        (mention_view found.entry.at.mention) (row_view row.entry) (binding_view binding))
-        (local_role_view found.entry.entry.local.role))) }
+        (binding_view binding) (local_role_view found.entry.entry.local.role))) }
 {
     let local = found.entry.local;
     let mention = found.at.mention;
@@ -136,6 +166,7 @@ fn binding_outcome<'a>(
         }
         LocalRole::InBlock => {
             add_first(row.standing, kind, local, mention, faults)?;
+            add_type(found, row, binding, faults)?;
             add_again(known, found.entry, mention, faults)?;
             if is_body(local.body, found.at.bodies) {
                 Ok(Some(binding_event(known, local, mention, row, binding)))

@@ -1,9 +1,11 @@
-use Rattle.std.proofs.Common.{◌≡◌, ◌++◌, drop}
+use Rattle.std.proofs.Common.{◌≡◌, ◌++◌, drop, map}
 use Rattle.std.specs.Prelude.{flat_map}
-use Rattle.all_packages.specs.Tables.{position_told}
+use Rattle.facts.specs.FactViews.{cancel_result_view, type_view}
+use Rattle.all_packages.specs.Tables.{result_told}
 use Rattle.all_packages.proofs.tables.positions_of.Given as goal
 
 -- what was found, with what is left, is the whole
-abbrev pub invariant-loop-position : goal.invariant-loop-position
-invariant-loop-position l =
-    l.found.items ++ flat_map position_told (drop l.position-index l.positions) ≡ flat_map position_told l.positions
+abbrev pub invariant-loop-given : goal.invariant-loop-given
+invariant-loop-given l =
+    l.found.items ++ flat_map (result_told (type_view l.wanted)) (map cancel_result_view (drop l.given-index l.gives))
+    ≡ flat_map (result_told (type_view l.wanted)) (map cancel_result_view l.gives)

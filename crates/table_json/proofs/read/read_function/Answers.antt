@@ -1,48 +1,26 @@
-use Rattle.std.proofs.Common.{map, sym, subst}
+use Rattle.std.proofs.Common.{sym, subst}
+use Rattle.std.specs.Prelude.{IfErr, IfOk}
 use Rattle.serde_json.specs.View.{view}
-use Rattle.table_json.specs.Parts.{Refuses}
-use Rattle.table_json.specs.Tables.{itself, position_of}
-use Rattle.table_json.specs.TableValues.{parameter_value, whole, AreValuesOf, IsFunctionValue}
-use Rattle.table_json.proofs.Readings.{handed_on, refuses_so, no_function, parts_of, is_function}
+use Rattle.table_json.specs.Parts.{IsFunctionIn, Refuses}
+use Rattle.table_json.specs.Tables.{entry_of}
 use Rattle.table_json.proofs.read.read_function.Goals as goal
 
-pub returns-in_default-clause-err : goal.returns-in_default-clause-err
-returns-in_default-clause-err c = no_function (view c.args.value.now) (sym c.in_default.ensures)
+pub returns-in-Older-clause-ok : goal.returns-in-Older-clause-ok
+returns-in-Older-clause-ok c =
+    subst (λ v. IfOk c.read_older_function.result (λ function. IsFunctionIn v (view c.args.value.now) (entry_of function)))
+    (sym c.in-Older.is) c.read_older_function.ensures.ok
 
-pub returns-in_err-gives-clause-err : goal.returns-in_err-gives-clause-err
-returns-in_err-gives-clause-err c =
-    let value = view c.args.value.now in
-    let parts = c.in-Some.parts in
-    handed_on c.from_residual.result c.in_err-gives.field-0.0 (Refuses (IsFunctionValue value)) c.from_residual.ensures.1
-    (refuses_so (AreValuesOf whole itself (map view c.deref.result.now)) (IsFunctionValue value)
-    (λ f h. (
-      f.gives,
-      subst (λ xs. AreValuesOf whole itself (map view xs) f.gives) (sym c.deref.ensures.value)
-          (parts_of value parts.name.now (map view parts.gives.now.items) (map view parts.params.now.items) f
-          (sym c.in-Some.ensures) h).are_gives,
-    )) c.in_err-gives.field-0.0 c.in_err-gives.ensures.err)
+pub returns-in-Older-clause-err : goal.returns-in-Older-clause-err
+returns-in-Older-clause-err c =
+    subst (λ v. IfErr c.read_older_function.result (Refuses (IsFunctionIn v (view c.args.value.now)))) (sym c.in-Older.is)
+    c.read_older_function.ensures.err
 
-pub returns-in_err-params-clause-err : goal.returns-in_err-params-clause-err
-returns-in_err-params-clause-err c =
-    let value = view c.args.value.now in
-    let parts = c.in-Some.parts in
-    handed_on c.from_residual-in_err-params.result c.in_err-params.field-0.0 (Refuses (IsFunctionValue value))
-    c.from_residual-in_err-params.ensures.1
-    (refuses_so (AreValuesOf parameter_value position_of (map view c.deref-2.result.now)) (IsFunctionValue value)
-    (λ f h. (
-      f.params,
-      subst (λ xs. AreValuesOf parameter_value position_of (map view xs) f.params) (sym c.deref-2.ensures.value)
-          (parts_of value parts.name.now (map view parts.gives.now.items) (map view parts.params.now.items) f
-          (sym c.in-Some.ensures) h).are_params,
-    )) c.in_err-params.field-0.0 c.in_err-params.ensures.err)
+pub returns-in-Newer-clause-ok : goal.returns-in-Newer-clause-ok
+returns-in-Newer-clause-ok c =
+    subst (λ v. IfOk c.read_newer_function.result (λ function. IsFunctionIn v (view c.args.value.now) (entry_of function)))
+    (sym c.in-Newer.is) c.read_newer_function.ensures.ok
 
-pub returns-clause-ok : goal.returns-clause-ok
-returns-clause-ok c =
-    let value = view c.args.value.now in
-    let parts = c.in-Some.parts in
-    is_function value parts.name.now (map view parts.gives.now.items) (map view parts.params.now.items) _
-    (sym c.in-Some.ensures) c.in_ok-from_str.ensures.ok
-    (subst (λ xs. AreValuesOf whole itself (map view xs) c.in_ok-gives.gives.items) c.deref.ensures.value
-    c.in_ok-gives.ensures.ok)
-    (subst (λ xs. AreValuesOf parameter_value position_of (map view xs) c.in_ok-params.params.items)
-    c.deref-2.ensures.value c.in_ok-params.ensures.ok)
+pub returns-in-Newer-clause-err : goal.returns-in-Newer-clause-err
+returns-in-Newer-clause-err c =
+    subst (λ v. IfErr c.read_newer_function.result (Refuses (IsFunctionIn v (view c.args.value.now)))) (sym c.in-Newer.is)
+    c.read_newer_function.ensures.err

@@ -1,8 +1,8 @@
-use Rattle.std.proofs.Common.{◌≡◌, List, [], ◌++◌, map, subst, sym}
+use Rattle.std.proofs.Common.{[], map, subst, sym}
 use Rattle.std.specs.List.{AllZip}
 use Rattle.std.proofs.lemmas.List.{append-nil}
 use Rattle.std.proofs.Math.ListN.{drop_of_length-le}
-use Rattle.table_json.specs.Tables.{Entry, entry_of}
+use Rattle.table_json.specs.Tables.{entry_of}
 use Rattle.table_json.specs.WrittenTables.{IsWrittenAs}
 use Rattle.table_json.proofs.written.functions_written.Goals as goal
 

@@ -1,4 +1,4 @@
-use Rattle.std.proofs.Common.{◌≡◌, List, drop, map, ◌++◌}
+use Rattle.std.proofs.Common.{List, drop, map, ◌++◌}
 use Rattle.std.specs.List.{AllZip}
 use Rattle.table_json.specs.Tables.{Entry, entry_of}
 use Rattle.table_json.specs.WrittenTables.{IsWrittenAs}

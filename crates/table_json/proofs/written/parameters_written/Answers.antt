@@ -1,4 +1,4 @@
-use Rattle.std.proofs.Common.{rules, sym, subst, IsPermutation}
+use Rattle.std.proofs.Common.{rules, subst, IsPermutation}
 use Rattle.std.proofs.lemmas.List.Sorted.{answers_always}
 use Rattle.table_json.specs.Tables.{position_of}
 use Rattle.table_json.proofs.written.parameters_written.Goals as goal

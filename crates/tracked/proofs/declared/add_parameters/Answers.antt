@@ -15,7 +15,7 @@ loop-position-preserved c =
     c.index-items-position.result c.loop-position-test.true c.index-items-position.is _ refl c.loop-position.locals c.add_item.new.locals
     (λ end. AddsLocals c.args.locals.now end (parameter_locals known body 0 (map item_view c.args.items.now)))
     (adds_item c.loop-position.locals c.add_item.new.locals body _ _ _ _ (item_view c.index-items-position.result).name
-    c.parameter_role-role.ensures c.item_kind-typed.ensures c.in_ok-add_item.ensures) c.loop-position.invariant
+    c.parameter_role-role.ensures c.item_type-typed.ensures c.in_ok-add_item.ensures) c.loop-position.invariant
 
 pub returns : goal.returns
 returns c =

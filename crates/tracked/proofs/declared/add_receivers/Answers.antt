@@ -15,7 +15,7 @@ loop-item-preserved c =
     c.item-item.result c.loop-item-test.true c.item-item.is _ refl c.loop-item.locals c.add_item.new.locals
     (λ end. AddsLocals c.args.locals.now end (receiver_locals known body (map item_view c.args.items.now)))
     (adds_item c.loop-item.locals c.add_item.new.locals body _ _ _ _ (item_view c.item-item.result).name
-    c.parameter_role-role.ensures c.item_kind-typed.ensures c.in_ok-add_item.ensures) c.loop-item.invariant
+    c.parameter_role-role.ensures c.item_type-typed.ensures c.in_ok-add_item.ensures) c.loop-item.invariant
 
 pub returns : goal.returns
 returns c =

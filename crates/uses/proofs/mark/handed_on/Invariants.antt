@@ -1,4 +1,5 @@
 use Rattle.std.proofs.Common.{◌≡◌, ◌++◌, drop, map}
+use Rattle.facts.specs.FactViews.{cancel_result_view}
 use Rattle.tracked.specs.EventViews.{handed_view}
 use Rattle.tracked.specs.LocalViews.{seen_view}
 use Rattle.meaning.specs.BodyEvents.{handed_on}
@@ -9,5 +10,5 @@ use Rattle.uses.proofs.mark.handed_on.Given as goal
 abbrev pub invariant-loop-position : goal.invariant-loop-position
 invariant-loop-position l =
     map handed_view l.handed.items
-    ++ handed_on (seen_view l.seen) l.gives l.position (expressions_syntax (drop l.position l.values))
-    ≡ handed_on (seen_view l.seen) l.gives 0 (expressions_syntax l.values)
+    ++ handed_on (seen_view l.seen) (map cancel_result_view l.gives) l.position (expressions_syntax (drop l.position l.values))
+    ≡ handed_on (seen_view l.seen) (map cancel_result_view l.gives) 0 (expressions_syntax l.values)

@@ -1,0 +1,57 @@
+//! Which rows bind the cancel variables that they obtain.
+
+ghost use Rattle.std.specs.Prelude.{◌≡◌, option_map, map};
+ghost use Rattle.std.specs.List.{list_all};
+ghost use Rattle.facts.specs.FactViews.{kind_view, cancel_result_view};
+ghost use Rattle.meaning.specs.Uses.{is_cancel, kind_at, row_binds};
+ghost use Rattle.mentions.specs.MarkViews.{row_view};
+ghost use Rattle.tracked.specs.LocalViews.{seen_view, SeesLocals};
+
+use crate::calls::row_giving;
+use crate::lefts::local_at;
+use crate::seen::Seen;
+use facts::{CancelResult, VariableKind};
+use mentions::Row;
+
+/// Whether it is the kind of cancel functions.
+pub fn is_cancel(kind: Option<VariableKind>) -> bool
+    ensures { result ≡ is_cancel (option_map kind_view kind) }
+{
+    match kind {
+        Some(kind) => kind.is_cancel(),
+        None => false,
+    }
+}
+
+/// The kind of the local on the left side of that number.
+pub fn kind_at(seen: &Seen<'_, '_>, row: Row<'_>, index: usize) -> Option<VariableKind>
+    requires { SeesLocals seen.now }
+    ensures { option_map kind_view result ≡ kind_at (seen_view seen.now) (row_view row.entry) index }
+{
+    seen.kind_of(local_at(seen.known, row, index))
+}
+
+/// Whether cancel variables stand on each of these left sides.
+pub fn are_cancels(seen: &Seen<'_, '_>, row: Row<'_>, gives: &[CancelResult]) -> bool
+    requires { SeesLocals seen.now }
+    ensures { result ≡ list_all (λ g. is_cancel (kind_at (seen_view seen.now) (row_view row.entry) g.position))
+        (map cancel_result_view gives.now) }
+{
+    for given in gives {
+        if !is_cancel(kind_at(seen, row, given.position)) {
+            return false;
+        }
+    }
+    true
+}
+
+/// Whether the row binds all cancel variables that it obtains.
+pub fn row_binds(seen: &Seen<'_, '_>, row: Row<'_>) -> bool
+    requires { SeesLocals seen.now }
+    ensures { result ≡ row_binds (seen_view seen.now) (row_view row.entry) }
+{
+    match row_giving(seen.known, row) {
+        Some(giving) => are_cancels(seen, row, giving.gives),
+        None => false,
+    }
+}
