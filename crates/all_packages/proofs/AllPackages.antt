@@ -10,8 +10,8 @@ use Rattle.imports.specs.Ranks.{HasRank, IsOrder}
 use Rattle.imports.proofs.GivenImports.{imported_there}
 use Rattle.whole_packages.specs.declared.loaded_package.LoadedPackage.{LoadedPackage as KeptPackage}
 use Rattle.meaning_reports.specs.Loaded.{LoadedPackage, import_list}
-use Rattle.meaning_reports.specs.PackageTables.{IsTable, IsEmpty, AreTables}
-use Rattle.meaning_reports.specs.PackageReports.{Said, AreFindings, IsReportOf}
+use Rattle.meaning_reports.specs.PackageTables.{IsTableBy, IsEmpty, AreTablesBy}
+use Rattle.meaning_reports.specs.PackageReports.{Rules, Said, AreFindingsBy, IsReportBy}
 use Rattle.all_packages.specs.declared.judged.Judged.{Judged}
 use Rattle.all_packages.specs.Judgments.{IsJudgment}
 use Rattle.all_packages.specs.Progress.{JudgedByPath, table_or_none, tables_of, AreRight, WasJudged, IsReady, IsNext, AreRankedJudged, AreAllJudged}
@@ -39,16 +39,17 @@ is_member (z ∷ xs) (suc k) x is = contains_there z x xs (is_member xs k x is)
 
 -- some of them were judged, and these are left
 pub record GoOn
-    (ps : List LoadedPackage) (kept : List KeptPackage) (all left : List ℕ) (judged : JudgedByPath) (marks : List Bool)
+    (rules : Rules) (ps : List LoadedPackage) (kept : List KeptPackage) (all left : List ℕ)
+    (judged : JudgedByPath) (marks : List Bool)
     : Type 0 where
   pub done : List ℕ
   pub split : all ≡ done ++ left
-  pub are_right : AreRight ps kept judged marks
+  pub are_right : AreRight rules ps kept judged marks
   pub were_judged : (i : ℕ) → Contains done i → WasJudged ps judged i
 
-module _ (ps : List LoadedPackage) (kept : List KeptPackage) where
-  pub begins : (all : List ℕ) (judged : JudgedByPath) (marks : List Bool) → AreRight ps kept judged marks
-      → GoOn ps kept all all judged marks
+module _ (rules : Rules) (ps : List LoadedPackage) (kept : List KeptPackage) where
+  pub begins : (all : List ℕ) (judged : JudgedByPath) (marks : List Bool) → AreRight rules ps kept judged marks
+      → GoOn rules ps kept all all judged marks
   begins all judged marks right = record {
     done = [];
     split = refl;
@@ -57,8 +58,8 @@ module _ (ps : List LoadedPackage) (kept : List KeptPackage) where
   }
 
   pub all_done : (all left : List ℕ) (judged : JudgedByPath) (marks : List Bool) → left ≡ []
-      → GoOn ps kept all left judged marks
-      → AreRankedJudged ps kept all judged marks
+      → GoOn rules ps kept all left judged marks
+      → AreRankedJudged rules ps kept all judged marks
   all_done all left judged marks none on = record {
     are_right = on.are_right;
     were_judged = λ i h. elim (Contains-append_cases on.done left i (subst (λ xs. Contains xs i) on.split h)) [
@@ -70,7 +71,7 @@ module _ (ps : List LoadedPackage) (kept : List KeptPackage) where
   module _ (rank : ℕ → Option ℕ) (all : List ℕ) (order : IsOrder (import_list ps) rank all) where
     pub ready : (i : ℕ) (left left_before : List ℕ) (judged : JudgedByPath) (marks : List Bool)
         → left_before ≡ i ∷ left
-        → GoOn ps kept all left_before judged marks
+        → GoOn rules ps kept all left_before judged marks
         → IsReady ps judged i
     ready i left left_before judged marks is on j im =
         let split : all ≡ on.done ++ i ∷ left = on.split ∙ ap (λ xs. on.done ++ xs) is in
@@ -83,9 +84,9 @@ module _ (ps : List LoadedPackage) (kept : List KeptPackage) where
 
     pub one_more : (i : ℕ) (left left_before : List ℕ) (before after : JudgedByPath) (marks next : List Bool)
         → left_before ≡ i ∷ left
-        → GoOn ps kept all left_before before marks
-        → IsNext ps kept before after next i
-        → GoOn ps kept all left after next
+        → GoOn rules ps kept all left_before before marks
+        → IsNext rules ps kept before after next i
+        → GoOn rules ps kept all left after next
     one_more i left left_before before after marks next is on now = record {
       done = on.done ++ i ∷ [];
       split = on.split ∙ (ap (λ xs. on.done ++ xs) is ∙ sym (append_assoc on.done (i ∷ []) left));
@@ -114,16 +115,16 @@ module _ (ps : List LoadedPackage) (kept : List KeptPackage) where
 
 -- so far all packages before that place were judged, and all with a rank
 pub record GoThrough
-    (ps : List LoadedPackage) (kept : List KeptPackage) (ranked : List ℕ) (place : ℕ)
+    (rules : Rules) (ps : List LoadedPackage) (kept : List KeptPackage) (ranked : List ℕ) (place : ℕ)
     (judged : JudgedByPath) (marks : List Bool)
     : Type 0 where
-  pub are_right : AreRight ps kept judged marks
+  pub are_right : AreRight rules ps kept judged marks
   pub ranked_judged : (i : ℕ) → Contains ranked i → WasJudged ps judged i
   pub were_judged : (i : ℕ) → i < place → WasJudged ps judged i
 
-module _ (ps : List LoadedPackage) (kept : List KeptPackage) (ranked : List ℕ) where
-  pub through_none : (judged : JudgedByPath) (marks : List Bool) → AreRankedJudged ps kept ranked judged marks
-      → GoThrough ps kept ranked 0 judged marks
+module _ (rules : Rules) (ps : List LoadedPackage) (kept : List KeptPackage) (ranked : List ℕ) where
+  pub through_none : (judged : JudgedByPath) (marks : List Bool) → AreRankedJudged rules ps kept ranked judged marks
+      → GoThrough rules ps kept ranked 0 judged marks
   through_none judged marks are = record {
     are_right = are.are_right;
     ranked_judged = are.were_judged;
@@ -131,9 +132,9 @@ module _ (ps : List LoadedPackage) (kept : List KeptPackage) (ranked : List ℕ)
   }
 
   pub through_one : (place : ℕ) (before after : JudgedByPath) (marks next : List Bool)
-      → GoThrough ps kept ranked place before marks
-      → IsNext ps kept before after next place
-      → GoThrough ps kept ranked (place + 1) after next
+      → GoThrough rules ps kept ranked place before marks
+      → IsNext rules ps kept before after next place
+      → GoThrough rules ps kept ranked (place + 1) after next
   through_one place before after marks next on now = record {
     are_right = now.are_right;
     ranked_judged = λ i h p is. now.were_judged p.path (on.ranked_judged i h p is);
@@ -146,8 +147,8 @@ module _ (ps : List LoadedPackage) (kept : List KeptPackage) (ranked : List ℕ)
   }
 
   pub through_all : (place : ℕ) (judged : JudgedByPath) (marks : List Bool) → length ps ≤ place
-      → GoThrough ps kept ranked place judged marks
-      → AreAllJudged ps kept judged marks
+      → GoThrough rules ps kept ranked place judged marks
+      → AreAllJudged rules ps kept judged marks
   through_all place judged marks past on = record {
     are_right = on.are_right;
     were_judged = λ i p is.
@@ -156,8 +157,8 @@ module _ (ps : List LoadedPackage) (kept : List KeptPackage) (ranked : List ℕ)
 
 -- The report
 
-module _ (ps : List LoadedPackage) (kept : List KeptPackage) (judged : JudgedByPath) (marks : List Bool)
-    (are : AreAllJudged ps kept judged marks) (found : List Judged)
+module _ (rules : Rules) (ps : List LoadedPackage) (kept : List KeptPackage) (judged : JudgedByPath)
+    (marks : List Bool) (are : AreAllJudged rules ps kept judged marks) (found : List Judged)
     (same : map Some found ≡ map judged (map (λ p. p.path) ps)) where
   -- what was said of a package
   pub said_of : (i : ℕ) (p : LoadedPackage) (j : Judged) → slice_get ps i ≡ Some p → slice_get found i ≡ Some j
@@ -170,18 +171,18 @@ module _ (ps : List LoadedPackage) (kept : List KeptPackage) (judged : JudgedByP
       slice_get-map judged (map (λ (q : LoadedPackage). q.path) ps) i ∙ ap (option_map judged) path in
       same_Some (judged p.path) (Some j) (sym here ∙ (ap (λ xs. slice_get xs i) (sym same) ∙ there))
 
-  right : AreRight ps kept judged marks
+  right : AreRight rules ps kept judged marks
   right = are.are_right
 
   is_judgment : (i : ℕ) (p : LoadedPackage) (j : Judged) → slice_get ps i ≡ Some p → judged p.path ≡ Some j
-      → IsJudgment ps (tables_of judged) i p j
-  is_judgment i p j is e = right.are_judgments i p j is e (tables_of judged) (they_agree ps kept judged marks right)
+      → IsJudgment rules ps (tables_of judged) i p j
+  is_judgment i p j is e = right.are_judgments i p j is e (tables_of judged) (they_agree rules ps kept judged marks right)
 
-  are_tables : AreTables ps (tables_of judged)
+  are_tables : AreTablesBy rules.are_flags ps (tables_of judged)
   are_tables = record {
     of_package = λ i p is.
         let j = some_from (judged p.path) (are.were_judged i p is) in
-        subst (IsTable ps (tables_of judged) i p) (ap table_or_none (sym j.1)) (is_judgment i p j.0 is j.1).is_table;
+        subst (IsTableBy rules.are_flags ps (tables_of judged) i p) (ap table_or_none (sym j.1)) (is_judgment i p j.0 is j.1).is_table;
     of_others = λ path none. other path none (judged path) refl;
   }
     where
@@ -203,7 +204,7 @@ module _ (ps : List LoadedPackage) (kept : List KeptPackage) (judged : JudgedByP
 
   pub is_report : ((i : ℕ) (p : LoadedPackage) → slice_get ps i ≡ Some p
       → (k : KeptPackage) × (slice_get kept i ≡ Some k) × (p.path ≡ string_bytes k.path))
-      → IsReportOf ps (map said_view found)
+      → IsReportBy rules ps (map said_view found)
   is_report paths = record {
     tables = tables_of judged;
     are_tables = are_tables;
@@ -220,7 +221,7 @@ module _ (ps : List LoadedPackage) (kept : List KeptPackage) (judged : JudgedByP
         let k = paths i p is in
         let told = right.are_told i p k.0 j.0 is k.1 e in (
           ap (λ (s : Said). s.path) (sym j.2) ∙ (told.is_path ∙ sym k.2),
-          subst (λ (s : Said). AreFindings ps (tables_of judged) i s.entries) j.2 (is_judgment i p j.0 is e).are_findings,
+          subst (λ (s : Said). AreFindingsBy rules ps (tables_of judged) i s.entries) j.2 (is_judgment i p j.0 is e).are_findings,
           ap (λ (s : Said). s.table) (sym j.2) ∙ ap table_or_none (sym e),
         );
   }

@@ -11,20 +11,21 @@ use Rattle.whole_packages.specs.LoadedViews.{TellPackages}
 use Rattle.whole_packages.specs.WholeEntries.{is_set, TellsOrder}
 use Rattle.meaning_reports.proofs.ImportsOf.{list_item}
 use Rattle.meaning_reports.specs.Loaded.{LoadedPackage, import_list}
+use Rattle.meaning_reports.specs.PackageReports.{Rules}
 use Rattle.all_packages.specs.declared.judged.Judged.{Judged}
 use Rattle.all_packages.specs.declared.given.Given.{Given}
 use Rattle.all_packages.specs.Progress.{JudgedByPath, AreRight, AreAllJudged, TellsGiven, kept_paths}
-use Rattle.all_packages.specs.Reports.{AreReports}
+use Rattle.all_packages.specs.Reports.{AreReportsBy}
 use Rattle.all_packages.proofs.AllPackages.{said_of, is_report}
 use Rattle.all_packages.proofs.KeptNext.{package_of}
 use Rattle.all_packages.proofs.PathsInOrder.{paths_of, same_paths, kept_of}
 
-pub none_right : (ps : List LoadedPackage) (given : Given) → TellsGiven ps given
+pub none_right : (rules : Rules) (ps : List LoadedPackage) (given : Given) → TellsGiven ps given
     → (judged : JudgedByPath) (marks : List Bool)
     → ((path : List ℕ) → judged path ≡ None)
     → marks ≡ given.unranked.items
-    → AreRight ps given.packages.now judged marks
-none_right ps given tells judged marks none same = record {
+    → AreRight rules ps given.packages.now judged marks
+none_right rules ps given tells judged marks none same = record {
   are_told = λ i p k j is is_k e. absurd (bad p.path j e);
   are_judgments = λ i p j is e. absurd (bad p.path j e);
   are_given = λ path j e. absurd (bad path j e);
@@ -66,17 +67,17 @@ order_so ps rank ranked order count same marks are places are_places = record {
     by j none (Some r) e = absurd (none ((order.ranks j).0 (ap is_some e)).1)
 
 -- all were judged, and are told in their order
-pub reports_so : (ps : List LoadedPackage) (kept : List KeptPackage) → TellPackages ps kept
+pub reports_so : (rules : Rules) (ps : List LoadedPackage) (kept : List KeptPackage) → TellPackages ps kept
     → (judged : JudgedByPath) (marks : List Bool)
-    → AreAllJudged ps kept judged marks
+    → AreAllJudged rules ps kept judged marks
     → (found : List Judged)
     → map Some found ≡ map judged (kept_paths kept)
-    → AreReports ps kept found
-reports_so ps kept tell judged marks are found same = record {
-  is_report = is_report ps kept judged marks are found here (kept_of ps kept tell);
+    → AreReportsBy rules ps kept found
+reports_so rules ps kept tell judged marks are found same = record {
+  is_report = is_report rules ps kept judged marks are found here (kept_of ps kept tell);
   are_told = λ i k j is_k is_j.
       let p = package_of ps kept tell i k is_k in
-      are.are_right.are_told i p.meant k j p.is_there is_k (said_of ps kept judged marks are found here i p.meant j p.is_there is_j);
+      are.are_right.are_told i p.meant k j p.is_there is_k (said_of rules ps kept judged marks are found here i p.meant j p.is_there is_j);
 }
   where
     here : map Some found ≡ map judged (paths_of ps)

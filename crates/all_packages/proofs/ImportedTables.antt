@@ -17,9 +17,9 @@ use Rattle.whole_packages.specs.WholeEntries.{is_set, TellsOrder}
 use Rattle.meaning_reports.proofs.ImportsOf.{has_path, no_place, names_first, list_item, in_lists, given_in_lists}
 use Rattle.meaning_reports.specs.Loaded.{LoadedPackage, PackageTable, Tables, import_list, imported_paths, no_table, is_imported, imported_signatures, imported_flags, package_names}
 use Rattle.meaning_reports.specs.WholeFaults.{IsWholeFault}
-use Rattle.meaning_reports.specs.PackageReports.{of_whole}
+use Rattle.meaning_reports.specs.PackageReports.{Rules, of_whole}
 use Rattle.all_packages.specs.declared.judged.Judged.{Judged}
-use Rattle.all_packages.specs.Judgments.{HasFinding, KnownAround}
+use Rattle.all_packages.specs.Judgments.{HasFinding, KnownAround, AreMarked}
 use Rattle.all_packages.specs.Progress.{JudgedByPath, given_by_paths, table_or_none, Agrees, AreRight, WasJudged, IsReady}
 
 pub some_from : {A : Type 0} (o : Option A) → is_some o ≡ true → (a : A) × (o ≡ Some a)
@@ -121,15 +121,38 @@ module _ (ps : List LoadedPackage) (judged : JudgedByPath) (i : ℕ) (p : Loaded
 
   -- All that is known around the package
 
-  module _ (kept : List KeptPackage) (marks : List Bool) (right : AreRight ps kept judged marks)
+  pub around_so : (names : List ℕ → Option (List ℕ)) (places : List ℕ → Option ℕ) (unranked : List Bool)
+      (imported : Imported) (calls : ImportedCalls)
+      → ((path : List ℕ) → names path ≡ package_names ps path)
+      → TellsOrder ps places unranked
+      → ((path : List ℕ) → table_by_path imported path
+      ≡ given_by_paths (λ j. j.table.signatures) judged (imported_paths p) path)
+      → ((path : List ℕ) → called_by_path calls path ≡ given_by_paths (λ j. j.table.called) judged (imported_paths p) path)
+      → KnownAround ps tables p (record {
+        names = names;
+        signatures = facts_by_path imported;
+        calls = flags_by_path calls;
+        unranked = places;
+        unranked_marks = unranked;
+      })
+  around_so names places unranked imported calls are_names order signatures known = record {
+    are_names = are_names;
+    are_signatures = λ path name. ap (λ t. facts_in_table t name) (signatures path) ∙ are_signatures path name;
+    are_calls = λ path name k. ap (λ t. is_called_in t name k) (known path) ∙ are_calls path name k;
+    is_order = order;
+  }
+
+  -- Which of its imports are not yes
+
+  module _ (rules : Rules) (kept : List KeptPackage) (marks : List Bool) (right : AreRight rules ps kept judged marks)
       (unranked_fault : (j : ℕ) (q : LoadedPackage) → slice_get ps j ≡ Some q → (HasRank lists j → ⊥)
       → (y : Entry) × IsWholeFault ps j y) where
-    are_not_yes : (j : ℕ) → Imports lists i j → (is_set (slice_get marks j) ≡ true) ↔ HasFinding ps tables j
+    are_not_yes : (j : ℕ) → Imports lists i j → (is_set (slice_get marks j) ≡ true) ↔ HasFinding rules ps tables j
     are_not_yes j im = by (given_in_lists ps j im.imported im.is_imported) (ready j im)
       where
         by : ((q : LoadedPackage) × (slice_get ps j ≡ Some q) × (list_item ps q ≡ im.imported))
             → WasJudged ps judged j ⊎ (HasRank lists j → ⊥)
-            → (is_set (slice_get marks j) ≡ true) ↔ HasFinding ps tables j
+            → (is_set (slice_get marks j) ≡ true) ↔ HasFinding rules ps tables j
         by q (inl was) =
             let k = some_from (judged q.0.path) (was q.0 q.1) in
             let marked = right.are_marked j q.0 k.0 q.1 k.1 in
@@ -143,30 +166,6 @@ module _ (ps : List LoadedPackage) (judged : JudgedByPath) (i : ℕ) (p : Loaded
               λ h. right.unranked_marked j q.0 q.1 unranked,
             )
 
-    pub around_so : (names : List ℕ → Option (List ℕ)) (places : List ℕ → Option ℕ) (unranked not_yes : List Bool)
-        (imported : Imported) (calls : ImportedCalls)
-        → ((path : List ℕ) → names path ≡ package_names ps path)
-        → TellsOrder ps places unranked
-        → ((path : List ℕ) → places path ≡ place_from path lists 0)
-        → not_yes ≡ marks
-        → ((path : List ℕ) → table_by_path imported path
-        ≡ given_by_paths (λ j. j.table.signatures) judged (imported_paths p) path)
-        → ((path : List ℕ) → called_by_path calls path ≡ given_by_paths (λ j. j.table.called) judged (imported_paths p) path)
-        → KnownAround ps tables i p (record {
-          names = names;
-          signatures = facts_by_path imported;
-          calls = flags_by_path calls;
-          unranked = places;
-          unranked_marks = unranked;
-          places = places;
-          marks = not_yes;
-        })
-    around_so names places unranked not_yes imported calls are_names order are_places same_marks signatures known = record {
-      are_names = are_names;
-      are_signatures = λ path name. ap (λ t. facts_in_table t name) (signatures path) ∙ are_signatures path name;
-      are_calls = λ path name k. ap (λ t. is_called_in t name k) (known path) ∙ are_calls path name k;
-      is_order = order;
-      are_places = are_places;
-      are_not_yes = λ j im.
-          subst (λ ms. (is_set (slice_get ms j) ≡ true) ↔ HasFinding ps tables j) (sym same_marks) (are_not_yes j im);
-    }
+    pub marked_so : (places : List ℕ → Option ℕ) → ((path : List ℕ) → places path ≡ place_from path lists 0)
+        → AreMarked rules ps tables i places marks
+    marked_so places are_places = record { are_places = are_places; are_not_yes = are_not_yes }

@@ -13,13 +13,11 @@ use Rattle.meaning.specs.BodyEvents.{seen_file}
 use Rattle.meaning_packages.specs.CallsFlags.{Flags, FileWithCredits, AreMost, calls_by}
 use Rattle.report.specs.declared.codes.DiagnosticCode.TheVariants.{ImportIsNotYes}
 use Rattle.report.specs.Entries.{Entry}
-use Rattle.imports.specs.Ranks.{Imports}
-use Rattle.imports.specs.Settling.{place_from}
 use Rattle.imports.proofs.GivenImports.{FirstAt, first_there, there_first}
 use Rattle.meaning_reports.specs.Loaded.{LoadedPackage, NumberedTree, Tables, numbered_trees, imports_of, imported_paths, import_list, imported_flags, seen_from, seen_files, known_in, means_in, signatures_of, imported_signatures, trees_of}
 use Rattle.meaning_reports.specs.WholeFaults.{ImportsAt, import_entry, HasNoWholeFault}
 use Rattle.meaning_reports.specs.PackageTables.{IsJudged}
-use Rattle.meaning_reports.specs.PackageReports.{IsFileFinding, IsFinding, of_whole, of_import, of_file, IsFileOf}
+use Rattle.meaning_reports.specs.PackageReports.{IsFileFinding, SaysByPaths, Rules, IsFindingBy, of_whole, of_import, of_files}
 use Rattle.whole_packages.specs.WholeEntries.{is_set, is_set_at, is_marked, spec_entries, tree_entries}
 use Rattle.meaning_reports.proofs.ImportsOf.{gives, given_by, only_one, names_first, import_there, first_import}
 use Rattle.calls_flags.specs.declared.file_bodies.FileBodies.{FileBodies}
@@ -29,7 +27,7 @@ use Rattle.calls_flags.specs.ToldFiles.{TellAllSeen}
 use Rattle.calls_flags.specs.Claims.{HaveFacts}
 use Rattle.findings.specs.FoundEntries.{IsFoundIn}
 use Rattle.meaning_reports.proofs.OneAnswer.{one_list, one_most}
-use Rattle.all_packages.specs.Judgments.{HasFinding}
+use Rattle.all_packages.specs.Judgments.{HasFinding, AreMarked}
 
 -- The files
 
@@ -77,10 +75,51 @@ module _ (ps : List LoadedPackage) (tables : Tables) (p : LoadedPackage)
       subst (λ ts. TellAllSeen (seen_from (known_in ps tables p) 0 ts) ks) same
       (subst (λ k. TellAllSeen (seen_from k 0 trees) ks) is_known told)
 
--- What is found
+-- What is found by paths
 
 module _ (ps : List LoadedPackage) (tables : Tables) (i : ℕ) (p : LoadedPackage) (is_p : slice_get ps i ≡ Some p)
-    (none : HasNoWholeFault ps i) where
+    (files : List FileWithCredits) (flags : Flags) (judged : IsJudged ps tables i p files flags)
+    (calls : Callee → ℕ → Bool) (are_calls : calls ≡ calls_by flags (imported_flags p tables)) where
+  in_file : (x : Entry) → IsFoundIn files calls x → SaysByPaths ps tables i x
+  in_file x h = record {
+    flags = flags;
+    number = h.number;
+    file = h.file;
+    is_of = record { loaded = p; files = files; is_judged = judged; is_file = h.is_file };
+    is_finding = subst (λ c. IsFileFinding c h.number h.file x) are_calls h.is_finding;
+  }
+
+  file_found : (x : Entry) → SaysByPaths ps tables i x → IsFoundIn files calls x
+  file_found x said =
+      let h = said.is_of in
+      let others = said.flags in
+      let number = said.number in
+      let file = said.file in
+      let same = same_Some h.loaded p (sym h.is_judged.is_package ∙ is_p) in
+      let here = subst (λ (q : LoadedPackage). IsJudged ps tables i q h.files others) same h.is_judged in
+      let are_files : h.files ≡ files = one_list (seen_files ps tables p) h.files files here.are_files judged.are_files in
+      let are_flags : others ≡ flags =
+      one_most files (imported_flags p tables) others flags
+      (subst (λ fs. AreMost fs (imported_flags p tables) others) are_files here.are_flags) judged.are_flags in
+      record {
+        number = number;
+        file = file;
+        is_file = subst (λ fs. slice_get fs number ≡ Some file) are_files h.is_file;
+        is_finding =
+            subst (λ c. IsFileFinding c number file x) (sym are_calls)
+            (subst (λ fl. IsFileFinding (calls_by fl (imported_flags p tables)) number file x) are_flags
+            (subst (λ (q : LoadedPackage). IsFileFinding (calls_by others (imported_flags q tables)) number file x) same
+            said.is_finding));
+      }
+
+  pub said_by_paths : (found : List Entry) → ((x : Entry) → Contains found x ↔ IsFoundIn files calls x)
+      → (x : Entry) → Contains found x ↔ SaysByPaths ps tables i x
+  said_by_paths found are x = (λ h. in_file x ((are x).0 h), λ said. (are x).1 (file_found x said))
+
+-- What is found by any rules, and of imports
+
+module _ (rules : Rules) (ps : List LoadedPackage) (tables : Tables) (i : ℕ) (p : LoadedPackage)
+    (is_p : slice_get ps i ≡ Some p) (none : HasNoWholeFault ps i) where
   -- the path of a spec is one that the package imports
   path_there : (t : NumberedTree) (s : ImportSpec) → Contains (numbered_trees p) t → Contains (imports_of t.tree) s
       → Contains (imported_paths p) s.path
@@ -89,129 +128,97 @@ module _ (ps : List LoadedPackage) (tables : Tables) (i : ℕ) (p : LoadedPackag
       (contains_map (λ (n : NumberedTree). n.tree) (numbered_trees p) t is_tree)
       (contains_map (λ (r : ImportSpec). r.path) (imports_of t.tree) s is_spec)
 
-  module _ (files : List FileWithCredits) (flags : Flags) (judged : IsJudged ps tables i p files flags)
-      (calls : Callee → ℕ → Bool) (are_calls : calls ≡ calls_by flags (imported_flags p tables)) where
-    in_file : (x : Entry) → IsFoundIn files calls x → IsFinding ps tables i x
-    in_file x h =
-        of_file flags h.number h.file (record { loaded = p; files = files; is_judged = judged; is_file = h.is_file })
-        (subst (λ c. IsFileFinding c h.number h.file x) are_calls h.is_finding)
+  module _ (places : List ℕ → Option ℕ) (marks : List Bool) (marked : AreMarked rules ps tables i places marks) where
+    abbrev is_one : List ℕ → Bool
+    is_one = is_marked places marks
 
-    module _ (places : List ℕ → Option ℕ) (marks : List Bool)
-        (are_places : (path : List ℕ) → places path ≡ place_from path (import_list ps) 0)
-        (are_marks : (j : ℕ) → Imports (import_list ps) i j
-        → (is_set (slice_get marks j) ≡ true) ↔ HasFinding ps tables j) where
-      abbrev is_one : List ℕ → Bool
-      is_one = is_marked places marks
+    abbrev pub import_part : List Entry
+    import_part = flat_map (tree_entries is_one ImportIsNotYes) (numbered_trees p)
 
-      abbrev pub import_part : List Entry
-      import_part = flat_map (tree_entries is_one ImportIsNotYes) (numbered_trees p)
+    record IsNotYes (path : List ℕ) : Type 0 where
+      place : ℕ
+      first : FirstAt path (import_list ps) place
+      has_finding : HasFinding rules ps tables place
 
-      record IsNotYes (path : List ℕ) : Type 0 where
-        place : ℕ
-        first : FirstAt path (import_list ps) place
-        has_finding : HasFinding ps tables place
+    marked_is : (path : List ℕ) → Contains (imported_paths p) path → is_one path ≡ true → IsNotYes path
+    marked_is path names e = by (places path) refl
+      where
+        by : (o : Option ℕ) → places path ≡ o → IsNotYes path
+        by None n = absurd (false≢true (sym (ap (λ q. is_set_at q marks) n) ∙ e))
+        by (Some j) s =
+            let first = first_there (import_list ps) path j (sym (marked.are_places path) ∙ s) in
+            record {
+              place = j;
+              first = first;
+              has_finding = (marked.are_not_yes j (names_first ps i p is_p path j names first)).0
+                  (sym (ap (λ q. is_set_at q marks) s) ∙ e);
+            }
 
-      marked_is : (path : List ℕ) → Contains (imported_paths p) path → is_one path ≡ true → IsNotYes path
-      marked_is path names e = by (places path) refl
-        where
-          by : (o : Option ℕ) → places path ≡ o → IsNotYes path
-          by None n = absurd (false≢true (sym (ap (λ q. is_set_at q marks) n) ∙ e))
-          by (Some j) s =
-              let first = first_there (import_list ps) path j (sym (are_places path) ∙ s) in
-              record {
-                place = j;
-                first = first;
-                has_finding = (are_marks j (names_first ps i p is_p path j names first)).0
-                    (sym (ap (λ q. is_set_at q marks) s) ∙ e);
-              }
+    spec_is : (t : NumberedTree) (s : ImportSpec) (x : Entry) → Contains (numbered_trees p) t
+        → Contains (imports_of t.tree) s
+        → Contains (spec_entries is_one ImportIsNotYes t.file s) x
+        → IsFindingBy rules ps tables i x
+    spec_is t s x is_tree is_spec h = by (is_one s.path) refl h
+      where
+        by : (b : Bool) → is_one s.path ≡ b
+            → Contains (if b then import_entry t.file s ImportIsNotYes ∷ [] else []) x
+            → IsFindingBy rules ps tables i x
+        by true e g =
+            let j = marked_is s.path (path_there t s is_tree is_spec) e in
+            subst (IsFindingBy rules ps tables i) (only_one _ x g)
+            (of_import j.place t.file s j.has_finding.entry none
+            (import_there ps i p is_p t s j.place is_tree is_spec j.first) j.has_finding.is_finding)
+        by false e g = absurd (contains_nil x g)
 
-      spec_is : (t : NumberedTree) (s : ImportSpec) (x : Entry) → Contains (numbered_trees p) t
-          → Contains (imports_of t.tree) s
-          → Contains (spec_entries is_one ImportIsNotYes t.file s) x
-          → IsFinding ps tables i x
-      spec_is t s x is_tree is_spec h = by (is_one s.path) refl h
-        where
-          by : (b : Bool) → is_one s.path ≡ b
-              → Contains (if b then import_entry t.file s ImportIsNotYes ∷ [] else []) x
-              → IsFinding ps tables i x
-          by true e g =
-              let j = marked_is s.path (path_there t s is_tree is_spec) e in
-              subst (IsFinding ps tables i) (only_one _ x g)
-              (of_import j.place t.file s j.has_finding.entry none
-              (import_there ps i p is_p t s j.place is_tree is_spec j.first) j.has_finding.is_finding)
-          by false e g = absurd (contains_nil x g)
+    of_imports : (x : Entry) → Contains import_part x → IsFindingBy rules ps tables i x
+    of_imports x h =
+        let t = given_by (tree_entries is_one ImportIsNotYes) (numbered_trees p) x h in
+        let s = given_by (spec_entries is_one ImportIsNotYes t.0.file) (imports_of t.0.tree) x t.2 in
+        spec_is t.0 s.0 x t.1 s.1 s.2
 
-      of_imports : (x : Entry) → Contains import_part x → IsFinding ps tables i x
-      of_imports x h =
-          let t = given_by (tree_entries is_one ImportIsNotYes) (numbered_trees p) x h in
-          let s = given_by (spec_entries is_one ImportIsNotYes t.0.file) (imports_of t.0.tree) x t.2 in
-          spec_is t.0 s.0 x t.1 s.1 s.2
+    import_found : (j number : ℕ) (s : ImportSpec) (z : Entry) → (im : ImportsAt ps i j number s)
+        → IsFindingBy rules ps tables j z
+        → Contains import_part (import_entry number s ImportIsNotYes)
+    import_found j number s z im finding =
+        let same = same_Some im.importer p (sym im.is_importer ∙ is_p) in
+        let is_tree : Contains (numbered_trees p) im.tree =
+        subst (λ (r : LoadedPackage). Contains (numbered_trees r) im.tree) same im.is_tree in
+        let first = first_import ps i p is_p j number s im in
+        let is_set : is_one s.path ≡ true =
+        ap (λ q. is_set_at q marks) (marked.are_places s.path ∙ there_first (import_list ps) s.path j first)
+        ∙ (marked.are_not_yes j im.imports).1 (record { entry = z; is_finding = finding }) in
+        gives (tree_entries is_one ImportIsNotYes) (numbered_trees p) im.tree _ is_tree
+        (gives (spec_entries is_one ImportIsNotYes im.tree.file) (imports_of im.tree.tree) s _ im.is_spec
+        (there im.tree is_set (ap (λ m. import_entry m s ImportIsNotYes) im.is_file)))
+      where
+        there : (t : NumberedTree) → is_one s.path ≡ true
+            → import_entry t.file s ImportIsNotYes ≡ import_entry number s ImportIsNotYes
+            → Contains (spec_entries is_one ImportIsNotYes t.file s) (import_entry number s ImportIsNotYes)
+        there t is_set e =
+            subst (λ b. Contains (if b then import_entry t.file s ImportIsNotYes ∷ [] else [])
+            (import_entry number s ImportIsNotYes)) (sym is_set)
+            (subst (λ y. Contains (import_entry t.file s ImportIsNotYes ∷ []) y) e (contains_here _ []))
 
-      import_found : (j number : ℕ) (s : ImportSpec) (z : Entry) → (im : ImportsAt ps i j number s)
-          → IsFinding ps tables j z
-          → Contains import_part (import_entry number s ImportIsNotYes)
-      import_found j number s z im finding =
-          let same = same_Some im.importer p (sym im.is_importer ∙ is_p) in
-          let is_tree : Contains (numbered_trees p) im.tree =
-          subst (λ (r : LoadedPackage). Contains (numbered_trees r) im.tree) same im.is_tree in
-          let first = first_import ps i p is_p j number s im in
-          let marked : is_one s.path ≡ true =
-          ap (λ q. is_set_at q marks) (are_places s.path ∙ there_first (import_list ps) s.path j first)
-          ∙ (are_marks j im.imports).1 (record { entry = z; is_finding = finding }) in
-          gives (tree_entries is_one ImportIsNotYes) (numbered_trees p) im.tree _ is_tree
-          (gives (spec_entries is_one ImportIsNotYes im.tree.file) (imports_of im.tree.tree) s _ im.is_spec
-          (there im.tree marked (ap (λ m. import_entry m s ImportIsNotYes) im.is_file)))
-        where
-          there : (t : NumberedTree) → is_one s.path ≡ true
-              → import_entry t.file s ImportIsNotYes ≡ import_entry number s ImportIsNotYes
-              → Contains (spec_entries is_one ImportIsNotYes t.file s) (import_entry number s ImportIsNotYes)
-          there t marked e =
-              subst (λ b. Contains (if b then import_entry t.file s ImportIsNotYes ∷ [] else [])
-              (import_entry number s ImportIsNotYes)) (sym marked)
-              (subst (λ y. Contains (import_entry t.file s ImportIsNotYes ∷ []) y) e (contains_here _ []))
+    module _ (found all : List Entry) (are_said : (x : Entry) → Contains found x ↔ rules.says ps tables i x)
+        (is_all : all ≡ found ++ import_part) where
+      is_finding : (x : Entry) → Contains all x → IsFindingBy rules ps tables i x
+      is_finding x h =
+          elim (Contains-append_cases found import_part x (subst (λ es. Contains es x) is_all h)) [
+            | inl own ↦ of_files none ((are_said x).0 own)
+            | inr other ↦ of_imports x other
+          ]
 
-      file_found : (x : Entry) (others : Flags) (number : ℕ) (file : FileWithCredits)
-          → (h : IsFileOf ps tables i others number file)
-          → IsFileFinding (calls_by others (imported_flags h.loaded tables)) number file x
-          → IsFoundIn files calls x
-      file_found x others number file h finding =
-          let same : h.loaded ≡ p = same_Some h.loaded p (sym h.is_judged.is_package ∙ is_p) in
-          let here = subst (λ (q : LoadedPackage). IsJudged ps tables i q h.files others) same h.is_judged in
-          let are_files : h.files ≡ files = one_list (seen_files ps tables p) h.files files here.are_files judged.are_files in
-          let are_flags : others ≡ flags =
-          one_most files (imported_flags p tables) others flags
-          (subst (λ fs. AreMost fs (imported_flags p tables) others) are_files here.are_flags) judged.are_flags in
-          record {
-            number = number;
-            file = file;
-            is_file = subst (λ fs. slice_get fs number ≡ Some file) are_files h.is_file;
-            is_finding =
-                subst (λ c. IsFileFinding c number file x) (sym are_calls)
-                (subst (λ fl. IsFileFinding (calls_by fl (imported_flags p tables)) number file x) are_flags
-                (subst (λ (q : LoadedPackage). IsFileFinding (calls_by others (imported_flags q tables)) number file x) same
-                finding));
-          }
+      in_found : (x : Entry) → rules.says ps tables i x → Contains all x
+      in_found x said =
+          subst (λ es. Contains es x) (sym is_all) (Contains-append_left found import_part x ((are_said x).1 said))
 
-      module _ (found all : List Entry) (are_found : (x : Entry) → Contains found x ↔ IsFoundIn files calls x)
-          (is_all : all ≡ found ++ import_part) where
-        is_said : (x : Entry) → Contains all x → IsFinding ps tables i x
-        is_said x h =
-            elim (Contains-append_cases found import_part x (subst (λ es. Contains es x) is_all h)) [
-              | inl own ↦ in_file x ((are_found x).0 own)
-              | inr other ↦ of_imports x other
-            ]
+      in_imports : (x : Entry) → Contains import_part x → Contains all x
+      in_imports x h = subst (λ es. Contains es x) (sym is_all) (Contains-append_right found import_part x h)
 
-        in_found : (x : Entry) → IsFoundIn files calls x → Contains all x
-        in_found x h =
-            subst (λ es. Contains es x) (sym is_all) (Contains-append_left found import_part x ((are_found x).1 h))
+      is_there : (x : Entry) → IsFindingBy rules ps tables i x → Contains all x
+      is_there x (of_whole fault) = absurd (none x fault)
+      is_there x (of_import j number spec z none_here im finding) = in_imports _ (import_found j number spec z im finding)
+      is_there x (of_files none_here said) = in_found x said
 
-        in_imports : (x : Entry) → Contains import_part x → Contains all x
-        in_imports x h = subst (λ es. Contains es x) (sym is_all) (Contains-append_right found import_part x h)
-
-        is_there : (x : Entry) → IsFinding ps tables i x → Contains all x
-        is_there x (of_whole fault) = absurd (none x fault)
-        is_there x (of_import j number spec z none_here im finding) = in_imports _ (import_found j number spec z im finding)
-        is_there x (of_file others number file h finding) = in_found x (file_found x others number file h finding)
-
-        pub all_said : (x : Entry) → Contains all x ↔ IsFinding ps tables i x
-        all_said x = (is_said x, is_there x)
+      pub all_said : (x : Entry) → Contains all x ↔ IsFindingBy rules ps tables i x
+      all_said x = (is_finding x, is_there x)

@@ -12,6 +12,7 @@ use Rattle.whole_packages.specs.declared.loaded_package.LoadedPackage.{LoadedPac
 use Rattle.whole_packages.specs.LoadedViews.{TellsPackage, TellPackages, HaveDistinctPaths}
 use Rattle.whole_packages.proofs.UnrankedFaults.{unranked_fault}
 use Rattle.meaning_reports.specs.Loaded.{LoadedPackage, Tables, imported_paths}
+use Rattle.meaning_reports.specs.PackageReports.{Rules}
 use Rattle.all_packages.specs.declared.judged.Judged.{Judged}
 use Rattle.all_packages.specs.declared.given.Given.{Given}
 use Rattle.all_packages.specs.Judgments.{TellsSources, IsJudgment}
@@ -64,19 +65,19 @@ module _ (ps : List LoadedPackage) (given : Given) (tells : TellsGiven ps given)
       → (package_view list).imports ≡ imported_paths here.meant
   imports_here = imports_so ps given tells i here.meant here.is_there
 
-  module _ (path : List ℕ) (is_path : path ≡ string_bytes k.path) (before : JudgedByPath) (marks : List Bool)
-      (right : AreRight ps kept before marks) where
+  module _ (rules : Rules) (path : List ℕ) (is_path : path ≡ string_bytes k.path) (before : JudgedByPath)
+      (marks : List Bool) (right : AreRight rules ps kept before marks) where
     same_path : path ≡ here.meant.path
     same_path = is_path ∙ sym here.tells.is_path
 
-    pub judged_already : is_some (before path) ≡ true → IsNext ps kept before before marks i
+    pub judged_already : is_some (before path) ≡ true → IsNext rules ps kept before before marks i
     judged_already was =
-        stays ps kept before marks i right
+        stays rules ps kept before marks i right
         (λ p is. subst (λ (q : LoadedPackage). is_some (before q.path) ≡ true)
         (same_Some here.meant p (sym here.is_there ∙ is)) (subst (λ r. is_some (before r) ≡ true) same_path was))
 
     module _ (distinct : HaveDistinctPaths ps) (is_new : is_some (before path) ≡ false) (j : Judged) (told : TellsSources k j)
-        (judgment : (tables : Tables) → Agrees ps before tables → IsJudgment ps tables i here.meant j) where
+        (judgment : (tables : Tables) → Agrees ps before tables → IsJudgment rules ps tables i here.meant j) where
       abbrev none : before here.meant.path ≡ None
       none = ap before (sym same_path) ∙ none_from (before path) is_new
 
@@ -89,9 +90,9 @@ module _ (ps : List LoadedPackage) (given : Given) (tells : TellsGiven ps given)
       pub kept_next : (after : JudgedByPath) (next : List Bool)
           → ((r : List ℕ) → after r ≡ or_else (before r) (only_at j.report.path.now j r))
           → IsMarkOf i j marks next
-          → IsNext ps kept before after next i
+          → IsNext rules ps kept before after next i
       kept_next after next are mark =
-          goes_next ps distinct kept before after marks next i here.meant k here.is_there is_k j right none
+          goes_next rules ps distinct kept before after marks next i here.meant k here.is_there is_k j right none
           (λ r. are r ∙ ap (λ q. or_else (before r) (only_at q j r)) own_path) told judgment
           (unranked_fault ps i here.meant here.is_there (at_path given.places) given.unranked.items tells.is_order k
           here.tells) mark.mark mark.is_mark (ap length mark.is_set ∙ length-set marks i mark.mark)

@@ -2,10 +2,11 @@ mod AllPackages
 mod AllReports
 mod FoundPackages
 mod ImportedTables
-mod JudgedFiles
+pub mod JudgedFiles
 mod KeptNext
 mod KnownImports
 mod NextPackage
+mod NotYes
 mod PackageNames
 mod PathsInOrder
 mod PlainNames

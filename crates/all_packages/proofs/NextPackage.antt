@@ -13,18 +13,19 @@ use Rattle.whole_packages.specs.LoadedViews.{HaveDistinctPaths}
 use Rattle.whole_packages.specs.WholeEntries.{is_set}
 use Rattle.meaning_reports.specs.Loaded.{LoadedPackage, PackageTable, Tables, import_list, no_table}
 use Rattle.meaning_reports.specs.WholeFaults.{IsWholeFault}
-use Rattle.meaning_reports.specs.PackageTables.{IsTable, empty, full}
-use Rattle.meaning_reports.specs.PackageReports.{of_whole}
+use Rattle.meaning_reports.specs.PackageTables.{IsTableBy, empty, full}
+use Rattle.meaning_reports.specs.PackageReports.{Rules, of_whole}
 use Rattle.all_packages.specs.declared.judged.Judged.{Judged}
 use Rattle.all_packages.specs.Judgments.{table_view, entries_of, TellsSources, IsJudgment}
 use Rattle.all_packages.specs.Progress.{JudgedByPath, table_or_none, tables_of, Agrees, HasEntry, AreRight, WasJudged, IsNext}
 use Rattle.all_packages.proofs.ImportedTables.{some_from}
 
 -- there are such tables
-pub they_agree : (ps : List LoadedPackage) (kept : List KeptPackage) (judged : JudgedByPath) (marks : List Bool)
-    → AreRight ps kept judged marks
+pub they_agree : (rules : Rules) (ps : List LoadedPackage) (kept : List KeptPackage) (judged : JudgedByPath)
+    (marks : List Bool)
+    → AreRight rules ps kept judged marks
     → Agrees ps judged (tables_of judged)
-they_agree ps kept judged marks right = record {
+they_agree rules ps kept judged marks right = record {
   of_judged = λ path j is. ap table_or_none is;
   of_unranked = λ i p is none. unranked i p is none (judged p.path) refl;
   of_others = λ path none. other path none (judged path) refl;
@@ -41,20 +42,20 @@ they_agree ps kept judged marks right = record {
     other path none (Some j) e = let g = right.are_given path j e in absurd (none g.0 g.1 g.2 g.3)
 
 -- a package that was judged already
-pub stays : (ps : List LoadedPackage) (kept : List KeptPackage) (judged : JudgedByPath) (marks : List Bool)
-    (i : ℕ)
-    → AreRight ps kept judged marks
+pub stays : (rules : Rules) (ps : List LoadedPackage) (kept : List KeptPackage) (judged : JudgedByPath)
+    (marks : List Bool) (i : ℕ)
+    → AreRight rules ps kept judged marks
     → WasJudged ps judged i
-    → IsNext ps kept judged judged marks i
-stays ps kept judged marks i right was = record { are_right = right; is_judged = was; were_judged = λ path e. e }
+    → IsNext rules ps kept judged judged marks i
+stays rules ps kept judged marks i right was = record { are_right = right; is_judged = was; were_judged = λ path e. e }
 
-module _ (ps : List LoadedPackage) (distinct : HaveDistinctPaths ps) (kept : List KeptPackage)
+module _ (rules : Rules) (ps : List LoadedPackage) (distinct : HaveDistinctPaths ps) (kept : List KeptPackage)
     (before after : JudgedByPath) (marks next : List Bool) (i : ℕ) (p : LoadedPackage) (k : KeptPackage)
     (is_p : slice_get ps i ≡ Some p) (is_k : slice_get kept i ≡ Some k) (j : Judged)
-    (right : AreRight ps kept before marks) (is_new : before p.path ≡ None)
+    (right : AreRight rules ps kept before marks) (is_new : before p.path ≡ None)
     (are : (path : List ℕ) → after path ≡ or_else (before path) (only_at p.path j path))
     (told : TellsSources k j)
-    (judgment : (tables : Tables) → Agrees ps before tables → IsJudgment ps tables i p j)
+    (judgment : (tables : Tables) → Agrees ps before tables → IsJudgment rules ps tables i p j)
     (unranked_fault : (HasRank (import_list ps) i → ⊥) → (y : Entry) × IsWholeFault ps i y)
     (mark : Bool) (is_mark : (mark ≡ true) ↔ HasEntry (entries_of j))
     (as_many : length next ≡ length marks)
@@ -108,26 +109,27 @@ module _ (ps : List LoadedPackage) (distinct : HaveDistinctPaths ps) (kept : Lis
   here_set : is_set (slice_get next i) ≡ mark
   here_set = ap is_set (here within)
 
-  no_signatures : (table : PackageTable) → IsTable ps (tables_of before) i p table → (HasRank (import_list ps) i → ⊥)
+  no_signatures : (table : PackageTable) → IsTableBy rules.are_flags ps (tables_of before) i p table
+      → (HasRank (import_list ps) i → ⊥)
       → table ≡ no_table
   no_signatures table (empty y fault is) none = λ l. record {
     signatures = λ name. is.no_signature name l;
     calls = λ name n. is.no_flag name n l;
   }
-  no_signatures table (full files flags judged signatures calls) none =
-      let fault = unranked_fault none in absurd (judged.has_no_whole_fault fault.0 fault.1)
+  no_signatures table (full flags no_fault its signatures calls) none =
+      let fault = unranked_fault none in absurd (no_fault fault.0 fault.1)
 
-  judged_so : IsJudgment ps (tables_of before) i p j
-  judged_so = judgment (tables_of before) (they_agree ps kept before marks right)
+  judged_so : IsJudgment rules ps (tables_of before) i p j
+  judged_so = judgment (tables_of before) (they_agree rules ps kept before marks right)
 
-  now_right : AreRight ps kept after next
+  now_right : AreRight rules ps kept after next
   now_right = record {
     are_told = λ n q o m is is_kept e.
         for_all (λ n q m. (o : KeptPackage) → slice_get kept n ≡ Some o → TellsSources o m)
         (λ o is_o. subst (λ r. TellsSources r j) (same_Some k o (sym is_k ∙ is_o)) told)
         (λ n q m is was o is_o. right.are_told n q o m is is_o was) n q m is e o is_kept;
     are_judgments = λ n q m is e tables agrees.
-        for_all (λ n q m. IsJudgment ps tables n q m) (judgment tables (agrees_before tables agrees))
+        for_all (λ n q m. IsJudgment rules ps tables n q m) (judgment tables (agrees_before tables agrees))
         (λ n q m is was. right.are_judgments n q m is was tables (agrees_before tables agrees)) n q m is e;
     are_given = λ path m e. elim (came path m e) [
       | inl was ↦ right.are_given path m was
@@ -160,7 +162,7 @@ module _ (ps : List LoadedPackage) (distinct : HaveDistinctPaths ps) (kept : Lis
           none-some m (sym is_new ∙ (ap (λ (r : LoadedPackage). before r.path) (same_package n q is (sym same)) ∙ was))))
           (right.are_marked n q m is was)) n q m is e
 
-  pub goes_next : IsNext ps kept before after next i
+  pub goes_next : IsNext rules ps kept before after next i
   goes_next = record {
     are_right = now_right;
     is_judged = λ q is.

@@ -1,20 +1,19 @@
 -- Names in the order of their bytes, each once, and that each function that is known has its name among those that are
 -- declared.
-use Rattle.std.proofs.Common.{◌≡◌, ◌⊎◌, inl, inr, ℕ, ◌+◌, Bool, true, false, ◌&&◌, List, [], ◌∷◌, map, length, Contains, Option, Some, None, is_some, true≢false, refl, sym, ◌∙◌, subst, arith}
+use Rattle.std.proofs.Common.{◌≡◌, ◌⊎◌, inl, inr, ℕ, ◌+◌, Bool, true, false, ◌&&◌, List, [], ◌∷◌, length, Contains, Option, Some, None, is_some, true≢false, refl, sym, ◌∙◌, subst, arith}
 use Rattle.std.specs.Prelude.{flat_map, ◌==◌, if◌then◌else◌, nat_eq}
 use Rattle.std.specs.Borrow.{Bor}
 use Rattle.std.specs.List.{dedup, AllByRecursion}
 use Rattle.std.specs.List.Sorted.{IsStrictlySortedBy, IsPermutation, IsSorted}
-use Rattle.std.specs.Ordering.{nat_cmp, on, eq_by_cmp}
-use Rattle.std.specs.Cmp.{IsTotalOrder, IsEquivalence, eq_by_cmp_equiv}
-use Rattle.std.specs.Cmp.Lexicographic.{slice_cmp, on_texts, on_texts_equal, texts_ties, same_text, pointwise}
+use Rattle.std.specs.Ordering.{on, eq_by_cmp}
+use Rattle.std.specs.Cmp.{IsTotalOrder, IsEquivalence}
+use Rattle.std.specs.Cmp.Lexicographic.{on_texts, on_texts_equal, texts_ties, same_text, pointwise}
 use Rattle.std.specs.Str.{bytes_eq}
 use Rattle.std.specs.declared.cmp.Ordering.TheVariants.{the_data as Ordering, Less}
 use Rattle.std.proofs.lemmas.Bool.{and_parts, eqb-true}
 use Rattle.std.proofs.lemmas.List.Sorted.{Contains-permutation}
 use Rattle.std.proofs.lemmas.List.Kept.{IsStrictlySortedBy-dedup, Any-dedup}
 use Rattle.std.proofs.lemmas.List.Elements.{Contains-append_left, Contains-append_right}
-use Rattle.std.proofs.lemmas.Option.{none-some}
 use Rattle.std.proofs.lemmas.Slice.Eq.{bytes_eq-Decides}
 use Rattle.meaning.proofs.Membership.{contains_here, contains_map, contains_unmap}
 use Rattle.meaning.specs.FunctionFacts.{FunctionFacts, Meanings, signature_facts, facts_in, facts_from, package_facts}

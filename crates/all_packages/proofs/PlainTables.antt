@@ -1,10 +1,9 @@
 -- Tables that are made one after the other, and what they say of packages that were judged.
-use Rattle.std.proofs.Common.{◌≡◌, ℕ, zero, suc, ◌+◌, ◌<◌, Bool, true, false, List, [], ◌∷◌, ◌++◌, map, length, drop, get_or, Contains, Option, Some, None, option_map, is_some, true≢false, refl, sym, ap, ◌∙◌, subst, arith}
-use Rattle.std.specs.Prelude.{slice_get, flat_map}
+use Rattle.std.proofs.Common.{◌≡◌, ℕ, zero, suc, ◌+◌, ◌<◌, true, List, [], ◌∷◌, ◌++◌, map, length, drop, get_or, Contains, Some, option_map, is_some, true≢false, refl, sym, ap, ◌∙◌, subst, arith}
+use Rattle.std.specs.Prelude.{slice_get}
 use Rattle.std.proofs.lemmas.List.{drop_more, append-nil, append_assoc, length-map}
 use Rattle.std.proofs.lemmas.Option.{same_Some, none-some, slice_get-map, slice_get_within}
 use Rattle.std.specs.List.Sorted.{IsStrictlySortedBy}
-use Rattle.tree.specs.View.{file_syntax}
 use Rattle.meaning.proofs.Membership.{contains_nil}
 use Rattle.whole_packages.specs.declared.loaded_package.LoadedPackage.{LoadedPackage as KeptPackage}
 use Rattle.whole_packages.specs.LoadedViews.{TellsPackage, TellPackages, HaveDistinctPaths}
@@ -89,7 +88,7 @@ known_names : (ps : List LoadedPackage) (tables : Tables) (i : ℕ) (p : LoadedP
     → Contains (declared_names (trees_of p)) name
 known_names ps tables i p table (empty x whole none) name known =
     absurd (true≢false (sym known ∙ ap is_some (none.no_signature name)))
-known_names ps tables i p table (full files flags judged same calls) name known =
+known_names ps tables i p table (full flags none its same calls) name known =
     known_is_declared name (means_in ps p) (trees_of p) (subst (λ o. is_some o ≡ true) (same name) known)
 
 module _ (kept : List KeptPackage) (said : List Judged) (ts : List Table) (are : AreTablesFrom kept 0 said ts) where

@@ -15,7 +15,7 @@ use Rattle.report.specs.declared.diagnostics.Diagnostic.{Diagnostic}
 use Rattle.meaning_reports.specs.Loaded.{LoadedPackage, NumberedTree, Tables, numbered_trees, trees_of}
 use Rattle.meaning_reports.specs.WholeFaults.{IsWholeFault, HasNoWholeFault, has_two_functions}
 use Rattle.meaning_reports.specs.PackageTables.{empty}
-use Rattle.meaning_reports.specs.PackageReports.{IsFinding, of_whole, of_import, of_file}
+use Rattle.meaning_reports.specs.PackageReports.{Rules, IsFindingBy, of_whole, of_import, of_files}
 use Rattle.all_packages.specs.declared.judged.Judged.{Judged}
 use Rattle.all_packages.specs.Judgments.{IsJudgment, IsWholeOnly}
 use Rattle.all_packages.specs.Progress.{HasEntry}
@@ -59,16 +59,16 @@ is_there : {A : Type 0} (xs : List A) (k : ℕ) → k < length xs → slice_get 
 is_there [] k l e = omega (arith, l)
 is_there (x ∷ xs) k l e = none-some (get_or (x ∷ xs) k x) (sym e ∙ slice_get-get_or (x ∷ xs) k x l)
 
-module _ (ps : List LoadedPackage) (tables : Tables) (i : ℕ) (p : LoadedPackage) where
-  whole_of : (y : Entry) → IsWholeFault ps i y → (x : Entry) → IsFinding ps tables i x → IsWholeFault ps i x
+module _ (rules : Rules) (ps : List LoadedPackage) (tables : Tables) (i : ℕ) (p : LoadedPackage) where
+  whole_of : (y : Entry) → IsWholeFault ps i y → (x : Entry) → IsFindingBy rules ps tables i x → IsWholeFault ps i x
   whole_of y fault x (of_whole w) = w
   whole_of y fault x (of_import j number spec z none imports finding) = absurd (none y fault)
-  whole_of y fault x (of_file flags number file h finding) = absurd (h.is_judged.has_no_whole_fault y fault)
+  whole_of y fault x (of_files none said) = absurd (none y fault)
 
   pub only_whole : (judged : Judged) (entries : List Entry) → IsWholeOnly entries judged
       → ((x : Entry) → Contains entries x ↔ IsWholeFault ps i x)
       → (y : Entry) → IsWholeFault ps i y
-      → IsJudgment ps tables i p judged
+      → IsJudgment rules ps tables i p judged
   only_whole judged entries only are y fault = record {
     is_table = empty y fault only.is_empty;
     are_findings = record {
@@ -80,6 +80,7 @@ module _ (ps : List LoadedPackage) (tables : Tables) (i : ℕ) (p : LoadedPackag
     };
   }
 
+module _ (ps : List LoadedPackage) (i : ℕ) (p : LoadedPackage) where
   -- where a function has the name of an earlier one, there is such a fault
   pub second_is_fault : slice_get ps i ≡ Some p → (f : FunctionName) → second_function (trees_of p) ≡ Some f
       → (y : Entry) × IsWholeFault ps i y

@@ -13,8 +13,8 @@ use Rattle.whole_packages.specs.WholeEntries.{is_set, TellsOrder}
 use Rattle.names.specs.Answers.{names_by_path}
 use Rattle.report.specs.Entries.{Entry, Precedes, entry_of}
 use Rattle.meaning_reports.specs.Loaded.{LoadedPackage, PackageTable, Tables, import_list, package_names, imported_signatures, imported_flags}
-use Rattle.meaning_reports.specs.PackageTables.{IsTable, IsEmpty}
-use Rattle.meaning_reports.specs.PackageReports.{IsFinding, AreFindings}
+use Rattle.meaning_reports.specs.PackageTables.{IsTableBy, IsEmpty}
+use Rattle.meaning_reports.specs.PackageReports.{Rules, IsFindingBy, AreFindingsBy}
 use Rattle.all_packages.specs.declared.judged.Around.{Around}
 use Rattle.all_packages.specs.declared.judged.Judged.{Judged}
 
@@ -25,10 +25,7 @@ table_view judged = record { signatures = facts_by_name judged.table.signatures;
 abbrev pub entries_of : Judged → List Entry
 entries_of judged = map entry_of judged.report.diagnostics.items
 
--- something is to be said of the package
-pub record HasFinding (ps : List LoadedPackage) (tables : Tables) (i : ℕ) : Type 0 where
-  pub entry : Entry
-  pub is_finding : IsFinding ps tables i entry
+-- What is known around a package
 
 -- what is kept of the packages around one
 pub record Surroundings : Type 0 where
@@ -37,21 +34,14 @@ pub record Surroundings : Type 0 where
   pub calls : List ℕ → Flags
   pub unranked : List ℕ → Option ℕ
   pub unranked_marks : List Bool
-  pub places : List ℕ → Option ℕ
-  pub marks : List Bool
 
--- it is what is known of those around the package of the place `i`
-pub record KnownAround
-    (ps : List LoadedPackage) (tables : Tables) (i : ℕ) (p : LoadedPackage) (around : Surroundings)
+-- it is what is known of those around the package
+pub record KnownAround (ps : List LoadedPackage) (tables : Tables) (p : LoadedPackage) (around : Surroundings)
     : Type 0 where
   pub are_names : (path : List ℕ) → around.names path ≡ package_names ps path
   pub are_signatures : (path name : List ℕ) → around.signatures path name ≡ imported_signatures p tables path name
   pub are_calls : (path name : List ℕ) (k : ℕ) → around.calls path name k ≡ imported_flags p tables path name k
   pub is_order : TellsOrder ps around.unranked around.unranked_marks
-  pub are_places : (path : List ℕ) → around.places path ≡ place_from path (import_list ps) 0
-  -- the imports that aren't yes are marked
-  pub are_not_yes : (j : ℕ) → Imports (import_list ps) i j
-      → (is_set (slice_get around.marks j) ≡ true) ↔ HasFinding ps tables j
 
 abbrev pub around_view : Around → Surroundings
 around_view around = record {
@@ -60,18 +50,39 @@ around_view around = record {
   calls = flags_by_path around.calls.now;
   unranked = at_path around.unranked.places.now;
   unranked_marks = around.unranked.marks.now;
-  places = at_path around.not_yes.places.now;
-  marks = around.not_yes.marks.now;
 }
 
-abbrev pub TellsAround : List LoadedPackage → Tables → ℕ → LoadedPackage → Around → Type 0
-TellsAround ps tables i p around = KnownAround ps tables i p (around_view around)
+abbrev pub TellsAround : List LoadedPackage → Tables → LoadedPackage → Around → Type 0
+TellsAround ps tables p around = KnownAround ps tables p (around_view around)
 
--- what is found is what is to be said of the package, and its table
-pub record IsJudgment (ps : List LoadedPackage) (tables : Tables) (i : ℕ) (p : LoadedPackage) (judged : Judged)
+-- Which of its imports are not yes
+
+-- something is to be said of the package
+pub record HasFinding (rules : Rules) (ps : List LoadedPackage) (tables : Tables) (i : ℕ) : Type 0 where
+  pub entry : Entry
+  pub is_finding : IsFindingBy rules ps tables i entry
+
+-- the imports of the package of the place `i` that aren't yes are marked
+pub record AreMarked
+    (rules : Rules) (ps : List LoadedPackage) (tables : Tables) (i : ℕ)
+    (places : List ℕ → Option ℕ) (marks : List Bool)
     : Type 0 where
-  pub is_table : IsTable ps tables i p (table_view judged)
-  pub are_findings : AreFindings ps tables i (entries_of judged)
+  pub are_places : (path : List ℕ) → places path ≡ place_from path (import_list ps) 0
+  pub are_not_yes : (j : ℕ) → Imports (import_list ps) i j
+      → (is_set (slice_get marks j) ≡ true) ↔ HasFinding rules ps tables j
+
+abbrev pub MarksNotYes : Rules → List LoadedPackage → Tables → ℕ → Around → Type 0
+MarksNotYes rules ps tables i around =
+    AreMarked rules ps tables i (at_path around.not_yes.places.now) around.not_yes.marks.now
+
+-- What is found
+
+-- it is what is to be said of the package, and its table
+pub record IsJudgment
+    (rules : Rules) (ps : List LoadedPackage) (tables : Tables) (i : ℕ) (p : LoadedPackage) (judged : Judged)
+    : Type 0 where
+  pub is_table : IsTableBy rules.are_flags ps tables i p (table_view judged)
+  pub are_findings : AreFindingsBy rules ps tables i (entries_of judged)
 
 -- the report has the package's path and its sources
 pub record TellsSources (loaded : KeptPackage) (judged : Judged) : Type 0 where

@@ -12,6 +12,7 @@ use Rattle.whole_packages.specs.LoadedViews.{TellPackages}
 use Rattle.whole_packages.specs.WholeEntries.{is_set, TellsOrder}
 use Rattle.report.specs.Entries.{Entry}
 use Rattle.meaning_reports.specs.Loaded.{LoadedPackage, PackageTable, Tables, import_list, name_in, package_names, no_table}
+use Rattle.meaning_reports.specs.PackageReports.{Rules}
 use Rattle.facts.specs.FactViews.{table_by_path}
 use Rattle.calls_flags.specs.KnownCalls.{called_by_path}
 use Rattle.all_packages.specs.Judgments.{table_view, entries_of, TellsSources, IsJudgment}
@@ -58,14 +59,15 @@ HasEntry entries = (x : Entry) × Contains entries x
 
 -- what was judged is judged right, and exactly the judged packages of which something is to be said are marked, and
 -- those without a rank
-pub record AreRight (ps : List LoadedPackage) (kept : List KeptPackage) (judged : JudgedByPath) (marks : List Bool)
+pub record AreRight
+    (rules : Rules) (ps : List LoadedPackage) (kept : List KeptPackage) (judged : JudgedByPath) (marks : List Bool)
     : Type 0 where
   pub are_told : (i : ℕ) (p : LoadedPackage) (k : KeptPackage) (j : Judged) → slice_get ps i ≡ Some p
       → slice_get kept i ≡ Some k
       → judged p.path ≡ Some j
       → TellsSources k j
   pub are_judgments : (i : ℕ) (p : LoadedPackage) (j : Judged) → slice_get ps i ≡ Some p → judged p.path ≡ Some j
-      → (tables : Tables) → Agrees ps judged tables → IsJudgment ps tables i p j
+      → (tables : Tables) → Agrees ps judged tables → IsJudgment rules ps tables i p j
   pub are_given : (path : List ℕ) (j : Judged) → judged path ≡ Some j
       → (i : ℕ) × (p : LoadedPackage) × (slice_get ps i ≡ Some p) × (p.path ≡ path)
   pub are_empty : (i : ℕ) (p : LoadedPackage) (j : Judged) → slice_get ps i ≡ Some p → judged p.path ≡ Some j
@@ -88,9 +90,10 @@ IsReady ps judged i = (j : ℕ) → Imports (import_list ps) i j
 
 -- the package was judged, and what was judged before still is
 pub record IsNext
-    (ps : List LoadedPackage) (kept : List KeptPackage) (before after : JudgedByPath) (marks : List Bool) (i : ℕ)
+    (rules : Rules) (ps : List LoadedPackage) (kept : List KeptPackage)
+    (before after : JudgedByPath) (marks : List Bool) (i : ℕ)
     : Type 0 where
-  pub are_right : AreRight ps kept after marks
+  pub are_right : AreRight rules ps kept after marks
   pub is_judged : WasJudged ps after i
   pub were_judged : (path : List ℕ) → is_some (before path) ≡ true → is_some (after path) ≡ true
 
@@ -121,15 +124,17 @@ pub record KnowsImports (judged : JudgedByPath) (paths : List (List ℕ)) (known
 
 -- all packages with a rank were judged
 pub record AreRankedJudged
-    (ps : List LoadedPackage) (kept : List KeptPackage) (ranked : List ℕ) (judged : JudgedByPath) (marks : List Bool)
+    (rules : Rules) (ps : List LoadedPackage) (kept : List KeptPackage) (ranked : List ℕ)
+    (judged : JudgedByPath) (marks : List Bool)
     : Type 0 where
-  pub are_right : AreRight ps kept judged marks
+  pub are_right : AreRight rules ps kept judged marks
   pub were_judged : (i : ℕ) → Contains ranked i → WasJudged ps judged i
 
 -- all packages were judged
-pub record AreAllJudged (ps : List LoadedPackage) (kept : List KeptPackage) (judged : JudgedByPath) (marks : List Bool)
+pub record AreAllJudged
+    (rules : Rules) (ps : List LoadedPackage) (kept : List KeptPackage) (judged : JudgedByPath) (marks : List Bool)
     : Type 0 where
-  pub are_right : AreRight ps kept judged marks
+  pub are_right : AreRight rules ps kept judged marks
   pub were_judged : (i : ℕ) → WasJudged ps judged i
 
 -- the mark of a package that was judged

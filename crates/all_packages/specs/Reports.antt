@@ -3,7 +3,7 @@ use Rattle.std.specs.Prelude.{ℕ, ◌≡◌, Bool, true, false, List, [], ◌�
 use Rattle.std.specs.List.{list_all}
 use Rattle.whole_packages.specs.declared.loaded_package.LoadedPackage.{LoadedPackage as KeptPackage}
 use Rattle.meaning_reports.specs.Loaded.{LoadedPackage}
-use Rattle.meaning_reports.specs.PackageReports.{Said, IsReportOf}
+use Rattle.meaning_reports.specs.PackageReports.{Rules, Said, IsReportBy, by_paths}
 use Rattle.whole_packages.specs.LoadedViews.{TellPackages, HaveDistinctPaths}
 use Rattle.report.specs.declared.diagnostics.Diagnostic.{Diagnostic}
 use Rattle.report.specs.declared.diagnostics.PackageReport.{PackageReport}
@@ -23,10 +23,14 @@ said_view judged = record {
 }
 
 -- what is said is the report of the packages, each with its sources
-pub record AreReports (ps : List LoadedPackage) (kept : List KeptPackage) (said : List Judged) : Type 0 where
-  pub is_report : IsReportOf ps (map said_view said)
+pub record AreReportsBy (rules : Rules) (ps : List LoadedPackage) (kept : List KeptPackage) (said : List Judged)
+    : Type 0 where
+  pub is_report : IsReportBy rules ps (map said_view said)
   pub are_told : (i : ℕ) (k : KeptPackage) (j : Judged) → slice_get kept i ≡ Some k → slice_get said i ≡ Some j
       → TellsSources k j
+
+abbrev pub AreReports : List LoadedPackage → List KeptPackage → List Judged → Type 0
+AreReports = AreReportsBy by_paths
 
 -- there is nothing to say of the package
 abbrev pub says_nothing : List Diagnostic → Bool
@@ -42,7 +46,13 @@ pub record IsTold (said : List Judged) (report : Report) : Type 0 where
   pub verdict : report.yes ≡ list_all is_yes (map report_in said)
 
 -- it is the report of the packages that are kept so, whichever these are
-pub record TellsReport (kept : List KeptPackage) (report : Report) : Type 0 where
+pub record TellsReportBy (rules : Rules) (kept : List KeptPackage) (report : Report) : Type 0 where
   pub said : List Judged
-  pub are_reports : (ps : List LoadedPackage) → TellPackages ps kept → HaveDistinctPaths ps → AreReports ps kept said
+  pub are_reports : (ps : List LoadedPackage)
+      → TellPackages ps kept
+      → HaveDistinctPaths ps
+      → AreReportsBy rules ps kept said
   pub told : IsTold said report
+
+abbrev pub TellsReport : List KeptPackage → Report → Type 0
+TellsReport = TellsReportBy by_paths

@@ -7,14 +7,14 @@ use Rattle.calls_flags.specs.ToldFiles.{TellAllSeen}
 use Rattle.calls_flags.specs.FilesBodies.{HaveBodies, with_all_credits}
 use Rattle.meaning_packages.specs.CallsFlags.{FileWithCredits, AreMost}
 use Rattle.meaning_reports.specs.Loaded.{LoadedPackage, Tables, imported_flags, seen_files, signatures_of}
-use Rattle.meaning_reports.specs.PackageReports.{IsFinding}
-use Rattle.meaning_reports.specs.PackageTables.{IsJudged}
+use Rattle.meaning_reports.specs.PackageReports.{Rules, IsFindingBy}
 use Rattle.meaning_reports.specs.WholeFaults.{IsWholeFault, HasNoWholeFault}
 use Rattle.report.specs.Entries.{Entry, entry_of}
 use Rattle.all_packages.specs.declared.grounds.Grounds.{Grounds}
 use Rattle.all_packages.specs.declared.grounds.Grounds.TheVariants.{WholeFaults, Told}
 use Rattle.all_packages.specs.declared.told_package.ToldPackage.{ToldPackage}
 use Rattle.all_packages.specs.declared.told_package.PackageBodies.{PackageBodies}
+use Rattle.all_packages.specs.declared.file_rules.FoundFiles.{FoundFiles}
 use Rattle.all_packages.specs.declared.judged.FoundPackage.{FoundPackage}
 
 -- what is kept are the signatures of its functions, and what was told of its files as they were seen
@@ -50,11 +50,16 @@ pub record HasPackageBodies
   pub are_bodies : HaveBodies (seen_files ps tables p) bodies.files.items
   pub are_flags : AreMost (files_of ps tables p bodies) (imported_flags p tables) (is_called bodies.called)
 
--- what was found is what is to be said of the package, which is judged by these files and flags
-pub record IsFoundPackage
-    (ps : List LoadedPackage) (tables : Tables) (i : ℕ) (p : LoadedPackage) (found : FoundPackage)
+-- what was found is what the rules say of the package's files, and the flags that it has by them
+pub record AreFoundFiles
+    (rules : Rules) (ps : List LoadedPackage) (tables : Tables) (i : ℕ) (p : LoadedPackage) (found : FoundFiles)
     : Type 0 where
-  pub files : List FileWithCredits
-  pub is_judged : IsJudged ps tables i p files (is_called found.called)
-  pub each : (x : Entry)
-      → Contains (map entry_of found.diagnostics.items) x ↔ IsFinding ps tables i x
+  pub are_flags : rules.are_flags ps tables i p (is_called found.called)
+  pub each : (x : Entry) → Contains (map entry_of found.diagnostics.items) x ↔ rules.says ps tables i x
+
+-- what was found is what is to be said of the package, and its flags
+pub record IsFoundPackage
+    (rules : Rules) (ps : List LoadedPackage) (tables : Tables) (i : ℕ) (p : LoadedPackage) (found : FoundPackage)
+    : Type 0 where
+  pub are_flags : rules.are_flags ps tables i p (is_called found.called)
+  pub each : (x : Entry) → Contains (map entry_of found.diagnostics.items) x ↔ IsFindingBy rules ps tables i x

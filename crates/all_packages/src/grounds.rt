@@ -33,7 +33,7 @@ fn named_grounds<'a>(
     around: Around<'_, 'a>,
 ) -> Result<Grounds<'a>, AllocError>
     ensures { IfOk result (λ grounds. (ps : List MeantPackage) (tables : Tables) (i : ℕ) (p : MeantPackage)
-        → slice_get ps i ≡ Some p → TellsPackage p loaded.now → TellsAround ps tables i p around.entry
+        → slice_get ps i ≡ Some p → TellsPackage p loaded.now → TellsAround ps tables p around.entry
         → ((file at : ℕ) → declared_at names.now file at ≡ means_in ps p file at)
         → second_function (trees_of p) ≡ None
         → AreGrounds ps tables i p grounds) }
@@ -54,7 +54,7 @@ fn second_grounds<'a>(
     around: Around<'_, 'a>,
 ) -> Result<Grounds<'a>, AllocError>
     ensures { IfOk result (λ grounds. (ps : List MeantPackage) (tables : Tables) (i : ℕ) (p : MeantPackage)
-        → slice_get ps i ≡ Some p → TellsPackage p loaded.now → TellsAround ps tables i p around.entry
+        → slice_get ps i ≡ Some p → TellsPackage p loaded.now → TellsAround ps tables p around.entry
         → second_function (trees_of p) ≡ Some (second_view second.entry)
         → AreGrounds ps tables i p grounds) }
 {
@@ -73,7 +73,7 @@ pub fn find_grounds<'a>(
     around: Around<'_, 'a>,
 ) -> Result<Grounds<'a>, AllocError>
     ensures { IfOk result (λ grounds. (ps : List MeantPackage) (tables : Tables) (i : ℕ) (p : MeantPackage)
-        → slice_get ps i ≡ Some p → TellsPackage p loaded.now → TellsAround ps tables i p around.entry
+        → slice_get ps i ≡ Some p → TellsPackage p loaded.now → TellsAround ps tables p around.entry
         → AreGrounds ps tables i p grounds) }
 {
     match resolve(alloc, &loaded.trees, around.names) {
@@ -96,7 +96,7 @@ pub fn told_of<'a>(
     around: Around<'_, 'a>,
 ) -> Result<Option<ToldPackage<'a>>, AllocError>
     ensures { IfOk result (λ told. (ps : List MeantPackage) (tables : Tables) (i : ℕ) (p : MeantPackage)
-        → slice_get ps i ≡ Some p → TellsPackage p loaded.now → TellsAround ps tables i p around.entry
+        → slice_get ps i ≡ Some p → TellsPackage p loaded.now → TellsAround ps tables p around.entry
         → IsToldIf ps tables i p told) }
 {
     match find_grounds(alloc, loaded, around)? {

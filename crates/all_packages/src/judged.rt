@@ -2,18 +2,18 @@
 
 ghost use Rattle.std.specs.Prelude.{◌≡◌, ◌↔◌, ℕ, List, IfOk, Some, map, slice_get, Contains, string_bytes};
 ghost use Rattle.std.specs.List.{AllPairs};
-ghost use Rattle.all_packages.specs.Judgments.{IsJudgment, IsWholeOnly, TellsAround, TellsSources};
+ghost use Rattle.all_packages.specs.Judgments.{IsJudgment, IsWholeOnly, MarksNotYes, TellsAround, TellsSources};
 ghost use Rattle.all_packages.specs.ToldPackages.{IsToldPackage, IsFoundPackage};
 ghost use Rattle.whole_packages.specs.LoadedViews.{TellsPackage};
 ghost use Rattle.report.specs.Entries.{Entry, Precedes, entry_of};
 ghost use Rattle.meaning_reports.specs.Loaded.{LoadedPackage as MeantPackage, Tables};
 ghost use Rattle.meaning_reports.specs.WholeFaults.{HasNoWholeFault};
 
+use crate::file_rules::{FileRules, FoundFiles};
 use crate::grounds::{Grounds, find_grounds};
-use crate::told_package::{PackageBodies, ToldPackage, package_bodies};
-use calls_flags::{Called, ImportedCalls, KnownCalls};
+use crate::told_package::ToldPackage;
+use calls_flags::{Called, ImportedCalls};
 use facts::{Imported, Table};
-use findings::find_faults;
 use names::PackageNames;
 use report::{Diagnostic, DiagnosticCode, PackageReport, in_order};
 use std::alloc::{AllocError, Global};
@@ -92,24 +92,24 @@ fn whole_only<'a>(
 
 /// Finds what is to be said of a package that has no fault as a whole and was told of, and which of their parameters
 /// its functions are known to call.
-fn find_in_package<'a>(
+fn find_in_package<'a, R: FileRules>(
     alloc: Global,
     loaded: &'a LoadedPackage,
     told: &ToldPackage<'a>,
     around: Around<'_, 'a>,
+    rules: &R,
 ) -> Result<FoundPackage<'a>, AllocError>
     ensures { IfOk result (λ found. (ps : List MeantPackage) (tables : Tables) (i : ℕ) (p : MeantPackage)
-        → slice_get ps i ≡ Some p → TellsPackage p loaded.now → TellsAround ps tables i p around.entry
+        → slice_get ps i ≡ Some p → TellsPackage p loaded.now → TellsAround ps tables p around.entry
+        → MarksNotYes (R.rules rules.now) ps tables i around.entry
         → IsToldPackage ps tables p told.now
         → HasNoWholeFault ps i
-        → IsFoundPackage ps tables i p found) }
+        → IsFoundPackage (R.rules rules.now) ps tables i p found) }
 {
-    let PackageBodies { files, called } = package_bodies(alloc, told, around.calls)?;
-    let calls = KnownCalls {
-        own: &called,
-        imported: around.calls,
-    };
-    let mut diagnostics = find_faults(alloc, &files, calls)?;
+    let FoundFiles {
+        mut diagnostics,
+        called,
+    } = rules.find(alloc, loaded, told, around)?;
     let trees = numbered_trees(alloc, loaded)?;
     add_imports(
         around.not_yes,
@@ -124,22 +124,24 @@ fn find_in_package<'a>(
 }
 
 /// Judges a package that has no fault as a whole and was told of.
-fn judge_told<'a>(
+fn judge_told<'a, R: FileRules>(
     alloc: Global,
     loaded: &'a LoadedPackage,
     told: ToldPackage<'a>,
     around: Around<'_, 'a>,
+    rules: &R,
 ) -> Result<Judged<'a>, AllocError>
     ensures told { IfOk result (TellsSources loaded.now) }
     ensures judged { IfOk result (λ judged. (ps : List MeantPackage) (tables : Tables) (i : ℕ) (p : MeantPackage)
-        → slice_get ps i ≡ Some p → TellsPackage p loaded.now → TellsAround ps tables i p around.entry
+        → slice_get ps i ≡ Some p → TellsPackage p loaded.now → TellsAround ps tables p around.entry
+        → MarksNotYes (R.rules rules.now) ps tables i around.entry
         → HasNoWholeFault ps i → IsToldPackage ps tables p told.entry
-        → IsJudgment ps tables i p judged) }
+        → IsJudgment (R.rules rules.now) ps tables i p judged) }
 {
     let FoundPackage {
         diagnostics,
         called,
-    } = find_in_package(alloc, loaded, &told, around)?;
+    } = find_in_package(alloc, loaded, &told, around, rules)?;
     let ToldPackage { signatures, .. } = told;
     Ok(Judged {
         report: report_of(loaded, diagnostics),
@@ -152,18 +154,20 @@ fn judge_told<'a>(
 /// # Errors
 ///
 /// Memory was refused.
-pub fn judge<'a>(
+pub fn judge<'a, R: FileRules>(
     alloc: Global,
     loaded: &'a LoadedPackage,
     around: Around<'_, 'a>,
+    rules: &R,
 ) -> Result<Judged<'a>, AllocError>
     ensures told { IfOk result (TellsSources loaded.now) }
     ensures judged { IfOk result (λ judged. (ps : List MeantPackage) (tables : Tables) (i : ℕ) (p : MeantPackage)
-        → slice_get ps i ≡ Some p → TellsPackage p loaded.now → TellsAround ps tables i p around.entry
-        → IsJudgment ps tables i p judged) }
+        → slice_get ps i ≡ Some p → TellsPackage p loaded.now → TellsAround ps tables p around.entry
+        → MarksNotYes (R.rules rules.now) ps tables i around.entry
+        → IsJudgment (R.rules rules.now) ps tables i p judged) }
 {
     match find_grounds(alloc, loaded, around)? {
         Grounds::WholeFaults(faults) => Ok(whole_only(alloc, loaded, faults)),
-        Grounds::Told(told) => judge_told(alloc, loaded, told, around),
+        Grounds::Told(told) => judge_told(alloc, loaded, told, around, rules),
     }
 }

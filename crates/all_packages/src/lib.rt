@@ -2,6 +2,8 @@
 //! `meaning_reports/specs/PackageReports.antt` and `meaning_reports/specs/PackageTables.antt`.
 #![tactic(auto)]
 
+mod by_paths;
+mod file_rules;
 mod given;
 mod grounds;
 mod judged;
@@ -13,8 +15,10 @@ mod reports;
 mod tables;
 mod told_package;
 
-pub use judged::{Judged, PackageTable};
-pub use packages::{JudgedBy, JudgedPackages, judge_packages};
-pub use reports::{Report, whole_report};
+pub use by_paths::ByPaths;
+pub use file_rules::{FileRules, FoundFiles};
+pub use judged::{Around, Judged, PackageTable};
+pub use packages::{JudgedBy, JudgedPackages, judge_packages, judge_packages_by};
+pub use reports::{Report, whole_report, whole_report_by};
 pub use tables::final_tables;
 pub use told_package::ToldPackage;

@@ -1,15 +1,17 @@
 //! All packages, one after another.
 
 ghost use Rattle.std.specs.Prelude.{◌≡◌, ℕ, List, Option, IfOk, OnOk, Some, slice_get};
-ghost use Rattle.all_packages.specs.JudgedPackages.{AreAll, IsFoundBy, IsJudgedBy};
+ghost use Rattle.all_packages.specs.JudgedPackages.{AreAll, AreAllBy, IsFoundBy, IsJudgedBy};
 ghost use Rattle.all_packages.specs.Judgments.{IsJudgment, TellsAround, TellsSources};
 ghost use Rattle.all_packages.specs.Progress.{judged_in, marks_in, Agrees, AreRight, AreRankedJudged, AreAllJudged, IsNext, IsReady, JudgedByPath, KnowsImports, TellsGiven};
-ghost use Rattle.all_packages.specs.Reports.{AreReports};
+ghost use Rattle.all_packages.specs.Reports.{AreReports, AreReportsBy};
 ghost use Rattle.imports.specs.Ranks.{IsOrder};
-ghost use Rattle.imports.specs.Views.{package_view};
+ghost use Rattle.imports.specs.Views.{at_path, package_view};
 ghost use Rattle.whole_packages.specs.LoadedViews.{HaveDistinctPaths, TellPackages, TellsPackage};
 ghost use Rattle.meaning_reports.specs.Loaded.{LoadedPackage as MeantPackage, Tables, import_list, imported_paths};
 
+use crate::by_paths::ByPaths;
+use crate::file_rules::FileRules;
 use crate::given::{Given, given_packages};
 use crate::grounds::told_of;
 use crate::judged::{Around, Judged, judge};
@@ -27,11 +29,12 @@ fn around<'k, 't, 'a>(
     imports: &'k KnownImports<'a, 't>,
     not_yes: &'k [bool],
 ) -> Around<'k, 'a>
-    ensures { (ps : List MeantPackage) (tables : Tables) (i : ℕ) (p : MeantPackage) (judged : JudgedByPath)
-        → TellsGiven ps given.now → slice_get ps i ≡ Some p → IsReady ps judged i
-        → AreRight ps given.now.packages.now judged not_yes.now → Agrees ps judged tables
+    ensures known { (ps : List MeantPackage) (tables : Tables) (i : ℕ) (p : MeantPackage) (judged : JudgedByPath)
+        → TellsGiven ps given.now → slice_get ps i ≡ Some p → IsReady ps judged i → Agrees ps judged tables
         → KnowsImports judged (imported_paths p) imports.now
-        → TellsAround ps tables i p result }
+        → TellsAround ps tables p result }
+    ensures places { at_path result.not_yes.places.now ≡ at_path given.now.places }
+    ensures marks { result.not_yes.marks.now ≡ not_yes.now }
 {
     Around {
         names: &given.names,
@@ -48,38 +51,52 @@ fn around<'k, 't, 'a>(
     }
 }
 
-/// Judges a package that imports these.
-fn judge_one<'a>(
+/// A package, and what it imports.
+#[derive(Clone, Copy)]
+struct Importer<'g, 'a> {
+    loaded: &'a LoadedPackage,
+    list: &'g ImportList<'a>,
+}
+
+/// Judges a package by what was judged before.
+fn judge_one<'a, R: FileRules>(
     alloc: Global,
     given: &Given<'a>,
-    loaded: &'a LoadedPackage,
-    list: &ImportList<'a>,
+    importer: Importer<'_, 'a>,
     progress: &Progress<'a>,
+    rules: &R,
 ) -> Result<Judged<'a>, AllocError>
-    ensures told { IfOk result (TellsSources loaded.now) }
+    ensures told { IfOk result (TellsSources importer.entry.loaded.now) }
     ensures judged { IfOk result (λ judged. (ps : List MeantPackage) (i : ℕ) (p : MeantPackage)
-        → TellsGiven ps given.now → slice_get ps i ≡ Some p → TellsPackage p loaded.now
-        → (package_view list.now).imports ≡ imported_paths p
+        → TellsGiven ps given.now → slice_get ps i ≡ Some p → TellsPackage p importer.entry.loaded.now
+        → (package_view importer.entry.list.now).imports ≡ imported_paths p
         → IsReady ps (judged_in progress.now) i
-        → AreRight ps given.now.packages.now (judged_in progress.now) (marks_in progress.now)
-        → (tables : Tables) → Agrees ps (judged_in progress.now) tables → IsJudgment ps tables i p judged) }
+        → AreRight (R.rules rules.now) ps given.now.packages.now (judged_in progress.now) (marks_in progress.now)
+        → (tables : Tables) → Agrees ps (judged_in progress.now) tables
+        → IsJudgment (R.rules rules.now) ps tables i p judged) }
 {
-    let imports = known_imports(alloc, &list.imports, &progress.judged)?;
-    judge(alloc, loaded, around(given, &imports, &progress.not_yes))
+    let imports = known_imports(alloc, &importer.list.imports, &progress.judged)?;
+    judge(
+        alloc,
+        importer.loaded,
+        around(given, &imports, &progress.not_yes),
+        rules,
+    )
 }
 
 /// Judges the package of that place, unless it was judged.
-fn judge_next<'a>(
+fn judge_next<'a, R: FileRules>(
     alloc: Global,
     given: &Given<'a>,
     place: usize,
     progress: &mut Progress<'a>,
+    rules: &R,
 ) -> Result<(), AllocError>
     ensures { OnOk result ((ps : List MeantPackage) → TellsGiven ps given.now → HaveDistinctPaths ps
         → IsReady ps (judged_in progress.old) place
-        → AreRight ps given.now.packages.now (judged_in progress.old) (marks_in progress.old)
-        → IsNext ps given.now.packages.now (judged_in progress.old) (judged_in progress.new) (marks_in progress.new)
-        place) }
+        → AreRight (R.rules rules.now) ps given.now.packages.now (judged_in progress.old) (marks_in progress.old)
+        → IsNext (R.rules rules.now) ps given.now.packages.now (judged_in progress.old) (judged_in progress.new)
+        (marks_in progress.new) place) }
 {
     let (Some(loaded), Some(list)) = (given.packages.get(place), given.lists.get(place)) else {
         return Ok(());
@@ -87,53 +104,62 @@ fn judge_next<'a>(
     if progress.judged.contains_key(loaded.path.as_str()) {
         return Ok(());
     }
-    let judged = judge_one(alloc, given, loaded, list, progress)?;
+    let judged = judge_one(alloc, given, Importer { loaded, list }, progress, rules)?;
     progress.keep(place, judged)
 }
 
 /// Judges the packages that have ranks, in the order of these.
-fn judge_ranked<'a>(
+fn judge_ranked<'a, R: FileRules>(
     alloc: Global,
     given: &Given<'a>,
     ranked: &[usize],
     progress: &mut Progress<'a>,
+    rules: &R,
 ) -> Result<(), AllocError>
     ensures { OnOk result ((ps : List MeantPackage) → TellsGiven ps given.now → HaveDistinctPaths ps
         → (rank : ℕ → Option ℕ) → IsOrder (import_list ps) rank ranked.now
-        → AreRight ps given.now.packages.now (judged_in progress.old) (marks_in progress.old)
-        → AreRankedJudged ps given.now.packages.now ranked.now (judged_in progress.new) (marks_in progress.new)) }
+        → AreRight (R.rules rules.now) ps given.now.packages.now (judged_in progress.old) (marks_in progress.old)
+        → AreRankedJudged (R.rules rules.now) ps given.now.packages.now ranked.now (judged_in progress.new)
+        (marks_in progress.new)) }
 {
     for place in ranked {
-        judge_next(alloc, given, *place, progress)?;
+        judge_next(alloc, given, *place, progress, rules)?;
     }
     Ok(())
 }
 
 /// Judges the packages that are left, where those that have ranks were judged.
-fn judge_rest<'a>(
+fn judge_rest<'a, R: FileRules>(
     alloc: Global,
     given: &Given<'a>,
     progress: &mut Progress<'a>,
+    rules: &R,
 ) -> Result<(), AllocError>
     ensures { OnOk result ((ps : List MeantPackage) → TellsGiven ps given.now → HaveDistinctPaths ps
         → (rank : ℕ → Option ℕ) (ranked : List ℕ) → IsOrder (import_list ps) rank ranked
-        → AreRankedJudged ps given.now.packages.now ranked (judged_in progress.old) (marks_in progress.old)
-        → AreAllJudged ps given.now.packages.now (judged_in progress.new) (marks_in progress.new)) }
+        → AreRankedJudged (R.rules rules.now) ps given.now.packages.now ranked (judged_in progress.old)
+        (marks_in progress.old)
+        → AreAllJudged (R.rules rules.now) ps given.now.packages.now (judged_in progress.new)
+        (marks_in progress.new)) }
 {
     for place in 0..given.packages.len() {
-        judge_next(alloc, given, place, progress)?;
+        judge_next(alloc, given, place, progress, rules)?;
     }
     Ok(())
 }
 
 /// Judges all packages: what each imports before it.
-fn judge_all<'a>(alloc: Global, given: &Given<'a>) -> Result<Progress<'a>, AllocError>
+fn judge_all<'a, R: FileRules>(
+    alloc: Global,
+    given: &Given<'a>,
+    rules: &R,
+) -> Result<Progress<'a>, AllocError>
     ensures { IfOk result (λ progress. (ps : List MeantPackage) → TellsGiven ps given.now → HaveDistinctPaths ps
-        → AreAllJudged ps given.now.packages.now (judged_in progress) (marks_in progress)) }
+        → AreAllJudged (R.rules rules.now) ps given.now.packages.now (judged_in progress) (marks_in progress)) }
 {
     let mut progress = Progress::new(alloc, &given.unranked)?;
-    judge_ranked(alloc, given, given.order.ranked(), &mut progress)?;
-    judge_rest(alloc, given, &mut progress)?;
+    judge_ranked(alloc, given, given.order.ranked(), &mut progress, rules)?;
+    judge_rest(alloc, given, &mut progress, rules)?;
     Ok(progress)
 }
 
@@ -144,7 +170,26 @@ pub struct JudgedPackages<'a> {
     progress: Progress<'a>,
 }
 
-/// Judges packages of different paths, each once.
+/// Judges packages of different paths, each once, and their files by these rules.
+///
+/// # Errors
+///
+/// Memory was refused.
+pub fn judge_packages_by<'a, R: FileRules>(
+    alloc: Global,
+    packages: &'a [LoadedPackage],
+    rules: &R,
+) -> Result<JudgedPackages<'a>, AllocError>
+    ensures packages { IfOk result (λ all. all.given.packages.now ≡ packages.now) }
+    ensures judged { IfOk result (λ all. (ps : List MeantPackage) → TellPackages ps packages.now
+        → HaveDistinctPaths ps → AreAllBy (R.rules rules.now) ps all) }
+{
+    let given = given_packages(alloc, packages)?;
+    let progress = judge_all(alloc, &given, rules)?;
+    Ok(JudgedPackages { given, progress })
+}
+
+/// Judges packages of different paths, each once, by the paths of bodies.
 ///
 /// # Errors
 ///
@@ -157,9 +202,7 @@ pub fn judge_packages<'a>(
     ensures judged { IfOk result (λ all. (ps : List MeantPackage) → TellPackages ps packages.now
         → HaveDistinctPaths ps → AreAll ps all) }
 {
-    let given = given_packages(alloc, packages)?;
-    let progress = judge_all(alloc, &given)?;
-    Ok(JudgedPackages { given, progress })
+    judge_packages_by(alloc, packages, &ByPaths)
 }
 
 /// What is said of a package that was judged, and what it was judged by.
@@ -229,7 +272,26 @@ impl<'a> JudgedPackages<'a> {
     }
 }
 
-/// Judges packages of different paths: what is to be said of each, in their order, and what is known of its functions.
+/// Judges packages of different paths, and their files by these rules: what is to be said of each, in their order, and
+/// what is known of its functions.
+///
+/// # Errors
+///
+/// Memory was refused.
+pub fn check_by<'a, R: FileRules>(
+    alloc: Global,
+    packages: &'a [LoadedPackage],
+    rules: &R,
+) -> Result<Vec<Judged<'a>>, AllocError>
+    ensures { IfOk result (λ found. (ps : List MeantPackage) → TellPackages ps packages.now → HaveDistinctPaths ps
+        → AreReportsBy (R.rules rules.now) ps packages.now found.items) }
+{
+    let JudgedPackages { progress, .. } = judge_packages_by(alloc, packages, rules)?;
+    let Progress { judged, .. } = progress;
+    in_their_order(alloc, packages, judged)
+}
+
+/// The same by the paths of bodies.
 ///
 /// # Errors
 ///
@@ -241,7 +303,5 @@ pub fn check<'a>(
     ensures { IfOk result (λ found. (ps : List MeantPackage) → TellPackages ps packages.now → HaveDistinctPaths ps
         → AreReports ps packages.now found.items) }
 {
-    let JudgedPackages { progress, .. } = judge_packages(alloc, packages)?;
-    let Progress { judged, .. } = progress;
-    in_their_order(alloc, packages, judged)
+    check_by(alloc, packages, &ByPaths)
 }

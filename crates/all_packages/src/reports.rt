@@ -2,11 +2,13 @@
 
 ghost use Rattle.std.specs.Prelude.{◌≡◌, IfOk, map};
 ghost use Rattle.std.specs.List.{list_all};
-ghost use Rattle.all_packages.specs.Reports.{is_yes, report_in, TellsReport};
+ghost use Rattle.all_packages.specs.Reports.{is_yes, report_in, TellsReport, TellsReportBy};
 ghost use Rattle.report.specs.ReportText.{report_text};
 
+use crate::by_paths::ByPaths;
+use crate::file_rules::FileRules;
 use crate::judged::Judged;
-use crate::packages::check;
+use crate::packages::check_by;
 use report::{PackageReport, PutFault, Sink, write_text};
 use std::alloc::{AllocError, Global};
 use whole_packages::LoadedPackage;
@@ -85,7 +87,26 @@ pub struct Report {
     pub yes: bool,
 }
 
-/// Judges packages of different paths, and tells what is to be said of them.
+/// Judges packages of different paths, and their files by these rules, and tells what is to be said of them.
+///
+/// # Errors
+///
+/// Memory was refused.
+pub fn whole_report_by<R: FileRules>(
+    alloc: Global,
+    packages: &[LoadedPackage],
+    rules: &R,
+) -> Result<Report, AllocError>
+    ensures { IfOk result (TellsReportBy (R.rules rules.now) packages.now) }
+{
+    let judged = check_by(alloc, packages, rules)?;
+    let reports = reports_of(alloc, judged)?;
+    let text = text_of(alloc, &reports)?;
+    let yes = are_yes(&reports);
+    Ok(Report { text, yes })
+}
+
+/// Judges packages of different paths by the paths of bodies, and tells what is to be said of them.
 ///
 /// # Errors
 ///
@@ -93,9 +114,5 @@ pub struct Report {
 pub fn whole_report(alloc: Global, packages: &[LoadedPackage]) -> Result<Report, AllocError>
     ensures { IfOk result (TellsReport packages.now) }
 {
-    let judged = check(alloc, packages)?;
-    let reports = reports_of(alloc, judged)?;
-    let text = text_of(alloc, &reports)?;
-    let yes = are_yes(&reports);
-    Ok(Report { text, yes })
+    whole_report_by(alloc, packages, &ByPaths)
 }

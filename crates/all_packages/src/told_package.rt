@@ -1,6 +1,6 @@
 //! What is told of a package without a fault as a whole, and the bodies of its files.
 
-ghost use Rattle.std.specs.Prelude.{◌≡◌, ℕ, List, IfOk, Some, slice_get};
+ghost use Rattle.std.specs.Prelude.{◌≡◌, ℕ, List, IfOk};
 ghost use Rattle.all_packages.specs.Judgments.{TellsAround};
 ghost use Rattle.all_packages.specs.ToldPackages.{IsToldPackage, HasPackageBodies};
 ghost use Rattle.calls_flags.specs.KnownCalls.{flags_by_path};
@@ -43,8 +43,8 @@ pub fn tell_package<'a>(
     names: &Names<'a>,
     around: Around<'_, 'a>,
 ) -> Result<ToldPackage<'a>, AllocError>
-    ensures { IfOk result (λ told. (ps : List MeantPackage) (tables : Tables) (i : ℕ) (p : MeantPackage)
-        → TellsPackage p loaded.now → TellsAround ps tables i p around.entry
+    ensures { IfOk result (λ told. (ps : List MeantPackage) (tables : Tables) (p : MeantPackage)
+        → TellsPackage p loaded.now → TellsAround ps tables p around.entry
         → ((file at : ℕ) → declared_at names.now file at ≡ means_in ps p file at)
         → IsToldPackage ps tables p told) }
 {

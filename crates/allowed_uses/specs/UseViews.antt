@@ -2,7 +2,7 @@
 use Rattle.std.specs.Prelude.{Bool, List, [], ◌∷◌, Option, Some, None}
 use Rattle.allowed_uses.specs.declared.allowed_use.Use.{Use as KeptUse}
 use Rattle.allowed_uses.specs.declared.allowed_use.Use.TheVariants.{NotAllowed, Silent, Does}
-use Rattle.tracked.specs.EventViews.{event_view}
+use Rattle.tracked_rows.specs.EventViews.{event_view}
 use Rattle.meaning.specs.Uses.{Event}
 
 abbrev pub use_view : KeptUse → Option (List Event)

@@ -1,10 +1,10 @@
 //! Whether a mention is allowed, and what it does then.
 
-ghost use Rattle.std.specs.Prelude.{◌≡◌, if◌then◌else◌};
+ghost use Rattle.std.specs.Prelude.{◌≡◌};
 ghost use Rattle.allowed_uses.specs.UseViews.{use_view, allowed_if};
-ghost use Rattle.tracked.specs.EventViews.{event_view};
+ghost use Rattle.tracked_rows.specs.EventViews.{event_view};
 
-use tracked::Event;
+use tracked_rows::Event;
 
 /// Whether a mention is allowed, and what it does then.
 #[derive(Drop)]

@@ -5,10 +5,11 @@ ghost use Rattle.std.specs.List.{list_all};
 ghost use Rattle.meaning.specs.Uses.{literals_between, is_deferred, is_deferred_use, is_member_of, is_started_by_it};
 ghost use Rattle.mentions.specs.MarkViews.{body_view, use_view};
 ghost use Rattle.tracked.specs.LocalViews.{local_view};
-ghost use Rattle.tracked.specs.RowViews.{known_view};
+ghost use Rattle.tracked_rows.specs.RowViews.{known_view};
 
 use mentions::{BodyPlace, LiteralUse};
-use tracked::{Known, Local, local_meant};
+use tracked::Local;
+use tracked_rows::{Known, local_meant};
 
 fn is_deferred(literal: LiteralUse<'_>) -> bool
     ensures { result ≡ is_deferred_use (use_view literal.entry) }

@@ -1,4 +1,4 @@
-//! Calls, passes and returns of cancel functions.
+//! Calls and passes of cancel functions. Their returns stand in `uses`, with the choice by the role.
 
 ghost use Rattle.std.specs.Prelude.{◌≡◌, false, option_map};
 ghost use Rattle.meaning.specs.Uses.{variable_at, has_its_arguments, cancel_called, cancel_passed};
@@ -6,7 +6,7 @@ ghost use Rattle.allowed_uses.specs.UseViews.{use_view};
 ghost use Rattle.facts.specs.FactViews.{type_view};
 ghost use Rattle.mentions.specs.MarkViews.{call_view, mention_view};
 ghost use Rattle.tracked.specs.LocalViews.{local_view};
-ghost use Rattle.tracked.specs.RowViews.{known_view};
+ghost use Rattle.tracked_rows.specs.RowViews.{known_view};
 
 use crate::allowed_use::Use;
 use crate::groups::only_argument;
@@ -14,7 +14,7 @@ use crate::local_mention::{LocalMention, variable_at};
 use crate::places::{has_no_argument, is_call_place, is_deferred_place, is_statement_place, takes};
 use facts::{CancelType, TrackedType};
 use mentions::Call;
-use tracked::{Event, Known, callee_of};
+use tracked_rows::{Event, Known, callee_of};
 
 /// `()`, or `(e)` where the function takes a cause.
 fn has_its_arguments(cancel_type: CancelType, call: Call<'_>) -> bool

@@ -1,18 +1,18 @@
 //! The results at which the returns of a body may hand cancel functions on.
 
-ghost use Rattle.std.specs.Prelude.{◌≡◌, ◌+◌, ◌==◌, ◌&&◌, IfOk, map, option_map};
+ghost use Rattle.std.specs.Prelude.{◌≡◌, ◌+◌, ◌==◌, ◌&&◌, IfOk, map};
 ghost use Rattle.facts.specs.FactViews.{type_view, cancel_result_view};
 ghost use Rattle.meaning.specs.FunctionFacts.{is_same_type};
 ghost use Rattle.meaning.specs.Uses.{named_gives, gives_of, body_gives, is_given_as, hands_on};
 ghost use Rattle.mentions.specs.MarkViews.{body_view};
-ghost use Rattle.tracked.specs.RowViews.{known_view, giving_view};
+ghost use Rattle.tracked_rows.specs.RowViews.{known_view, giving_view};
 ghost use Rattle.tree.specs.View.{identifier_syntax, signature_syntax};
 
 use facts::{CancelResult, CancelType, cancel_results, parameter_items};
 use mentions::BodyPlace;
 use names::INIT;
 use std::alloc::{AllocError, Global};
-use tracked::{Giving, Known};
+use tracked_rows::{Giving, Known};
 use tree::{BLANK, Identifier, Signature};
 
 /// Those of a function of that name: none that is called `_` or `init`.

@@ -6,7 +6,7 @@ ghost use Rattle.meaning.specs.Uses.{allowed_if, is_member_of, is_statement_plac
 ghost use Rattle.allowed_uses.specs.UseViews.{use_view};
 ghost use Rattle.mentions.specs.MarkViews.{body_view, call_view, mention_view};
 ghost use Rattle.tracked.specs.LocalViews.{local_view};
-ghost use Rattle.tracked.specs.RowViews.{known_view};
+ghost use Rattle.tracked_rows.specs.RowViews.{known_view};
 ghost use Rattle.tree.specs.View.{expression_syntax};
 
 use crate::allowed_use::{Use, allowed_if};
@@ -18,7 +18,7 @@ use crate::places::{
 };
 use facts::TrackedType;
 use mentions::{Call, is_body};
-use tracked::{Event, Known, callee_of, only};
+use tracked_rows::{Event, Known, callee_of, only};
 use tree::{Expr, ExprKind};
 
 /// The only argument of a call, where no `...` stands after it.

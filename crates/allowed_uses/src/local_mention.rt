@@ -3,11 +3,12 @@
 ghost use Rattle.std.specs.Prelude.{◌≡◌};
 ghost use Rattle.meaning.specs.Uses.{variable_at};
 ghost use Rattle.mentions.specs.MarkViews.{mention_view};
-ghost use Rattle.tracked.specs.EventViews.{variable_view};
+ghost use Rattle.tracked_rows.specs.EventViews.{variable_view};
 ghost use Rattle.tracked.specs.LocalViews.{local_view};
 
 use mentions::{BodyPlace, Mention};
-use tracked::{Local, VariableAt};
+use tracked::Local;
+use tracked_rows::VariableAt;
 
 /// A mention of a local, in the bodies around it, the innermost first.
 #[derive(Clone, Copy)]

@@ -4,12 +4,12 @@ ghost use Rattle.std.specs.Prelude.{◌≡◌};
 ghost use Rattle.meaning.specs.Uses.{is_value_place, is_statement_place, is_item_place, is_deferred_place, is_statement_or_value, is_call_place, is_empty, has_no_argument, takes};
 ghost use Rattle.facts.specs.FactViews.{tracked_type_view};
 ghost use Rattle.mentions.specs.MarkViews.{place_view, call_view};
-ghost use Rattle.tracked.specs.RowViews.{known_view};
+ghost use Rattle.tracked_rows.specs.RowViews.{known_view};
 ghost use Rattle.tree.specs.View.{expressions_syntax};
 
 use facts::TrackedType;
 use mentions::{Call, CallPlace};
-use tracked::{Known, facts_of, is_binding_form};
+use tracked_rows::{Known, facts_of, is_binding_form};
 use tree::Expr;
 
 /// `:=`, `=` and `var` have a value that stands as a whole; `const` has none.

@@ -1,6 +1,6 @@
 -- The graph of a body of a file that was told of. What its nodes do stands for events of the definitions.
 use Rattle.std.specs.Prelude.{[], ◌≡◌, map}
-use Rattle.tracked.specs.EventViews.{event_view}
+use Rattle.tracked_rows.specs.EventViews.{event_view}
 use Rattle.bodies.specs.declared.node.NodeEvent.{NodeEvent}
 use Rattle.bodies.specs.declared.node.NodeEvent.TheVariants.{Other, FallsOff, Does}
 use Rattle.meaning.specs.Code.{Occurrence, Code}

@@ -1,6 +1,6 @@
 //! What nodes do.
 
-use tracked::Event;
+use tracked_rows::Event;
 
 /// What a node of a body's graph does.
 #[derive(Clone, Copy)]

@@ -5,7 +5,7 @@ ghost use Rattle.facts.specs.FactViews.{facts_view, facts_by_name};
 ghost use Rattle.bodies.specs.Bodies.{TellsBody, TellBodies};
 ghost use Rattle.calls_flags.specs.Claims.{claim_view, claimed_as, variable_claims, claims_with, body_claims, bodies_claims, all_claims, function_name};
 ghost use Rattle.calls_flags.specs.FilesBodies.{TellAll};
-ghost use Rattle.meaning.specs.BodyEvents.{variables_of, bodies_of};
+ghost use Rattle.meaning.specs.BodyEvents.{variables_of};
 ghost use Rattle.meaning.specs.Mentions.{BodyPlace as MeantBody};
 ghost use Rattle.meaning.specs.Uses.{Seen};
 ghost use Rattle.mentions.specs.MarkViews.{body_view};

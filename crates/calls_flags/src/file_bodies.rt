@@ -1,6 +1,6 @@
 //! The bodies of each file of a package.
 
-ghost use Rattle.std.specs.Prelude.{ℕ, List, IfOk};
+ghost use Rattle.std.specs.Prelude.{List, IfOk};
 ghost use Rattle.calls_flags.specs.FilesBodies.{HasBodies, HaveBodies};
 ghost use Rattle.calls_flags.specs.ToldFiles.{TellsSeen, TellAllSeen};
 ghost use Rattle.meaning.specs.Uses.{Seen};

@@ -8,7 +8,7 @@ ghost use Rattle.names.specs.Maps.{only_at};
 use credits::Calls;
 use indexmap::{IndexMap, IndexSet};
 use std::alloc::{AllocError, Global};
-use tracked::Callee;
+use tracked_rows::Callee;
 
 /// A parameter of a function of a package: the function's name and the parameter's position from 0. A receiver has no
 /// position.

@@ -1,11 +1,10 @@
 //! The most flags that are consistent, found in rounds.
 
-ghost use Rattle.std.specs.Prelude.{◌≡◌, ◌≤◌, ◌||◌, ℕ, List, IfOk, OnOk, length, map};
+ghost use Rattle.std.specs.Prelude.{◌≡◌, ◌≤◌, ℕ, List, IfOk, length, map};
 ghost use Rattle.facts.specs.FactViews.{facts_by_name};
 ghost use Rattle.calls_flags.specs.Claims.{claim_view, flags_claimed, AreClaims, HaveFacts, KeepsClaim, Sieves};
 ghost use Rattle.calls_flags.specs.KnownCalls.{is_called, flags_by_path, known_calls};
 ghost use Rattle.calls_flags.specs.FilesBodies.{TellAll};
-ghost use Rattle.meaning.specs.FunctionFacts.{FunctionFacts};
 ghost use Rattle.meaning_packages.specs.CallsFlags.{AreMost, FileWithCredits, calls_by};
 
 use crate::claims::{Claim, find_claims};

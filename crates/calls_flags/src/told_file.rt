@@ -1,12 +1,11 @@
 //! What is told of each file of a package.
 
-ghost use Rattle.std.specs.Prelude.{◌≡◌, ℕ, IfOk, map};
+ghost use Rattle.std.specs.Prelude.{IfOk, map};
 ghost use Rattle.facts.specs.FactViews.{facts_by_name, facts_by_path};
 ghost use Rattle.calls_flags.specs.ToldFiles.{TellsSeen, TellAllSeen};
 ghost use Rattle.meaning.specs.BodyEvents.{seen_file};
-ghost use Rattle.meaning.specs.Tracked.{Known as MeantKnown};
 ghost use Rattle.names.specs.Answers.{declared_at};
-ghost use Rattle.tracked.specs.RowViews.{known_view};
+ghost use Rattle.tracked_rows.specs.RowViews.{known_view};
 ghost use Rattle.tree.specs.View.{file_syntax};
 ghost use Rattle.meaning_reports.specs.Loaded.{seen_from};
 
@@ -14,7 +13,8 @@ use events::{Told, Variables, find_variables, tell};
 use facts::{Imported, Table};
 use names::Names;
 use std::alloc::{AllocError, Global};
-use tracked::{Known, see};
+use tracked::see;
+use tracked_rows::Known;
 use tree::File;
 
 /// A file that was told of: its events and use faults, and the variables of its bodies.

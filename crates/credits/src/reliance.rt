@@ -1,14 +1,14 @@
 //! What a body relies on.
 
 ghost use Rattle.std.specs.Prelude.{◌≡◌, ℕ, Bool};
-ghost use Rattle.tracked.specs.EventViews.{callee_view};
+ghost use Rattle.tracked_rows.specs.EventViews.{callee_view};
 ghost use Rattle.credits.specs.CreditViews.{has};
 ghost use Rattle.meaning.specs.Uses;
 ghost use Rattle.meaning_packages.specs.Credits.{promises_in, no_calls};
 
 use crate::table::Credits;
 use states::Promises;
-use tracked::Callee;
+use tracked_rows::Callee;
 
 /// What is known of functions.
 pub trait Calls {

@@ -1,6 +1,6 @@
 //! The variables that each literal settles.
 
-ghost use Rattle.std.specs.Prelude.{◌≡◌, ℕ, OnOk, false};
+ghost use Rattle.std.specs.Prelude.{◌≡◌, OnOk, false};
 ghost use Rattle.credits.specs.CreditViews.{has, HasNone, SettlesThese};
 
 use indexmap::IndexMap;

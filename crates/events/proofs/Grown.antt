@@ -9,8 +9,8 @@ use Rattle.meaning.specs.Uses.{Event, UseFault, is_body}
 use Rattle.meaning.specs.Mentions.{BodyPlace, Mention, Mark, mentions}
 use Rattle.meaning.specs.Tracked.{Known}
 use Rattle.meaning.specs.BodyEvents.{is_site, is_panic, panics_there}
-use Rattle.tracked.specs.declared.event.Event.{Event as KeptEvent}
-use Rattle.tracked.specs.EventViews.{event_view}
+use Rattle.tracked_rows.specs.declared.event.Event.{Event as KeptEvent}
+use Rattle.tracked_rows.specs.EventViews.{event_view}
 use Rattle.lists.specs.declared.Lists.{Lists}
 use Rattle.events.specs.declared.told.SiteEvent.{SiteEvent}
 use Rattle.events.specs.ToldViews.{if_there, events_of_site, events_in, has_panic, is_at, AddsSiteEvent, AddsEvent, AddsSite, AddsPanic}

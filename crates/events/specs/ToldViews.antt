@@ -5,7 +5,7 @@ use Rattle.lists.specs.declared.Lists.{Lists}
 use Rattle.lists.specs.ListViews.{items_at}
 use Rattle.events.specs.declared.told.SiteEvent.{SiteEvent}
 use Rattle.events.specs.declared.told.Told.{Told}
-use Rattle.tracked.specs.EventViews.{event_view}
+use Rattle.tracked_rows.specs.EventViews.{event_view}
 use Rattle.mentions.specs.MarkViews.{body_view}
 use Rattle.uses.specs.declared.faults.UseFault.{UseFault as KeptFault}
 use Rattle.uses.specs.OutcomeViews.{fault_view}

@@ -1,21 +1,22 @@
 //! What a mark adds to what is told of the bodies of its file.
 
 ghost use Rattle.std.specs.Prelude.{◌≡◌, ◌++◌, ℕ, OnOk, map};
-ghost use Rattle.tracked.specs.EventViews.{event_view};
+ghost use Rattle.tracked_rows.specs.EventViews.{event_view};
 ghost use Rattle.events.specs.ToldViews.{AddsMark, AddsFaultsOf, AddsInner, AddsSiteEvent, AddsEvent, AddsSite, AddsPanic, TellsNothing, is_at};
 ghost use Rattle.meaning.specs.BodyEvents.{opened_by};
 ghost use Rattle.tracked.specs.LocalViews.{seen_view, Sees};
 ghost use Rattle.meaning.specs.BodyEvents.{is_panic, is_site};
 ghost use Rattle.meaning.specs.Uses.{is_body};
 ghost use Rattle.mentions.specs.MarkViews.{body_view, mark_view, mention_view, role_view};
-ghost use Rattle.tracked.specs.RowViews.{known_view};
+ghost use Rattle.tracked_rows.specs.RowViews.{known_view};
 ghost use Rattle.uses.specs.OutcomeViews.{fault_view, AddsFaults, events_view};
 
 use allowed_uses::is_statement_place;
 use lists::Lists;
 use mentions::{BodyPlace, Mark, Mention, Role};
 use std::alloc::{AllocError, Global};
-use tracked::{Event, Known, Seen, is_of_universe};
+use tracked::Seen;
+use tracked_rows::{Event, Known, is_of_universe};
 use uses::{UseFault, mark_outcome};
 
 /// An event, and the offset of its statement, spec, header or clause.

@@ -1,6 +1,6 @@
 //! What is to be said of the files of a package.
 
-ghost use Rattle.std.specs.Prelude.{◌≡◌, ◌↔◌, ℕ, List, IfOk, OnOk, Contains, map};
+ghost use Rattle.std.specs.Prelude.{◌↔◌, ℕ, List, IfOk, OnOk, Contains, map};
 ghost use Rattle.bodies.specs.Bodies.{TellsBody};
 ghost use Rattle.calls_flags.specs.FilesBodies.{TellAll, TellsWithCredits};
 ghost use Rattle.calls_flags.specs.KnownCalls.{known_calls};

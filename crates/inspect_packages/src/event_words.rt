@@ -3,7 +3,7 @@
 use crate::page::{Page, place_of, push_variable};
 use bodies::NodeEvent;
 use std::alloc::AllocError;
-use tracked::{Event, GroupState, Handed};
+use tracked_rows::{Event, GroupState, Handed};
 
 /// What the node does, with the variables that it is about.
 ///

@@ -14,11 +14,12 @@ use Rattle.lexer.specs.declared.fault.LexFault.{LexFault}
 use Rattle.lexer.specs.declared.fault.LexFault.TheVariants as lex_fault
 use Rattle.lexer.specs.declared.source.Source.{Source}
 use Rattle.lexer.proofs.Outcomes.{one_outcome, one_fault}
-use Rattle.meaning.proofs.Membership.{contains_nil, contains_here, contains_there, contains_cases}
+use Rattle.meaning.proofs.Membership.{contains_nil, contains_cases}
 use Rattle.report.specs.declared.codes.TextFault.{TextFault}
 use Rattle.report.specs.declared.codes.TextFault.TheVariants.{NotUtf8, Nul, UnclosedString, UnclosedComment, UnclosedRune, UnknownCharacter, TooLong}
 use Rattle.tree_reader.proofs.OneTree.{one_tree}
 use Rattle.meaning_reports.specs.Loaded.{Reading, has_tree, has_text_fault, has_tree_fault, LoadedPackage}
+use Rattle.meaning_reports.proofs.EntryOrder.{AreInOrder, one_list}
 use Rattle.whole_packages.specs.declared.loaded_package.LoadedPackage.{LoadedPackage as KeptPackage}
 use Rattle.whole_packages.specs.LoadedViews.{HaveDistinctPaths}
 use Rattle.load.specs.GivenPackages.{Text, PathAndFiles, AreLoaded, IsLoadOf}
@@ -50,46 +51,6 @@ same_path a b h k = by (string_cmp a.0 b.0) refl
 
 not_both : (a b : PathAndFiles) → Before a b → Before b a → ⊥
 not_both a b h k = h.apart (same_path a b k.in_order h.in_order)
-
-abbrev Rising : List PathAndFiles → Type 0
-Rising [] = Unit {0}
-Rising (e ∷ es) = ((z : PathAndFiles) → Contains es z → Before e z) × Rising es
-
-same_first : (x y : PathAndFiles) (xs ys : List PathAndFiles) → Rising (x ∷ xs) → Rising (y ∷ ys)
-    → Contains (y ∷ ys) x
-    → Contains (x ∷ xs) y
-    → x ≡ y
-same_first x y xs ys h k there back = elim (contains_cases y x ys there) [
-  | inl same ↦ sym same
-  | inr later ↦ elim (contains_cases x y xs back) [
-    | inl same ↦ same
-    | inr behind ↦ absurd (not_both x y (h.0 y behind) (k.0 x later))
-  ]
-]
-
-later_too : (x y z : PathAndFiles) (xs ys : List PathAndFiles) → Rising (x ∷ xs) → x ≡ y → Contains xs z
-    → Contains (y ∷ ys) z
-    → Contains ys z
-later_too x y z xs ys h same among there = elim (contains_cases y z ys there) [
-  | inl first ↦
-      let itself = subst (λ (w : PathAndFiles). Before w z) (same ∙ first) (h.0 z among) in
-      absurd (not_both z z itself itself)
-  | inr later ↦ later
-]
-
-one_list : (xs ys : List PathAndFiles) → Rising xs → Rising ys
-    → ((z : PathAndFiles) → Contains xs z → Contains ys z)
-    → ((z : PathAndFiles) → Contains ys z → Contains xs z)
-    → xs ≡ ys
-one_list [] [] h k there back = refl
-one_list [] (y ∷ ys) h k there back = absurd (contains_nil y (back y (contains_here y ys)))
-one_list (x ∷ xs) [] h k there back = absurd (contains_nil x (there x (contains_here x xs)))
-one_list (x ∷ xs) (y ∷ ys) h k there back =
-    let same = same_first x y xs ys h k (there x (contains_here x xs)) (back y (contains_here y ys)) in
-    let rest = one_list xs ys h.1 k.1
-    (λ z among. later_too x y z xs ys h same among (there z (contains_there x z xs among)))
-    (λ z among. later_too y x z ys xs k (sym same) among (back z (contains_there y z ys among))) in
-    λ i. same i ∷ rest i
 
 index_of_path : (es : List PathAndFiles) (k : ℕ) (d : PathAndFiles)
     → slice_index_or (map path_of es) k (path_of d) ≡ path_of (slice_index_or es k d)
@@ -128,7 +89,7 @@ no_other_path e p (f ∷ es) (q ∷ ps) (k ∷ ks) is h others z among same = el
 rising : (es : List PathAndFiles) (ps : List LoadedPackage) (ks : List KeptPackage) → AreLoaded es ps ks
     → HaveDistinctPaths ps
     → IsSortedBy comes_first es
-    → Rising es
+    → AreInOrder Before es
 rising [] ps ks h d s = tt
 rising (e ∷ es) [] ks h d s = absurd h
 rising (e ∷ es) (p ∷ ps) [] h d s = absurd h
@@ -146,7 +107,7 @@ rising (e ∷ es) (p ∷ ps) (k ∷ ks) h d s = (
 pub one_order : (given : List PathAndFiles) (kept others : List KeptPackage) (h : IsLoadOf given kept) (k : IsLoadOf given others)
     → h.in_order ≡ k.in_order
 one_order given kept others h k =
-    one_list h.in_order k.in_order
+    one_list Before not_both h.in_order k.in_order
     (rising h.in_order h.meant kept h.are_loaded h.distinct (sorted_by_path h.in_order h.sorted))
     (rising k.in_order k.meant others k.are_loaded k.distinct (sorted_by_path k.in_order k.sorted))
     (λ z among. Contains-permutation given k.in_order z k.same

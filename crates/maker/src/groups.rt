@@ -10,7 +10,7 @@ use events::Variable;
 use facts::VariableKind;
 use flow::Graph;
 use std::alloc::{AllocError, Global};
-use tracked::Event;
+use tracked_rows::Event;
 
 /// The group in which a literal is started there.
 fn literal_group(event: NodeEvent<'_, '_>) -> Option<u32>

@@ -1,6 +1,6 @@
 //! What the events of nodes do to the flags of a variable.
 
-ghost use Rattle.std.specs.Prelude.{◌≡◌, ◌<◌, ℕ};
+ghost use Rattle.std.specs.Prelude.{◌≡◌, ◌<◌};
 ghost use Rattle.bodies.specs.NodeEvents.{node_event_view};
 ghost use Rattle.maker.specs.Flags.{cancel_step, cancel_width, group_step, group_width};
 ghost use Rattle.maker.specs.FlagLaws.{cancel_step-within, group_step-within};

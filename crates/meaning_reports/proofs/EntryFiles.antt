@@ -11,9 +11,9 @@ use Rattle.meaning_reports.specs.Loaded.{Reading, has_tree, has_text_fault, has_
 use Rattle.meaning.specs.Tracked.{Known}
 use Rattle.meaning_reports.specs.WholeFaults.{ImportsAt, IsWholeFault, has_no_tokens, has_no_tree, has_two_functions, has_no_rank}
 use Rattle.meaning_reports.specs.PackageTables.{AreCredited, no_file, file_and}
-use Rattle.meaning_reports.specs.PackageReports.{IsFileFinding, outside_bodies, of_use, of_path, IsFinding, of_whole, of_import, of_file}
+use Rattle.meaning_reports.specs.PackageReports.{IsFileFinding, outside_bodies, of_use, of_path, Rules, IsFindingBy, of_whole, of_import, of_files, SaysByPaths, by_paths}
 use Rattle.meaning_reports.proofs.NumberedTrees.{file_of}
-use Rattle.meaning_reports.specs.EntryFiles.{EntriesAreOfFiles}
+use Rattle.meaning_reports.specs.EntryFiles.{IsOfFile, AreSaidOfFiles, EntriesAreOfFilesBy, EntriesAreOfFiles}
 
 -- Numbers of trees
 
@@ -59,20 +59,32 @@ module _ (ps : List LoadedPackage) (i : ℕ) (p : LoadedPackage) (is : slice_get
       of_this q tree.file that (of_numbered q tree among)
   whole_within x (has_no_rank j file spec none_above none im) = of_spec j file spec im
 
-  finding_within : (tables : Tables) (x : Entry) → IsFinding ps tables i x → x.file < length p.files
-  finding_within tables x (of_whole fault) = whole_within x fault
-  finding_within tables x (of_import j number spec y none im found) = of_spec j number spec im
-  finding_within tables x (of_file flags number file h found) =
-      let judged = h.is_judged in
-      let own : number < length h.files = slice_get_within h.files number file h.is_file in
-      let seen = as_many_credited judged.are_files in
-      let trees : length (seen_files ps tables h.loaded) ≡ length (trees_of h.loaded) = as_many_seen (known_in ps tables h.loaded) 0 (trees_of h.loaded) in
-      let numbered : length (trees_of h.loaded) ≡ length (numbered_trees h.loaded) = length-map (numbered_trees h.loaded) (λ (t : NumberedTree). t.tree) in
-      let fewer = fewer_trees 0 h.loaded.files in
-      let its = its_number _ number file x found in
-      of_this h.loaded x.file judged.is_package (omega (arith, own, seen, trees, numbered, fewer, its))
+-- By any rules
+
+module _ (rules : Rules) (each : AreSaidOfFiles rules.says) where
+  finding_within : (ps : List LoadedPackage) (tables : Tables) (i : ℕ) (x : Entry) → IsFindingBy rules ps tables i x → IsOfFile ps i x
+  finding_within ps tables i x (of_whole fault) p is = whole_within ps i p is x fault
+  finding_within ps tables i x (of_import j number spec y none im found) p is = of_spec ps i p is j number spec im
+  finding_within ps tables i x (of_files none said) p is = each ps tables i x none said p is
+
+  pub entries_are_of_files_by : EntriesAreOfFilesBy rules
+  entries_are_of_files_by ps report p said x is_report of among =
+      let w = is_report.of_package of.place p said of.is_package of.is_said in
+      finding_within ps is_report.tables of.place x ((w.1.each x).0 among) p of.is_package
+
+-- By paths
+
+path_sayings : AreSaidOfFiles SaysByPaths
+path_sayings ps tables i x none said p is =
+    let h = said.is_of in
+    let judged = h.is_judged in
+    let own : said.number < length h.files = slice_get_within h.files said.number said.file h.is_file in
+    let seen = as_many_credited judged.are_files in
+    let trees : length (seen_files ps tables h.loaded) ≡ length (trees_of h.loaded) = as_many_seen (known_in ps tables h.loaded) 0 (trees_of h.loaded) in
+    let numbered : length (trees_of h.loaded) ≡ length (numbered_trees h.loaded) = length-map (numbered_trees h.loaded) (λ (t : NumberedTree). t.tree) in
+    let fewer = fewer_trees 0 h.loaded.files in
+    let its = its_number _ said.number said.file x said.is_finding in
+    of_this ps i p is h.loaded x.file judged.is_package (omega (arith, own, seen, trees, numbered, fewer, its))
 
 pub entries_are_of_files : EntriesAreOfFiles
-entries_are_of_files ps report p said x is_report of among =
-    let w = is_report.of_package of.place p said of.is_package of.is_said in
-    finding_within ps of.place p of.is_package is_report.tables x ((w.1.each x).0 among)
+entries_are_of_files = entries_are_of_files_by by_paths path_sayings

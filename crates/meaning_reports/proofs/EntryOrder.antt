@@ -1,10 +1,13 @@
--- Two lists of the same entries in the order of a report are one list.
-use Rattle.std.proofs.Common.{◌≡◌, ℕ, suc, inl, inr, List, [], ◌∷◌, Contains, refl, sym, ap, subst, arith}
+-- Two lists of the same elements in one order are one list. So are two lists of the same entries in the order of a
+-- report.
+use Rattle.std.proofs.Common.{◌≡◌, ℕ, suc, inl, inr, List, [], ◌∷◌, Contains, refl, sym, ap, ◌∙◌, subst, arith}
 use Rattle.std.specs.Prelude.{◌↔◌}
 use Rattle.std.specs.List.{AllPairs}
 use Rattle.meaning.proofs.Membership.{contains_nil, contains_here, contains_there, contains_cases}
 use Rattle.report.specs.Codes.{code_rank}
 use Rattle.report.specs.Entries.{Entry, TextPrecedes, Precedes, earlier_file, earlier_offset, earlier_code, earlier_name}
+
+-- No two entries come before each other
 
 not_both_texts : (xs ys : List ℕ) → TextPrecedes xs ys → TextPrecedes ys xs → ⊥
 not_both_texts [] [] h k = h
@@ -33,55 +36,64 @@ not_both a b (earlier_name f o c l) (earlier_offset g m) = omega (arith, o, m)
 not_both a b (earlier_name f o c l) (earlier_code g p m) = let same = ap code_rank c in omega (arith, m, same)
 not_both a b (earlier_name f o c l) (earlier_name g p d m) = not_both_texts a.name b.name l m
 
--- the order by recursion on the list
-abbrev AreInOrder : List Entry → Type 0
-AreInOrder [] = Unit {0}
-AreInOrder (x ∷ xs) = ((y : Entry) → Contains xs y → Precedes x y) × AreInOrder xs
+-- Two lists in one order
 
-in_order : (xs : List Entry) → AllPairs Precedes xs → AreInOrder xs
+module _ {X : Type 0} (Before : X → X → Type 0) where
+  -- the order by recursion on the list
+  abbrev pub AreInOrder : List X → Type 0
+  AreInOrder [] = Unit {0}
+  AreInOrder (x ∷ xs) = ((y : X) → Contains xs y → Before x y) × AreInOrder xs
+
+-- no two come before each other
+module _ {X : Type 0} (Before : X → X → Type 0) (not_both : (a b : X) → Before a b → Before b a → ⊥) where
+  same_first : (x y : X) (xs ys : List X) → AreInOrder Before (x ∷ xs) → AreInOrder Before (y ∷ ys)
+      → Contains (y ∷ ys) x
+      → Contains (x ∷ xs) y
+      → x ≡ y
+  same_first x y xs ys h k there back = elim (contains_cases y x ys there) [
+    | inl same ↦ sym same
+    | inr later ↦ elim (contains_cases x y xs back) [
+      | inl same ↦ same
+      | inr behind ↦ absurd (not_both x y (h.0 y behind) (k.0 x later))
+    ]
+  ]
+
+  -- a later one of the first list is a later one of the second
+  later_too : (x y z : X) (xs ys : List X) → AreInOrder Before (x ∷ xs) → x ≡ y → Contains xs z
+      → Contains (y ∷ ys) z
+      → Contains ys z
+  later_too x y z xs ys h same among there = elim (contains_cases y z ys there) [
+    | inl first ↦
+        let itself : Before z z = subst (λ (w : X). Before w z) (same ∙ first) (h.0 z among) in
+        absurd (not_both z z itself itself)
+    | inr later ↦ later
+  ]
+
+  pub one_list : (xs ys : List X) → AreInOrder Before xs → AreInOrder Before ys
+      → ((z : X) → Contains xs z → Contains ys z)
+      → ((z : X) → Contains ys z → Contains xs z)
+      → xs ≡ ys
+  one_list [] [] h k there back = refl
+  one_list [] (y ∷ ys) h k there back = absurd (contains_nil y (back y (contains_here y ys)))
+  one_list (x ∷ xs) [] h k there back = absurd (contains_nil x (there x (contains_here x xs)))
+  one_list (x ∷ xs) (y ∷ ys) h k there back =
+      let same = same_first x y xs ys h k (there x (contains_here x xs)) (back y (contains_here y ys)) in
+      let rest = one_list xs ys h.1 k.1
+      (λ z among. later_too x y z xs ys h same among (there z (contains_there x z xs among)))
+      (λ z among. later_too y x z ys xs k (sym same) among (back z (contains_there y z ys among))) in
+      λ i. same i ∷ rest i
+
+-- Entries in the order of a report
+
+in_order : (xs : List Entry) → AllPairs Precedes xs → AreInOrder Precedes xs
 in_order [] h = tt
 in_order (x ∷ xs) h = (
   λ y among. subst (Precedes x) among.2 (h 0 (suc among.0) y (omega arith) (omega (arith, among.1))),
   in_order xs λ i j d l m. h (suc i) (suc j) d (omega (arith, l)) (omega (arith, m)),
 )
 
-same_first : (x y : Entry) (xs ys : List Entry) → AreInOrder (x ∷ xs) → AreInOrder (y ∷ ys)
-    → Contains (y ∷ ys) x
-    → Contains (x ∷ xs) y
-    → x ≡ y
-same_first x y xs ys h k there back = elim (contains_cases y x ys there) [
-  | inl same ↦ sym same
-  | inr later ↦ elim (contains_cases x y xs back) [
-    | inl same ↦ same
-    | inr behind ↦ absurd (not_both x y (h.0 y behind) (k.0 x later))
-  ]
-]
-
--- a later one of the first list is a later one of the second
-later_too : (x y z : Entry) (xs ys : List Entry) → AreInOrder (x ∷ xs) → x ≡ y → Contains xs z → Contains (y ∷ ys) z
-    → Contains ys z
-later_too x y z xs ys h same among there = elim (contains_cases y z ys there) [
-  | inl first ↦
-      let again : Precedes x z = h.0 z among in
-      let itself : Precedes y z = subst (λ (w : Entry). Precedes w z) same again in
-      absurd (not_both z z (subst (λ (w : Entry). Precedes w z) first itself) (subst (λ (w : Entry). Precedes w z) first itself))
-  | inr later ↦ later
-]
-
-one_list : (xs ys : List Entry) → AreInOrder xs → AreInOrder ys → ((z : Entry) → Contains xs z → Contains ys z)
-    → ((z : Entry) → Contains ys z → Contains xs z)
-    → xs ≡ ys
-one_list [] [] h k there back = refl
-one_list [] (y ∷ ys) h k there back = absurd (contains_nil y (back y (contains_here y ys)))
-one_list (x ∷ xs) [] h k there back = absurd (contains_nil x (there x (contains_here x xs)))
-one_list (x ∷ xs) (y ∷ ys) h k there back =
-    let same = same_first x y xs ys h k (there x (contains_here x xs)) (back y (contains_here y ys)) in
-    let rest = one_list xs ys h.1 k.1
-    (λ z among. later_too x y z xs ys h same among (there z (contains_there x z xs among)))
-    (λ z among. later_too y x z ys xs k (sym same) among (back z (contains_there y z ys among))) in
-    λ i. same i ∷ rest i
-
 pub one_order : (xs ys : List Entry) → AllPairs Precedes xs → AllPairs Precedes ys
     → ((z : Entry) → Contains xs z ↔ Contains ys z)
     → xs ≡ ys
-one_order xs ys h k same = one_list xs ys (in_order xs h) (in_order ys k) (λ z. (same z).0) (λ z. (same z).1)
+one_order xs ys h k same =
+    one_list Precedes not_both xs ys (in_order xs h) (in_order ys k) (λ z. (same z).0) (λ z. (same z).1)

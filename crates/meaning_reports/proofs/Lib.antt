@@ -1,4 +1,4 @@
-mod EntryFiles
+pub mod EntryFiles
 pub mod EntryOrder
 pub mod ImportsOf
 pub mod NumberedTrees

@@ -11,9 +11,9 @@ use Rattle.imports.proofs.GivenImports.{first_there}
 use Rattle.report.specs.Entries.{Entry}
 use Rattle.meaning_reports.specs.Loaded.{LoadedPackage, PackageTable, Tables, no_table, is_imported, imported_tables, imported_paths, import_list, means_in, signatures_of, trees_of, seen_from}
 use Rattle.meaning_reports.specs.WholeFaults.{HasNoWholeFault}
-use Rattle.meaning_reports.specs.PackageTables.{AreCredited, IsJudged, IsEmpty, IsTable, empty, full, AreTables}
-use Rattle.meaning_reports.specs.PackageReports.{AreFindings, Said}
-use Rattle.meaning_reports.specs.OneReport.{OneReport}
+use Rattle.meaning_reports.specs.PackageTables.{AreCredited, IsEmpty, FlagsRule, IsTableBy, empty, full, AreTablesBy, AreFlagsByPaths}
+use Rattle.meaning_reports.specs.PackageReports.{Rules, AreFindingsBy, Said, by_paths}
+use Rattle.meaning_reports.specs.OneReport.{AreDetermined, OneReportBy, OneReport}
 use Rattle.meaning_reports.proofs.OneAnswer.{one_list, one_most}
 use Rattle.meaning_reports.proofs.EntryOrder.{one_order}
 use Rattle.meaning_reports.proofs.ImportsOf.{has_path, no_place, in_lists, given_in_lists, names_first, cannot_be_unranked}
@@ -25,44 +25,24 @@ nothing_known t h = λ i. record { signatures = λ name. h.no_signature name i; 
 both_empty : (t u : PackageTable) → IsEmpty t → IsEmpty u → t ≡ u
 both_empty t u h k = nothing_known t h ∙ sym (nothing_known u k)
 
--- what the files of a package are seen with, by the tables of what it imports
-abbrev seen_by : List LoadedPackage → LoadedPackage → Tables → List Seen
-seen_by ps p known =
-    seen_from (λ number. record {
-      means = means_in ps p number;
-      functions = signatures_of ps p;
-      imported = λ path. (known path).signatures;
-    }) 0 (trees_of p)
+-- Tables by any rule by which what is known of a package's imports determines its flags
 
-module _ (ps : List LoadedPackage) (one other : Tables) (are : AreTables ps one) (too : AreTables ps other) where
+module _ (are_flags : FlagsRule) (determined : AreDetermined are_flags) (ps : List LoadedPackage) (one other : Tables)
+    (are : AreTablesBy are_flags ps one) (too : AreTablesBy are_flags ps other) where
   abbrev lists : List Package
   lists = import_list ps
 
   module _ (i : ℕ) (p : LoadedPackage) (is : slice_get ps i ≡ Some p) where
-    -- where what is known of its imports is one, a package that is judged has one table
-    one_full : imported_tables p one ≡ imported_tables p other
-        → (files others : List FileWithCredits) (flags more : Flags)
-        → IsJudged ps one i p files flags
-        → IsJudged ps other i p others more
-        → flags ≡ more
-    one_full same files others flags more h k =
-        let seen : seen_by ps p (imported_tables p one) ≡ seen_by ps p (imported_tables p other) = ap (seen_by ps p) same in
-        let its = subst (λ (l : List Seen). AreCredited l files) seen h.are_files in
-        let list = one_list (seen_by ps p (imported_tables p other)) files others its k.are_files in
-        let most : AreMost others (λ path. (imported_tables p one path).calls) flags =
-        subst (λ (l : List FileWithCredits). AreMost l (λ path. (imported_tables p one path).calls) flags) list h.are_flags in
-        one_most others (λ path. (imported_tables p other path).calls) flags more
-        (subst (λ (known : Tables). AreMost others (λ path. (known path).calls) flags) same most) k.are_flags
-
     one_table : (HasNoWholeFault ps i → imported_tables p one ≡ imported_tables p other) → one p.path ≡ other p.path
     one_table same = by (are.of_package i p is) (too.of_package i p is)
       where
-        by : IsTable ps one i p (one p.path) → IsTable ps other i p (other p.path) → one p.path ≡ other p.path
+        by : IsTableBy are_flags ps one i p (one p.path) → IsTableBy are_flags ps other i p (other p.path)
+            → one p.path ≡ other p.path
         by (empty x fault h) (empty y again k) = both_empty (one p.path) (other p.path) h k
-        by (empty x fault h) (full files flags judged signatures calls) = absurd (judged.has_no_whole_fault x fault)
-        by (full files flags judged signatures calls) (empty x fault h) = absurd (judged.has_no_whole_fault x fault)
-        by (full files flags h signatures calls) (full others more k known kept) =
-            let same_flags = one_full (same h.has_no_whole_fault) files others flags more h k in
+        by (empty x fault h) (full flags none its signatures calls) = absurd (none x fault)
+        by (full flags none its signatures calls) (empty x fault h) = absurd (none x fault)
+        by (full flags none its signatures calls) (full more too_none others known kept) =
+            let same_flags = determined ps one other i p flags more is none (same none) its others in
             λ j. record {
               signatures = λ name. (signatures name ∙ sym (known name)) j;
               calls = λ name n. (calls name n ∙ (ap (λ (f : Flags). f name n) same_flags ∙ sym (kept name n))) j;
@@ -136,18 +116,18 @@ same_lists (x ∷ xs) (y ∷ ys) long h =
     let rest = same_lists xs ys (omega (arith, long)) (λ i a b is that. h (suc i) a b is that) in
     λ i. first i ∷ rest i
 
-module _ (ps : List LoadedPackage) (tables : Tables) (i : ℕ) where
-  one_finding : (xs ys : List Entry) → AreFindings ps tables i xs → AreFindings ps tables i ys → xs ≡ ys
+module _ (rules : Rules) (ps : List LoadedPackage) (tables : Tables) (i : ℕ) where
+  one_finding : (xs ys : List Entry) → AreFindingsBy rules ps tables i xs → AreFindingsBy rules ps tables i ys → xs ≡ ys
   one_finding xs ys h k = one_order xs ys h.in_order k.in_order λ z. (
     λ c. (k.each z).1 ((h.each z).0 c),
     λ c. (h.each z).1 ((k.each z).0 c),
   )
 
-pub one_report : OneReport
-one_report ps one other h k = same_lists one other (h.is_as_long ∙ sym k.is_as_long) each
+pub one_report_by : (rules : Rules) → AreDetermined rules.are_flags → OneReportBy rules
+one_report_by rules determined ps one other h k = same_lists one other (h.is_as_long ∙ sym k.is_as_long) each
   where
     tables : h.tables ≡ k.tables
-    tables = one_way ps h.tables k.tables h.are_tables k.are_tables
+    tables = one_way rules.are_flags determined ps h.tables k.tables h.are_tables k.are_tables
 
     said_of : (i : ℕ) (p : LoadedPackage) (x y : Said) → slice_get ps i ≡ Some p → slice_get one i ≡ Some x → slice_get other i ≡ Some y
         → x ≡ y
@@ -155,8 +135,8 @@ one_report ps one other h k = same_lists one other (h.is_as_long ∙ sym k.is_as
         let a = h.of_package i p x is here in
         let b = k.of_package i p y is there in
         let paths : x.path ≡ y.path = a.0 ∙ sym b.0 in
-        let its = subst (λ (t : Tables). AreFindings ps t i x.entries) tables a.1 in
-        let entries : x.entries ≡ y.entries = one_finding ps k.tables i x.entries y.entries its b.1 in
+        let its = subst (λ (t : Tables). AreFindingsBy rules ps t i x.entries) tables a.1 in
+        let entries : x.entries ≡ y.entries = one_finding rules ps k.tables i x.entries y.entries its b.1 in
         let table : x.table ≡ y.table = a.2 ∙ (ap (λ (t : Tables). t p.path) tables ∙ sym b.2) in
         λ j. record { path = paths j; entries = entries j; table = table j }
 
@@ -169,3 +149,31 @@ one_report ps one other h k = same_lists one other (h.is_as_long ∙ sym k.is_as
           let out = past.0 in
           absurd (omega (arith, low, long, out))
     ]
+
+-- By paths
+
+-- what the files of a package are seen with, by the tables of what it imports
+abbrev seen_by : List LoadedPackage → LoadedPackage → Tables → List Seen
+seen_by ps p known =
+    seen_from (λ number. record {
+      means = means_in ps p number;
+      functions = signatures_of ps p;
+      imported = λ path. (known path).signatures;
+    }) 0 (trees_of p)
+
+flags_by_paths : AreDetermined AreFlagsByPaths
+flags_by_paths ps one other i p flags more is none same first second =
+    let h = first.is_judged in
+    let k = second.is_judged in
+    let files = first.files in
+    let others = second.files in
+    let seen : seen_by ps p (imported_tables p one) ≡ seen_by ps p (imported_tables p other) = ap (seen_by ps p) same in
+    let its = subst (λ (l : List Seen). AreCredited l files) seen h.are_files in
+    let list = one_list (seen_by ps p (imported_tables p other)) files others its k.are_files in
+    let most : AreMost others (λ path. (imported_tables p one path).calls) flags =
+    subst (λ (l : List FileWithCredits). AreMost l (λ path. (imported_tables p one path).calls) flags) list h.are_flags in
+    one_most others (λ path. (imported_tables p other path).calls) flags more
+    (subst (λ (known : Tables). AreMost others (λ path. (known path).calls) flags) same most) k.are_flags
+
+pub one_report : OneReport
+one_report = one_report_by by_paths flags_by_paths

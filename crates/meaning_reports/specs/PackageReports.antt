@@ -1,6 +1,7 @@
 -- What the report says of a package: the faults of the whole package, or else each import of a given package that isn't
--- yes, the use faults of what stands in no body, and the faults of each body: its use faults, those of its passes and
--- those of its paths. A package is yes if there is nothing to say of it.
+-- yes, and what the rules say of its files. The rules of paths say there the use faults of what stands in no body, and
+-- the faults of each body: its use faults, those of its passes and those of its paths. A package is yes if there is
+-- nothing to say of it.
 use Rattle.std.specs.Prelude.{ℕ, ◌≡◌, ◌↔◌, Bool, List, length, Some, slice_get, Contains}
 use Rattle.std.specs.List.{AllPairs}
 use Rattle.tree.specs.Syntax.{ImportSpec}
@@ -17,7 +18,55 @@ use Rattle.report.specs.declared.codes.TreeFault.TheVariants.{Recover}
 use Rattle.report.specs.Entries.{Entry, Precedes}
 use Rattle.meaning_reports.specs.Loaded.{LoadedPackage, PackageTable, Tables, imported_flags}
 use Rattle.meaning_reports.specs.WholeFaults.{ImportsAt, import_entry, IsWholeFault, HasNoWholeFault}
-use Rattle.meaning_reports.specs.PackageTables.{IsJudged, AreTables}
+use Rattle.meaning_reports.specs.PackageTables.{FlagsRule, AreTablesBy, IsJudged, AreFlagsByPaths}
+
+-- By any rules
+
+-- what is said of the files of the package at that place, if it has no fault of the whole package
+abbrev pub SayingRule : Type 1
+SayingRule = List LoadedPackage → Tables → ℕ → Entry → Type 0
+
+-- by what a package without a fault of the whole package is judged
+pub record Rules : Type 1 where
+  pub are_flags : FlagsRule
+  pub says : SayingRule
+
+pub data IsFindingBy (rules : Rules) (ps : List LoadedPackage) (tables : Tables) : ℕ → Entry → Type 0 where
+  of_whole : {i : ℕ} {x : Entry} → IsWholeFault ps i x → IsFindingBy rules ps tables i x
+  of_import : {i : ℕ} (j number : ℕ) (spec : ImportSpec) (x : Entry)
+      → HasNoWholeFault ps i
+      → ImportsAt ps i j number spec
+      → IsFindingBy rules ps tables j x
+      → IsFindingBy rules ps tables i (import_entry number spec ImportIsNotYes)
+  of_files : {i : ℕ} {x : Entry} → HasNoWholeFault ps i → rules.says ps tables i x → IsFindingBy rules ps tables i x
+
+-- nothing is to be said of the package
+abbrev pub IsYesBy : Rules → List LoadedPackage → Tables → ℕ → Type 0
+IsYesBy rules ps tables i = (x : Entry) → IsFindingBy rules ps tables i x → ⊥
+
+-- the entries are what is to be said of the package, each once, in their order
+pub record AreFindingsBy (rules : Rules) (ps : List LoadedPackage) (tables : Tables) (i : ℕ) (entries : List Entry)
+    : Type 0 where
+  pub in_order : AllPairs Precedes entries
+  pub each : (x : Entry) → Contains entries x ↔ IsFindingBy rules ps tables i x
+
+-- what is said of a package: its path, the findings, and its table
+pub record Said : Type 0 where
+  pub path : List ℕ
+  pub entries : List Entry
+  pub table : PackageTable
+
+-- the report has for each package, in their order, what is to be said of it
+pub record IsReportBy (rules : Rules) (ps : List LoadedPackage) (report : List Said) : Type 0 where
+  pub tables : Tables
+  pub are_tables : AreTablesBy rules.are_flags ps tables
+  pub is_as_long : length report ≡ length ps
+  pub of_package : (i : ℕ) (p : LoadedPackage) (said : Said)
+      → slice_get ps i ≡ Some p
+      → slice_get report i ≡ Some said
+      → (said.path ≡ p.path) × AreFindingsBy rules ps tables i said.entries × (said.table ≡ tables p.path)
+
+-- By paths
 
 abbrev pub use_code : UseCode → DiagnosticCode
 use_code recover_used = LeftOut Recover
@@ -64,39 +113,25 @@ pub record IsFileOf
   pub is_judged : IsJudged ps tables i loaded files flags
   pub is_file : slice_get files number ≡ Some file
 
-pub data IsFinding (ps : List LoadedPackage) (tables : Tables) : ℕ → Entry → Type 0 where
-  of_whole : {i : ℕ} {x : Entry} → IsWholeFault ps i x → IsFinding ps tables i x
-  of_import : {i : ℕ} (j number : ℕ) (spec : ImportSpec) (x : Entry)
-      → HasNoWholeFault ps i
-      → ImportsAt ps i j number spec
-      → IsFinding ps tables j x
-      → IsFinding ps tables i (import_entry number spec ImportIsNotYes)
-  of_file : {i : ℕ} {x : Entry} (flags : Flags) (number : ℕ) (file : FileWithCredits)
-      → (h : IsFileOf ps tables i flags number file)
-      → IsFileFinding (calls_by flags (imported_flags h.loaded tables)) number file x
-      → IsFinding ps tables i x
+-- what is to be said of one of its files
+pub record SaysByPaths (ps : List LoadedPackage) (tables : Tables) (i : ℕ) (x : Entry) : Type 0 where
+  pub flags : Flags
+  pub number : ℕ
+  pub file : FileWithCredits
+  pub is_of : IsFileOf ps tables i flags number file
+  pub is_finding : IsFileFinding (calls_by flags (imported_flags is_of.loaded tables)) number file x
 
--- nothing is to be said of the package
+abbrev pub by_paths : Rules
+by_paths = record { are_flags = AreFlagsByPaths; says = SaysByPaths }
+
+abbrev pub IsFinding : List LoadedPackage → Tables → ℕ → Entry → Type 0
+IsFinding = IsFindingBy by_paths
+
 abbrev pub IsYes : List LoadedPackage → Tables → ℕ → Type 0
-IsYes ps tables i = (x : Entry) → IsFinding ps tables i x → ⊥
+IsYes = IsYesBy by_paths
 
--- the entries are what is to be said of the package, each once, in their order
-pub record AreFindings (ps : List LoadedPackage) (tables : Tables) (i : ℕ) (entries : List Entry) : Type 0 where
-  pub in_order : AllPairs Precedes entries
-  pub each : (x : Entry) → Contains entries x ↔ IsFinding ps tables i x
+abbrev pub AreFindings : List LoadedPackage → Tables → ℕ → List Entry → Type 0
+AreFindings = AreFindingsBy by_paths
 
--- what is said of a package: its path, the findings, and its table
-pub record Said : Type 0 where
-  pub path : List ℕ
-  pub entries : List Entry
-  pub table : PackageTable
-
--- the report has for each package, in their order, what is to be said of it
-pub record IsReportOf (ps : List LoadedPackage) (report : List Said) : Type 0 where
-  pub tables : Tables
-  pub are_tables : AreTables ps tables
-  pub is_as_long : length report ≡ length ps
-  pub of_package : (i : ℕ) (p : LoadedPackage) (said : Said)
-      → slice_get ps i ≡ Some p
-      → slice_get report i ≡ Some said
-      → (said.path ≡ p.path) × AreFindings ps tables i said.entries × (said.table ≡ tables p.path)
+abbrev pub IsReportOf : List LoadedPackage → List Said → Type 0
+IsReportOf = IsReportBy by_paths

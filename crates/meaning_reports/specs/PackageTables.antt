@@ -1,6 +1,7 @@
 -- The tables of packages: for each function what its signature says, and which of its parameters it is known to call.
--- A package with a fault of the whole package has an empty table. Each table relies on those of the packages that the
--- package imports; so there is one way to give tables to packages of which no chain of imports meets one twice.
+-- A package with a fault of the whole package has an empty table. Which flags another one has, a rule says; by paths
+-- they are the most consistent ones. These rely on the tables of the packages that the package imports; so there is one
+-- way to give tables to packages of which no chain of imports meets one twice.
 use Rattle.std.specs.Prelude.{ℕ, ◌≡◌, false, List, [], ◌∷◌, None, Some, slice_get}
 use Rattle.meaning.specs.Uses.{Seen}
 use Rattle.meaning_packages.specs.Credits.{AreFullCredits}
@@ -8,6 +9,40 @@ use Rattle.meaning_packages.specs.CallsFlags.{Flags, FileWithCredits, AreMost}
 use Rattle.meaning_reports.specs.Loaded.{LoadedPackage, PackageTable, Tables, imported_flags, signatures_of, seen_files}
 use Rattle.meaning_reports.specs.WholeFaults.{HasNoWholeFault, IsWholeFault}
 use Rattle.report.specs.Entries.{Entry}
+
+pub record IsEmpty (table : PackageTable) : Type 0 where
+  pub no_signature : (name : List ℕ) → table.signatures name ≡ None
+  pub no_flag : (name : List ℕ) (k : ℕ) → table.calls name k ≡ false
+
+-- By any rule
+
+-- which flags the package at that place has, if it has no fault of the whole package
+abbrev pub FlagsRule : Type 1
+FlagsRule = List LoadedPackage → Tables → ℕ → LoadedPackage → Flags → Type 0
+
+-- the table of the package
+pub data IsTableBy
+    (are_flags : FlagsRule) (ps : List LoadedPackage) (tables : Tables) (i : ℕ) (p : LoadedPackage)
+    (table : PackageTable)
+    : Type 0 where
+  empty : (x : Entry) → IsWholeFault ps i x → IsEmpty table → IsTableBy are_flags ps tables i p table
+  full : (flags : Flags)
+      → HasNoWholeFault ps i
+      → are_flags ps tables i p flags
+      → ((name : List ℕ) → table.signatures name ≡ signatures_of ps p name)
+      → ((name : List ℕ) (k : ℕ) → table.calls name k ≡ flags name k)
+      → IsTableBy are_flags ps tables i p table
+
+-- each given package has its table under its path, and other paths have none
+pub record AreTablesBy (are_flags : FlagsRule) (ps : List LoadedPackage) (tables : Tables) : Type 0 where
+  pub of_package : (i : ℕ) (p : LoadedPackage)
+      → slice_get ps i ≡ Some p
+      → IsTableBy are_flags ps tables i p (tables p.path)
+  pub of_others : (path : List ℕ)
+      → ((i : ℕ) (p : LoadedPackage) → slice_get ps i ≡ Some p → p.path ≡ path → ⊥)
+      → IsEmpty (tables path)
+
+-- By paths
 
 -- each file with its full credits
 pub data AreCredited : List Seen → List FileWithCredits → Type 0 where
@@ -28,23 +63,14 @@ pub record IsJudged
   pub are_files : AreCredited (seen_files ps tables p) files
   pub are_flags : AreMost files (imported_flags p tables) flags
 
-pub record IsEmpty (table : PackageTable) : Type 0 where
-  pub no_signature : (name : List ℕ) → table.signatures name ≡ None
-  pub no_flag : (name : List ℕ) (k : ℕ) → table.calls name k ≡ false
-
--- the table of the package
-pub data IsTable (ps : List LoadedPackage) (tables : Tables) (i : ℕ) (p : LoadedPackage) (table : PackageTable)
+-- the flags by which it is judged
+pub record AreFlagsByPaths (ps : List LoadedPackage) (tables : Tables) (i : ℕ) (p : LoadedPackage) (flags : Flags)
     : Type 0 where
-  empty : (x : Entry) → IsWholeFault ps i x → IsEmpty table → IsTable ps tables i p table
-  full : (files : List FileWithCredits) (flags : Flags)
-      → IsJudged ps tables i p files flags
-      → ((name : List ℕ) → table.signatures name ≡ signatures_of ps p name)
-      → ((name : List ℕ) (k : ℕ) → table.calls name k ≡ flags name k)
-      → IsTable ps tables i p table
+  pub files : List FileWithCredits
+  pub is_judged : IsJudged ps tables i p files flags
 
--- each given package has its table under its path, and other paths have none
-pub record AreTables (ps : List LoadedPackage) (tables : Tables) : Type 0 where
-  pub of_package : (i : ℕ) (p : LoadedPackage) → slice_get ps i ≡ Some p → IsTable ps tables i p (tables p.path)
-  pub of_others : (path : List ℕ)
-      → ((i : ℕ) (p : LoadedPackage) → slice_get ps i ≡ Some p → p.path ≡ path → ⊥)
-      → IsEmpty (tables path)
+abbrev pub IsTable : List LoadedPackage → Tables → ℕ → LoadedPackage → PackageTable → Type 0
+IsTable = IsTableBy AreFlagsByPaths
+
+abbrev pub AreTables : List LoadedPackage → Tables → Type 0
+AreTables = AreTablesBy AreFlagsByPaths

@@ -22,9 +22,9 @@ use Rattle.report.specs.Entries.{Entry}
 use Rattle.meaning_reports.specs.Loaded.{Reading, has_tree, has_text_fault, has_tree_fault, LoadedPackage, NumberedTree, Tables, trees_from, trees_of, known_in, seen_from, seen_files}
 use Rattle.meaning_reports.specs.WholeFaults.{HasNoWholeFault, has_no_tokens, has_no_tree}
 use Rattle.meaning_reports.specs.PackageTables.{AreCredited, no_file, file_and}
-use Rattle.meaning_reports.specs.PackageReports.{IsFileFinding, outside_bodies, of_use, of_path, IsFinding, of_whole, of_import, of_file}
+use Rattle.meaning_reports.specs.PackageReports.{IsFileFinding, outside_bodies, of_use, of_path, Rules, IsFindingBy, of_whole, of_import, of_files, SaysByPaths, by_paths}
 use Rattle.meaning_runs.specs.FilePlaces.{AreTextsOf, StandsIn}
-use Rattle.meaning_runs.specs.EntryPlaces.{EntriesLieInFiles}
+use Rattle.meaning_runs.specs.EntryPlaces.{LieInFiles, EntriesLieInFilesBy, EntriesLieInFiles}
 use Rattle.meaning_runs.specs.OccurrencePlaces.{occurrences}
 use Rattle.meaning_runs.proofs.LeftSides.{is_placed}
 use Rattle.meaning_runs.proofs.BodyOffsets.{are_sited}
@@ -176,32 +176,46 @@ all_trees ps i p is none j (has_tree tree) there = tt
 all_trees ps i p is none j (has_text_fault at why) there = none _ (has_no_tokens p j at why is there)
 all_trees ps i p is none j (has_tree_fault at why) there = none _ (has_no_tree p j at why is there)
 
--- Entries
+-- Entries by any rules
 
-module _ (ps : List LoadedPackage) (i : ℕ) (p : LoadedPackage) (texts : List (List ℕ)) (is : slice_get ps i ≡ Some p)
-    (are : AreTextsOf texts p) (tables : Tables) where
-  stands : (x : Entry) → IsFinding ps tables i x → StandsIn texts x
-  stands x (of_whole fault) = whole_places_lie_in_files.of_whole ps i p texts x is are fault
-  stands x (of_import j number spec y none im found) =
+module _ (rules : Rules) (each : LieInFiles rules.says) where
+  stands : (ps : List LoadedPackage) (tables : Tables) (i : ℕ) (p : LoadedPackage) (texts : List (List ℕ))
+      → slice_get ps i ≡ Some p
+      → AreTextsOf texts p
+      → (x : Entry) → IsFindingBy rules ps tables i x
+      → StandsIn texts x
+  stands ps tables i p texts is are x (of_whole fault) = whole_places_lie_in_files.of_whole ps i p texts x is are fault
+  stands ps tables i p texts is are x (of_import j number spec y none im found) =
       whole_places_lie_in_files.of_import ps i j number spec _ p texts is are im
-  stands x (of_file flags number file h found) =
-      let q = h.loaded in
-      let judged = h.is_judged in
-      let seen = seen_there (seen_files ps tables q) h.files judged.are_files number file h.is_file in
-      let of = tree_seen (known_in ps tables q) 0 (trees_of q) number file.seen seen in
-      let there = tree_there 0 q.files (all_trees ps i q judged.is_package judged.has_no_whole_fault) number of.tree of.is_tree in
-      let same : q ≡ p = same_Some q p (sym judged.is_package ∙ is) in
-      let text = are.each number (has_tree of.tree)
-      (subst (λ (r : LoadedPackage). slice_get r.files number ≡ Some (has_tree of.tree)) same there) in
-      let low = finding_in (length text.0) _ number file x
-      (subst (Stands (length text.0)) (sym of.same) (file_stands text.0 of.tree of.known text.2)) found in
-      record {
-        text = text.0;
-        is_file = ap (slice_get texts) low.0 ∙ text.1;
-        within = low.1;
-      }
+  stands ps tables i p texts is are x (of_files none said) = each ps i p texts is are tables x none said
+
+  pub entries_lie_in_files_by : EntriesLieInFilesBy rules
+  entries_lie_in_files_by ps report p said texts x is_report of are among =
+      let w = is_report.of_package of.place p said of.is_package of.is_said in
+      stands ps is_report.tables of.place p texts of.is_package are x ((w.1.each x).0 among)
+
+-- Entries by paths
+
+path_sayings_lie : LieInFiles SaysByPaths
+path_sayings_lie ps i p texts is are tables x none said =
+    let h = said.is_of in
+    let q = h.loaded in
+    let judged = h.is_judged in
+    let number = said.number in
+    let file = said.file in
+    let seen = seen_there (seen_files ps tables q) h.files judged.are_files number file h.is_file in
+    let of = tree_seen (known_in ps tables q) 0 (trees_of q) number file.seen seen in
+    let there = tree_there 0 q.files (all_trees ps i q judged.is_package none) number of.tree of.is_tree in
+    let same : q ≡ p = same_Some q p (sym judged.is_package ∙ is) in
+    let text = are.each number (has_tree of.tree)
+    (subst (λ (r : LoadedPackage). slice_get r.files number ≡ Some (has_tree of.tree)) same there) in
+    let low = finding_in (length text.0) _ number file x
+    (subst (Stands (length text.0)) (sym of.same) (file_stands text.0 of.tree of.known text.2)) said.is_finding in
+    record {
+      text = text.0;
+      is_file = ap (slice_get texts) low.0 ∙ text.1;
+      within = low.1;
+    }
 
 pub entries_lie_in_files : EntriesLieInFiles
-entries_lie_in_files ps report p said texts x is_report of are among =
-    let w = is_report.of_package of.place p said of.is_package of.is_said in
-    stands ps of.place p texts of.is_package are is_report.tables x ((w.1.each x).0 among)
+entries_lie_in_files = entries_lie_in_files_by by_paths path_sayings_lie

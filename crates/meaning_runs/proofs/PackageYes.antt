@@ -4,91 +4,119 @@ use Rattle.std.proofs.Common.{◌≡◌, ℕ, List, Some, Contains, sym, subst}
 use Rattle.std.specs.Prelude.{slice_get}
 use Rattle.meaning.specs.Uses.{Seen}
 use Rattle.meaning.proofs.Membership.{contains_nil}
-use Rattle.meaning_packages.specs.CallsFlags.{Flags, FileWithCredits, calls_by}
+use Rattle.meaning_packages.specs.CallsFlags.{FileWithCredits, calls_by}
 use Rattle.imports.specs.Ranks.{Imports, Chain, ends, goes_on}
 use Rattle.report.specs.Entries.{Entry}
-use Rattle.meaning_reports.specs.Loaded.{LoadedPackage, Tables, imported_flags, import_list, seen_files}
+use Rattle.meaning_reports.specs.Loaded.{LoadedPackage, Tables, imported_flags, import_list, seen_files, signatures_of}
 use Rattle.meaning_reports.specs.WholeFaults.{HasNoWholeFault}
-use Rattle.meaning_reports.specs.PackageTables.{AreCredited, no_file, file_and, IsJudged, IsTable, empty, full, AreTables}
-use Rattle.meaning_reports.specs.PackageReports.{Said, IsFileFinding, of_whole, of_import, of_file, IsYes, IsReportOf}
+use Rattle.meaning_reports.specs.PackageTables.{AreCredited, no_file, file_and, IsTableBy, empty, full, AreTablesBy}
+use Rattle.meaning_reports.specs.PackageReports.{Said, IsFileFinding, Rules, of_whole, of_import, of_files, IsYesBy, IsReportBy, by_paths}
 use Rattle.meaning_reports.proofs.ImportsOf.{given_in_lists, import_there, is_named}
 use Rattle.meaning_runs.specs.Promise as promise
 use Rattle.meaning_runs.specs.Promise.{AreFairlyCredited, IsWellKnown, AreWellKnown, HasNoFinding}
-use Rattle.meaning_runs.specs.PackageYes.{IsYesIn, program_of, AreOfTexts, AreWithoutGroups, YesOfAPackageIsQuiet}
+use Rattle.meaning_runs.specs.PackageYes.{IsYesIn, program_of, AreOfTexts, AreWithoutGroups, YesOfAPackageIsQuietBy, YesOfAPackageIsQuiet}
 use Rattle.meaning_runs.proofs.QuietPromise.{yes_is_quiet}
 
--- Full credits are fair
+-- By any rules
 
+-- what is known of the package holds, and nothing is to be said of its files
+pub record IsKnown (ps : List LoadedPackage) (tables : Tables) (i : ℕ) (q : LoadedPackage) : Type 0 where
+  pub known : IsWellKnown ps tables i q
+  pub none : (number : ℕ) (file : FileWithCredits) (x : Entry)
+      → slice_get known.files number ≡ Some file
+      → IsFileFinding (calls_by (tables q.path).calls (imported_flags q tables)) number file x
+      → ⊥
+
+-- so it is of each package with such a table that has no fault of the whole package, and of whose files nothing is said
+abbrev pub AreKnownWell : Rules → Type 0
+AreKnownWell rules = (ps : List LoadedPackage) (tables : Tables) (i : ℕ) (q : LoadedPackage)
+    → slice_get ps i ≡ Some q
+    → HasNoWholeFault ps i
+    → rules.are_flags ps tables i q (tables q.path).calls
+    → ((name : List ℕ) → (tables q.path).signatures name ≡ signatures_of ps q name)
+    → ((x : Entry) → rules.says ps tables i x → ⊥)
+    → IsKnown ps tables i q
+
+module _ (rules : Rules) (each : AreKnownWell rules) where
+  module _ (ps : List LoadedPackage) (tables : Tables) (are : AreTablesBy rules.are_flags ps tables) where
+    no_whole_fault : (i : ℕ) → IsYesBy rules ps tables i → HasNoWholeFault ps i
+    no_whole_fault i said_none x h = said_none x (of_whole h)
+
+    -- What a package imports is yes where the package is.
+    yes_of_import : (i j : ℕ) → Imports (import_list ps) i j → IsYesBy rules ps tables i → IsYesBy rules ps tables j
+    yes_of_import i j im said_none x h =
+        let importer = given_in_lists ps i im.importer im.is_importer in
+        let w = is_named ps i importer.0 importer.1 j im in
+        said_none _ (of_import j w.tree.file w.spec x (no_whole_fault i said_none) (import_there ps i importer.0 importer.1 w.tree w.spec j w.is_tree w.is_spec w.first) h)
+
+    yes_below : (i j : ℕ) → Chain (import_list ps) i j → IsYesBy rules ps tables i → IsYesBy rules ps tables j
+    yes_below i j ends said_none = said_none
+    yes_below i k (goes_on {j = j} first rest) said_none = yes_below j k rest (yes_of_import i j first said_none)
+
+    is_known : (i : ℕ) (q : LoadedPackage) → slice_get ps i ≡ Some q → IsYesBy rules ps tables i → IsKnown ps tables i q
+    is_known i q is said_none = by (are.of_package i q is)
+      where
+        by : IsTableBy rules.are_flags ps tables i q (tables q.path) → IsKnown ps tables i q
+        by (empty x fault nothing) = absurd (said_none x (of_whole fault))
+        by (full flags none its signatures calls) =
+            let same : flags ≡ (tables q.path).calls = λ j name k. sym (calls name k) j in
+            each ps tables i q is none (subst (rules.are_flags ps tables i q) same its) signatures
+            λ x said. said_none x (of_files none said)
+
+    module _ (i : ℕ) (said_none : IsYesBy rules ps tables i) where
+      pub are_well_known : AreOfTexts (program_of ps tables i) → AreWithoutGroups (program_of ps tables i) → AreWellKnown (program_of ps tables i)
+      are_well_known texts groups = record {
+        of_package = λ j q below is. (is_known j q is (yes_below i j below said_none)).known;
+        of_texts = texts;
+        without_groups = groups;
+        of_others = are.of_others;
+      }
+
+      pub has_no_finding : (q : LoadedPackage) → slice_get ps i ≡ Some q → HasNoFinding (program_of ps tables i)
+      has_no_finding q is =
+          let h = is_known i q is said_none in
+          record { loaded = q; is_package = is; is_known = h.known; none = h.none }
+
+  is_yes : (ps : List LoadedPackage) (report : List Said) (i : ℕ) (is_report : IsReportBy rules ps report) → IsYesIn ps report i → IsYesBy rules ps is_report.tables i
+  is_yes ps report i is_report said_none x h =
+      let w = is_report.of_package i said_none.loaded said_none.said said_none.is_package said_none.is_said in
+      contains_nil x (subst (λ xs. Contains xs x) said_none.is_yes ((w.1.each x).1 h))
+
+  pub yes_of_a_package_is_quiet_by : YesOfAPackageIsQuietBy rules
+  yes_of_a_package_is_quiet_by ps report i is_report said_none texts groups =
+      let h = is_yes ps report i is_report said_none in
+      let tables = is_report.tables in
+      let are = is_report.are_tables in
+      yes_is_quiet (program_of ps tables i) (are_well_known ps tables are i h texts groups) (has_no_finding ps tables are i h said_none.loaded said_none.is_package)
+
+-- By paths
+
+-- full credits are fair
 are_fair : (seens : List Seen) (files : List FileWithCredits) → AreCredited seens files → AreFairlyCredited seens files
 are_fair seens files no_file = promise.no_file
 are_fair seens files (file_and {rest = rest} {files = others} same credits more) =
     promise.file_and same (record { each = λ literal number h. (credits.each literal number).0 h }) (are_fair rest others more)
 
-module _ (ps : List LoadedPackage) (tables : Tables) (are : AreTables ps tables) where
-  no_whole_fault : (i : ℕ) → IsYes ps tables i → HasNoWholeFault ps i
-  no_whole_fault i said_none x h = said_none x (of_whole h)
-
-  -- What a package imports is yes where the package is.
-  yes_of_import : (i j : ℕ) → Imports (import_list ps) i j → IsYes ps tables i → IsYes ps tables j
-  yes_of_import i j im said_none x h =
-      let importer = given_in_lists ps i im.importer im.is_importer in
-      let w = is_named ps i importer.0 importer.1 j im in
-      said_none _ (of_import j w.tree.file w.spec x (no_whole_fault i said_none) (import_there ps i importer.0 importer.1 w.tree w.spec j w.is_tree w.is_spec w.first) h)
-
-  yes_below : (i j : ℕ) → Chain (import_list ps) i j → IsYes ps tables i → IsYes ps tables j
-  yes_below i j ends said_none = said_none
-  yes_below i k (goes_on {j = j} first rest) said_none = yes_below j k rest (yes_of_import i j first said_none)
-
-  -- what is known of the package holds, and nothing is to be said of its files
-  record IsKnown (i : ℕ) (q : LoadedPackage) : Type 0 where
-    known : IsWellKnown ps tables i q
-    none : (number : ℕ) (file : FileWithCredits) (x : Entry)
-        → slice_get known.files number ≡ Some file
-        → IsFileFinding (calls_by (tables q.path).calls (imported_flags q tables)) number file x
-        → ⊥
-
-  is_known : (i : ℕ) (q : LoadedPackage) → slice_get ps i ≡ Some q → IsYes ps tables i → IsKnown i q
-  is_known i q is said_none = by (are.of_package i q is)
-    where
-      by : IsTable ps tables i q (tables q.path) → IsKnown i q
-      by (empty x fault nothing) = absurd (said_none x (of_whole fault))
-      by (full files flags judged signatures calls) =
-          let same : flags ≡ (tables q.path).calls = λ j name k. sym (calls name k) j in
-          let here : IsJudged ps tables i q files (tables q.path).calls = subst (λ (g : Flags). IsJudged ps tables i q files g) same judged in
-          record {
-            known = record {
-              has_no_whole_fault = here.has_no_whole_fault;
-              files = files;
-              are_files = are_fair (seen_files ps tables q) files here.are_files;
-              are_flags = here.are_flags.are_consistent;
-              are_signatures = signatures;
-            };
-            none = λ number file x there finding.
-                said_none x (of_file (tables q.path).calls number file (record { loaded = q; files = files; is_judged = here; is_file = there }) finding);
-          }
-
-  module _ (i : ℕ) (said_none : IsYes ps tables i) where
-    pub are_well_known : AreOfTexts (program_of ps tables i) → AreWithoutGroups (program_of ps tables i) → AreWellKnown (program_of ps tables i)
-    are_well_known texts groups = record {
-      of_package = λ j q below is. (is_known j q is (yes_below i j below said_none)).known;
-      of_texts = texts;
-      without_groups = groups;
-      of_others = are.of_others;
+known_by_paths : AreKnownWell by_paths
+known_by_paths ps tables i q is none its signatures said_none =
+    let files = its.files in
+    let here = its.is_judged in
+    record {
+      known = record {
+        has_no_whole_fault = none;
+        files = files;
+        are_files = are_fair (seen_files ps tables q) files here.are_files;
+        are_flags = here.are_flags.are_consistent;
+        are_signatures = signatures;
+      };
+      none = λ number file x there finding. said_none x (record {
+        flags = (tables q.path).calls;
+        number = number;
+        file = file;
+        is_of = record { loaded = q; files = files; is_judged = here; is_file = there };
+        is_finding = finding;
+      });
     }
 
-    pub has_no_finding : (q : LoadedPackage) → slice_get ps i ≡ Some q → HasNoFinding (program_of ps tables i)
-    has_no_finding q is =
-        let h = is_known i q is said_none in
-        record { loaded = q; is_package = is; is_known = h.known; none = h.none }
-
-is_yes : (ps : List LoadedPackage) (report : List Said) (i : ℕ) (is_report : IsReportOf ps report) → IsYesIn ps report i → IsYes ps is_report.tables i
-is_yes ps report i is_report said_none x h =
-    let w = is_report.of_package i said_none.loaded said_none.said said_none.is_package said_none.is_said in
-    contains_nil x (subst (λ xs. Contains xs x) said_none.is_yes ((w.1.each x).1 h))
-
 pub yes_of_a_package_is_quiet : YesOfAPackageIsQuiet
-yes_of_a_package_is_quiet ps report i is_report said_none texts groups =
-    let h = is_yes ps report i is_report said_none in
-    let tables = is_report.tables in
-    let are = is_report.are_tables in
-    yes_is_quiet (program_of ps tables i) (are_well_known ps tables are i h texts groups) (has_no_finding ps tables are i h said_none.loaded said_none.is_package)
+yes_of_a_package_is_quiet = yes_of_a_package_is_quiet_by by_paths known_by_paths

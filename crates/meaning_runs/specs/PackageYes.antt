@@ -3,7 +3,7 @@
 use Rattle.std.specs.Prelude.{◌≡◌, ℕ, false, List, [], Some, slice_get}
 use Rattle.meaning.specs.FunctionFacts.{errgroup_path}
 use Rattle.meaning_reports.specs.Loaded.{LoadedPackage, Tables, is_imported}
-use Rattle.meaning_reports.specs.PackageReports.{Said, IsReportOf}
+use Rattle.meaning_reports.specs.PackageReports.{Rules, Said, IsReportBy, by_paths}
 use Rattle.meaning_runs.specs.Bodies.{Program, IsBelow}
 use Rattle.meaning_runs.specs.Runs.{IsQuietProgram}
 use Rattle.meaning_runs.specs.Promise.{AreTreesOfTexts}
@@ -29,10 +29,13 @@ abbrev pub AreWithoutGroups : Program → Type 0
 AreWithoutGroups p =
     (i : ℕ) (q : LoadedPackage) → IsBelow p i → slice_get p.packages i ≡ Some q → is_imported q errgroup_path ≡ false
 
-abbrev pub YesOfAPackageIsQuiet : Type 0
-YesOfAPackageIsQuiet = (ps : List LoadedPackage) (report : List Said) (i : ℕ)
-    → (is_report : IsReportOf ps report)
+abbrev pub YesOfAPackageIsQuietBy : Rules → Type 0
+YesOfAPackageIsQuietBy rules = (ps : List LoadedPackage) (report : List Said) (i : ℕ)
+    → (is_report : IsReportBy rules ps report)
     → IsYesIn ps report i
     → AreOfTexts (program_of ps is_report.tables i)
     → AreWithoutGroups (program_of ps is_report.tables i)
     → IsQuietProgram (program_of ps is_report.tables i)
+
+abbrev pub YesOfAPackageIsQuiet : Type 0
+YesOfAPackageIsQuiet = YesOfAPackageIsQuietBy by_paths

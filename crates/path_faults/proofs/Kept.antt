@@ -114,7 +114,7 @@ bound_by : {e : Event} {u : VariableAt} → BindsCancel e u → (vs : List Varia
 bound_by (obtains) vs cancels groups pgs lives n at f c = c
 bound_by (clears) vs cancels groups pgs lives n at f c = c
 
-return_of : (e : Event) → is_return e ≡ true → (handed : List Handed) × (e ≡ return_event handed)
+pub return_of : (e : Event) → is_return e ≡ true → (handed : List Handed) × (e ≡ return_event handed)
 return_of (return_event handed) e = (handed, refl)
 return_of other e = absurd (false≢true e)
 return_of (obtain u f k d) e = absurd (false≢true e)

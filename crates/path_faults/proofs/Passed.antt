@@ -8,7 +8,7 @@ use Rattle.meaning.specs.BodyEvents.{Variable}
 use Rattle.meaning.specs.Classes.{Promises}
 use Rattle.events.specs.declared.told.SiteEvent.{SiteEvent}
 use Rattle.events.specs.ToldViews.{events_of_site}
-use Rattle.tracked.specs.EventViews.{event_view}
+use Rattle.tracked_rows.specs.EventViews.{event_view}
 use Rattle.meaning_packages.specs.PathFaults.{passed_on, PathFault, Paths, PassesOn, passes, defers, IsPassFault, passes_on}
 use Rattle.path_faults.specs.FoundFaults.{passed_faults, passed_unless, passing_faults, found_pass_faults}
 use Rattle.path_faults.proofs.Places.{place_of, contains_at}

@@ -2,7 +2,7 @@
 
 ghost use Rattle.std.specs.Prelude.{◌≡◌, ◌≤◌, ◌↔◌, IsTrue, Some, IfOk, length, map, slice_get};
 ghost use Rattle.std.specs.List.{list_any};
-ghost use Rattle.tracked.specs.EventViews.{event_view};
+ghost use Rattle.tracked_rows.specs.EventViews.{event_view};
 ghost use Rattle.bodies.specs.Classified.{Classifies};
 ghost use Rattle.bodies.specs.NodeEvents.{node_event_view, events_graph, IsGraphOf};
 ghost use Rattle.facts.specs.FactViews.{kind_view};
@@ -24,7 +24,7 @@ use facts::VariableKind;
 use flow::{Graph, NodePlace};
 use states::{Arrivals, CancelClass, GroupClass};
 use std::alloc::{AllocError, Global};
-use tracked::{Event, GroupState};
+use tracked_rows::{Event, GroupState};
 
 fn does_return(event: &Event<'_>) -> bool
     ensures { result ≡ is_return (event_view event.now) }
@@ -48,7 +48,7 @@ fn does_return(event: &Event<'_>) -> bool
 }
 
 /// Whether the node is a return; the end of the body is one.
-fn is_return(event: NodeEvent<'_, '_>) -> bool
+pub fn is_return(event: NodeEvent<'_, '_>) -> bool
     ensures { result ≡ is_return (node_event_view event.entry) }
 {
     match event {

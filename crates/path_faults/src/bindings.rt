@@ -1,7 +1,7 @@
 //! Faults where a variable is bound or made again.
 
-ghost use Rattle.std.specs.Prelude.{◌≡◌, OnOk, map};
-ghost use Rattle.tracked.specs.EventViews.{variable_view as variable_at_view};
+ghost use Rattle.std.specs.Prelude.{OnOk, map};
+ghost use Rattle.tracked_rows.specs.EventViews.{variable_view as variable_at_view};
 ghost use Rattle.path_faults.specs.FaultViews.{AddsFaults};
 ghost use Rattle.path_faults.specs.FoundFaults.{binding_faults, making_faults};
 ghost use Rattle.events.specs.VariableViews.{variable_view};
@@ -11,7 +11,7 @@ use crate::fault::{PathCode, PathFault, add_if};
 use crate::losses::{loses_cancel, loses_group};
 use states::Arrivals;
 use std::alloc::AllocError;
-use tracked::VariableAt;
+use tracked_rows::VariableAt;
 
 /// Adds the faults of a node that binds a cancel variable.
 pub fn add_binding<'a, A: Arrivals>(

@@ -1,13 +1,13 @@
 //! Tests of variables.
 
 ghost use Rattle.std.specs.Prelude.{◌≡◌, map};
-ghost use Rattle.tracked.specs.EventViews.{handed_view};
+ghost use Rattle.tracked_rows.specs.EventViews.{handed_view};
 ghost use Rattle.meaning_packages.specs.PathFaults.{is_declared, is_handed, makes_it};
 ghost use Rattle.path_faults.specs.FoundFaults.{owes_call};
 ghost use Rattle.events.specs.VariableViews.{variable_role_view, variable_view};
 
 use events::{Variable, VariableRole};
-use tracked::Handed;
+use tracked_rows::Handed;
 
 /// Whether the body itself declares it, and not as a parameter.
 pub fn is_declared(role: VariableRole) -> bool
@@ -32,7 +32,7 @@ pub fn makes_it(variables: &[Variable<'_>], group: u32) -> bool
 }
 
 /// Whether a return hands on the variable of that number.
-fn is_handed(number: u32, handed: &[Handed]) -> bool
+pub fn is_handed(number: u32, handed: &[Handed]) -> bool
     ensures { result ≡ is_handed number (map handed_view handed.now) }
 {
     for item in handed {

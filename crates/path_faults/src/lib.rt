@@ -13,7 +13,8 @@ mod passes;
 mod paths;
 mod returns;
 
-pub use answers::{keeps_call, settles};
+pub use answers::{is_return, keeps_call, settles};
 pub use fault::{PathCode, PathFault};
+pub use kinds::{is_declared, is_handed, makes_it};
 pub use passes::pass_faults;
 pub use paths::path_faults;

@@ -8,7 +8,7 @@ use crate::at_node::AtNode;
 use crate::kinds::makes_it;
 use events::Variable;
 use states::{Arrivals, CancelClass, GroupClass};
-use tracked::GroupState;
+use tracked_rows::GroupState;
 
 /// Whether the cancel variable may be pending in a group that the body does not make, where the node comes next.
 fn is_left_outside<A: Arrivals>(

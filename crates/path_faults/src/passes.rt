@@ -1,7 +1,7 @@
 //! The faults of a body's passes.
 
 ghost use Rattle.std.specs.Prelude.{◌≡◌, ◌↔◌, Contains, IfOk, OnOk, map};
-ghost use Rattle.tracked.specs.EventViews.{event_view, variable_view as variable_at_view};
+ghost use Rattle.tracked_rows.specs.EventViews.{event_view, variable_view as variable_at_view};
 ghost use Rattle.events.specs.ToldViews.{TellsFile};
 ghost use Rattle.meaning.specs.BodyEvents.{events_at};
 ghost use Rattle.meaning.specs.Uses.{Seen};
@@ -14,7 +14,7 @@ use crate::fault::{PathCode, PathFault, add_if};
 use events::{Told, Variable};
 use states::Promises;
 use std::alloc::{AllocError, Global};
-use tracked::{Event, VariableAt};
+use tracked_rows::{Event, VariableAt};
 
 /// Adds the faults of a variable that is passed.
 fn add_passed<'a>(

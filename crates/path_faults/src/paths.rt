@@ -1,7 +1,7 @@
 //! The faults of a body's paths.
 
 ghost use Rattle.std.specs.Prelude.{◌≡◌, ◌↔◌, Contains, IfOk, OnOk, map};
-ghost use Rattle.tracked.specs.EventViews.{event_view};
+ghost use Rattle.tracked_rows.specs.EventViews.{event_view};
 ghost use Rattle.bodies.specs.Classified.{Classifies};
 ghost use Rattle.bodies.specs.NodeEvents.{node_event_view, events_graph, IsGraphOf};
 ghost use Rattle.meaning_packages.specs.PathFaults.{Paths, PathFault as MeantFault, IsPathFault};
@@ -20,7 +20,7 @@ use events::Variable;
 use flow::{Graph, NodePlace};
 use states::Arrivals;
 use std::alloc::{AllocError, Global};
-use tracked::Event;
+use tracked_rows::Event;
 
 /// Adds the faults of a node that does this.
 fn add_event<'a, A: Arrivals>(

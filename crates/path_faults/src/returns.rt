@@ -1,7 +1,7 @@
 //! Faults at a return.
 
 ghost use Rattle.std.specs.Prelude.{◌≡◌, OnOk, map};
-ghost use Rattle.tracked.specs.EventViews.{handed_view};
+ghost use Rattle.tracked_rows.specs.EventViews.{handed_view};
 ghost use Rattle.path_faults.specs.FaultViews.{AddsFaults};
 ghost use Rattle.path_faults.specs.FoundFaults.{is_left_to, returns_open, open_faults, returns_left, left_faults, returns_live, live_faults, return_faults};
 ghost use Rattle.path_faults.specs.LiveViews.{has_live};
@@ -14,7 +14,7 @@ use crate::losses::is_live_group;
 use events::Variable;
 use states::{Arrivals, CancelClass};
 use std::alloc::AllocError;
-use tracked::Handed;
+use tracked_rows::Handed;
 
 /// Whether the cancel variable at that place in the list may be pending at the node in a group that may be live there.
 pub fn is_left_to<A: Arrivals>(at: &AtNode<'_, '_, A>, place: usize) -> bool

@@ -1,1 +1,2 @@
 pub mod ClassNumbers
+pub mod MaskedClasses

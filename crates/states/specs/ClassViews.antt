@@ -1,9 +1,14 @@
--- What the program keeps of classes, and what it stands for.
+-- What the program keeps of classes and of what changes them, and what it stands for.
+use Rattle.std.specs.Borrow.{Bor}
+use Rattle.std.specs.Prelude.{Option, Some, None}
 use Rattle.states.specs.declared.cancels.CancelClass.{CancelClass as KeptCancel}
 use Rattle.states.specs.declared.cancels.CancelClass.TheVariants.{Unset, Opened, Safe, Pending}
 use Rattle.states.specs.declared.groups.GroupClass.{GroupClass as KeptGroup}
 use Rattle.states.specs.declared.groups.GroupClass.TheVariants.{Unmade, InState, Awaited}
-use Rattle.tracked.specs.RowViews.{state_view}
+use Rattle.tracked_rows.specs.declared.event.Event.{Event as KeptEvent}
+use Rattle.tracked_rows.specs.EventViews.{event_view}
+use Rattle.tracked_rows.specs.RowViews.{state_view}
+use Rattle.meaning.specs.Uses.{Event, other}
 use Rattle.meaning.specs.Classes.{CancelClass, unset, opened, safe, pending, GroupClass, unmade, in_state, awaited}
 
 abbrev pub cancel_class_view : KeptCancel → CancelClass
@@ -16,3 +21,8 @@ abbrev pub group_class_view : KeptGroup → GroupClass
 group_class_view Unmade = unmade
 group_class_view (InState s) = in_state (state_view s)
 group_class_view Awaited = awaited
+
+-- where there is no event, what is done changes nothing
+abbrev pub done_view : Option (Bor KeptEvent) → Event
+done_view None = other
+done_view (Some e) = event_view e.now

@@ -7,11 +7,15 @@ ghost use Rattle.states.specs.ClassViews.{cancel_class_view, group_class_view};
 
 use crate::cancels::CancelClass;
 use crate::groups::GroupClass;
-use tracked::GroupState;
+use meaning::MOST_GROUPS;
+use tracked_rows::GroupState;
 
 /// The number of what is pending in the first of some groups: below it stand the classes of a cancel variable that is
 /// pending in none.
 pub const FIRST_PENDING: usize = 3;
+
+/// How many classes a cancel variable has, where the body has as many groups as it may have: 15.
+pub const CANCEL_CLASSES: usize = FIRST_PENDING + MOST_GROUPS;
 
 /// How many classes a group has.
 pub const GROUP_CLASSES: usize = 4;

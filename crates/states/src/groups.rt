@@ -1,7 +1,7 @@
 //! What is known of a group.
 
 ghost use Rattle.std.specs.Prelude.{◌≡◌};
-ghost use Rattle.tracked.specs.EventViews.{event_view};
+ghost use Rattle.tracked_rows.specs.EventViews.{event_view};
 ghost use Rattle.meaning.specs.Classes.{change_group, entry_group, at_work, at_rest};
 ghost use Rattle.states.specs.ClassViews.{group_class_view};
 ghost use Rattle.events.specs.VariableViews.{variable_role_view};
@@ -9,7 +9,7 @@ ghost use Rattle.events.specs.VariableViews.{variable_role_view};
 use crate::changed::changed_if;
 use crate::promises::Promises;
 use events::VariableRole;
-use tracked::{Event, GroupState};
+use tracked_rows::{Event, GroupState};
 
 /// What is known of a group variable.
 #[derive(Clone, Copy)]

@@ -7,13 +7,18 @@ mod bits;
 mod cancels;
 mod changed;
 mod groups;
+mod masks;
 mod promises;
 
 pub use arrivals::Arrivals;
 pub use bits::{
-    FIRST_PENDING, GROUP_CLASSES, cancel_bit, cancel_bits_are_inverse, cancel_class, group_bit,
-    group_bits_are_inverse, group_class,
+    CANCEL_CLASSES, FIRST_PENDING, GROUP_CLASSES, cancel_bit, cancel_bits_are_inverse,
+    cancel_class, group_bit, group_bits_are_inverse, group_class,
 };
 pub use cancels::{CancelClass, change_cancel, entry_cancel};
 pub use groups::{GroupClass, change_group, entry_group};
+pub use masks::{
+    Change, cancel_goes_into, group_goes_into, has_cancel, has_known_bits, may_be_cancel,
+    may_be_group,
+};
 pub use promises::Promises;

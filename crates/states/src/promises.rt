@@ -1,10 +1,10 @@
 //! What a body relies on.
 
 ghost use Rattle.std.specs.Prelude.{◌≡◌};
-ghost use Rattle.tracked.specs.EventViews.{callee_view};
-ghost use Rattle.meaning.specs.Classes.{CancelClass};
+ghost use Rattle.tracked_rows.specs.EventViews.{callee_view};
+ghost use Rattle.meaning.specs.Classes;
 
-use tracked::Callee;
+use tracked_rows::Callee;
 
 /// What a body relies on: of functions, and of the literals of its own file.
 pub trait Promises {

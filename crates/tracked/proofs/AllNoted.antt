@@ -12,7 +12,7 @@ use Rattle.tracked.specs.declared.table.Entries.{Entries}
 use Rattle.meaning.specs.BodyEvents.{distinct}
 use Rattle.tracked.specs.declared.table.Locals.{Locals}
 use Rattle.tracked.specs.declared.seen.Seen.{Seen as KeptSeen}
-use Rattle.tracked.specs.RowViews.{known_view}
+use Rattle.tracked_rows.specs.RowViews.{known_view}
 use Rattle.tracked.specs.LocalViews.{SeenLocal, entry_in, fresh, noted, noted_all, numbers_of, HasLocals, entry_of, SeesLocals}
 use Rattle.tracked.proofs.Added.{fresh_in}
 

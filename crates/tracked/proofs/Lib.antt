@@ -1,6 +1,3 @@
-pub mod LeftSides
-pub mod OnlyValues
-pub mod ValueForms
 pub mod Added
 pub mod AllNoted
 pub mod FirstObtainings

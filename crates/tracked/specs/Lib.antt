@@ -1,4 +1,2 @@
--- What the contracts of this crate name: what it keeps of rows, events and locals, and what that stands for.
-pub mod RowViews
-pub mod EventViews
+-- What the contracts of this crate name: what it keeps of locals, and what that stands for.
 pub mod LocalViews

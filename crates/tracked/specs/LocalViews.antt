@@ -13,7 +13,7 @@ use Rattle.tracked.specs.declared.obtainings.Obtainings.{Obtainings}
 use Rattle.tracked.specs.declared.seen.Seen.{Seen as KeptSeen}
 use Rattle.facts.specs.FactViews.{type_view, tracked_type_view}
 use Rattle.mentions.specs.MarkViews.{marks_view}
-use Rattle.tracked.specs.RowViews.{known_view}
+use Rattle.tracked_rows.specs.RowViews.{known_view}
 use Rattle.meaning.specs.OuterBlocks.{or_else}
 use Rattle.meaning.specs.Mentions.{BodyPlace, Mention, Mark, mentions, defers_literal, returns, opens, closes}
 use Rattle.meaning.specs.FunctionFacts.{VariableKind, cancel, group, kind_of_type}

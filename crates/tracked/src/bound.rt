@@ -7,11 +7,10 @@ ghost use Rattle.meaning.specs.Uses.{is_cancel, kind_at, row_binds};
 ghost use Rattle.mentions.specs.MarkViews.{row_view};
 ghost use Rattle.tracked.specs.LocalViews.{seen_view, SeesLocals};
 
-use crate::calls::row_giving;
-use crate::lefts::local_at;
 use crate::seen::Seen;
 use facts::{CancelResult, VariableKind};
 use mentions::Row;
+use tracked_rows::{local_at, row_giving};
 
 /// Whether it is the kind of cancel functions.
 pub fn is_cancel(kind: Option<VariableKind>) -> bool

@@ -1,19 +1,19 @@
 //! The locals that the marks of a file declare.
 
-ghost use Rattle.std.specs.Prelude.{◌≡◌, ◌∷◌, [], OnOk, map, option_map};
+ghost use Rattle.std.specs.Prelude.{◌≡◌, OnOk, map, option_map};
 ghost use Rattle.meaning.specs.Tracked.{declared_by, row_typed, item_local, parameter_role, parameter_locals, receiver_locals, only_cancel, result_locals, receiver_items, signature_locals, body_locals, role_typed, declared_local, locals_there};
 ghost use Rattle.facts.specs.FactViews.{tracked_type_view, item_view};
 ghost use Rattle.tracked.specs.LocalViews.{local_role_view, AddsLocals};
 ghost use Rattle.mentions.specs.MarkViews.{form_view, role_view, mention_view, body_view, mark_view};
-ghost use Rattle.tracked.specs.RowViews.{known_view};
+ghost use Rattle.tracked_rows.specs.RowViews.{known_view};
 ghost use Rattle.tree.specs.View.{identifier_syntax, parameters_syntax, signature_syntax};
 
-use crate::known::{Known, meaning};
 use crate::local::{Local, LocalRole};
 use crate::table::Locals;
 use facts::{Item, TrackedType, item_type, parameter_items, tracked_type};
 use mentions::{BodyPlace, Mark, Mention, Role, RowForm};
 use std::alloc::{AllocError, Global};
+use tracked_rows::{Known, meaning};
 use tree::{BLANK, Identifier, Param, Signature};
 
 /// Adds the local that a parameter or a result declares, if it has a name.

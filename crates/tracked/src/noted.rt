@@ -5,14 +5,13 @@ ghost use Rattle.tracked.specs.LocalViews.{entry_view, noted_mention, NotesMark}
 ghost use Rattle.mentions.specs.MarkViews.{mention_view, body_view, mark_view};
 ghost use Rattle.meaning.specs.Mentions.{mentions};
 ghost use Rattle.meaning.specs.Tracked.{variable_of, is_obtained_by, is_made_by};
-ghost use Rattle.tracked.specs.RowViews.{known_view};
+ghost use Rattle.tracked_rows.specs.RowViews.{known_view};
 
-use crate::known::{Known, local_meant};
 use crate::local::SeenLocal;
-use crate::makings::{row_makes, row_obtains};
 use crate::table::Entries;
 use mentions::{BodyPlace, Mark, Mention, Role, is_body};
 use std::alloc::AllocError;
+use tracked_rows::{Known, local_meant, row_makes, row_obtains};
 
 /// The local that a mention means or declares.
 pub fn variable_of(known: Known<'_, '_>, mention: Mention<'_>) -> Option<u32>

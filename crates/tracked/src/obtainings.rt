@@ -6,17 +6,16 @@ ghost use Rattle.meaning.specs.Mentions.{mentions};
 ghost use Rattle.meaning.specs.Uses.{first_of_some, obtained_by_row, obtained_in_role, type_from, type_given, type_obtained};
 ghost use Rattle.mentions.specs.MarkViews.{mark_view, mention_view, row_view};
 ghost use Rattle.tracked.specs.LocalViews.{seen_view, obtaining_view, obtaining_in, obtaining_at, update_obtaining, NotesObtaining, HasFirsts, SeesLocals};
-ghost use Rattle.tracked.specs.RowViews.{giving_view};
+ghost use Rattle.tracked_rows.specs.RowViews.{giving_view};
 
 use crate::bound::are_cancels;
-use crate::calls::{Giving, row_giving};
-use crate::makings::{are_locals, is_given};
 use crate::noted::variable_of;
 use crate::seen::Seen;
 use facts::{CancelResult, CancelType};
 use indexmap::IndexMap;
 use mentions::{Mark, Mention, Role, Row};
 use std::alloc::{AllocError, Global};
+use tracked_rows::{Giving, are_locals, is_given, row_giving};
 
 /// A binding that obtains a cancel function.
 #[derive(Clone, Copy)]

@@ -6,14 +6,13 @@ ghost use Rattle.tracked.specs.LocalViews.{local_view, entry_view, entry_in, not
 ghost use Rattle.meaning.specs.BodyEvents.{distinct, seen_file};
 ghost use Rattle.meaning.specs.Tracked.{placed, locals_of};
 ghost use Rattle.meaning.specs.Uses.{found, kind_of, is_tracked, cancel_type_of};
-ghost use Rattle.mentions.specs.MarkViews.{mark_view, marks_view};
-ghost use Rattle.tracked.specs.RowViews.{known_view};
+ghost use Rattle.mentions.specs.MarkViews.{marks_view};
+ghost use Rattle.tracked_rows.specs.RowViews.{known_view};
 ghost use Rattle.tree.specs.View.{file_syntax};
 
 use crate::around::enter;
 use crate::declared::add_locals;
 use crate::kinds::{kind, tracked_kind};
-use crate::known::Known;
 use crate::local::{Local, SeenLocal};
 use crate::noted::note;
 use crate::obtainings::{Obtainings, first_obtainings};
@@ -21,6 +20,7 @@ use crate::table::{Entries, Locals};
 use facts::{CancelType, TrackedType, VariableKind};
 use mentions::{BodyPlace, Mark, file_marks};
 use std::alloc::{AllocError, Global};
+use tracked_rows::Known;
 use tree::File;
 
 /// A file's marks and locals, with what is known.

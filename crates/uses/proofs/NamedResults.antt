@@ -1,7 +1,7 @@
 -- Faults of named results: those of a list of items, one after the other, and none of parameters.
 use Rattle.std.proofs.Common.{◌≡◌, ℕ, ◌+◌, Bool, true, false, ◌&&◌, if◌then◌else◌, List, [], ◌∷◌, ◌++◌, Option, Some, None, option_map, refl, sym, ap, ◌∙◌}
 use Rattle.std.proofs.lemmas.List.{append-nil}
-use Rattle.tree.specs.Syntax.{Identifier, Signature, signature_of, Parameters}
+use Rattle.tree.specs.Syntax.{Identifier, signature_of, Parameters}
 use Rattle.meaning.specs.FunctionFacts.{TrackedType, kind_of_type, Item, items_of, item_type}
 use Rattle.meaning.specs.Mentions.{BodyPlace}
 use Rattle.meaning.specs.Scopes.{is_blank}

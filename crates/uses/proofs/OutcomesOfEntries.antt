@@ -1,6 +1,6 @@
 -- What a mention of a local gives, by what the marks of its file do to the local.
 use Rattle.std.proofs.Common.{◌≡◌, ℕ, List, [], Option, Some, None, option_map, refl, ap, ◌∙◌}
-use Rattle.tracked.specs.LocalViews.{SeenLocal, entry_of, tracked_kind_of_entry, kind_of_entry}
+use Rattle.tracked.specs.LocalViews.{SeenLocal, entry_of, tracked_kind_of_entry}
 use Rattle.uses.specs.OutcomeViews.{binding_outcome_of, mention_outcome_of, row_outcome_of, role_outcome_of}
 use Rattle.meaning.specs.FunctionFacts.{VariableKind, CancelResult}
 use Rattle.meaning.specs.Mentions.{BodyPlace, Row, Role, elsewhere, called, called_in_brackets, argument, returned, left, names_type, new_literal, parameter_pointer, Mention}

@@ -1,16 +1,16 @@
 -- What the program keeps of faults and outcomes, and what it stands for.
-use Rattle.std.specs.Prelude.{ℕ, ◌≡◌, not, ◌&&◌, Bool, if◌then◌else◌, List, [], ◌∷◌, ◌++◌, Option, Some, None, is_some, map}
+use Rattle.std.specs.Prelude.{◌≡◌, not, ◌&&◌, if◌then◌else◌, List, [], ◌∷◌, ◌++◌, Option, Some, None, is_some, map}
 use Rattle.uses.specs.declared.faults.UseCode.{UseCode as KeptCode}
 use Rattle.uses.specs.declared.faults.UseCode.TheVariants.{RecoverUsed, CancelDiscarded, CancelUsedOtherwise, GroupUsedOtherwise, BoundAgain, TooManyVariables}
 use Rattle.uses.specs.declared.faults.UseFault.{UseFault as KeptFault}
 use Rattle.uses.specs.declared.bindings.Binding.{Binding as KeptBinding}
 use Rattle.uses.specs.declared.bindings.Binding.TheVariants.{Obtained, Cleared, Made}
-use Rattle.tracked.specs.declared.event.Event.{Event as KeptEvent}
-use Rattle.tracked.specs.EventViews.{event_view}
+use Rattle.tracked_rows.specs.declared.event.Event.{Event as KeptEvent}
+use Rattle.tracked_rows.specs.EventViews.{event_view}
 use Rattle.tracked.specs.LocalViews.{SeenLocal, kind_of_entry, tracked_kind_of_entry}
-use Rattle.tracked.specs.RowViews.{state_view}
+use Rattle.tracked_rows.specs.RowViews.{state_view}
 use Rattle.meaning.specs.FunctionFacts.{VariableKind}
-use Rattle.meaning.specs.Mentions.{Row, BodyPlace, Role, elsewhere, called, called_in_brackets, argument, returned, left, names_type, new_literal, parameter_pointer, Mention}
+use Rattle.meaning.specs.Mentions.{Row, BodyPlace, Role, left, Mention}
 use Rattle.meaning.specs.Tracked.{Known, declared_by, LocalRole, parameter, receiver, variadic, result, in_block}
 use Rattle.meaning.specs.Uses.{Seen, Binding, obtained, cleared, made, Event, UseCode, recover_used, cancel_discarded, cancel_used_otherwise, group_used_otherwise, bound_again, too_many_variables, UseFault, fault_at, otherwise, Outcome, nothing, only_faults, binding_event, first_faults, type_faults, event_here, use_outcome, kind_use, binding_at}
 

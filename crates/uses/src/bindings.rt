@@ -1,23 +1,21 @@
 //! How rows bind what stands on their left sides.
 
-ghost use Rattle.std.specs.Prelude.{◌≡◌, IfOk, option_map, length, Some};
-ghost use Rattle.std.specs.List.{list_all, list_any};
+ghost use Rattle.std.specs.Prelude.{◌≡◌, IfOk, option_map, Some};
+ghost use Rattle.std.specs.List.{list_all};
 ghost use Rattle.facts.specs.FactViews.{kind_view};
 ghost use Rattle.tracked.specs.LocalViews.{seen_view, Sees};
 ghost use Rattle.meaning.specs.Tracked.{lefts_of, left_local};
 ghost use Rattle.meaning.specs.Uses.{is_second_free, made_binding, binding_at, makes_group, is_group, is_group_or_none, are_groups, is_made};
 ghost use Rattle.mentions.specs.MarkViews.{form_view, row_view};
-ghost use Rattle.tracked.specs.RowViews.{state_view};
+ghost use Rattle.tracked_rows.specs.RowViews.{state_view};
 ghost use Rattle.uses.specs.OutcomeViews.{binding_view};
 
 use crate::tracked_names::has_tracked;
 use facts::VariableKind;
 use mentions::{Row, RowForm};
 use std::alloc::{AllocError, Global};
-use tracked::{
-    GroupState, Seen, count, is_cancel, kind_at, local_at, row_binds, row_clears, row_makes,
-    row_obtains,
-};
+use tracked::{Seen, is_cancel, kind_at, row_binds};
+use tracked_rows::{GroupState, count, local_at, row_clears, row_makes, row_obtains};
 
 /// How a row binds a left side.
 #[derive(Clone, Copy)]

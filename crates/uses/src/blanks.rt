@@ -7,7 +7,7 @@ ghost use Rattle.meaning.specs.Uses.{has_blank};
 
 use facts::CancelResult;
 use mentions::Row;
-use tracked::is_blank_at;
+use tracked_rows::is_blank_at;
 
 /// Whether `_` stands on one of these left sides.
 pub fn has_blank(row: Row<'_>, gives: &[CancelResult]) -> bool

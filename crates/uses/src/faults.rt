@@ -9,7 +9,7 @@ ghost use Rattle.uses.specs.OutcomeViews.{code_view, AddsFaults};
 use facts::VariableKind;
 use mentions::Named;
 use std::alloc::AllocError;
-use tracked::last_name;
+use tracked_rows::last_name;
 
 /// What is wrong with a use.
 #[derive(Clone, Copy)]

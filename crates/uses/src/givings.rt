@@ -1,10 +1,10 @@
 //! Mentions of makers and givers.
 
-ghost use Rattle.std.specs.Prelude.{◌≡◌, OnOk, map};
+ghost use Rattle.std.specs.Prelude.{OnOk, map};
 ghost use Rattle.tracked.specs.LocalViews.{seen_view, Sees};
 ghost use Rattle.meaning.specs.Uses.{fault_at, cancel_discarded, last_name, row_call_faults, call_faults, giving_role_faults, giving_faults, if_not, hands_on, body_gives, last_fault, cancel_used_otherwise};
 ghost use Rattle.mentions.specs.MarkViews.{named_view, row_view, place_view, body_view, role_view, mention_view};
-ghost use Rattle.tracked.specs.RowViews.{giving_view};
+ghost use Rattle.tracked_rows.specs.RowViews.{giving_view};
 ghost use Rattle.uses.specs.OutcomeViews.{AddsFaults};
 ghost use Rattle.meaning.specs.Tracked.{row_giving, giving_of};
 
@@ -14,7 +14,8 @@ use crate::faults::{UseCode, UseFault, add_fault, add_last};
 use allowed_uses::{body_gives, hands_on};
 use mentions::{CallPlace, Named, Role, Row};
 use std::alloc::{AllocError, Global};
-use tracked::{Giving, Seen, are_locals, giving_of, is_maker, last_name, row_binds, row_giving};
+use tracked::{Seen, row_binds};
+use tracked_rows::{Giving, are_locals, giving_of, is_maker, last_name, row_giving};
 
 /// A maker or giver whose cancel function nothing obtains.
 fn add_discarded<'a>(

@@ -1,6 +1,6 @@
 //! Mentions of the package `errgroup`.
 
-ghost use Rattle.std.specs.Prelude.{◌≡◌, IfOk, OnOk, codes};
+ghost use Rattle.std.specs.Prelude.{◌≡◌, IfOk, OnOk};
 ghost use Rattle.tracked.specs.LocalViews.{seen_view, Sees};
 ghost use Rattle.meaning.specs.Uses.{is_making_place, is_made_or_parameter, errgroup_faults};
 ghost use Rattle.mentions.specs.MarkViews.{named_view, place_view, role_view, mention_view};
@@ -13,7 +13,8 @@ use facts::is_import;
 use mentions::{CallPlace, Mention, Named, Role};
 use names::ERRGROUP;
 use std::alloc::{AllocError, Global};
-use tracked::{Seen, is_of_universe, meaning};
+use tracked::Seen;
+use tracked_rows::{is_of_universe, meaning};
 
 fn is_selected(name: &str, named: Named<'_>) -> bool
     ensures { result ≡ is_selected name.now (named_view named.entry).selected }

@@ -1,7 +1,7 @@
 //! What a mark gives.
 
-ghost use Rattle.std.specs.Prelude.{◌≡◌, option_map, OnOk, IfOk, map, ◌∷◌, [], ◌++◌};
-ghost use Rattle.tracked.specs.EventViews.{handed_view};
+ghost use Rattle.std.specs.Prelude.{◌≡◌, OnOk, IfOk, map, ◌∷◌, [], ◌++◌};
+ghost use Rattle.tracked_rows.specs.EventViews.{handed_view};
 ghost use Rattle.facts.specs.FactViews.{item_view, cancel_result_view};
 ghost use Rattle.tracked.specs.LocalViews.{local_view, entry_view, tracked_kind_of_entry, seen_view, Sees};
 ghost use Rattle.meaning.specs.BodyEvents.{mark_faults, mark_events, item_variable, handed_at, handed_item, handed_on};
@@ -9,7 +9,7 @@ ghost use Rattle.meaning.specs.Tracked.{result_locals, body_locals};
 ghost use Rattle.meaning.specs.Uses.{mention_faults, variable_outcome, result_faults};
 ghost use Rattle.meaning.specs.Mentions.{as_bare};
 ghost use Rattle.mentions.specs.MarkViews.{body_view, mention_view, mark_view};
-ghost use Rattle.tracked.specs.RowViews.{known_view};
+ghost use Rattle.tracked_rows.specs.RowViews.{known_view};
 ghost use Rattle.tree.specs.View.{expression_syntax, expressions_syntax};
 ghost use Rattle.uses.specs.OutcomeViews.{AddsFaults, Gives};
 
@@ -23,7 +23,8 @@ use allowed_uses::{body_gives, is_given_as};
 use facts::{CancelResult, Item, TrackedType, VariableKind, item_type, parameter_items};
 use mentions::{BodyPlace, Mark, as_bare};
 use std::alloc::{AllocError, Global};
-use tracked::{Event, Handed, Known, Seen, SeenLocal, local_meant, tracked_kind};
+use tracked::{Seen, SeenLocal, tracked_kind};
+use tracked_rows::{Event, Handed, Known, local_meant};
 use tree::{BLANK, Expr};
 
 /// What a mention gives: faults, and at most one event.

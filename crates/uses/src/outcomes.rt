@@ -1,13 +1,13 @@
 //! What mentions of tracked variables give: faults, and at most one event.
 
-ghost use Rattle.std.specs.Prelude.{◌≡◌, OnOk, IfOk, map, option_map, ◌++◌};
-ghost use Rattle.tracked.specs.EventViews.{event_view, callee_view};
+ghost use Rattle.std.specs.Prelude.{◌≡◌, OnOk, IfOk, map, ◌++◌};
+ghost use Rattle.tracked_rows.specs.EventViews.{event_view, callee_view};
 ghost use Rattle.allowed_uses.specs.UseViews.{use_view};
 ghost use Rattle.facts.specs.FactViews.{kind_view};
 ghost use Rattle.tracked.specs.LocalViews.{local_view, local_role_view, entry_view, seen_view, Sees, tracked_kind_of_entry, kind_of_entry};
 ghost use Rattle.meaning.specs.Uses.{first_faults, type_faults, only_faults, binding_event, called_in, fault_at, otherwise, use_outcome, binding_at, variable_outcome};
 ghost use Rattle.mentions.specs.MarkViews.{standing_view, row_view, body_view, role_view, mention_view};
-ghost use Rattle.tracked.specs.RowViews.{known_view};
+ghost use Rattle.tracked_rows.specs.RowViews.{known_view};
 ghost use Rattle.uses.specs.OutcomeViews.{binding_view, AddsFaults, Gives, again_of, binding_outcome_of, mention_outcome_of, row_outcome_of, role_outcome_of};
 ghost use Rattle.meaning.specs.Tracked.{only_call};
 
@@ -20,9 +20,9 @@ use facts::VariableKind;
 use mentions::{Mention, Role, Row, Standing, is_body};
 use std::alloc::{AllocError, Global};
 use tracked::{
-    Callee, Event, Known, Local, LocalRole, SeenLocal, callee_of, declared_by, kind, only_call,
-    row_giving, tracked_kind, type_from, variable_of,
+    Local, LocalRole, SeenLocal, declared_by, kind, tracked_kind, type_from, variable_of,
 };
+use tracked_rows::{Callee, Event, Known, callee_of, only_call, row_giving};
 
 /// A local that was found, at a mention of it.
 #[derive(Clone, Copy)]

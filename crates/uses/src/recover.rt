@@ -3,7 +3,7 @@
 ghost use Rattle.std.specs.Prelude.{◌≡◌, OnOk, option_map};
 ghost use Rattle.meaning.specs.Uses.{recover_faults};
 ghost use Rattle.mentions.specs.MarkViews.{mention_view};
-ghost use Rattle.tracked.specs.RowViews.{known_view};
+ghost use Rattle.tracked_rows.specs.RowViews.{known_view};
 ghost use Rattle.uses.specs.OutcomeViews.{AddsFaults};
 ghost use Rattle.meaning.specs.Tracked.{is_universe};
 ghost use Rattle.names.specs.Answers.{decl_view};
@@ -12,7 +12,7 @@ use crate::faults::{UseCode, UseFault, add_fault};
 use mentions::Mention;
 use names::NameMeaning;
 use std::alloc::AllocError;
-use tracked::{Known, meaning};
+use tracked_rows::{Known, meaning};
 
 fn is_universe(meaning: Option<NameMeaning<'_>>) -> bool
     ensures { result ≡ is_universe (option_map decl_view meaning.entry) }

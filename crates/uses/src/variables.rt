@@ -5,7 +5,7 @@ ghost use Rattle.allowed_uses.specs.UseViews.{use_view};
 ghost use Rattle.facts.specs.FactViews.{kind_view, type_view};
 ghost use Rattle.tracked.specs.LocalViews.{local_view, seen_view, Sees};
 ghost use Rattle.mentions.specs.MarkViews.{body_view, call_view, role_view, mention_view};
-ghost use Rattle.tracked.specs.RowViews.{known_view};
+ghost use Rattle.tracked_rows.specs.RowViews.{known_view};
 ghost use Rattle.meaning.specs.Uses.{allowed_if, is_own, is_given_as, body_gives, cancel_use, group_called, group_use, kind_use};
 
 use crate::tracked_names::is_free;
@@ -16,7 +16,8 @@ use allowed_uses::{
 use facts::{CancelType, VariableKind};
 use mentions::{Call, Role, is_body};
 use std::alloc::{AllocError, Global};
-use tracked::{Known, Seen};
+use tracked::Seen;
+use tracked_rows::Known;
 
 /// An item of a return list at the position of a result of its type, which the return hands on.
 fn cancel_returned<'a>(

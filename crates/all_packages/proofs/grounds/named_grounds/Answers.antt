@@ -17,5 +17,5 @@ returns c = λ ps tables i p is_p tells around means none.
       none_whole ps i (map entry_of c.in_ok-faults.faults.items)
           (c.in_ok-faults.ensures ps i p is_p tells (sym none) around.is_order)
           (is_empty entry_of c.in_ok-faults.faults.items _ (omega (arith, size.0, size.1)) c.if-not-is_empty.ensures),
-      c.in_ok-told.ensures ps tables i p tells around means,
+      c.in_ok-told.ensures ps tables p tells around means,
     )

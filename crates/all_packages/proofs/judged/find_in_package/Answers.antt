@@ -1,45 +1,24 @@
-use Rattle.std.proofs.Common.{◌≡◌, ◌∙◌, ap, sym, subst, map, ◌++◌}
+use Rattle.std.proofs.Common.{◌∙◌, ap, map, ◌++◌}
 use Rattle.std.specs.Prelude.{flat_map}
 use Rattle.imports.specs.Views.{at_path}
-use Rattle.calls_flags.proofs.CreditedFiles.{all_credited, all_told}
-use Rattle.calls_flags.specs.KnownCalls.{is_called, flags_by_path}
-use Rattle.calls_flags.specs.FilesBodies.{TellAll}
 use Rattle.whole_packages.specs.LoadedViews.{numbered_view}
 use Rattle.whole_packages.specs.WholeEntries.{is_marked, tree_entries}
-use Rattle.meaning_packages.specs.CallsFlags.{calls_by}
 use Rattle.report.specs.Entries.{entry_of}
 use Rattle.report.specs.declared.codes.DiagnosticCode.TheVariants.{ImportIsNotYes}
-use Rattle.meaning_reports.specs.Loaded.{imported_flags, seen_files}
-use Rattle.meaning_reports.specs.PackageTables.{IsJudged}
-use Rattle.all_packages.specs.ToldPackages.{files_of}
 use Rattle.all_packages.proofs.JudgedFiles.{all_said}
 use Rattle.all_packages.proofs.judged.find_in_package.Goals as goal
 
 pub returns : goal.returns
-returns c = λ ps tables i p is_p tells around told none.
-    let ks = c.in_ok-files.field-0.files.items in
-    let flags = is_called c.in_ok-files.field-0.called in
-    let imported = flags_by_path c.args.around.calls.now in
-    let are_flags : imported ≡ imported_flags p tables = λ j path name k. around.are_calls path name k j in
-    let bodies = c.in_ok-files.ensures ps tables p told around.are_calls in
-    let seens = seen_files ps tables p in
-    let files = files_of ps tables p c.in_ok-files.field-0 in
-    let judged : IsJudged ps tables i p files flags = record {
-      is_package = is_p;
-      has_no_whole_fault = none;
-      are_files = all_credited seens ks bodies.are_bodies;
-      are_flags = bodies.are_flags;
-    } in
-    let is_one = is_marked (at_path c.args.around.not_yes.places.now) c.args.around.not_yes.marks.now in
-    let trees = ap (map numbered_view) c.deref-2.ensures.value ∙ c.in_ok-trees.ensures p tells in
-    let found = map entry_of c.in_ok-diagnostics.diagnostics.items in
+returns g c = λ ps tables i p is_p tells around marked told none.
+    let rules = g.R.FileRules.rules c.args.rules.now in
+    let files = c.in_ok-diagnostics.ensures ps tables i p is_p tells around told none in
+    let places = at_path c.args.around.not_yes.places.now in
+    let marks = c.args.around.not_yes.marks.now in
+    let trees = ap (map numbered_view) c.deref.ensures.value ∙ c.in_ok-trees.ensures p tells in
+    let found = map entry_of c.in_ok-diagnostics.field-0.diagnostics.items in
     record {
-      files = files;
-      is_judged = judged;
-      each = all_said ps tables i p is_p none files flags judged (calls_by flags imported)
-          (ap (calls_by flags) are_flags) (at_path c.args.around.not_yes.places.now) c.args.around.not_yes.marks.now
-          around.are_places around.are_not_yes found (map entry_of c.add_imports.new.diagnostics.items)
-          (c.in_ok-diagnostics.ensures files
-          (subst (TellAll files) (sym c.deref.ensures.value) (all_told seens ks bodies.are_bodies)))
-          (c.in_ok-add_imports.ensures ∙ λ j. found ++ flat_map (tree_entries is_one ImportIsNotYes) (trees j));
+      are_flags = files.are_flags;
+      each = all_said rules ps tables i p is_p none places marks marked found
+          (map entry_of c.add_imports.new.diagnostics.items) files.each
+          (c.in_ok-add_imports.ensures ∙ λ j. found ++ flat_map (tree_entries (is_marked places marks) ImportIsNotYes) (trees j));
     }

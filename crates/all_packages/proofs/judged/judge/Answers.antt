@@ -6,15 +6,15 @@ use Rattle.all_packages.proofs.WholeOnly.{only_whole}
 use Rattle.all_packages.proofs.judged.judge.Goals as goal
 
 pub returns-in-WholeFaults-clause-judged : goal.returns-in-WholeFaults-clause-judged
-returns-in-WholeFaults-clause-judged c = λ ps tables i p is_p tells around.
+returns-in-WholeFaults-clause-judged g c = λ ps tables i p is_p tells around marked.
     let are = subst (AreGrounds ps tables i p) c.in-WholeFaults.is (c.in_ok-faults.ensures ps tables i p is_p tells around) in
-    only_whole ps tables i p c.whole_only.result (map entry_of c.in-WholeFaults.faults.items) c.whole_only.ensures.only
-    are.each are.one.0 are.one.1
+    only_whole (g.R.FileRules.rules c.args.rules.now) ps tables i p c.whole_only.result
+    (map entry_of c.in-WholeFaults.faults.items) c.whole_only.ensures.only are.each are.one.0 are.one.1
 
 pub returns-in-Told-clause-judged : goal.returns-in-Told-clause-judged
-returns-in-Told-clause-judged c =
+returns-in-Told-clause-judged g c =
     IfOk-weaker c.judge_told.result _ _
-    (λ judged judgment ps tables i p is_p tells around.
+    (λ judged judgment ps tables i p is_p tells around marked.
     let told = subst (AreGrounds ps tables i p) c.in-Told.is (c.in_ok-faults.ensures ps tables i p is_p tells around) in
-    judgment ps tables i p is_p tells around told.0 told.1)
+    judgment ps tables i p is_p tells around marked told.0 told.1)
     c.judge_told.ensures.judged

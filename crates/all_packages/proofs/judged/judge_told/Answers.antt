@@ -4,10 +4,10 @@ use Rattle.meaning_reports.specs.PackageTables.{full}
 use Rattle.all_packages.proofs.judged.judge_told.Goals as goal
 
 pub returns-clause-judged : goal.returns-clause-judged
-returns-clause-judged c = λ ps tables i p is_p tells around none told.
-    let found = c.in_ok-diagnostics.ensures ps tables i p is_p tells around told none in
+returns-clause-judged g c = λ ps tables i p is_p tells around marked none told.
+    let found = c.in_ok-diagnostics.ensures ps tables i p is_p tells around marked told none in
     record {
-      is_table = full found.files (is_called c.in_ok-diagnostics.field-0.called) found.is_judged told.are_signatures (λ name k. refl);
+      is_table = full (is_called c.in_ok-diagnostics.field-0.called) none found.are_flags told.are_signatures (λ name k. refl);
       are_findings = record {
         in_order = c.report_of.ensures.sorted;
         each = λ x. (

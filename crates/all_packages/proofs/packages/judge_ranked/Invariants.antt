@@ -8,8 +8,8 @@ use Rattle.all_packages.proofs.packages.judge_ranked.Given as goal
 
 -- those before are judged, and these are left
 abbrev pub invariant-loop-place : goal.invariant-loop-place
-invariant-loop-place l =
+invariant-loop-place g l =
     (ps : List LoadedPackage) → TellsGiven ps l.given → HaveDistinctPaths ps
     → (rank : ℕ → Option ℕ) → IsOrder (import_list ps) rank l.ranked
-    → AreRight ps l.given.packages.now (judged_in l.initial.progress) (marks_in l.initial.progress)
-    → GoOn ps l.given.packages.now l.ranked (drop l.place-index l.ranked) (judged_in l.progress) (marks_in l.progress)
+    → AreRight (g.R.FileRules.rules l.rules) ps l.given.packages.now (judged_in l.initial.progress) (marks_in l.initial.progress)
+    → GoOn (g.R.FileRules.rules l.rules) ps l.given.packages.now l.ranked (drop l.place-index l.ranked) (judged_in l.progress) (marks_in l.progress)

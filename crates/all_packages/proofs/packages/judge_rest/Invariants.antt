@@ -8,8 +8,8 @@ use Rattle.all_packages.proofs.packages.judge_rest.Given as goal
 
 -- all before that place are judged, and all with a rank
 abbrev pub invariant-loop-place : goal.invariant-loop-place
-invariant-loop-place l =
+invariant-loop-place g l =
     (ps : List LoadedPackage) → TellsGiven ps l.given → HaveDistinctPaths ps
     → (rank : ℕ → Option ℕ) (ranked : List ℕ) → IsOrder (import_list ps) rank ranked
-    → AreRankedJudged ps l.given.packages.now ranked (judged_in l.initial.progress) (marks_in l.initial.progress)
-    → GoThrough ps l.given.packages.now ranked l.place (judged_in l.progress) (marks_in l.progress)
+    → AreRankedJudged (g.R.FileRules.rules l.rules) ps l.given.packages.now ranked (judged_in l.initial.progress) (marks_in l.initial.progress)
+    → GoThrough (g.R.FileRules.rules l.rules) ps l.given.packages.now ranked l.place (judged_in l.progress) (marks_in l.progress)

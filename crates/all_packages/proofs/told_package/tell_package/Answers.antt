@@ -8,7 +8,7 @@ use Rattle.all_packages.proofs.JudgedFiles.{seen_so}
 use Rattle.all_packages.proofs.told_package.tell_package.Goals as goal
 
 pub returns : goal.returns
-returns c = λ ps tables i p tells around means.
+returns c = λ ps tables p tells around means.
     let facts = facts_by_name c.in_ok-table.table in
     let are_trees = ap (map file_syntax) c.deref.ensures.value ∙ sym tells.are_trees in
     let are_facts : (name : List ℕ) → facts name ≡ signatures_of ps p name = λ name. c.in_ok-table.ensures name

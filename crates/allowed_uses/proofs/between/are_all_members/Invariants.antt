@@ -3,7 +3,7 @@ use Rattle.std.specs.List.{list_all}
 use Rattle.meaning.specs.Uses.{literals_between, is_member_of}
 use Rattle.mentions.specs.MarkViews.{body_view}
 use Rattle.tracked.specs.LocalViews.{local_view}
-use Rattle.tracked.specs.RowViews.{known_view}
+use Rattle.tracked_rows.specs.RowViews.{known_view}
 use Rattle.allowed_uses.proofs.between.are_all_members.Given as goal
 
 -- the test of the literals that are left is that of all

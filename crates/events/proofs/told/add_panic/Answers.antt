@@ -1,7 +1,7 @@
 use Rattle.std.proofs.Common.{map, ap}
 use Rattle.facts.proofs.FactParts.{on_ok}
 use Rattle.mentions.specs.MarkViews.{body_view, mark_view, mention_view}
-use Rattle.tracked.specs.RowViews.{known_view}
+use Rattle.tracked_rows.specs.RowViews.{known_view}
 use Rattle.events.proofs.Grown.{mark_panics}
 use Rattle.events.proofs.told.add_panic.Goals as goal
 

@@ -1,5 +1,5 @@
 use Rattle.std.proofs.Common.{◌≡◌, drop, map}
-use Rattle.tracked.specs.EventViews.{handed_view}
+use Rattle.tracked_rows.specs.EventViews.{handed_view}
 use Rattle.meaning_packages.specs.PathFaults.{is_handed}
 use Rattle.path_faults.proofs.kinds.is_handed.Given as goal
 

@@ -1,5 +1,5 @@
 use Rattle.std.proofs.Common.{◌≡◌, ◌++◌, drop, map}
-use Rattle.tracked.specs.EventViews.{handed_view}
+use Rattle.tracked_rows.specs.EventViews.{handed_view}
 use Rattle.meaning_packages.specs.PathFaults.{left_to_live_group}
 use Rattle.events.specs.VariableViews.{variable_view}
 use Rattle.path_faults.specs.FaultViews.{fault_view}

@@ -1,7 +1,7 @@
 use Rattle.meaning.specs.Tracked.{receiver_locals, receiver_items, signature_locals}
 use Rattle.facts.proofs.FactParts.{on_ok}
 use Rattle.mentions.specs.MarkViews.{body_view}
-use Rattle.tracked.specs.RowViews.{known_view}
+use Rattle.tracked_rows.specs.RowViews.{known_view}
 use Rattle.tracked.proofs.Added.{adds_then}
 use Rattle.tracked.proofs.declared.add_body.Goals as goal
 

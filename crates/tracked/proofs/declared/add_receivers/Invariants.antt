@@ -2,7 +2,7 @@ use Rattle.std.proofs.Common.{map, drop}
 use Rattle.meaning.specs.Tracked.{receiver_locals}
 use Rattle.facts.specs.FactViews.{item_view}
 use Rattle.mentions.specs.MarkViews.{body_view}
-use Rattle.tracked.specs.RowViews.{known_view}
+use Rattle.tracked_rows.specs.RowViews.{known_view}
 use Rattle.tracked.specs.declared.table.Locals.{Locals}
 use Rattle.tracked.specs.LocalViews.{AddsLocals}
 use Rattle.tracked.proofs.declared.add_receivers.Given as goal

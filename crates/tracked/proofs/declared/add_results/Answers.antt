@@ -2,7 +2,7 @@ use Rattle.std.proofs.Common.{map, refl, ap, ◌∙◌}
 use Rattle.meaning.specs.Tracked.{result, only_cancel, result_locals}
 use Rattle.facts.specs.FactViews.{item_view}
 use Rattle.mentions.specs.MarkViews.{body_view}
-use Rattle.tracked.specs.RowViews.{known_view}
+use Rattle.tracked_rows.specs.RowViews.{known_view}
 use Rattle.tracked.specs.LocalViews.{AddsLocals}
 use Rattle.tracked.proofs.Added.{next_added, all_added, adds_item}
 use Rattle.tracked.proofs.declared.add_results.Goals as goal

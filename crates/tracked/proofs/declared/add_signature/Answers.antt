@@ -5,7 +5,7 @@ use Rattle.tree.specs.View.{parameters_syntax}
 use Rattle.facts.specs.FactViews.{item_view}
 use Rattle.facts.proofs.FactParts.{on_ok}
 use Rattle.mentions.specs.MarkViews.{body_view}
-use Rattle.tracked.specs.RowViews.{known_view}
+use Rattle.tracked_rows.specs.RowViews.{known_view}
 use Rattle.tracked.proofs.Added.{adds_both}
 use Rattle.tracked.proofs.declared.add_signature.Goals as goal
 

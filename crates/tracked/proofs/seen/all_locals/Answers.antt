@@ -1,7 +1,7 @@
 use Rattle.std.proofs.Common.{[], map, ap}
 use Rattle.mentions.specs.MarkViews.{body_view, marks_view}
 use Rattle.meaning.specs.Tracked.{placed, locals_of}
-use Rattle.tracked.specs.RowViews.{known_view}
+use Rattle.tracked_rows.specs.RowViews.{known_view}
 use Rattle.tracked.specs.LocalViews.{HasLocals}
 use Rattle.tracked.proofs.MarksInOrder.{adds_from_none, more_locals, all_locals}
 use Rattle.tracked.proofs.seen.all_locals.Goals as goal

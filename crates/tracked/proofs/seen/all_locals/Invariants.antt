@@ -1,7 +1,7 @@
 use Rattle.std.proofs.Common.{[], map, drop}
 use Rattle.meaning.specs.Tracked.{placed, locals_of}
 use Rattle.mentions.specs.MarkViews.{body_view, marks_view}
-use Rattle.tracked.specs.RowViews.{known_view}
+use Rattle.tracked_rows.specs.RowViews.{known_view}
 use Rattle.tracked.specs.declared.table.Locals.{Locals}
 use Rattle.tracked.specs.LocalViews.{AddsLocals, HasLocals}
 use Rattle.tracked.proofs.seen.all_locals.Given as goal

@@ -1,6 +1,6 @@
 use Rattle.std.proofs.Common.{map}
 use Rattle.mentions.specs.MarkViews.{body_view}
-use Rattle.tracked.specs.RowViews.{known_view}
+use Rattle.tracked_rows.specs.RowViews.{known_view}
 use Rattle.tracked.proofs.MarksInOrder.{more_noted, all_noted_there}
 use Rattle.tracked.proofs.seen.note_all.Goals as goal
 

@@ -1,7 +1,7 @@
 use Rattle.std.proofs.Common.{◌≡◌, ℕ, [], option_map, map, drop}
 use Rattle.meaning.specs.Tracked.{placed}
 use Rattle.mentions.specs.MarkViews.{body_view, marks_view}
-use Rattle.tracked.specs.RowViews.{known_view}
+use Rattle.tracked_rows.specs.RowViews.{known_view}
 use Rattle.tracked.specs.LocalViews.{entry_in, noted_all}
 use Rattle.tracked.proofs.seen.note_all.Given as goal
 

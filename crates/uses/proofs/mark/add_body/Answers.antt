@@ -5,7 +5,7 @@ use Rattle.meaning.specs.FunctionFacts.{items_of}
 use Rattle.meaning.specs.Tracked.{result_locals}
 use Rattle.meaning.specs.Uses.{result_faults}
 use Rattle.mentions.specs.MarkViews.{body_view}
-use Rattle.tracked.specs.RowViews.{known_view}
+use Rattle.tracked_rows.specs.RowViews.{known_view}
 use Rattle.tree.specs.View.{parameters_syntax}
 use Rattle.uses.specs.OutcomeViews.{fault_view}
 use Rattle.uses.proofs.NamedResults.{only_results}

@@ -3,7 +3,7 @@ use Rattle.facts.specs.FactViews.{item_view}
 use Rattle.meaning.specs.Tracked.{result_locals}
 use Rattle.meaning.specs.Uses.{result_faults}
 use Rattle.mentions.specs.MarkViews.{body_view}
-use Rattle.tracked.specs.RowViews.{known_view}
+use Rattle.tracked_rows.specs.RowViews.{known_view}
 use Rattle.uses.specs.OutcomeViews.{fault_view}
 use Rattle.uses.proofs.mark.add_results.Given as goal
 

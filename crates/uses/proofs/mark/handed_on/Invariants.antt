@@ -1,6 +1,6 @@
 use Rattle.std.proofs.Common.{◌≡◌, ◌++◌, drop, map}
 use Rattle.facts.specs.FactViews.{cancel_result_view}
-use Rattle.tracked.specs.EventViews.{handed_view}
+use Rattle.tracked_rows.specs.EventViews.{handed_view}
 use Rattle.tracked.specs.LocalViews.{seen_view}
 use Rattle.meaning.specs.BodyEvents.{handed_on}
 use Rattle.tree.specs.View.{expressions_syntax}

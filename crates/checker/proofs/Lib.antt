@@ -1,0 +1,5 @@
+pub mod CheckedLists
+pub mod Laid
+pub mod NodeRows
+pub mod Tested
+pub mod TestedLists

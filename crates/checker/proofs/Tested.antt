@@ -1,0 +1,473 @@
+-- What the program tests of a certificate is what is meant.
+use Rattle.std.proofs.Common.{◌≡◌, ◌↔◌, ◌==◌, ℕ, Bool, true, false, not, ◌&&◌, ◌||◌, IsTrue, List, length, Some, Contains, refl, sym, ap, ◌∙◌, true≢false, inl, inr}
+use Rattle.std.specs.Prelude.{slice_get}
+use Rattle.std.specs.List.{list_any, list_all}
+use Rattle.std.proofs.lemmas.Bool.{false≢true, and_parts, and_from, or_cases, or_left, or_right, not-true, not_from_false, false_from_ne_true, eqb-true, eq-eqb}
+use Rattle.meaning.specs.Code.{Occurrence}
+use Rattle.meaning.specs.FunctionFacts.{VariableKind, cancel, group}
+use Rattle.meaning.specs.Tracked.{GroupState, idle, live}
+use Rattle.meaning.specs.Uses.{VariableAt, Handed, Event, other, obtain, clear, call, defer_call, pass, defer_pass, lend, start, try, wait, defer_wait, make, defer_literal, return_event, is_cancel, is_group}
+use Rattle.meaning.specs.BodyEvents.{Variable}
+use Rattle.meaning.specs.Classes.{CancelClass, unset, opened, safe, pending, entry_cancel, change_cancel, GroupClass, unmade, in_state, awaited, entry_group, change_group}
+use Rattle.meaning_packages.specs.Credits.{is_safe, is_live}
+use Rattle.meaning_packages.specs.PathFaults.{BindsCancel, obtains, clears, is_declared, is_handed, is_lost, makes_it}
+use Rattle.path_faults.specs.FoundFaults.{is_return}
+use Rattle.path_faults.proofs.Kept.{cancel_kind, group_kind, is_cancel_kind, is_group_kind, return_of}
+use Rattle.path_faults.proofs.Places.{any_witness, any_holds, passes_at, any_at}
+use Rattle.states.specs.Bits.{group_class}
+use Rattle.states.specs.Masks.{HasKnownBits, Has, MayBe, GoesInto, bit_of_group}
+use Rattle.states.specs.MaskTests.{has_known_bits, may_be_cancel, may_be_group}
+use Rattle.states.proofs.MaskedClasses.{known_bits, has_is, may_be_is, pending_among, group_may_be_is, cancel_goes_is, group_goes_is}
+use Rattle.checker.proofs.TestedLists.{members, all_members, by_recursion, at_each, each_at, zip_each, each_zip, at_edge, edge_each}
+use Rattle.checker.specs.Certificates.{CheckedBody, groups_with_bits, class_of_bit, bit_of_class, masks_at, mask_at, IsRow, HasRows, IsClosedFor, is_claimed, IsOwed, is_kept, has_claim, MayBeCancel, MayBeLive, MayBeUncalled, is_open, is_left, IsFault, loses_cancel, loses_group, returns_live, returns_uncalled, Holds, IsSettledBy, SettlesIn}
+use Rattle.checker.specs.CertificateTests as tested
+use Rattle.checker.specs.CertificateTests.{all_from, mask_in, is_row, has_rows, has_entry, has_entries, goes_into, all_go_into, edges_from, is_left_outside, may_be_lost, may_be_live, may_be_uncalled, is_owed, breaks_return, return_breaks, starts_hold, edges_hold, has_fault, graph_holds, is_unsettled, breaks_settling}
+
+-- Rows
+
+row_is : (vs : List Variable) (row : List ℕ) → IsTrue (is_row vs row) ↔ IsRow vs row
+row_is vs row = (known, tested_so)
+  where
+    test : ℕ → Variable → Bool
+    test i v = has_known_bits v.kind (mask_in row i)
+
+    Known : Variable → ℕ → Type 0
+    Known v mask = HasKnownBits v.kind mask
+
+    known : is_row vs row ≡ true → IsRow vs row
+    known e =
+        let parts = and_parts (length row == length vs) (all_from test 0 vs) e in
+        each_zip Known 0 vs row (eqb-true (length row) (length vs) parts.0)
+        (λ i v there. (known_bits v.kind (mask_in row i)).0 (at_each test vs parts.1 i v there))
+
+    tested_so : IsRow vs row → is_row vs row ≡ true
+    tested_so h =
+        let parts = zip_each Known 0 vs row h in
+        and_from (length row == length vs) (all_from test 0 vs) (eq-eqb (length row) (length vs) parts.0)
+        (each_at test vs (λ i v there. (known_bits v.kind (mask_in row i)).1 (parts.1 i v there)))
+
+module _ (b : CheckedBody) (states : List (List ℕ)) where
+  abbrev vs : List Variable
+  vs = b.variables
+
+  abbrev groups : List ℕ
+  groups = groups_with_bits b.variables
+
+  abbrev masks : ℕ → List ℕ
+  masks = masks_at b states
+
+  rows_are : IsTrue (has_rows vs (length b.order) states) ↔ HasRows b states
+  rows_are = (
+    λ e.
+        let parts = and_parts (length states == length b.order) (list_all (is_row vs) states) e in
+        record {
+          are_as_many = eqb-true (length states) (length b.order) parts.0;
+          are_rows = (by_recursion (is_row vs) (IsRow vs) (row_is vs) states).0 parts.1;
+        },
+    λ h.
+        and_from (length states == length b.order) (list_all (is_row vs) states)
+        (eq-eqb (length states) (length b.order) h.are_as_many)
+        ((by_recursion (is_row vs) (IsRow vs) (row_is vs) states).1 h.are_rows),
+  )
+
+  -- Entry and edges
+
+  abbrev Entered : Variable → VariableKind → ℕ → Type 0
+  Entered v cancel mask = Has (bit_of_class b) mask (entry_cancel v.role)
+  Entered v group mask = Has bit_of_group mask (entry_group v.role)
+
+  entry_is : (v : Variable) (mask : ℕ) (kind : VariableKind)
+      → IsTrue (has_entry groups v.role mask kind) ↔ Entered v kind mask
+  entry_is v mask cancel = has_is (bit_of_class b) mask (entry_cancel v.role)
+  entry_is v mask group = has_is bit_of_group mask (entry_group v.role)
+
+  abbrev Goes : Variable → Event → VariableKind → ℕ → ℕ → Type 0
+  Goes v e cancel before after = GoesInto (class_of_bit b) (bit_of_class b) (change_cancel b.promises v.number e) before after
+  Goes v e group before after = GoesInto group_class bit_of_group (change_group b.promises v.number e) before after
+
+  goes_is : (v : Variable) (e : Event) (before after : ℕ) (kind : VariableKind)
+      → IsTrue (goes_into groups b.promises e v.number before after kind) ↔ Goes v e kind before after
+  goes_is v e before after cancel = cancel_goes_is before after groups (change_cancel b.promises v.number e)
+  goes_is v e before after group = group_goes_is before after (change_group b.promises v.number e)
+
+  record ClosedParts (v : Variable) (kind : VariableKind) (mask : ℕ → ℕ) : Type 0 where
+    at_starts : (n : ℕ) → Contains b.graph.starts n → Entered v kind (mask n)
+    along_edges : (n m : ℕ) (o : Occurrence Event) (ms : List ℕ) → slice_get b.graph.nodes n ≡ Some o
+        → slice_get b.graph.next n ≡ Some ms → Contains ms m → Goes v o.event kind (mask n) (mask m)
+
+  closed_from : (v : Variable) (mask : ℕ → ℕ) (kind : VariableKind) → ClosedParts v kind mask
+      → IsClosedFor b v kind mask
+  closed_from v mask cancel p = record { at_starts = p.at_starts; along_edges = p.along_edges }
+  closed_from v mask group p = record { at_starts = p.at_starts; along_edges = p.along_edges }
+
+  closed_parts : (v : Variable) (mask : ℕ → ℕ) (kind : VariableKind) → IsClosedFor b v kind mask
+      → ClosedParts v kind mask
+  closed_parts v mask cancel p = record { at_starts = p.at_starts; along_edges = p.along_edges }
+  closed_parts v mask group p = record { at_starts = p.at_starts; along_edges = p.along_edges }
+
+  abbrev entry_test : ℕ → ℕ → Variable → Bool
+  entry_test n i v = has_entry groups v.role (mask_in (masks n) i) v.kind
+
+  abbrev edge_test : ℕ → Event → ℕ → ℕ → Variable → Bool
+  edge_test n e m i v = goes_into groups b.promises e v.number (mask_in (masks n) i) (mask_in (masks m) i) v.kind
+
+  abbrev starts_part : Bool
+  starts_part = starts_hold groups vs masks b.graph.starts
+
+  abbrev edges_part : Bool
+  edges_part = edges_hold groups vs masks b.promises b.graph.nodes b.graph.next
+
+  abbrev AreClosed : Type 0
+  AreClosed = (i : ℕ) (v : Variable) → slice_get vs i ≡ Some v → IsClosedFor b v v.kind (mask_at b states i)
+
+  are_closed : starts_part ≡ true → edges_part ≡ true → AreClosed
+  are_closed starts edges i v there =
+      closed_from v (mask_at b states i) v.kind record {
+        at_starts = λ n inside.
+            (entry_is v (mask_at b states i n) v.kind).0
+            (at_each (entry_test n) vs
+            (members (λ n. has_entries groups vs (masks n)) b.graph.starts starts n inside) i v there);
+        along_edges = λ n m o ms here linked inside.
+            (goes_is v o.event (mask_at b states i n) (mask_at b states i m) v.kind).0
+            (at_each (edge_test n o.event m) vs
+            (at_edge (λ n e m. all_go_into groups vs b.promises e (masks n) (masks m)) b.graph.nodes b.graph.next edges n m
+            o ms here linked inside) i v there);
+      }
+
+  starts_closed : AreClosed → starts_part ≡ true
+  starts_closed closed =
+      all_members (λ n. has_entries groups vs (masks n)) b.graph.starts
+      (λ n inside. each_at (entry_test n) vs
+      (λ i v there. (entry_is v (mask_at b states i n) v.kind).1
+      ((closed_parts v (mask_at b states i) v.kind (closed i v there)).at_starts n inside)))
+
+  edges_closed : AreClosed → edges_part ≡ true
+  edges_closed closed =
+      edge_each (λ n e m. all_go_into groups vs b.promises e (masks n) (masks m)) b.graph.nodes b.graph.next
+      (λ n m o ms here linked inside. each_at (edge_test n o.event m) vs
+      (λ i v there. (goes_is v o.event (mask_at b states i n) (mask_at b states i m) v.kind).1
+      ((closed_parts v (mask_at b states i) v.kind (closed i v there)).along_edges n m o ms here linked inside)))
+
+  -- Faults
+
+  module _ (node : ℕ) where
+    abbrev mask_of : ℕ → ℕ
+    mask_of i = mask_at b states i node
+
+    cancel_may : (i : ℕ) (k : CancelClass) → IsTrue (may_be_cancel groups (mask_of i) k) ↔ MayBeCancel b states node i k
+    cancel_may i k = may_be_is groups (mask_of i) k
+
+    live_may : (i : ℕ) → IsTrue (may_be_live (masks node) i) ↔ MayBeLive b states node i
+    live_may i = group_may_be_is (mask_of i) (in_state live)
+
+    -- what is lost
+    record LostClass (i : ℕ) : Type 0 where
+      class : CancelClass
+      may_be : MayBeCancel b states node i class
+      is_lost : is_lost vs class ≡ true
+
+    lost_class : (i : ℕ) → may_be_lost groups vs (mask_of i) ≡ true → LostClass i
+    lost_class i e =
+        elim (or_cases (may_be_cancel groups (mask_of i) opened) (is_left_outside groups vs (mask_of i)) e) [
+          | inl is ↦ record { class = opened; may_be = (cancel_may i opened).0 is; is_lost = refl }
+          | inr some ↦
+              let w = any_witness (λ g. may_be_cancel groups (mask_of i) (pending g) && not (makes_it vs g)) groups some in
+              let parts = and_parts (may_be_cancel groups (mask_of i) (pending w.0)) (not (makes_it vs w.0)) w.2 in
+              record { class = pending w.0; may_be = (cancel_may i (pending w.0)).0 parts.0; is_lost = parts.1 }
+        ]
+
+    class_lost : (i : ℕ) (k : CancelClass) → may_be_cancel groups (mask_of i) k ≡ true → is_lost vs k ≡ true
+        → may_be_lost groups vs (mask_of i) ≡ true
+    class_lost i unset e lost = absurd (false≢true lost)
+    class_lost i opened e lost =
+        or_left (may_be_cancel groups (mask_of i) opened) (is_left_outside groups vs (mask_of i)) e
+    class_lost i safe e lost = absurd (false≢true lost)
+    class_lost i (pending g) e lost =
+        or_right (may_be_cancel groups (mask_of i) opened) (is_left_outside groups vs (mask_of i))
+        (any_holds (λ g. may_be_cancel groups (mask_of i) (pending g) && not (makes_it vs g)) groups g
+        (pending_among groups (mask_of i) g e)
+        (and_from (may_be_cancel groups (mask_of i) (pending g)) (not (makes_it vs g)) e lost))
+
+    abbrev lost_test : ℕ → ℕ → Variable → Bool
+    lost_test number i v =
+        is_cancel (Some v.kind) && ((v.number == number) && may_be_lost groups vs (mask_in (masks node) i))
+
+    lost_fault : (e : Event) (u : VariableAt) → BindsCancel e u
+        → tested.loses_cancel groups vs (masks node) u.number ≡ true → IsFault b states node e
+    lost_fault e u binds h =
+        let w = passes_at (lost_test u.number) vs h in
+        let v = w.element in
+        let parts = and_parts (is_cancel (Some v.kind))
+        ((v.number == u.number) && may_be_lost groups vs (mask_in (masks node) w.place)) w.passes in
+        let inner = and_parts (v.number == u.number) (may_be_lost groups vs (mask_in (masks node) w.place)) parts.1 in
+        let lost = lost_class w.place inner.1 in
+        loses_cancel w.place v u lost.class w.is_there (cancel_kind v.kind parts.0) binds
+        (sym (eqb-true v.number u.number inner.0)) lost.may_be lost.is_lost
+
+    fault_lost : (i : ℕ) (v : Variable) (u : VariableAt) (k : CancelClass) → slice_get vs i ≡ Some v
+        → v.kind ≡ cancel → u.number ≡ v.number → MayBeCancel b states node i k → is_lost vs k ≡ true
+        → tested.loses_cancel groups vs (masks node) u.number ≡ true
+    fault_lost i v u k there kind same may_be lost =
+        any_at (lost_test u.number) vs i v there
+        (and_from (is_cancel (Some v.kind))
+        ((v.number == u.number) && may_be_lost groups vs (mask_in (masks node) i)) (is_cancel_kind v.kind kind)
+        (and_from (v.number == u.number) (may_be_lost groups vs (mask_in (masks node) i))
+        (eq-eqb v.number u.number (sym same)) (class_lost i k ((cancel_may i k).1 may_be) lost)))
+
+    abbrev group_test : ℕ → ℕ → Variable → Bool
+    group_test number i v = is_group (Some v.kind) && ((v.number == number) && may_be_live (masks node) i)
+
+    lost_group : (e : Event) (u : VariableAt) (state : GroupState) → e ≡ make u state
+        → tested.loses_group vs (masks node) u.number ≡ true → IsFault b states node e
+    lost_group e u state makes h =
+        let w = passes_at (group_test u.number) vs h in
+        let g = w.element in
+        let parts = and_parts (is_group (Some g.kind)) ((g.number == u.number) && may_be_live (masks node) w.place)
+        w.passes in
+        let inner = and_parts (g.number == u.number) (may_be_live (masks node) w.place) parts.1 in
+        loses_group w.place g u state w.is_there (group_kind g.kind parts.0) makes
+        (sym (eqb-true g.number u.number inner.0)) ((live_may w.place).0 inner.1)
+
+    group_lost : (i : ℕ) (g : Variable) (u : VariableAt) → slice_get vs i ≡ Some g → g.kind ≡ group
+        → u.number ≡ g.number → MayBeLive b states node i → tested.loses_group vs (masks node) u.number ≡ true
+    group_lost i g u there kind same may_be =
+        any_at (group_test u.number) vs i g there
+        (and_from (is_group (Some g.kind)) ((g.number == u.number) && may_be_live (masks node) i)
+        (is_group_kind g.kind kind)
+        (and_from (g.number == u.number) (may_be_live (masks node) i) (eq-eqb g.number u.number (sym same))
+        ((live_may i).1 may_be)))
+
+    -- uncalled
+    abbrev left_test : ℕ → ℕ → Variable → Bool
+    left_test i j g =
+        is_group (Some g.kind) && (may_be_live (masks node) j && may_be_cancel groups (mask_of i) (pending g.number))
+
+    uncalled_is : (i : ℕ) → may_be_uncalled groups vs (masks node) (mask_of i) ≡ true → MayBeUncalled b states node i
+    uncalled_is i e =
+        elim (or_cases (may_be_cancel groups (mask_of i) opened) (tested.is_left groups vs (masks node) (mask_of i)) e) [
+          | inl is ↦ is_open ((cancel_may i opened).0 is)
+          | inr left ↦
+              let w = passes_at (left_test i) vs left in
+              let g = w.element in
+              let parts = and_parts (is_group (Some g.kind))
+              (may_be_live (masks node) w.place && may_be_cancel groups (mask_of i) (pending g.number)) w.passes in
+              let inner = and_parts (may_be_live (masks node) w.place)
+              (may_be_cancel groups (mask_of i) (pending g.number)) parts.1 in
+              is_left w.place g w.is_there (group_kind g.kind parts.0) ((cancel_may i (pending g.number)).0 inner.1)
+              ((live_may w.place).0 inner.0)
+        ]
+
+    is_uncalled : (i : ℕ) → MayBeUncalled b states node i → may_be_uncalled groups vs (masks node) (mask_of i) ≡ true
+    is_uncalled i (is_open may_be) =
+        or_left (may_be_cancel groups (mask_of i) opened) (tested.is_left groups vs (masks node) (mask_of i))
+        ((cancel_may i opened).1 may_be)
+    is_uncalled i (is_left j g there kind may_be is_live) =
+        or_right (may_be_cancel groups (mask_of i) opened) (tested.is_left groups vs (masks node) (mask_of i))
+        (any_at (left_test i) vs j g there
+        (and_from (is_group (Some g.kind))
+        (may_be_live (masks node) j && may_be_cancel groups (mask_of i) (pending g.number)) (is_group_kind g.kind kind)
+        (and_from (may_be_live (masks node) j) (may_be_cancel groups (mask_of i) (pending g.number))
+        ((live_may j).1 is_live) ((cancel_may i (pending g.number)).1 may_be))))
+
+    owed_is : (v : Variable) (handed : List Handed) → is_owed b.is_claimed v handed ≡ true → IsOwed b v handed
+    owed_is v handed e =
+        elim (or_cases (is_declared v.role && not (is_handed v.number handed)) (is_claimed b.is_claimed v.role) e) [
+          | inl kept ↦
+              let parts = and_parts (is_declared v.role) (not (is_handed v.number handed)) kept in
+              is_kept parts.0 (not-true (is_handed v.number handed) parts.1)
+          | inr claimed ↦ has_claim claimed
+        ]
+
+    is_owed_so : (v : Variable) (handed : List Handed) → IsOwed b v handed → is_owed b.is_claimed v handed ≡ true
+    is_owed_so v handed (is_kept declared kept) =
+        or_left (is_declared v.role && not (is_handed v.number handed)) (is_claimed b.is_claimed v.role)
+        (and_from (is_declared v.role) (not (is_handed v.number handed)) declared
+        (not_from_false (is_handed v.number handed) kept))
+    is_owed_so v handed (has_claim claimed) =
+        or_right (is_declared v.role && not (is_handed v.number handed)) (is_claimed b.is_claimed v.role) claimed
+
+    abbrev return_test : List Handed → ℕ → Variable → Bool
+    return_test handed i v = breaks_return groups vs b.is_claimed (masks node) handed i v v.kind
+
+    broken_by : (e : Event) (handed : List Handed) → e ≡ return_event handed → (i : ℕ) (v : Variable)
+        → slice_get vs i ≡ Some v → (kind : VariableKind) → v.kind ≡ kind
+        → breaks_return groups vs b.is_claimed (masks node) handed i v kind ≡ true → IsFault b states node e
+    broken_by e handed returns i v there cancel kind h =
+        let parts = and_parts (is_owed b.is_claimed v handed) (may_be_uncalled groups vs (masks node) (mask_of i)) h in
+        returns_uncalled i v handed there kind returns (owed_is v handed parts.0) (uncalled_is i parts.1)
+    broken_by e handed returns i v there group kind h =
+        let parts = and_parts (is_declared v.role) (may_be_live (masks node) i) h in
+        returns_live i v handed there kind returns parts.0 ((live_may i).0 parts.1)
+
+    broken_return : (e : Event) (handed : List Handed) → e ≡ return_event handed
+        → return_breaks groups vs b.is_claimed (masks node) handed ≡ true → IsFault b states node e
+    broken_return e handed returns h =
+        let w = passes_at (return_test handed) vs h in
+        broken_by e handed returns w.place w.element w.is_there w.element.kind refl w.passes
+
+    return_broken : (handed : List Handed) (i : ℕ) (v : Variable) → slice_get vs i ≡ Some v → (kind : VariableKind)
+        → v.kind ≡ kind → breaks_return groups vs b.is_claimed (masks node) handed i v kind ≡ true
+        → return_breaks groups vs b.is_claimed (masks node) handed ≡ true
+    return_broken handed i v there kind is h =
+        any_at (return_test handed) vs i v there
+        (ap (breaks_return groups vs b.is_claimed (masks node) handed i v) is ∙ h)
+
+    fault_is : (e : Event) → tested.is_fault groups vs b.is_claimed (masks node) e ≡ true → IsFault b states node e
+    fault_is (obtain u f k d) h = lost_fault (obtain u f k d) u (obtains) h
+    fault_is (clear u) h = lost_fault (clear u) u (clears) h
+    fault_is (make u s) h = lost_group (make u s) u s refl h
+    fault_is (return_event handed) h = broken_return (return_event handed) handed refl h
+    fault_is other h = absurd (false≢true h)
+    fault_is (call u) h = absurd (false≢true h)
+    fault_is (defer_call u) h = absurd (false≢true h)
+    fault_is (pass u f k) h = absurd (false≢true h)
+    fault_is (defer_pass u f k) h = absurd (false≢true h)
+    fault_is (lend g f k) h = absurd (false≢true h)
+    fault_is (start g l) h = absurd (false≢true h)
+    fault_is (try g l) h = absurd (false≢true h)
+    fault_is (wait g) h = absurd (false≢true h)
+    fault_is (defer_wait g) h = absurd (false≢true h)
+    fault_is (defer_literal l) h = absurd (false≢true h)
+
+    bound_by : {e : Event} {u : VariableAt} → BindsCancel e u
+        → tested.loses_cancel groups vs (masks node) u.number ≡ true
+        → tested.is_fault groups vs b.is_claimed (masks node) e ≡ true
+    bound_by (obtains) h = h
+    bound_by (clears) h = h
+
+    is_fault_so : (e : Event) → IsFault b states node e → tested.is_fault groups vs b.is_claimed (masks node) e ≡ true
+    is_fault_so e (loses_cancel i v u k there kind binds same may_be lost) =
+        bound_by binds (fault_lost i v u k there kind same may_be lost)
+    is_fault_so e (loses_group i g u state there kind makes same may_be) =
+        ap (tested.is_fault groups vs b.is_claimed (masks node)) makes ∙ group_lost i g u there kind same may_be
+    is_fault_so e (returns_live i g handed there kind returns declared may_be) =
+        ap (tested.is_fault groups vs b.is_claimed (masks node)) returns
+        ∙ return_broken handed i g there group kind
+        (and_from (is_declared g.role) (may_be_live (masks node) i) declared ((live_may i).1 may_be))
+    is_fault_so e (returns_uncalled i v handed there kind returns owed may_be) =
+        ap (tested.is_fault groups vs b.is_claimed (masks node)) returns
+        ∙ return_broken handed i v there cancel kind
+        (and_from (is_owed b.is_claimed v handed) (may_be_uncalled groups vs (masks node) (mask_of i))
+        (is_owed_so v handed owed) (is_uncalled i may_be))
+
+  abbrev fault_test : ℕ → Occurrence Event → Bool
+  fault_test n o = tested.is_fault groups vs b.is_claimed (masks n) o.event
+
+  abbrev fault_part : Bool
+  fault_part = has_fault groups vs masks b.is_claimed b.graph.nodes
+
+  abbrev HasNoFault : Type 0
+  HasNoFault = (n : ℕ) (o : Occurrence Event) → slice_get b.graph.nodes n ≡ Some o → IsFault b states n o.event → ⊥
+
+  none_there : fault_part ≡ false → HasNoFault
+  none_there e n o here fault =
+      true≢false (sym (any_at fault_test b.graph.nodes n o here (is_fault_so n o.event fault)) ∙ e)
+
+  none_found : HasNoFault → fault_part ≡ false
+  none_found none =
+      false_from_ne_true fault_part
+      (λ h. let w = passes_at fault_test b.graph.nodes h in none w.place w.element w.is_there (fault_is w.place w.element.event w.passes))
+
+  -- The whole
+
+  abbrev rows_part : Bool
+  rows_part = has_rows vs (length b.order) states
+
+  pub holds_is : IsTrue (tested.holds groups masks b states) ↔ Holds b states
+  holds_is = (held, holding)
+    where
+      held : tested.holds groups masks b states ≡ true → Holds b states
+      held e =
+          let first = and_parts rows_part (starts_part && (edges_part && not fault_part)) e in
+          let second = and_parts starts_part (edges_part && not fault_part) first.1 in
+          let third = and_parts edges_part (not fault_part) second.1 in
+          record {
+            has_rows = rows_are.0 first.0;
+            is_closed = are_closed second.0 third.0;
+            has_no_fault = none_there (not-true fault_part third.1);
+          }
+
+      holding : Holds b states → tested.holds groups masks b states ≡ true
+      holding h =
+          and_from rows_part (starts_part && (edges_part && not fault_part)) (rows_are.1 h.has_rows)
+          (and_from starts_part (edges_part && not fault_part) (starts_closed h.is_closed)
+          (and_from edges_part (not fault_part) (edges_closed h.is_closed)
+          (not_from_false fault_part (none_found h.has_no_fault))))
+
+  -- Credit
+
+  module _ (mask : ℕ) where
+    abbrev pending_somewhere : Bool
+    pending_somewhere = list_any (λ g. may_be_cancel groups mask (pending g)) groups
+
+    each_safe : is_unsettled groups mask cancel ≡ false → (k : CancelClass) → may_be_cancel groups mask k ≡ true
+        → is_safe k ≡ true
+    each_safe e unset h = absurd (true≢false (sym (or_left (may_be_cancel groups mask unset) _ h) ∙ e))
+    each_safe e opened h =
+        absurd (true≢false (sym (or_right (may_be_cancel groups mask unset) _
+        (or_left (may_be_cancel groups mask opened) pending_somewhere h)) ∙ e))
+    each_safe e safe h = refl
+    each_safe e (pending g) h =
+        absurd (true≢false (sym (or_right (may_be_cancel groups mask unset) _
+        (or_right (may_be_cancel groups mask opened) pending_somewhere
+        (any_holds (λ g. may_be_cancel groups mask (pending g)) groups g (pending_among groups mask g h) h))) ∙ e))
+
+    -- a class that is not settled
+    unsafe_class : is_unsettled groups mask cancel ≡ true
+        → (k : CancelClass) × MayBe (class_of_bit b) mask k × (is_safe k ≡ false)
+    unsafe_class e =
+        elim (or_cases (may_be_cancel groups mask unset) (may_be_cancel groups mask opened || pending_somewhere) e) [
+          | inl is ↦ (unset, (may_be_is groups mask unset).0 is, refl)
+          | inr more ↦
+              elim (or_cases (may_be_cancel groups mask opened) pending_somewhere more) [
+                | inl is ↦ (opened, (may_be_is groups mask opened).0 is, refl)
+                | inr some ↦
+                    let w = any_witness (λ g. may_be_cancel groups mask (pending g)) groups some in
+                    (pending w.0, (may_be_is groups mask (pending w.0)).0 w.2, refl)
+              ]
+        ]
+
+    each_not_live : may_be_group mask (in_state live) ≡ false → (k : GroupClass) → may_be_group mask k ≡ true
+        → is_live k ≡ false
+    each_not_live e unmade h = refl
+    each_not_live e (in_state idle) h = refl
+    each_not_live e (in_state live) h = absurd (true≢false (sym h ∙ e))
+    each_not_live e awaited h = refl
+
+    settled_by : (kind : VariableKind) → is_unsettled groups mask kind ≡ false → IsSettledBy b kind mask
+    settled_by cancel e = λ k h. each_safe e k ((may_be_is groups mask k).1 h)
+    settled_by group e = λ k h. each_not_live e k ((group_may_be_is mask k).1 h)
+
+    not_settled : (kind : VariableKind) → is_unsettled groups mask kind ≡ true → IsSettledBy b kind mask → ⊥
+    not_settled cancel e settled =
+        let w = unsafe_class e in true≢false (sym (settled w.0 w.1) ∙ w.2)
+    not_settled group e settled =
+        true≢false (settled (in_state live) ((group_may_be_is mask (in_state live)).0 e))
+
+  module _ (i : ℕ) (v : Variable) where
+    abbrev settling_test : ℕ → Occurrence Event → Bool
+    settling_test n o = is_return o.event && is_unsettled groups (mask_in (masks n) i) v.kind
+
+    abbrev unsettled_part : Bool
+    unsettled_part = breaks_settling groups masks b.graph.nodes i v.kind
+
+    settled_in : unsettled_part ≡ false → SettlesIn b states i v
+    settled_in e n o handed here returns =
+        settled_by (mask_at b states i n) v.kind
+        (false_from_ne_true (is_unsettled groups (mask_at b states i n) v.kind)
+        (λ h. true≢false (sym (any_at settling_test b.graph.nodes n o here
+        (and_from (is_return o.event) (is_unsettled groups (mask_in (masks n) i) v.kind) (ap is_return returns) h)) ∙ e)))
+
+    broken_settling : SettlesIn b states i v → unsettled_part ≡ true → ⊥
+    broken_settling settles e =
+        let w = passes_at settling_test b.graph.nodes e in
+        let parts = and_parts (is_return w.element.event) (is_unsettled groups (mask_in (masks w.place) i) v.kind) w.passes in
+        let returns = return_of w.element.event parts.0 in
+        not_settled (mask_at b states i w.place) v.kind parts.1
+        (settles w.place w.element returns.0 w.is_there returns.1)
+
+    pub settles_is : IsTrue (not (breaks_settling groups masks b.graph.nodes i v.kind)) ↔ SettlesIn b states i v
+    settles_is = (
+      λ e. settled_in (not-true unsettled_part e),
+      λ h. not_from_false unsettled_part (false_from_ne_true unsettled_part (broken_settling h)),
+    )

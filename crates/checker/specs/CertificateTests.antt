@@ -1,0 +1,152 @@
+-- How the program goes over a certificate, node by node and variable by variable. That these tests say what
+-- `Certificates.antt` says is proved. `groups` are the groups that have bits, `masks` the masks at a node, and
+-- `masks_of` gives those of each node.
+use Rattle.std.specs.Prelude.{ℕ, ◌+◌, ◌==◌, Bool, true, false, not, ◌&&◌, ◌||◌, List, [], ◌∷◌, length, Some, slice_index_or}
+use Rattle.std.specs.List.{list_any, list_all}
+use Rattle.meaning.specs.Code.{Occurrence}
+use Rattle.meaning.specs.FunctionFacts.{VariableKind, cancel, group}
+use Rattle.meaning.specs.Tracked.{live}
+use Rattle.meaning.specs.Uses.{Handed, Event, obtain, clear, make, return_event, is_cancel, is_group}
+use Rattle.meaning.specs.BodyEvents.{Variable, VariableRole}
+use Rattle.meaning.specs.Classes.{Promises, unset, opened, pending, entry_cancel, change_cancel, in_state, entry_group, change_group}
+use Rattle.meaning_packages.specs.PathFaults.{is_declared, is_handed, makes_it}
+use Rattle.flow.specs.Walks.{Graph}
+use Rattle.path_faults.specs.FoundFaults.{any_from, is_return}
+use Rattle.states.specs.Bits.{cancel_bit}
+use Rattle.states.specs.MaskTests.{has_known_bits, has, may_be_cancel, may_be_group, cancel_goes_into, group_goes_into}
+use Rattle.checker.specs.Certificates.{CheckedBody, is_claimed}
+
+-- each element passes the test, with its place, where the first has the place n
+abbrev pub all_from : {A : Type 0} → (ℕ → A → Bool) → ℕ → List A → Bool
+all_from test n [] = true
+all_from test n (x ∷ xs) = test n x && all_from test (n + 1) xs
+
+abbrev pub mask_in : List ℕ → ℕ → ℕ
+mask_in masks i = slice_index_or masks i 0
+
+-- Rows
+
+abbrev pub has_known_masks : List Variable → List ℕ → Bool
+has_known_masks vs row = all_from (λ i v. has_known_bits v.kind (mask_in row i)) 0 vs
+
+abbrev pub is_row : List Variable → List ℕ → Bool
+is_row vs row = (length row == length vs) && has_known_masks vs row
+
+-- there are so many rows
+abbrev pub has_rows : List Variable → ℕ → List (List ℕ) → Bool
+has_rows vs count states = (length states == count) && list_all (is_row vs) states
+
+-- Entry and edges
+
+abbrev pub has_entry : List ℕ → VariableRole → ℕ → VariableKind → Bool
+has_entry groups role mask cancel = has (cancel_bit groups) mask (entry_cancel role)
+has_entry groups role mask group = may_be_group mask (entry_group role)
+
+-- the masks have the classes of the entry
+abbrev pub has_entries : List ℕ → List Variable → List ℕ → Bool
+has_entries groups vs masks = all_from (λ i v. has_entry groups v.role (mask_in masks i) v.kind) 0 vs
+
+-- the variable of that number goes from mask to mask
+abbrev pub goes_into : List ℕ → Promises → Event → ℕ → ℕ → ℕ → VariableKind → Bool
+goes_into groups p e number before after cancel = cancel_goes_into groups (change_cancel p number e) before after
+goes_into groups p e number before after group = group_goes_into (change_group p number e) before after
+
+abbrev pub all_go_into : List ℕ → List Variable → Promises → Event → List ℕ → List ℕ → Bool
+all_go_into groups vs p e before after =
+    all_from (λ i v. goes_into groups p e v.number (mask_in before i) (mask_in after i) v.kind) 0 vs
+
+-- each edge passes the test, with the number of its node, what that does, and the number of the node after it, where
+-- the first node has the number n
+abbrev pub edges_from : (ℕ → Event → ℕ → Bool) → ℕ → List (Occurrence Event) → List (List ℕ) → Bool
+edges_from test n [] links = true
+edges_from test n (o ∷ os) [] = true
+edges_from test n (o ∷ os) (ms ∷ links) = list_all (test n o.event) ms && edges_from test (n + 1) os links
+
+-- Faults
+
+-- the cancel variable of that mask may be pending in a group that the body does not make
+abbrev pub is_left_outside : List ℕ → List Variable → ℕ → Bool
+is_left_outside groups vs mask = list_any (λ g. may_be_cancel groups mask (pending g) && not (makes_it vs g)) groups
+
+abbrev pub may_be_lost : List ℕ → List Variable → ℕ → Bool
+may_be_lost groups vs mask = may_be_cancel groups mask opened || is_left_outside groups vs mask
+
+-- a binding of the cancel variable of that number loses what it holds
+abbrev pub loses_cancel : List ℕ → List Variable → List ℕ → ℕ → Bool
+loses_cancel groups vs masks number =
+    any_from (λ i v. is_cancel (Some v.kind) && ((v.number == number) && may_be_lost groups vs (mask_in masks i))) 0 vs
+
+abbrev pub may_be_live : List ℕ → ℕ → Bool
+may_be_live masks i = may_be_group (mask_in masks i) (in_state live)
+
+abbrev pub loses_group : List Variable → List ℕ → ℕ → Bool
+loses_group vs masks number =
+    any_from (λ i v. is_group (Some v.kind) && ((v.number == number) && may_be_live masks i)) 0 vs
+
+-- the cancel variable of that mask may be pending in a group that may be live
+abbrev pub is_left : List ℕ → List Variable → List ℕ → ℕ → Bool
+is_left groups vs masks mask =
+    any_from
+    (λ j g. is_group (Some g.kind) && (may_be_live masks j && may_be_cancel groups mask (pending g.number))) 0 vs
+
+abbrev pub may_be_uncalled : List ℕ → List Variable → List ℕ → ℕ → Bool
+may_be_uncalled groups vs masks mask = may_be_cancel groups mask opened || is_left groups vs masks mask
+
+abbrev pub is_owed : (ℕ → Bool) → Variable → List Handed → Bool
+is_owed claims v handed = (is_declared v.role && not (is_handed v.number handed)) || is_claimed claims v.role
+
+-- the variable of the place i is a fault of a return that hands these on
+abbrev pub breaks_return
+    : List ℕ → List Variable → (ℕ → Bool) → List ℕ → List Handed → ℕ → Variable → VariableKind → Bool
+breaks_return groups vs claims masks handed i v cancel =
+    is_owed claims v handed && may_be_uncalled groups vs masks (mask_in masks i)
+breaks_return groups vs claims masks handed i v group = is_declared v.role && may_be_live masks i
+
+abbrev pub return_breaks : List ℕ → List Variable → (ℕ → Bool) → List ℕ → List Handed → Bool
+return_breaks groups vs claims masks handed =
+    any_from (λ i v. breaks_return groups vs claims masks handed i v v.kind) 0 vs
+
+abbrev pub is_fault : List ℕ → List Variable → (ℕ → Bool) → List ℕ → Event → Bool
+is_fault groups vs claims masks (obtain u f k is_declared) = loses_cancel groups vs masks u.number
+is_fault groups vs claims masks (clear u) = loses_cancel groups vs masks u.number
+is_fault groups vs claims masks (make u state) = loses_group vs masks u.number
+is_fault groups vs claims masks (return_event handed) = return_breaks groups vs claims masks handed
+is_fault groups vs claims masks e = false
+
+-- The whole
+
+module _ (groups : List ℕ) (vs : List Variable) (masks_of : ℕ → List ℕ) where
+  abbrev pub starts_hold : List ℕ → Bool
+  starts_hold = list_all (λ n. has_entries groups vs (masks_of n))
+
+  abbrev pub edges_hold : Promises → List (Occurrence Event) → List (List ℕ) → Bool
+  edges_hold p = edges_from (λ n e m. all_go_into groups vs p e (masks_of n) (masks_of m)) 0
+
+  abbrev pub has_fault : (ℕ → Bool) → List (Occurrence Event) → Bool
+  has_fault claims = any_from (λ n o. is_fault groups vs claims (masks_of n) o.event) 0
+
+  abbrev pub graph_holds : Promises → (ℕ → Bool) → Graph Event → Bool
+  graph_holds p claims g =
+      starts_hold g.starts && (edges_hold p g.nodes g.next && not (has_fault claims g.nodes))
+
+abbrev pub holds : List ℕ → (ℕ → List ℕ) → CheckedBody → List (List ℕ) → Bool
+holds groups masks_of b states =
+    has_rows b.variables (length b.order) states
+    && graph_holds groups b.variables masks_of b.promises b.is_claimed b.graph
+
+-- Credit
+
+abbrev pub is_pending : List ℕ → ℕ → Bool
+is_pending groups mask = list_any (λ g. may_be_cancel groups mask (pending g)) groups
+
+-- a variable of that mask may be unsettled: a cancel function not safe, a group live
+abbrev pub is_unsettled : List ℕ → ℕ → VariableKind → Bool
+is_unsettled groups mask cancel =
+    may_be_cancel groups mask unset
+    || (may_be_cancel groups mask opened || is_pending groups mask)
+is_unsettled groups mask group = may_be_group mask (in_state live)
+
+-- the variable of the place i may be so at some return
+abbrev pub breaks_settling : List ℕ → (ℕ → List ℕ) → List (Occurrence Event) → ℕ → VariableKind → Bool
+breaks_settling groups masks_of nodes i kind =
+    any_from (λ n o. is_return o.event && is_unsettled groups (mask_in (masks_of n) i) kind) 0 nodes

@@ -1,0 +1,15 @@
+use Rattle.std.proofs.Common.{rules}
+use Rattle.states.specs.ClassViews.{cancel_class_view}
+use Rattle.states.specs.MaskTests.{may_be_cancel}
+use Rattle.states.proofs.MaskedClasses.{by_test, may_be_is}
+use Rattle.states.proofs.masks.may_be_cancel.Goals as goal
+
+pub returns-in-Safe-clause-may_be : goal.returns-in-Safe-clause-may_be
+returns-in-Safe-clause-may_be c =
+    by_test c.is_set-in-Safe.result (may_be_cancel c.args.groups.now c.args.mask (cancel_class_view c.args.class)) _
+    (search rules) (may_be_is c.args.groups.now c.args.mask (cancel_class_view c.args.class))
+
+pub returns-in-Pending-clause-may_be : goal.returns-in-Pending-clause-may_be
+returns-in-Pending-clause-may_be c =
+    by_test c.may_be_pending.result (may_be_cancel c.args.groups.now c.args.mask (cancel_class_view c.args.class)) _
+    (search rules) (may_be_is c.args.groups.now c.args.mask (cancel_class_view c.args.class))

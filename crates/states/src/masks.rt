@@ -1,0 +1,192 @@
+//! Sets of classes of one variable, as masks: a class is in a mask where the bit of its number is set.
+
+ghost use Rattle.std.specs.Prelude.{◌≡◌, ◌↔◌, IsTrue};
+ghost use Rattle.facts.specs.FactViews.{kind_view};
+ghost use Rattle.meaning.specs.Classes.{change_cancel, change_group};
+ghost use Rattle.states.specs.declared.bits.TheConstants.{FIRST_PENDING};
+ghost use Rattle.states.specs.Bits.{cancel_bit, cancel_class, group_bit, group_class};
+ghost use Rattle.states.specs.ClassViews.{cancel_class_view, group_class_view, done_view};
+ghost use Rattle.states.specs.Masks.{is_set, HasKnownBits, bit_of_group, Has, MayBe, GoesInto};
+ghost use Rattle.states.specs.MaskTests.{has_known_bits, has, may_be_pending, may_be_cancel, may_be_group, goes_if_set, pending_go, cancel_goes_into, group_goes_into};
+
+use crate::bits::{CANCEL_CLASSES, FIRST_PENDING, GROUP_CLASSES, cancel_bit, group_bit};
+use crate::cancels::{CancelClass, change_cancel};
+use crate::groups::{GroupClass, change_group};
+use crate::promises::Promises;
+use facts::VariableKind;
+use tracked_rows::{Event, GroupState};
+
+/// What an event makes of the variable of that number.
+#[derive(Drop)]
+pub struct Change<'c, 'e, 'a, P> {
+    pub promises: &'c P,
+    pub variable: u32,
+    /// None where nothing is done: the class stays.
+    pub event: Option<&'e Event<'a>>,
+}
+
+/// Whether the bit of that number is set.
+fn is_set(mask: u16, bit: usize) -> bool
+    ensures { result ≡ is_set mask bit }
+{
+    bit < 16 && (mask >> bit) & 1 == 1
+}
+
+/// Whether no bit is set that stands for no class of a variable of that kind.
+pub fn has_known_bits(kind: VariableKind, mask: u16) -> bool
+    ensures known { IsTrue result ↔ HasKnownBits (kind_view kind) mask }
+    ensures test { result ≡ has_known_bits (kind_view kind) mask }
+{
+    match kind {
+        VariableKind::Cancel => mask < 1 << CANCEL_CLASSES,
+        VariableKind::Group => mask < 1 << GROUP_CLASSES,
+    }
+}
+
+/// Whether the class of a cancel variable has a number for these groups, and its bit is set.
+pub fn has_cancel(mask: u16, class: CancelClass, groups: &[u32]) -> bool
+    ensures has { IsTrue result ↔ Has (cancel_bit groups.now) mask (cancel_class_view class) }
+    ensures test { result ≡ has (cancel_bit groups.now) mask (cancel_class_view class) }
+{
+    match cancel_bit(class, groups) {
+        Some(bit) => is_set(mask, bit),
+        None => false,
+    }
+}
+
+/// Whether a bit is set that stands for what is pending in that group.
+fn may_be_pending(mask: u16, group: u32, groups: &[u32]) -> bool
+    ensures { result ≡ may_be_pending group mask FIRST_PENDING groups.now }
+{
+    for (place, other) in groups.iter().enumerate() {
+        if group == *other && is_set(mask, FIRST_PENDING + place) {
+            return true;
+        }
+    }
+    false
+}
+
+/// Whether a bit is set that stands for the class of a cancel variable. That is the bit of its number, and where a
+/// group stands twice among these, any bit that stands for it.
+pub fn may_be_cancel(mask: u16, class: CancelClass, groups: &[u32]) -> bool
+    ensures may_be { IsTrue result ↔ MayBe (cancel_class groups.now) mask (cancel_class_view class) }
+    ensures test { result ≡ may_be_cancel groups.now mask (cancel_class_view class) }
+{
+    match class {
+        CancelClass::Unset => is_set(mask, 0),
+        CancelClass::Opened => is_set(mask, 1),
+        CancelClass::Safe => is_set(mask, 2),
+        CancelClass::Pending(group) => may_be_pending(mask, group, groups),
+    }
+}
+
+/// Whether the bit of the class of a group is set.
+pub fn may_be_group(mask: u16, class: GroupClass) -> bool
+    ensures may_be { IsTrue result ↔ MayBe group_class mask (group_class_view class) }
+    ensures test { result ≡ may_be_group mask (group_class_view class) }
+{
+    is_set(mask, group_bit(class))
+}
+
+impl<P: Promises> Change<'_, '_, '_, P> {
+    /// What the class of a cancel variable comes to be.
+    fn cancel(&self, class: CancelClass) -> CancelClass
+        ensures { cancel_class_view result ≡ change_cancel (P.promises self.now.promises.now) self.now.variable
+            (done_view self.now.event) (cancel_class_view class) }
+    {
+        match self.event {
+            Some(event) => change_cancel(self.promises, self.variable, event, class),
+            None => class,
+        }
+    }
+
+    /// What the class of a group comes to be.
+    fn group(&self, class: GroupClass) -> GroupClass
+        ensures { group_class_view result ≡ change_group (P.promises self.now.promises.now) self.now.variable
+            (done_view self.now.event) (group_class_view class) }
+    {
+        match self.event {
+            Some(event) => change_group(self.promises, self.variable, event, class),
+            None => class,
+        }
+    }
+}
+
+/// Whether the mask has what the change makes of the class.
+fn class_goes_into<P: Promises>(
+    change: &Change<'_, '_, '_, P>,
+    groups: &[u32],
+    class: CancelClass,
+    after: u16,
+) -> bool
+    ensures { result ≡ has (cancel_bit groups.now) after (change_cancel (P.promises change.now.promises.now)
+        change.now.variable (done_view change.now.event) (cancel_class_view class)) }
+{
+    has_cancel(after, change.cancel(class), groups)
+}
+
+/// Whether the second mask has what the change makes of each class that is pending in a group and in the first mask.
+fn pending_go_into<P: Promises>(
+    change: &Change<'_, '_, '_, P>,
+    groups: &[u32],
+    before: u16,
+    after: u16,
+) -> bool
+    ensures { result ≡ pending_go (λ k. has (cancel_bit groups.now) after (change_cancel
+        (P.promises change.now.promises.now) change.now.variable (done_view change.now.event) k)) before FIRST_PENDING
+        groups.now }
+{
+    for (place, group) in groups.iter().enumerate() {
+        if is_set(before, FIRST_PENDING + place)
+            && !class_goes_into(change, groups, CancelClass::Pending(*group), after)
+        {
+            return false;
+        }
+    }
+    true
+}
+
+/// Whether what the change makes of each class of a cancel variable that the first mask has is in the second.
+pub fn cancel_goes_into<P: Promises>(
+    change: &Change<'_, '_, '_, P>,
+    groups: &[u32],
+    before: u16,
+    after: u16,
+) -> bool
+    ensures goes { IsTrue result ↔ GoesInto (cancel_class groups.now) (cancel_bit groups.now) (change_cancel
+        (P.promises change.now.promises.now) change.now.variable (done_view change.now.event)) before after }
+    ensures test { result ≡ cancel_goes_into groups.now (change_cancel (P.promises change.now.promises.now)
+        change.now.variable (done_view change.now.event)) before after }
+{
+    (!is_set(before, 0) || class_goes_into(change, groups, CancelClass::Unset, after))
+        && (!is_set(before, 1) || class_goes_into(change, groups, CancelClass::Opened, after))
+        && (!is_set(before, 2) || class_goes_into(change, groups, CancelClass::Safe, after))
+        && pending_go_into(change, groups, before, after)
+}
+
+/// Whether the second mask has what the change makes of the class, if the first has the class.
+fn group_class_goes<P: Promises>(
+    change: &Change<'_, '_, '_, P>,
+    class: GroupClass,
+    before: u16,
+    after: u16,
+) -> bool
+    ensures { result ≡ goes_if_set before (group_bit (group_class_view class)) (may_be_group after (change_group
+        (P.promises change.now.promises.now) change.now.variable (done_view change.now.event)
+        (group_class_view class))) }
+{
+    !may_be_group(before, class) || may_be_group(after, change.group(class))
+}
+
+/// Whether what the change makes of each class of a group that the first mask has is in the second.
+pub fn group_goes_into<P: Promises>(change: &Change<'_, '_, '_, P>, before: u16, after: u16) -> bool
+    ensures goes { IsTrue result ↔ GoesInto group_class bit_of_group (change_group
+        (P.promises change.now.promises.now) change.now.variable (done_view change.now.event)) before after }
+    ensures test { result ≡ group_goes_into (change_group (P.promises change.now.promises.now) change.now.variable
+        (done_view change.now.event)) before after }
+{
+    group_class_goes(change, GroupClass::Unmade, before, after)
+        && group_class_goes(change, GroupClass::InState(GroupState::Idle), before, after)
+        && group_class_goes(change, GroupClass::InState(GroupState::Live), before, after)
+        && group_class_goes(change, GroupClass::Awaited, before, after)
+}

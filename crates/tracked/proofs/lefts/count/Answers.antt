@@ -1,5 +1,0 @@
-use Rattle.tracked.proofs.LeftSides.{lefts-length}
-use Rattle.tracked.proofs.lefts.count.Goals as goal
-
-pub returns-in-Assigns : goal.returns-in-Assigns
-returns-in-Assigns c = rw c.in-Assigns.is (lefts-length c.in-Assigns.left.now)

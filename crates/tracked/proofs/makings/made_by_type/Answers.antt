@@ -1,8 +1,0 @@
-use Rattle.tracked.specs.RowViews.{known_view}
-use Rattle.tree.specs.View.{expression_syntax}
-use Rattle.tracked.proofs.OnlyValues.{made-with-values}
-use Rattle.tracked.proofs.makings.made_by_type.Goals as goal
-
-pub returns-then-not-is_empty : goal.returns-then-not-is_empty
-returns-then-not-is_empty c =
-    made-with-values (known_view c.args.known) (expression_syntax c.args.kind.now) c.args.values.now c.if-not-is_empty.ensures

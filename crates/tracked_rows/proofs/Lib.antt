@@ -1,0 +1,3 @@
+pub mod LeftSides
+pub mod OnlyValues
+pub mod ValueForms

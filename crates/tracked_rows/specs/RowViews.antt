@@ -1,0 +1,47 @@
+-- What the program keeps of what is known, and of rows, and what it stands for.
+use Rattle.std.specs.Prelude.{Bool, Option, Some, None, length, map}
+use Rattle.tracked_rows.specs.declared.known.Known.{Known as KeptKnown}
+use Rattle.tracked_rows.specs.declared.lefts.Left.{Left as KeptLeft}
+use Rattle.tracked_rows.specs.declared.lefts.Left.TheVariants.{Blank, Name, Other}
+use Rattle.tracked_rows.specs.declared.calls.Giving.{Giving as KeptGiving}
+use Rattle.tracked_rows.specs.declared.makings.GroupState.{GroupState as KeptState}
+use Rattle.tracked_rows.specs.declared.makings.GroupState.TheVariants.{Idle, Live}
+use Rattle.names.specs.Answers.{declared_at}
+use Rattle.facts.specs.FactViews.{cancel_result_view, facts_by_name, facts_by_path}
+use Rattle.mentions.specs.MarkViews.{named_view}
+use Rattle.tree.specs.Syntax.{Expression, Expressions, no_expression, expression_and}
+use Rattle.meaning.specs.Mentions.{Row}
+use Rattle.meaning.specs.Tracked.{Known, Left, blank_left, name_left, other_left, lefts_of, Giving, GroupState, idle, live, made_by_values}
+use Rattle.meaning.specs.Uses.{clears_by_value}
+
+abbrev pub known_view : KeptKnown → Known
+known_view k = record {
+  means = declared_at k.names.now k.file;
+  functions = facts_by_name k.table.now;
+  imported = facts_by_path k.imported.now;
+}
+
+abbrev pub left_view : KeptLeft → Left
+left_view Blank = blank_left
+left_view (Name n number) = name_left (named_view n) number
+left_view Other = other_left
+
+abbrev pub giving_view : KeptGiving → Giving
+giving_view g = record { gives = map cancel_result_view g.gives.now; results = g.results }
+
+abbrev pub state_view : KeptState → GroupState
+state_view Idle = idle
+state_view Live = live
+
+abbrev pub only_value_of : Expressions → Option Expression
+only_value_of no_expression = None
+only_value_of (expression_and e no_expression) = Some e
+only_value_of (expression_and e (expression_and f es)) = None
+
+-- what the only value of the row makes
+abbrev pub made_by_only : Known → Row → Option GroupState
+made_by_only known row = made_by_values known row (length (lefts_of row.form)) row.values
+
+-- the only value of the row clears its only left side
+abbrev pub clears_by_only : Known → Row → Bool
+clears_by_only known row = clears_by_value known (length (lefts_of row.form)) row.values
