@@ -9,8 +9,8 @@ use Rattle.whole_packages.specs.LoadedViews.{TellPackages, HaveDistinctPaths}
 use Rattle.table_json.specs.declared.table.Parameter.{Parameter}
 use Rattle.table_json.specs.declared.table.Parameter.TheVariants.{Cancel, Cause, Group}
 use Rattle.table_json.specs.declared.table.Table.{Table}
-use Rattle.table_json.specs.Parts.{if_fits}
 use Rattle.table_json.specs.Tables.{Entry, by_bytes, entries_of}
+use Rattle.table_json.specs.TableValues.{if_fits}
 use Rattle.meaning_reports.specs.Loaded.{LoadedPackage, PackageTable}
 use Rattle.all_packages.specs.declared.judged.Judged.{Judged}
 use Rattle.all_packages.specs.Judgments.{table_view}

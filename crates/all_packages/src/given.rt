@@ -5,7 +5,7 @@ ghost use Rattle.all_packages.specs.Progress.{TellsGiven};
 ghost use Rattle.whole_packages.specs.LoadedViews.{HaveDistinctPaths, TellPackages};
 ghost use Rattle.meaning_reports.specs.Loaded.{LoadedPackage as MeantPackage};
 
-use crate::package_names::package_names;
+use crate::package_names::names_of_packages;
 use imports::{ImportList, Order, first_places, order};
 use indexmap::IndexMap;
 use names::PackageNames;
@@ -43,7 +43,7 @@ pub fn given_packages<'a>(
     let order = order(alloc, &lists)?;
     let places = first_places(alloc, &lists)?;
     let unranked = unranked(alloc, &order, packages.len())?;
-    let names = package_names(alloc, packages)?;
+    let names = names_of_packages(alloc, packages)?;
     Ok(Given {
         packages,
         lists,

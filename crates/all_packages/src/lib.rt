@@ -18,6 +18,7 @@ mod told_package;
 pub use by_paths::ByPaths;
 pub use file_rules::{FileRules, FoundFiles};
 pub use judged::{Around, Judged, PackageTable};
+pub use package_names::names_of_packages;
 pub use packages::{JudgedBy, JudgedPackages, judge_packages, judge_packages_by};
 pub use reports::{Report, whole_report, whole_report_by};
 pub use tables::final_tables;

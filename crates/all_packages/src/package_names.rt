@@ -40,7 +40,7 @@ fn kept_names<'a>(
 /// # Errors
 ///
 /// Memory was refused.
-pub fn package_names<'a>(
+pub fn names_of_packages<'a>(
     alloc: Global,
     packages: &'a [LoadedPackage],
 ) -> Result<PackageNames<'a>, AllocError>

@@ -6,8 +6,8 @@ ghost use Rattle.all_packages.specs.Tables.{as_list, declared_name, declared_nam
 ghost use Rattle.facts.specs.FactViews.{cancel_result_view, facts_view, parameter_view, tracked_type_view, type_view};
 ghost use Rattle.imports.specs.Views.{text_views};
 ghost use Rattle.calls_flags.specs.KnownCalls.{is_called};
-ghost use Rattle.table_json.specs.Parts.{if_fits};
 ghost use Rattle.table_json.specs.Tables.{entries_of, entry_of};
+ghost use Rattle.table_json.specs.TableValues.{if_fits};
 ghost use Rattle.tree.specs.View.{file_syntax, top_level_syntax};
 
 use crate::judged::Judged;

@@ -52,7 +52,7 @@ function_so b name e = by (is_none b.receiver) e
     by true is = named_so b.name name is
     by false is = absurd (none-some name is)
 
-so_function : (b : BodyPlace) (name : List ℕ) → is_function name b ≡ true → function_name b ≡ Some name
+pub so_function : (b : BodyPlace) (name : List ℕ) → is_function name b ≡ true → function_name b ≡ Some name
 so_function b name e = by (is_none b.receiver) e
   where
     by : (t : Bool) → (t && has_name name b.name) ≡ true → (if t then called_name b.name else None) ≡ Some name

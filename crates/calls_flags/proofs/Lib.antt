@@ -1,7 +1,7 @@
 mod AddedParameters
 mod BodiesKept
 mod ClaimsAdded
-mod ClaimsOf
+pub mod ClaimsOf
 pub mod CreditedFiles
 mod GreatestFlags
 pub mod KeptClaims

@@ -46,7 +46,7 @@ struct Claimant<'f, 'a> {
 }
 
 /// The name of a function, which is no method and neither `init` nor `_`.
-fn function_name(body: BodyPlace<'_>) -> Option<&str>
+pub fn function_name(body: BodyPlace<'_>) -> Option<&str>
     ensures { option_map (λ name. name.now) result ≡ function_name (body_view body.entry) }
 {
     match (body.name, body.receiver) {

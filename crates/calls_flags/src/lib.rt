@@ -9,7 +9,8 @@ mod known_calls;
 mod rounds;
 mod told_file;
 
+pub use claims::{Claim, find_claims, function_name};
 pub use file_bodies::{FileBodies, bodies_of_files};
-pub use known_calls::{Called, ImportedCalls, KnownCalls};
-pub use rounds::find_called;
+pub use known_calls::{Called, FunctionParameter, ImportedCalls, KnownCalls};
+pub use rounds::{called_by, find_called};
 pub use told_file::{ToldFile, tell_files};

@@ -15,7 +15,11 @@ use facts::Table;
 use std::alloc::{AllocError, Global};
 
 /// What is known where these claims hold.
-fn called_by<'a>(alloc: Global, claims: &[Claim<'a>]) -> Result<Called<'a>, AllocError>
+///
+/// # Errors
+///
+/// Memory was refused.
+pub fn called_by<'a>(alloc: Global, claims: &[Claim<'a>]) -> Result<Called<'a>, AllocError>
     ensures { IfOk result (λ called. (name : List ℕ) (k : ℕ)
         → is_called called name k ≡ flags_claimed (map claim_view claims.now) name k) }
 {

@@ -1,4 +1,4 @@
-mod BodiesByPlace
+pub mod BodiesByPlace
 mod FoundBackward
 pub mod PairedLists
 mod SearchedPaths

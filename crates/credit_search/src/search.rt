@@ -2,6 +2,7 @@
 
 ghost use Rattle.std.specs.Prelude.{◌≡◌, ℕ, IfOk, Some, map};
 ghost use Rattle.bodies.specs.Bodies.{TellsBody};
+ghost use Rattle.credit_search.specs.PathNodes.{TellsNodes};
 ghost use Rattle.credits.specs.BodyPaths.{TellsPaths};
 ghost use Rattle.credits.specs.CreditViews.{has};
 ghost use Rattle.events.specs.VariableViews.{variable_view};
@@ -29,10 +30,14 @@ pub fn search_body<'a, C: Calls>(
     calls: &C,
     credits: &Credits,
 ) -> Result<Solution, AllocError>
-    ensures { IfOk result (λ solution. (file : ℕ) (seen : Seen) (b : BodyPlace) → TellsBody file seen b body.now
+    ensures paths { IfOk result (λ solution. (file : ℕ) (seen : Seen) (b : BodyPlace) → TellsBody file seen b body.now
         → body.now.graph ≡ Some kept.now
         → TellsPaths (paths_of seen (promises_in (C.are_called calls.now) (has credits.now) b.at) b) kept.now.graph
         (map variable_view body.now.variables.items) (cancel_arrives solution) (group_arrives solution)) }
+    ensures nodes { IfOk result (λ solution. (file : ℕ) (seen : Seen) (b : BodyPlace) → TellsBody file seen b body.now
+        → body.now.graph ≡ Some kept.now
+        → TellsNodes (paths_of seen (promises_in (C.are_called calls.now) (has credits.now) b.at) b)
+        (cancel_arrives solution) (group_arrives solution)) }
 {
     let reliance = Reliance {
         calls: &*calls,

@@ -1,1 +1,1 @@
-mod SettledPlaces
+pub mod SettledPlaces

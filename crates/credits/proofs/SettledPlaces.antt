@@ -72,7 +72,7 @@ module _ (b : Paths) (place number : ℕ) where
 
 -- All places
 
-among_pushed : (numbers : List ℕ) (n number : ℕ)
+pub among_pushed : (numbers : List ℕ) (n number : ℕ)
     → (is_among (numbers ++ n ∷ []) number ≡ true) ↔ ((is_among numbers number ≡ true) ⊎ (n ≡ number))
 among_pushed numbers n number =
     let parts = list_any-append (λ m. m == number) numbers (n ∷ []) in (

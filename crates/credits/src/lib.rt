@@ -8,5 +8,5 @@ mod settled;
 mod table;
 
 pub use reliance::{Calls, NoCalls, Reliance};
-pub use settled::{captures_any, settled_captured};
+pub use settled::{captures_any, is_captured, settled_captured};
 pub use table::Credits;

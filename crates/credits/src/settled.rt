@@ -14,7 +14,8 @@ use path_faults::settles;
 use states::Arrivals;
 use std::alloc::{AllocError, Global};
 
-fn is_captured(variable: Variable<'_>) -> bool
+/// Whether the variable is captured.
+pub fn is_captured(variable: Variable<'_>) -> bool
     ensures { result ≡ is_captured (variable_view variable.entry).role }
 {
     match variable.role {

@@ -1,1 +1,1 @@
-mod FoundParts
+pub mod FoundParts

@@ -4,10 +4,15 @@ ghost use Rattle.std.specs.Prelude.{◌↔◌, ℕ, List, IfOk, OnOk, Contains, 
 ghost use Rattle.bodies.specs.Bodies.{TellsBody};
 ghost use Rattle.calls_flags.specs.FilesBodies.{TellAll, TellsWithCredits};
 ghost use Rattle.calls_flags.specs.KnownCalls.{known_calls};
-ghost use Rattle.findings.specs.FoundEntries.{AddsEntries, IsPassEntry, IsFewPathEntry, IsBodyEntry, IsEntryOfBodies, IsFoundIn};
+ghost use Rattle.credits.specs.CreditViews.{has};
+ghost use Rattle.events.specs.ToldViews.{TellsFile};
+ghost use Rattle.findings.specs.FoundEntries.{AddsEntries, IsEntryOf, IsPassEntry, IsFewPathEntry, IsBodyEntry, IsEntryOfBodies, IsFoundIn};
 ghost use Rattle.meaning.specs.BodyEvents.{bodies_of};
 ghost use Rattle.meaning.specs.Mentions.{BodyPlace as MeantBody};
+ghost use Rattle.meaning.specs.Uses.{Seen};
 ghost use Rattle.meaning_packages.specs.CallsFlags.{FileWithCredits};
+ghost use Rattle.meaning_packages.specs.Credits.{promises_in};
+ghost use Rattle.meaning_packages.specs.PathFaults.{paths_of, IsPassFault};
 ghost use Rattle.report.specs.Entries.{Entry, entry_of};
 ghost use Rattle.meaning_reports.specs.PackageReports.{IsFileFinding};
 
@@ -15,11 +20,32 @@ use crate::entries::{add_path_faults, add_use_faults};
 use bodies::Body;
 use calls_flags::{FileBodies, KnownCalls};
 use credit_search::search_body;
-use credits::Reliance;
-use events::body_faults;
+use credits::{Calls, Reliance};
+use events::{Told, body_faults};
 use path_faults::{pass_faults, path_faults};
 use report::Diagnostic;
 use std::alloc::{AllocError, Global};
+
+/// Adds the faults of a body's passes, on a path or not, by what the body relies on.
+///
+/// # Errors
+///
+/// Memory was refused.
+pub fn add_passes_by<'a, C: Calls>(
+    alloc: Global,
+    told: &Told<'a>,
+    reliance: &Reliance<'_, C>,
+    body: &Body<'_, 'a>,
+    diagnostics: &mut Vec<Diagnostic<'a>>,
+) -> Result<(), AllocError>
+    ensures { OnOk result ((number : ℕ) (seen : Seen) (b : MeantBody) → TellsFile seen told.now
+        → TellsBody number seen b body.now
+        → AddsEntries diagnostics.old.items diagnostics.new.items (IsEntryOf number (IsPassFault (paths_of seen
+        (promises_in (C.are_called reliance.now.calls.now) (has reliance.now.credits.now) reliance.now.at) b)))) }
+{
+    let faults = pass_faults(alloc, told, body.place.at, &body.variables, reliance)?;
+    add_path_faults(body.file, &faults, diagnostics)
+}
 
 /// Adds the faults of a body's passes, on a path or not.
 fn add_passes<'a>(
@@ -39,8 +65,7 @@ fn add_passes<'a>(
         credits: &file.credits,
         at: body.place.at,
     };
-    let faults = pass_faults(alloc, file.told, body.place.at, &body.variables, &reliance)?;
-    add_path_faults(body.file, &faults, diagnostics)
+    add_passes_by(alloc, file.told, &reliance, body, diagnostics)
 }
 
 /// Adds the faults of a body's paths, if it has variables and not too many.

@@ -8,7 +8,7 @@ use Rattle.meaning.specs.TreeOfText.{IsTreeOf}
 use Rattle.meaning.proofs.Membership.{contains_cases, contains_nil}
 use Rattle.report.specs.declared.diagnostics.Diagnostic.{Diagnostic}
 use Rattle.meaning_reports.specs.Loaded.{Reading, has_tree, has_text_fault, has_tree_fault, LoadedPackage, NumberedTree, trees_from}
-use Rattle.meaning_reports.specs.PackageReports.{IsReportOf}
+use Rattle.meaning_reports.specs.PackageReports.{Rules, IsReportBy}
 use Rattle.whole_packages.specs.declared.loaded_package.LoadedPackage.{LoadedPackage as KeptPackage}
 use Rattle.load.specs.Readings.{AreReadingsOf}
 use Rattle.load.specs.GivenPackages.{PathAndFiles, AreLoaded}
@@ -16,8 +16,7 @@ use Rattle.all_packages.specs.declared.judged.Judged.{Judged}
 use Rattle.report.specs.Entries.{entry_of}
 use Rattle.all_packages.specs.Reports.{says_nothing, is_yes, said_view}
 use Rattle.meaning_runs.specs.Promise.{AreTreesOfTexts}
-use Rattle.meaning_runs.specs.PackageYes.{program_of}
-use Rattle.meaning_runs.proofs.PackageYes.{yes_of_a_package_is_quiet}
+use Rattle.meaning_runs.specs.PackageYes.{program_of, YesOfAPackageIsQuietBy}
 use Rattle.judge.specs.QuietYes.{IsToldYes, YesAreQuiet}
 
 abbrev tree_in : NumberedTree → SourceFile
@@ -53,9 +52,9 @@ no_entry : (ds : List Diagnostic) → says_nothing ds ≡ true → map entry_of 
 no_entry [] e = refl
 no_entry (d ∷ ds) e = let bad : false ≡ true = e in cc
 
-pub yes_are_quiet : (ps : List LoadedPackage) (said : List Judged) (is_report : IsReportOf ps (map said_view said)) → ((i : ℕ) (p : LoadedPackage) → slice_get ps i ≡ Some p → AreTreesOfTexts p) → YesAreQuiet ps is_report.tables said
-yes_are_quiet ps said is_report texts i told groups =
-    yes_of_a_package_is_quiet ps (map said_view said) i is_report record {
+pub yes_are_quiet : (rules : Rules) → YesOfAPackageIsQuietBy rules → (ps : List LoadedPackage) (said : List Judged) (is_report : IsReportBy rules ps (map said_view said)) → ((i : ℕ) (p : LoadedPackage) → slice_get ps i ≡ Some p → AreTreesOfTexts p) → YesAreQuiet ps is_report.tables said
+yes_are_quiet rules are_quiet ps said is_report texts i told groups =
+    are_quiet ps (map said_view said) i is_report record {
       loaded = told.loaded;
       said = said_view told.judged;
       is_package = told.is_package;

@@ -19,10 +19,11 @@ use Rattle.whole_packages.specs.declared.loaded_package.LoadedPackage.{LoadedPac
 use Rattle.load.specs.GivenPackages.{PathAndFiles, AreLoaded}
 use Rattle.load.specs.Readings.{IsUnreadable, IsReadingOf, AreReadingsOf}
 use Rattle.all_packages.specs.declared.judged.Judged.{Judged}
-use Rattle.all_packages.specs.Reports.{said_view, AreReports}
+use Rattle.all_packages.specs.Reports.{said_view, AreReportsBy}
+use Rattle.meaning_reports.specs.PackageReports.{Rules}
 use Rattle.meaning_runs.specs.FilePlaces.{Fits, AreTextsOf}
 use Rattle.meaning_runs.proofs.BodyOffsetsTokens.{mark_there}
-use Rattle.meaning_runs.proofs.EntryPlaces.{entries_lie_in_files}
+use Rattle.meaning_runs.specs.EntryPlaces.{EntriesLieInFilesBy}
 use Rattle.judge.specs.SourcePlaces.{StandInSources}
 use Rattle.judge.proofs.LoadedPackages.{are_as_many, each_loaded}
 
@@ -105,11 +106,12 @@ there xs i l = elim (slice_get_cases xs i).1 [
   | inr none ↦ let most = none.0 in absurd (omega (arith, l, most))
 ]
 
-pub stand_in_sources : (es : List PathAndFiles) (ps : List LoadedPackage) (ks : List KeptPackage) (said : List Judged)
+pub stand_in_sources : (rules : Rules) → EntriesLieInFilesBy rules
+    → (es : List PathAndFiles) (ps : List LoadedPackage) (ks : List KeptPackage) (said : List Judged)
     → AreLoaded es ps ks
-    → AreReports ps ks said
+    → AreReportsBy rules ps ks said
     → StandInSources said
-stand_in_sources es ps ks said loaded reports i judged d is among =
+stand_in_sources rules they_lie es ps ks said loaded reports i judged d is among =
     let view = slice_get-map said_view said i ∙ ap (option_map said_view) is in
     let within = slice_get_within (map said_view said) i (said_view judged) view in
     let long = reports.is_report.is_as_long in
@@ -118,7 +120,7 @@ stand_in_sources es ps ks said loaded reports i judged d is among =
     let k = there ks i (omega (arith, within, long, kept)) in
     let own = each_loaded es ps ks loaded i p.0 k.0 p.1 k.1 in
     let sources = (reports.are_told i k.0 judged k.1 is).are_sources in
-    let place = entries_lie_in_files ps (map said_view said) p.0 (said_view judged) (map text_of k.0.sources.items) (entry_of d)
+    let place = they_lie ps (map said_view said) p.0 (said_view judged) (map text_of k.0.sources.items) (entry_of d)
     reports.is_report record { place = i; is_package = p.1; is_said = view }
     (are_texts k.0.sources.items p.0 own.loaded.are_files) (contains_map entry_of judged.report.diagnostics.items d among) in
     let s = from_map k.0.sources.items d.file place.text place.is_file in

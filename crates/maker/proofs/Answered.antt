@@ -1,4 +1,4 @@
--- A search for each variable answers which of its classes arrive where.
+-- A search for each variable answers which of its classes arrive where, and at which nodes.
 use Rattle.std.proofs.Common.{◌≡◌, ℕ, ◌+◌, ◌<◌, ◌≤◌, Bool, List, [], ◌∷◌, length, Option, Some, None, refl, ap, ◌∙◌, subst}
 use Rattle.std.proofs.lemmas.Option.{slice_get_within}
 use Rattle.std.specs.Prelude.{slice_get}
@@ -7,13 +7,14 @@ use Rattle.bodies.specs.NodeEvents.{events_graph, IsGraphOf}
 use Rattle.bodies.specs.declared.node.NodeEvent.{NodeEvent}
 use Rattle.flow.specs.declared.graph.Graph.{Graph as KeptGraph}
 use Rattle.flow.specs.GraphOfCode.{nodes}
-use Rattle.flow.specs.Walks.{Graph}
-use Rattle.maker.proofs.ClassesTold.{tells_classes}
+use Rattle.flow.specs.Walks.{Graph, graph_of}
+use Rattle.maker.proofs.ClassesTold.{tells_classes, tells_at_nodes}
 use Rattle.maker.proofs.Numbers.{entry_has, cancels_numbered, groups_numbered}
+use Rattle.maker.specs.AtNodes.{IsCancelAt, IsGroupAt, TellsAtNodes, ClassifiesNodes}
 use Rattle.maker.specs.Flags.{with_groups, is_marked_flag, cancel_step, cancel_width, cancel_entry, group_flag, group_step, group_width, group_entry}
 use Rattle.maker.specs.Solutions.{found_for, FindsCancel, FindsGroup, FindsKind, Finds}
 use Rattle.meaning.specs.BodyEvents.{Variable}
-use Rattle.meaning.specs.Classes.{Promises, entry_cancel, change_cancel, cancel_after, entry_group, change_group, group_after}
+use Rattle.meaning.specs.Classes.{Promises, CancelClass, entry_cancel, change_cancel, cancel_after, GroupClass, entry_group, change_group, group_after}
 use Rattle.meaning.specs.Code.{Code}
 use Rattle.meaning.specs.FunctionFacts.{cancel, group}
 use Rattle.meaning.specs.Uses.{Event}
@@ -43,45 +44,82 @@ module _ (p : Promises) (groups : List ℕ) (g : KeptGraph NodeEvent) (c : Code 
   of_code : groups ≡ with_groups first (nodes c)
   of_code = are_groups ∙ ap (λ (h : Graph Event). with_groups first h.nodes) is_graph
 
+  cancel_reached : (v : Variable) (found : ℕ → ℕ → Bool)
+      → FindsCancel p groups g v found
+      → TellsReached (graph_of c) (cancel_step p v.number groups) (cancel_width groups)
+      (cancel_entry groups v.role ∷ []) found
+  cancel_reached v found told =
+      subst (λ h. TellsReached h (cancel_step p v.number groups) (cancel_width groups)
+      (cancel_entry groups v.role ∷ []) found) is_graph told
+
+  group_reached : (v : Variable) (found : ℕ → ℕ → Bool)
+      → FindsGroup p g v found
+      → TellsReached (graph_of c) (group_step p v.number) group_width (group_entry v.role ∷ []) found
+  group_reached v found told =
+      subst (λ h. TellsReached h (group_step p v.number) group_width (group_entry v.role ∷ []) found) is_graph told
+
+  abbrev CancelTold : Variable → (ℕ → CancelClass → Bool) → Type 0
+  CancelTold v has = TellsClasses c (cancel_class_after p v) has × TellsAtNodes c (IsCancelAt (graph_of c) p v) has
+
+  abbrev GroupTold : Variable → (ℕ → GroupClass → Bool) → Type 0
+  GroupTold v has = TellsClasses c (group_class_after p v) has × TellsAtNodes c (IsGroupAt (graph_of c) p v) has
+
   cancel_told : (v : Variable) (found : ℕ → ℕ → Bool)
       → FindsCancel p groups g v found
-      → TellsClasses c (cancel_class_after p v) (λ n k. is_marked_flag (found n) (cancel_bit groups k))
-  cancel_told v found told =
-      tells_classes c (cancel_class groups) (cancel_bit groups) (change_cancel p v.number) (cancel_after p v.number)
-      (cancel_width groups) (cancels_numbered c p v.number groups first inverse of_code fits)
-      (entry_cancel v.role) (cancel_entry groups v.role) (entry_has groups v.role) found
-      (subst (λ h. TellsReached h (cancel_step p v.number groups) (cancel_width groups)
-      (cancel_entry groups v.role ∷ []) found) is_graph told)
+      → CancelTold v (λ n k. is_marked_flag (found n) (cancel_bit groups k))
+  cancel_told v found told = (
+    tells_classes c (cancel_class groups) (cancel_bit groups) (change_cancel p v.number) (cancel_after p v.number)
+        (cancel_width groups) (cancels_numbered c p v.number groups first inverse of_code fits)
+        (entry_cancel v.role) (cancel_entry groups v.role) (entry_has groups v.role) found
+        (cancel_reached v found told),
+    tells_at_nodes c (cancel_class groups) (cancel_bit groups) (change_cancel p v.number) (cancel_after p v.number)
+        (cancel_width groups) (cancels_numbered c p v.number groups first inverse of_code fits)
+        (entry_cancel v.role) (cancel_entry groups v.role) (entry_has groups v.role) found
+        (cancel_reached v found told),
+  )
 
   group_told : (v : Variable) (found : ℕ → ℕ → Bool)
       → FindsGroup p g v found
-      → TellsClasses c (group_class_after p v) (λ n k. found n (group_bit k))
-  group_told v found told =
-      tells_classes c group_class group_flag (change_group p v.number) (group_after p v.number)
-      group_width (groups_numbered c p v.number group_inverse)
-      (entry_group v.role) (group_entry v.role) refl found
-      (subst (λ h. TellsReached h (group_step p v.number) group_width (group_entry v.role ∷ []) found) is_graph told)
+      → GroupTold v (λ n k. found n (group_bit k))
+  group_told v found told = (
+    tells_classes c group_class group_flag (change_group p v.number) (group_after p v.number)
+        group_width (groups_numbered c p v.number group_inverse)
+        (entry_group v.role) (group_entry v.role) refl found (group_reached v found told),
+    tells_at_nodes c group_class group_flag (change_group p v.number) (group_after p v.number)
+        group_width (groups_numbered c p v.number group_inverse)
+        (entry_group v.role) (group_entry v.role) refl found (group_reached v found told),
+  )
 
   cancel_at : (v : Variable) (o : Option Reached)
       → v.kind ≡ cancel
       → FindsAt p groups g v o
-      → TellsClasses c (cancel_class_after p v) (λ n k. is_marked_flag (found_for o n) (cancel_bit groups k))
+      → CancelTold v (λ n k. is_marked_flag (found_for o n) (cancel_bit groups k))
   cancel_at v None is h = absurd h
   cancel_at v (Some r) is h = cancel_told v (has r) (subst (λ k. FindsKind k p groups g v (has r)) is h)
 
   group_at : (v : Variable) (o : Option Reached)
       → v.kind ≡ group
       → FindsAt p groups g v o
-      → TellsClasses c (group_class_after p v) (λ n k. found_for o n (group_bit k))
+      → GroupTold v (λ n k. found_for o n (group_bit k))
   group_at v None is h = absurd h
   group_at v (Some r) is h = group_told v (has r) (subst (λ k. FindsKind k p groups g v (has r)) is h)
 
-  pub classified : (vs : List Variable) (rs : List Reached)
-      → FindsFirst p groups g vs rs (length vs)
-      → Classifies c p vs
-      (λ i n k. is_marked_flag (found_for (slice_get rs i) n) (cancel_bit groups k))
-      (λ i n k. found_for (slice_get rs i) n (group_bit k))
-  classified vs rs all = record {
-    of_cancel = λ i v e is. cancel_at v (slice_get rs i) is (all.each i v (slice_get_within vs i v e) e);
-    of_group = λ i v e is. group_at v (slice_get rs i) is (all.each i v (slice_get_within vs i v e) e);
-  }
+  module _ (vs : List Variable) (rs : List Reached) (all : FindsFirst p groups g vs rs (length vs)) where
+    found_at : (i : ℕ) (v : Variable) → slice_get vs i ≡ Some v → FindsAt p groups g v (slice_get rs i)
+    found_at i v e = all.each i v (slice_get_within vs i v e) e
+
+    pub classified : Classifies c p vs
+        (λ i n k. is_marked_flag (found_for (slice_get rs i) n) (cancel_bit groups k))
+        (λ i n k. found_for (slice_get rs i) n (group_bit k))
+    classified = record {
+      of_cancel = λ i v e is. (cancel_at v (slice_get rs i) is (found_at i v e)).0;
+      of_group = λ i v e is. (group_at v (slice_get rs i) is (found_at i v e)).0;
+    }
+
+    pub classified_nodes : ClassifiesNodes c p vs
+        (λ i n k. is_marked_flag (found_for (slice_get rs i) n) (cancel_bit groups k))
+        (λ i n k. found_for (slice_get rs i) n (group_bit k))
+    classified_nodes = record {
+      of_cancel = λ i v e is. (cancel_at v (slice_get rs i) is (found_at i v e)).1;
+      of_group = λ i v e is. (group_at v (slice_get rs i) is (found_at i v e)).1;
+    }

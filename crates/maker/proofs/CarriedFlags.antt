@@ -1,4 +1,4 @@
--- The flags that are reached are those that walks carry, and in the graph of a code those that its lists carry.
+-- What is reached is what walks carry, and in the graph of a code what its lists carry.
 use Rattle.std.proofs.Common.{◌≡◌, ℕ, ◌⊎◌, inl, inr, List, [], ◌∷◌, ◌++◌, length, Some, Contains, refl, ap, ◌∙◌, subst, arith}
 use Rattle.std.specs.Prelude.{slice_get}
 use Rattle.meaning.specs.Code.{Occurrence, Code}
@@ -60,25 +60,25 @@ module _ {E : Type 0} (g : Graph E) where
             (k.0, k.1, passes (first_is s p (t ++ o ∷ []) w) r.can_follow r.follows k.2)
       ]
 
-  -- Flags
+  -- What is carried
 
-  module _ (step : E → ℕ → ℕ) (entries : List ℕ) where
-    carried_more : (t : List (Occurrence E)) (o : Occurrence E) (i : ℕ)
-        → carried step (t ++ o ∷ []) i ≡ step o.event (carried step t i)
-    carried_more [] o i = refl
-    carried_more (p ∷ t) o i = carried_more t o (step p.event i)
+  module _ {K : Type 0} (step : E → K → K) (entries : List K) where
+    carried_more : (t : List (Occurrence E)) (o : Occurrence E) (k : K)
+        → carried step (t ++ o ∷ []) k ≡ step o.event (carried step t k)
+    carried_more [] o k = refl
+    carried_more (p ∷ t) o k = carried_more t o (step p.event k)
 
-    pub is_carried : (n i : ℕ) → IsReached g step entries n i → IsCarried g step entries n i
-    is_carried n i (starts a b) = record {
+    pub is_carried : (n : ℕ) (k : K) → IsReached g step entries n k → IsCarried g step entries n k
+    is_carried n k (starts a b) = record {
       start = n;
-      entry = i;
+      entry = k;
       before = [];
       is_start = a;
       is_entry = b;
       walk = is_there;
-      is_flag = refl;
+      is_it = refl;
     }
-    is_carried n i (goes {n = m} {i = j} {o = o} {ms = ms} r a b c) =
+    is_carried n k (goes {n = m} {k = j} {o = o} {ms = ms} r a b c) =
         let w = is_carried m j r in
         record {
           start = w.start;
@@ -87,21 +87,21 @@ module _ {E : Type 0} (g : Graph E) where
           is_start = w.is_start;
           is_entry = w.is_entry;
           walk = further m n w.start o ms w.before a b c w.walk;
-          is_flag = carried_more w.before o w.entry ∙ ap (step o.event) w.is_flag;
+          is_it = carried_more w.before o w.entry ∙ ap (step o.event) w.is_it;
         }
 
-    pub is_reached : (n s i : ℕ) (t : List (Occurrence E))
-        → IsReached g step entries s i
+    pub is_reached : (n s : ℕ) (k : K) (t : List (Occurrence E))
+        → IsReached g step entries s k
         → WalkTo g n s t
-        → IsReached g step entries n (carried step t i)
-    is_reached n s i t r is_there = r
-    is_reached n s i t r (passes {k = k} {o = o} {t = u} a b c w) =
-        is_reached n k (step o.event i) u (goes r a b c) w
+        → IsReached g step entries n (carried step t k)
+    is_reached n s k t r is_there = r
+    is_reached n s k t r (passes {k = m} {o = o} {t = u} a b c w) =
+        is_reached n m (step o.event k) u (goes r a b c) w
 
-pub reached_by_walks : (E : Type 0) → ReachedByWalks E
-reached_by_walks E g step entries n i = (
-  is_carried g step entries n i,
-  λ w. subst (λ k. IsReached g step entries n k) w.is_flag
+pub reached_by_walks : (E K : Type 0) → ReachedByWalks E K
+reached_by_walks E K g step entries n k = (
+  is_carried g step entries n k,
+  λ w. subst (λ j. IsReached g step entries n j) w.is_it
       (is_reached g step entries n w.start w.entry w.before (starts w.is_start w.is_entry) w.walk),
 )
 
@@ -114,18 +114,18 @@ module _ {E : Type 0} (c : Code E) where
   list_walks [] o l = (graphs_walk E c).each_list o [] l
   list_walks (p ∷ t) o l = (graphs_walk E c).each_list p (t ++ o ∷ []) l
 
-pub reached_by_lists : (E : Type 0) → ReachedByLists E
-reached_by_lists E c step entries = record {
-  each_list = λ t o i l e.
+pub reached_by_lists : (E K : Type 0) → ReachedByLists E K
+reached_by_lists E K c step entries = record {
+  each_list = λ t o k l e.
       let w = list_walks c t o l in
-      let k = from_walk (graph_of c) w.0 o t w.2 in
-      (k.0, k.1, is_reached (graph_of c) step entries k.0 w.0 i t (starts w.1 e) k.2);
-  each_flag = λ n i o is r.
-      let w = is_carried (graph_of c) step entries n i r in (
+      let to = from_walk (graph_of c) w.0 o t w.2 in
+      (to.0, to.1, is_reached (graph_of c) step entries to.0 w.0 k t (starts w.1 e) to.2);
+  each_node = λ n k o is r.
+      let w = is_carried (graph_of c) step entries n k r in (
         w.before,
         w.entry,
         w.is_entry,
-        w.is_flag,
+        w.is_it,
         (graphs_walk E c).each_walk w.start (w.before ++ o ∷ []) w.is_start
             (to_walk (graph_of c) n w.start o w.before is w.walk),
       );

@@ -18,12 +18,12 @@ unmapped f (Some x) y e = (x, refl, same_Some (f x) y e)
 module _ {E F : Type 0} (f : E → F) (g : Graph E) (step : F → ℕ → ℕ) (entries : List ℕ) where
   there : (n i : ℕ) → IsReached g (λ e. step (f e)) entries n i → IsReached (changed_graph f g) step entries n i
   there n i (starts a b) = starts a b
-  there n i (goes {n = m} {i = j} {o = o} {ms = ms} r a b c) =
+  there n i (goes {n = m} {k = j} {o = o} {ms = ms} r a b c) =
       goes {o = changed f o} (there m j r) (slice_get-map (changed f) g.nodes m ∙ ap (option_map (changed f)) a) b c
 
   back : (n i : ℕ) → IsReached (changed_graph f g) step entries n i → IsReached g (λ e. step (f e)) entries n i
   back n i (starts a b) = starts a b
-  back n i (goes {n = m} {i = j} {o = o} {ms = ms} r a b c) =
+  back n i (goes {n = m} {k = j} {o = o} {ms = ms} r a b c) =
       let was = unmapped (changed f) (slice_get g.nodes m) o (sym (slice_get-map (changed f) g.nodes m) ∙ a) in
       subst (λ q. IsReached g (λ e. step (f e)) entries n (step q.event j)) was.2
       (goes {o = was.0} (back m j r) was.1 b c)

@@ -1,4 +1,4 @@
--- A search for numbers of classes tells which classes the lists of a code lead to.
+-- A search for numbers of classes tells which classes the lists of a code lead to, and which walks carry to each node.
 use Rattle.std.proofs.Common.{◌≡◌, ℕ, ◌<◌, Bool, true, List, [], ◌∷◌, ◌++◌, Option, Some, None, refl, sym, ap, ◌∙◌, subst, true≢false, inl, inr}
 use Rattle.std.proofs.lemmas.Option.{same_Some, slice_get_within}
 use Rattle.std.specs.Prelude.{slice_get, Contains, option_and_then, unwrap_or}
@@ -9,7 +9,8 @@ use Rattle.meaning.specs.Uses.{Event}
 use Rattle.flow.specs.GraphOfCode.{nodes}
 use Rattle.flow.specs.Walks.{graph_of, Walk, arrives, goes_on}
 use Rattle.flow.proofs.WalksOfLists.{graphs_walk}
-use Rattle.maker.specs.Carried.{TellsReached, carried, ReachesByLists}
+use Rattle.maker.specs.AtNodes.{TellsAtNodes}
+use Rattle.maker.specs.Carried.{IsReached, starts, goes, TellsReached, carried, ReachesByLists}
 use Rattle.maker.proofs.CarriedFlags.{reached_by_lists}
 use Rattle.bodies.specs.Classified.{TellsClasses, ArrivesAs, IsMarkedAt}
 use Rattle.maker.specs.Flags.{flag_after, is_marked_flag}
@@ -79,7 +80,7 @@ module _ {K : Type 0}
     module _ (entry : K) (i : ℕ) (is_entry : flag_of entry ≡ Some i) (has : ℕ → ℕ → Bool)
         (told : TellsReached (graph_of c) step width (i ∷ []) has) where
       by_lists : ReachesByLists c step (i ∷ [])
-      by_lists = reached_by_lists Event c step (i ∷ [])
+      by_lists = reached_by_lists Event ℕ c step (i ∷ [])
 
       flag_there : (n : ℕ) (k : K) → is_marked_flag (has n) (flag_of k) ≡ true
           → (j : ℕ) × (flag_of k ≡ Some j) × (has n j ≡ true)
@@ -100,7 +101,7 @@ module _ {K : Type 0}
       found n o k is e =
           let flag = flag_there n k e in
           let r = (told.at n flag.0 (slice_get_within (nodes c) n o is) (numbered.within k flag.0 flag.1)).0 flag.2 in
-          let w = by_lists.each_flag n flag.0 o is r in
+          let w = by_lists.each_node n flag.0 o is r in
           let at_entry : carried step w.0 i ≡ flag.0 =
           subst (λ j. carried step w.0 j ≡ flag.0) (sym (only w.1 w.2)) w.3 in
           let class = carried_class w.0 entry i (list_nodes c w.0 o w.4) is_entry in
@@ -129,3 +130,45 @@ module _ {K : Type 0}
 
       pub tells_classes : TellsClasses c (after entry) (λ n k. is_marked_flag (has n) (flag_of k))
       tells_classes = record { found = found; kept = kept }
+
+      -- At each node by itself
+
+      abbrev IsFlagAt : ℕ → ℕ → Type 0
+      IsFlagAt n j = IsReached (graph_of c) step (i ∷ []) n j
+
+      abbrev IsClassAt : ℕ → K → Type 0
+      IsClassAt n k = IsReached (graph_of c) change (entry ∷ []) n k
+
+      only_entry : (k : K) → Contains (entry ∷ []) k → entry ≡ k
+      only_entry k h = elim (contains_cases entry k [] h) [ inl e ↦ e | inr d ↦ absurd (contains_nil k d) ]
+
+      class_of_flag : (n j : ℕ) → IsFlagAt n j → (k : K) × (flag_of k ≡ Some j) × IsClassAt n k
+      class_of_flag n j (starts a b) =
+          (entry, is_entry ∙ ap Some (only j b), starts a (contains_here entry []))
+      class_of_flag n j (goes {n = m} {k = l} {o = o} {ms = ms} r a b d) =
+          let w = class_of_flag m l r in
+          let to = numbered.keeps o w.0 l (m, a) w.1 in
+          let is = stepped o.event w.0 l to.0 (numbered.told w.0 l w.1) to.1 in
+          (change o.event w.0, to.1 ∙ ap Some (sym is), goes w.2 a b d)
+
+      flag_of_class : (n : ℕ) (k : K) → IsClassAt n k → (j : ℕ) × (flag_of k ≡ Some j) × IsFlagAt n j
+      flag_of_class n k (starts a b) =
+          (i, ap flag_of (sym (only_entry k b)) ∙ is_entry, starts a (contains_here i []))
+      flag_of_class n k (goes {n = m} {k = l} {o = o} {ms = ms} r a b d) =
+          let w = flag_of_class m l r in
+          let to = numbered.keeps o l w.0 (m, a) w.1 in
+          let is = stepped o.event l w.0 to.0 (numbered.told l w.0 w.1) to.1 in
+          (to.0, to.1, subst (IsFlagAt n) is (goes w.2 a b d))
+
+      pub tells_at_nodes : TellsAtNodes c IsClassAt (λ n k. is_marked_flag (has n) (flag_of k))
+      tells_at_nodes n k l = (
+        λ e.
+            let flag = flag_there n k e in
+            let r = (told.at n flag.0 l (numbered.within k flag.0 flag.1)).0 flag.2 in
+            let w = class_of_flag n flag.0 r in
+            subst (IsClassAt n)
+            (same_Some w.0 k (sym (numbered.told w.0 flag.0 w.1) ∙ numbered.told k flag.0 flag.1)) w.2,
+        λ r.
+            let w = flag_of_class n k r in
+            ap (is_marked_flag (has n)) w.1 ∙ (told.at n w.0 l (numbered.within k w.0 w.1)).1 w.2,
+      )

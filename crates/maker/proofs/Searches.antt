@@ -175,12 +175,12 @@ module _ {E : Type 0} (g : Graph E) (step : E → ℕ → ℕ) (width : ℕ) (en
   module _ (within : Within) (small : All (λ i. i < width) entries) where
     below : (n i : ℕ) → IsReached g step entries n i → i < width
     below n i (starts a b) = subst (λ k. k < width) b.2 (small b.0 i b.1)
-    below n i (goes {n = m} {i = j} {o = o} r a b c) = within o.event j (below m j r)
+    below n i (goes {n = m} {k = j} {o = o} r a b c) = within o.event j (below m j r)
 
     module _ (s : Marks) (h : Searches s) (ended : s.stack ≡ []) where
       complete : (n i : ℕ) → IsReached g step entries n i → n < length g.nodes → is_marked s.rows n i ≡ true
       complete n i (starts a b) l = h.entered n i l (below n i (starts a b)) a b
-      complete n i (goes {n = m} {i = j} {o = o} {ms = ms} r a b c) l =
+      complete n i (goes {n = m} {k = j} {o = o} {ms = ms} r a b c) l =
           either_way
           (λ (c : Contains s.stack (m, j)). absurd (contains_nil (m, j) (subst (λ st. Contains st (m, j)) ended c)))
           (λ (f : IsFollowed s.rows m j). f o ms n a b c l)

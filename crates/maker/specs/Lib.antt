@@ -1,6 +1,7 @@
--- For a reader of the contracts: which flags the walks of a graph carry to each node; flags for the classes of
--- variables, and what a solution says.
+-- For a reader of the contracts: what the walks of a graph carry to each node, which classes of variables these are;
+-- flags for the classes, and what a solution says.
 pub mod Carried
+pub mod AtNodes
 pub mod Flags
 pub mod Solutions
 -- What the program keeps of a search, and what the traits ask of flags.

@@ -19,11 +19,11 @@ pub use reached::{Reached, reach};
 pub use solution::{Solution, solve};
 
 /// A flag is reached at a node exactly if a walk from where the graph starts carries it there.
-pub fn reached_by_walks<E>()
-    ensures { ReachedByWalks E }
+pub fn reached_by_walks<E, K>()
+    ensures { ReachedByWalks E K }
 {}
 
 /// In the graph of a code, the flags that are reached are those that the code's lists carry.
-pub fn reached_by_lists<E>()
-    ensures { ReachedByLists E }
+pub fn reached_by_lists<E, K>()
+    ensures { ReachedByLists E K }
 {}

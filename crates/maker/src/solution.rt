@@ -3,6 +3,7 @@
 ghost use Rattle.std.specs.Prelude.{◌≡◌, IfOk, map, slice_get};
 ghost use Rattle.bodies.specs.Classified.{Classifies};
 ghost use Rattle.bodies.specs.NodeEvents.{IsGraphOf};
+ghost use Rattle.maker.specs.AtNodes.{ClassifiesNodes};
 ghost use Rattle.maker.specs.FlagLaws.{pending_in_group};
 ghost use Rattle.maker.specs.Solutions.{cancel_arrives, group_arrives, found_for};
 ghost use Rattle.meaning.specs.Code.{Code};
@@ -75,8 +76,11 @@ pub fn solve<P: Promises>(
     variables: &[Variable<'_>],
     promises: &P,
 ) -> Result<Solution, AllocError>
-    ensures { IfOk result (λ s. (c : Code Event) → IsGraphOf c graph.now
+    ensures classes { IfOk result (λ s. (c : Code Event) → IsGraphOf c graph.now
         → Classifies c (P.promises promises.now) (map variable_view variables.now) (cancel_arrives s)
+        (group_arrives s)) }
+    ensures nodes { IfOk result (λ s. (c : Code Event) → IsGraphOf c graph.now
+        → ClassifiesNodes c (P.promises promises.now) (map variable_view variables.now) (cancel_arrives s)
         (group_arrives s)) }
 {
     let groups = pending_groups(alloc, graph, variables)?;

@@ -1,5 +1,5 @@
 -- In the tree of a text no two bodies begin at one offset, and a body that stands in another begins behind it.
-use Rattle.std.proofs.Common.{◌≡◌, ℕ, ◌≤◌, length, arith, inl, inr, Bool, true, false, List, [], ◌∷◌, ◌++◌, Option, Some, None, Contains, refl, sym, ap, subst, append_assoc}
+use Rattle.std.proofs.Common.{◌≡◌, ℕ, ◌<◌, ◌≤◌, length, arith, inl, inr, Bool, true, false, List, [], ◌∷◌, ◌++◌, Option, Some, None, Contains, refl, sym, ap, subst, append_assoc}
 use Rattle.std.specs.Prelude.{◌-◌}
 use Rattle.std.proofs.lemmas.List.Elements.{Contains-append_cases}
 use Rattle.tree.specs.declared.operator.DeclKeyword.{DeclKeyword}
@@ -151,9 +151,16 @@ pub record AreSited (text : List ℕ) (tree : SourceFile) : Type 0 where
   pub in_text : end ≤ length text
   pub sited : Sited no_site 0 end [] (file_marks tree)
   pub saved : AreSaved [] (file_marks tree)
+  pub begun : (b : BodyPlace) → Contains (file_marks tree) (opens b) → b.at < end
 
 pub are_sited : (text : List ℕ) (tree : SourceFile) → IsTreeOf text tree → AreSited text tree
 are_sited text tree t =
     let g = whole_file text tree (first_place t.tokens) t.last 0 tt (tokens_ordered text t.tokens t.cut) t.spelled in
     let bounded = g.bounded (length text) (omega arith) (tokens_under text t.tokens t.cut) in
-    record { end = g.hi; in_text = bounded.0; sited = g.sited; saved = g.saved [] }
+    record {
+      end = g.hi;
+      in_text = bounded.0;
+      sited = g.sited;
+      saved = g.saved [];
+      begun = λ b among. (g.within.inside b among).1;
+    }

@@ -12,7 +12,7 @@ use Rattle.meaning.specs.Mentions.{BodyPlace, Mention, Mark, mentions, defers_li
 use Rattle.meaning.specs.Tracked.{Known, placed}
 use Rattle.meaning.specs.TreeOfText.{IsTreeOf}
 use Rattle.meaning.specs.Uses.{Callee, Event, Seen}
-use Rattle.meaning.specs.BodyEvents.{bodies_of, sites_of, seen_file}
+use Rattle.meaning.specs.BodyEvents.{opened_in, bodies_of, sites_of, seen_file}
 use Rattle.meaning.specs.Classes.{Promises}
 use Rattle.meaning.proofs.Membership.{contains_nil, contains_here}
 use Rattle.meaning_packages.specs.PathFaults.{paths_of}
@@ -27,7 +27,8 @@ use Rattle.meaning_runs.specs.FilePlaces.{AreTextsOf, StandsIn}
 use Rattle.meaning_runs.specs.EntryPlaces.{LieInFiles, EntriesLieInFilesBy, EntriesLieInFiles}
 use Rattle.meaning_runs.specs.OccurrencePlaces.{occurrences}
 use Rattle.meaning_runs.proofs.LeftSides.{is_placed}
-use Rattle.meaning_runs.proofs.BodyOffsets.{are_sited}
+use Rattle.meaning_packages.proofs.BodyPlaces.{placed_only}
+use Rattle.meaning_runs.proofs.BodyOffsets.{are_sited, opens_one}
 use Rattle.meaning_runs.proofs.OccurrencePlaces.{occurrences_lie_in_texts}
 use Rattle.meaning_runs.proofs.FilePlaces.{whole_places_lie_in_files}
 use Rattle.meaning_runs.proofs.NamePlaces.{names_lie_in_texts}
@@ -65,10 +66,11 @@ list_there c t x (passes {w} {a} l n) o h = list_there a t x l o h
 
 -- A file
 
--- what is said of the file stands there
-record Stands (n : ℕ) (seen : Seen) : Type 0 where
-  lies : FileLies n seen
-  reached : (promises : Promises) (b : BodyPlace) (t : List (Occurrence Event)) (o : Occurrence Event)
+-- what is said of the file stands there, and its bodies begin there
+pub record Stands (n : ℕ) (seen : Seen) : Type 0 where
+  pub lies : FileLies n seen
+  pub begun : (b : BodyPlace) → Contains (bodies_of seen) b → b.at ≤ n
+  pub reached : (promises : Promises) (b : BodyPlace) (t : List (Occurrence Event)) (o : Occurrence Event)
       → Contains (bodies_of seen) b
       → Reaches (paths_of seen promises b).code t o
       → o.at ≤ n
@@ -96,6 +98,11 @@ module _ (text : List ℕ) (tree : SourceFile) (known : Known) (is : IsTreeOf te
   file_stands : Stands (length text) (seen_file known tree)
   file_stands = record {
     lies = record { marks = marks_in; locals = locals_lie (length text) known (placed [] (file_marks tree)) marks_in };
+    begun = λ b among.
+        let file = are_sited text tree is in
+        let low = file.begun b (opens_one (file_marks tree) b (placed_only (opened_in (placed [] (file_marks tree))) b among)) in
+        let end = file.in_text in
+        omega (arith, low, end);
     reached = λ promises b t o among reaches.
         let there = list_there (paths_of (seen_file known tree) promises b).code (t ++ o ∷ []) stopped reaches o
         (Contains-append_right t (o ∷ []) o (contains_here o [])) in
@@ -104,7 +111,7 @@ module _ (text : List ℕ) (tree : SourceFile) (known : Known) (is : IsTreeOf te
   }
 
 -- a finding of the file is of its number, and stands there
-finding_in : (n : ℕ) (calls : Callee → ℕ → Bool) (number : ℕ) (file : FileWithCredits) (x : Entry) → Stands n file.seen
+pub finding_in : (n : ℕ) (calls : Callee → ℕ → Bool) (number : ℕ) (file : FileWithCredits) (x : Entry) → Stands n file.seen
     → IsFileFinding calls number file x
     → (x.file ≡ number) × (x.offset ≤ n)
 finding_in n calls number file x h (outside_bodies f among) = (refl, (outer_faults_lie n file.seen h.lies).each f among)
@@ -176,6 +183,18 @@ all_trees ps i p is none j (has_tree tree) there = tt
 all_trees ps i p is none j (has_text_fault at why) there = none _ (has_no_tokens p j at why is there)
 all_trees ps i p is none j (has_tree_fault at why) there = none _ (has_no_tree p j at why is there)
 
+-- the text of a file of a package in which each file has a tree
+pub seen_stands : (ps : List LoadedPackage) (tables : Tables) (i : ℕ) (p : LoadedPackage) (texts : List (List ℕ))
+    → slice_get ps i ≡ Some p
+    → AreTextsOf texts p
+    → HasNoWholeFault ps i
+    → (number : ℕ) (seen : Seen) → slice_get (seen_files ps tables p) number ≡ Some seen
+    → (text : List ℕ) × (slice_get texts number ≡ Some text) × Stands (length text) seen
+seen_stands ps tables i p texts is are none number seen there =
+    let of = tree_seen (known_in ps tables p) 0 (trees_of p) number seen there in
+    let text = are.each number (has_tree of.tree) (tree_there 0 p.files (all_trees ps i p is none) number of.tree of.is_tree) in
+    (text.0, text.1, subst (Stands (length text.0)) (sym of.same) (file_stands text.0 of.tree of.known text.2))
+
 -- Entries by any rules
 
 module _ (rules : Rules) (each : LieInFiles rules.says) where
@@ -199,23 +218,14 @@ module _ (rules : Rules) (each : LieInFiles rules.says) where
 path_sayings_lie : LieInFiles SaysByPaths
 path_sayings_lie ps i p texts is are tables x none said =
     let h = said.is_of in
-    let q = h.loaded in
     let judged = h.is_judged in
-    let number = said.number in
     let file = said.file in
-    let seen = seen_there (seen_files ps tables q) h.files judged.are_files number file h.is_file in
-    let of = tree_seen (known_in ps tables q) 0 (trees_of q) number file.seen seen in
-    let there = tree_there 0 q.files (all_trees ps i q judged.is_package none) number of.tree of.is_tree in
-    let same : q ≡ p = same_Some q p (sym judged.is_package ∙ is) in
-    let text = are.each number (has_tree of.tree)
-    (subst (λ (r : LoadedPackage). slice_get r.files number ≡ Some (has_tree of.tree)) same there) in
-    let low = finding_in (length text.0) _ number file x
-    (subst (Stands (length text.0)) (sym of.same) (file_stands text.0 of.tree of.known text.2)) said.is_finding in
-    record {
-      text = text.0;
-      is_file = ap (slice_get texts) low.0 ∙ text.1;
-      within = low.1;
-    }
+    let same : h.loaded ≡ p = same_Some h.loaded p (sym judged.is_package ∙ is) in
+    let credited = subst (λ (q : LoadedPackage). AreCredited (seen_files ps tables q) h.files) same judged.are_files in
+    let seen = seen_there (seen_files ps tables p) h.files credited said.number file h.is_file in
+    let text = seen_stands ps tables i p texts is are none said.number file.seen seen in
+    let low = finding_in (length text.0) _ said.number file x text.2 said.is_finding in
+    record { text = text.0; is_file = ap (slice_get texts) low.0 ∙ text.1; within = low.1 }
 
 pub entries_lie_in_files : EntriesLieInFiles
 entries_lie_in_files = entries_lie_in_files_by by_paths path_sayings_lie

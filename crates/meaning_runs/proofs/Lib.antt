@@ -22,12 +22,12 @@ mod BodyOffsets
 mod QuietPromise
 pub mod PackageYes
 mod ExampleRuns
-mod EventSources
+pub mod EventSources
 mod MentionEvents
 mod Bindings
-mod OwnVariables
+pub mod OwnVariables
 mod OwnBindings
-mod Captured
+pub mod Captured
 mod BoundOnce
 mod OwnNumbers
 mod LeftSides

@@ -13,7 +13,7 @@ use Rattle.meaning_reports.specs.PackageTables.{AreCredited, no_file, file_and, 
 use Rattle.meaning_reports.specs.PackageReports.{Said, IsFileFinding, Rules, of_whole, of_import, of_files, IsYesBy, IsReportBy, by_paths}
 use Rattle.meaning_reports.proofs.ImportsOf.{given_in_lists, import_there, is_named}
 use Rattle.meaning_runs.specs.Promise as promise
-use Rattle.meaning_runs.specs.Promise.{AreFairlyCredited, IsWellKnown, AreWellKnown, HasNoFinding}
+use Rattle.meaning_runs.specs.Promise.{AreFairlyCredited, AreTreesOfTexts, IsWellKnown, AreWellKnown, HasNoFinding}
 use Rattle.meaning_runs.specs.PackageYes.{IsYesIn, program_of, AreOfTexts, AreWithoutGroups, YesOfAPackageIsQuietBy, YesOfAPackageIsQuiet}
 use Rattle.meaning_runs.proofs.QuietPromise.{yes_is_quiet}
 
@@ -27,7 +27,8 @@ pub record IsKnown (ps : List LoadedPackage) (tables : Tables) (i : ℕ) (q : Lo
       → IsFileFinding (calls_by (tables q.path).calls (imported_flags q tables)) number file x
       → ⊥
 
--- so it is of each package with such a table that has no fault of the whole package, and of whose files nothing is said
+-- so it is of each package of texts with such a table that has no fault of the whole package, and of whose files nothing
+-- is said
 abbrev pub AreKnownWell : Rules → Type 0
 AreKnownWell rules = (ps : List LoadedPackage) (tables : Tables) (i : ℕ) (q : LoadedPackage)
     → slice_get ps i ≡ Some q
@@ -35,6 +36,7 @@ AreKnownWell rules = (ps : List LoadedPackage) (tables : Tables) (i : ℕ) (q : 
     → rules.are_flags ps tables i q (tables q.path).calls
     → ((name : List ℕ) → (tables q.path).signatures name ≡ signatures_of ps q name)
     → ((x : Entry) → rules.says ps tables i x → ⊥)
+    → AreTreesOfTexts q
     → IsKnown ps tables i q
 
 module _ (rules : Rules) (each : AreKnownWell rules) where
@@ -53,28 +55,30 @@ module _ (rules : Rules) (each : AreKnownWell rules) where
     yes_below i j ends said_none = said_none
     yes_below i k (goes_on {j = j} first rest) said_none = yes_below j k rest (yes_of_import i j first said_none)
 
-    is_known : (i : ℕ) (q : LoadedPackage) → slice_get ps i ≡ Some q → IsYesBy rules ps tables i → IsKnown ps tables i q
-    is_known i q is said_none = by (are.of_package i q is)
+    is_known : (i : ℕ) (q : LoadedPackage) → slice_get ps i ≡ Some q → IsYesBy rules ps tables i → AreTreesOfTexts q
+        → IsKnown ps tables i q
+    is_known i q is said_none texts = by (are.of_package i q is)
       where
         by : IsTableBy rules.are_flags ps tables i q (tables q.path) → IsKnown ps tables i q
         by (empty x fault nothing) = absurd (said_none x (of_whole fault))
         by (full flags none its signatures calls) =
             let same : flags ≡ (tables q.path).calls = λ j name k. sym (calls name k) j in
             each ps tables i q is none (subst (rules.are_flags ps tables i q) same its) signatures
-            λ x said. said_none x (of_files none said)
+            (λ x said. said_none x (of_files none said)) texts
 
     module _ (i : ℕ) (said_none : IsYesBy rules ps tables i) where
       pub are_well_known : AreOfTexts (program_of ps tables i) → AreWithoutGroups (program_of ps tables i) → AreWellKnown (program_of ps tables i)
       are_well_known texts groups = record {
-        of_package = λ j q below is. (is_known j q is (yes_below i j below said_none)).known;
+        of_package = λ j q below is. (is_known j q is (yes_below i j below said_none) (texts j q below is)).known;
         of_texts = texts;
         without_groups = groups;
         of_others = are.of_others;
       }
 
-      pub has_no_finding : (q : LoadedPackage) → slice_get ps i ≡ Some q → HasNoFinding (program_of ps tables i)
-      has_no_finding q is =
-          let h = is_known i q is said_none in
+      pub has_no_finding : AreOfTexts (program_of ps tables i) → (q : LoadedPackage) → slice_get ps i ≡ Some q
+          → HasNoFinding (program_of ps tables i)
+      has_no_finding texts q is =
+          let h = is_known i q is said_none (texts i q ends is) in
           record { loaded = q; is_package = is; is_known = h.known; none = h.none }
 
   is_yes : (ps : List LoadedPackage) (report : List Said) (i : ℕ) (is_report : IsReportBy rules ps report) → IsYesIn ps report i → IsYesBy rules ps is_report.tables i
@@ -87,7 +91,7 @@ module _ (rules : Rules) (each : AreKnownWell rules) where
       let h = is_yes ps report i is_report said_none in
       let tables = is_report.tables in
       let are = is_report.are_tables in
-      yes_is_quiet (program_of ps tables i) (are_well_known ps tables are i h texts groups) (has_no_finding ps tables are i h said_none.loaded said_none.is_package)
+      yes_is_quiet (program_of ps tables i) (are_well_known ps tables are i h texts groups) (has_no_finding ps tables are i h texts said_none.loaded said_none.is_package)
 
 -- By paths
 
@@ -98,7 +102,7 @@ are_fair seens files (file_and {rest = rest} {files = others} same credits more)
     promise.file_and same (record { each = λ literal number h. (credits.each literal number).0 h }) (are_fair rest others more)
 
 known_by_paths : AreKnownWell by_paths
-known_by_paths ps tables i q is none its signatures said_none =
+known_by_paths ps tables i q is none its signatures said_none texts =
     let files = its.files in
     let here = its.is_judged in
     record {

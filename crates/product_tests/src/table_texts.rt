@@ -57,7 +57,7 @@ static READ: [(&str, &str); 7] = [
 ];
 
 /// Texts that are not read, and why.
-static REFUSED: [(&str, &str); 27] = [
+static REFUSED: [(&str, &str); 29] = [
     ("{", "NotJson"),
     (r#"{"functions":[]}"#, "WrongShape"),
     (r#"{"functions":[],"version":"2"}"#, "WrongShape"),
@@ -65,6 +65,8 @@ static REFUSED: [(&str, &str); 27] = [
     (r#"{"functions":[],"version":-2}"#, "WrongShape"),
     (r#"{"functions":7,"version":0}"#, "WrongVersion"),
     (r#"{"functions":7,"version":3}"#, "WrongVersion"),
+    (r#"{"functions":7,"version":4294967295}"#, "WrongVersion"),
+    (r#"{"functions":7,"version":4294967296}"#, "WrongShape"),
     (r#"{"functions":7,"version":2}"#, "WrongShape"),
     (r#"{"functions":7,"version":1}"#, "WrongShape"),
     (r#"{"functions":[],"more":0,"version":2}"#, "WrongShape"),

@@ -105,14 +105,12 @@ module _ {A K : Type 0} {cmp : K → K → Ordering} (total : IsTotalOrder cmp) 
   not_distinct (x ∷ y ∷ zs) zero within same h = let is : cmp (key x) (key y) ≡ Equal = same x in cc (h.0.0, is)
   not_distinct (x ∷ y ∷ zs) (suc k) within same h = not_distinct (y ∷ zs) k (omega arith) same h.1
 
-  pub none_arranged : (given sorted : List A) → IsPermutation given sorted → IsSortedByKey key cmp sorted
+  pub comes_twice : (sorted : List A) → IsSortedByKey key cmp sorted
       → (k : ℕ) × (k + 1 < length sorted)
       × ((d : A) → false ≡ is_lt (cmp (key (get_or sorted k d)) (key (get_or sorted (k + 1) d))))
-      → (keys : List K)
-      → IsPermutation (map key given) keys
-      → IsStrictlySortedBy cmp keys
+      → IsDistinct (eq_by_cmp cmp) (map key sorted)
       → ⊥
-  none_arranged given sorted same up twice keys arranged rise =
+  comes_twice sorted up twice =
       let k = twice.0 in
       let within : k + 1 < length sorted = twice.1 in
       let equal = λ (d : A).
@@ -121,9 +119,19 @@ module _ {A K : Type 0} {cmp : K → K → Ordering} (total : IsTotalOrder cmp) 
       ∙ (ap (λ m. is_lt (cmp (key (get_or sorted m d)) (key (get_or sorted k d)))) (sym (add-one k))
       ∙ up k d (omega arith) within))
       (twice.2 d ∙ ap (λ m. is_lt (cmp (key (get_or sorted k d)) (key (get_or sorted m d)))) (add-one k)) in
+      not_distinct sorted k (omega arith) equal
+
+  pub none_arranged : (given sorted : List A) → IsPermutation given sorted → IsSortedByKey key cmp sorted
+      → (k : ℕ) × (k + 1 < length sorted)
+      × ((d : A) → false ≡ is_lt (cmp (key (get_or sorted k d)) (key (get_or sorted (k + 1) d))))
+      → (keys : List K)
+      → IsPermutation (map key given) keys
+      → IsStrictlySortedBy cmp keys
+      → ⊥
+  none_arranged given sorted same up twice keys arranged rise =
       let moved = IsPermutation-trans keys (map key given) (map key sorted) (IsPermutation-sym _ _ arranged)
       (IsPermutation-map key given sorted same) in
-      not_distinct sorted k (omega arith) equal
+      comes_twice sorted up twice
       (IsDistinct-IsPermutation (eq_by_cmp cmp) (eq_by_cmp_equiv total).symm keys (map key sorted) moved
       (IsDistinct-from_sorted cmp keys rise))
 
@@ -196,6 +204,21 @@ module _ {A K : Type 0} {cmp : K → K → Ordering} (total : IsTotalOrder cmp) 
   none_if given sorted read true same up is answer so = absurd (cc)
   none_if given sorted read false same up is answer so =
       none_arranged given sorted same up
+      (subst (λ ys. (k : ℕ) × (k + 1 < length ys) × ((d : A) → false ≡ is_lt (cmp (key (get_or ys k d)) (key (get_or ys (k + 1) d))))) is answer)
+
+  pub distinct_if : (xs read : List A) (r : Bool) → read ≡ xs
+      → IsAllAdjacentAnswer (λ x y b. b ≡ is_lt (cmp (key x) (key y))) read r
+      → r ≡ true
+      → IsDistinct (eq_by_cmp cmp) (map key xs)
+  distinct_if xs read r is answer so = IsDistinct-from_sorted cmp (map key xs) (rise_if xs read r is answer so)
+
+  pub twice_if : (sorted read : List A) (r : Bool) → IsSortedByKey key cmp sorted → read ≡ sorted
+      → IsAllAdjacentAnswer (λ x y b. b ≡ is_lt (cmp (key x) (key y))) read r
+      → r ≡ false
+      → ¬ IsDistinct (eq_by_cmp cmp) (map key sorted)
+  twice_if sorted read true up is answer so = absurd (cc)
+  twice_if sorted read false up is answer so =
+      comes_twice sorted up
       (subst (λ ys. (k : ℕ) × (k + 1 < length ys) × ((d : A) → false ≡ is_lt (cmp (key (get_or ys k d)) (key (get_or ys (k + 1) d))))) is answer)
 
   pub not_arranged : (given other : List A)

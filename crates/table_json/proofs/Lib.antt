@@ -1,6 +1,6 @@
-mod Arranged
-mod Readings
-mod TableLaws
-mod ValueParts
-mod WrittenInOrder
-mod Writing
+pub mod Arranged
+pub mod Readings
+pub mod TableLaws
+pub mod ValueParts
+pub mod WrittenInOrder
+pub mod Writing

@@ -10,15 +10,15 @@ use Rattle.serde_json.specs.Data.{Data, Items}
 use Rattle.serde_json.specs.View.{items_of}
 use Rattle.table_json.specs.declared.fault.TableFault.{TableFault}
 use Rattle.table_json.specs.declared.fault.TableFault.TheVariants.{NotJson, WrongVersion, WrongShape, OutOfMemory}
-use Rattle.table_json.specs.declared.read.Version.{Version}
-use Rattle.table_json.specs.declared.read.Version.TheVariants.{Older, Newer}
+use Rattle.table_json.specs.declared.table.Version.{Version}
+use Rattle.table_json.specs.declared.table.Version.TheVariants.{Older, Newer}
 use Rattle.table_json.specs.declared.table.Parameter.{Parameter}
-use Rattle.table_json.specs.Parts.{all_of, function_in, functions_in, number_of, older_function_in, parameter_in, position_in, IsFunctionIn, IsValueFault, Refuses}
+use Rattle.table_json.specs.Parts.{all_of, function_in, functions_in, older_function_in, parameter_in, position_in, IsValueFault, Refuses}
 use Rattle.table_json.specs.Tables.{Entry, are_apart, by_bytes, itself, name_of, position_of, IsArranged}
 use Rattle.table_json.specs.TableTexts.{version_of}
-use Rattle.table_json.specs.TableValues.{is_older, whole, parameter_value, function_with, older_function_with, AreValuesOf, IsFunctionValue, IsOlderFunctionValue, IsTableIn, IsTableValue}
+use Rattle.table_json.specs.TableValues.{is_older, number_of, whole, parameter_value, function_with, older_function_with, AreFunctionsOf, AreValuesOf, IsFunctionIn, IsFunctionValue, IsOlderFunctionValue, IsTableIn, IsTableValue}
 use Rattle.table_json.proofs.Arranged.{one_arrangement}
-use Rattle.table_json.proofs.ValueParts.{Finds, finds_positions, finds_parameters, of_all, all_there, of_function, function_there, of_older_function, older_function_there, of_functions, functions_there, same_items, some_same}
+use Rattle.table_json.proofs.ValueParts.{Finds, finds_positions, finds_parameters, of_all, all_there, of_function, function_there, of_older_function, older_function_there, of_functions, functions_there, same_items, some_same, version_fits}
 
 -- Nothing is read
 
@@ -33,7 +33,7 @@ refuses_so P Q part WrongShape h = λ b q. let p = part b q in h p.0 p.1
 refuses_so P Q part OutOfMemory h = tt
 
 -- a fault that `?` hands on as it is
-pub handed_on : {T : Type 0} (r : Result T TableFault) (fault : TableFault) (P : TableFault → Type 0)
+pub handed_on : {T Fault : Type 0} (r : Result T Fault) (fault : Fault) (P : Fault → Type 0)
     → IsErrAnd r (λ told. told ≡ fault)
     → P fault
     → IfErr r P
@@ -242,64 +242,78 @@ one_older_function value f g h k =
 
 -- Lists of functions, and tables of one version
 
+-- a list whose elements stand for one thing each stands for one list
+pub one_list : {A B : Type 0} (R : A → B → Type 0) → ((x : A) (y z : B) → R x y → R x z → y ≡ z) → (xs : List A)
+    (ys zs : List B)
+    → AllZip R xs ys
+    → AllZip R xs zs
+    → ys ≡ zs
+one_list R one [] [] [] h k = refl
+one_list R one [] [] (z ∷ zs) h k = absurd k
+one_list R one [] (y ∷ ys) zs h k = absurd h
+one_list R one (x ∷ xs) [] zs h k = absurd h
+one_list R one (x ∷ xs) (y ∷ ys) [] h k = absurd k
+one_list R one (x ∷ xs) (y ∷ ys) (z ∷ zs) h k =
+    let first = one x y z h.0 k.0 in
+    let rest = one_list R one xs ys zs h.1 k.1 in
+    λ i. first i ∷ rest i
+
 one_in : (version : Version) (value : Data) (f g : Entry) → IsFunctionIn version value f → IsFunctionIn version value g
     → f ≡ g
 one_in Older = one_older_function
 one_in Newer = one_function
 
-one_list : (version : Version) (values : List Data) (fs gs : List Entry) → AllZip (IsFunctionIn version) values fs
-    → AllZip (IsFunctionIn version) values gs
-    → fs ≡ gs
-one_list version [] [] [] h k = refl
-one_list version [] [] (g ∷ gs) h k = absurd k
-one_list version [] (f ∷ fs) gs h k = absurd h
-one_list version (v ∷ values) [] gs h k = absurd h
-one_list version (v ∷ values) (f ∷ fs) [] h k = absurd k
-one_list version (v ∷ values) (f ∷ fs) (g ∷ gs) h k =
-    let first = one_in version v f g h.0 k.0 in
-    let rest = one_list version values fs gs h.1 k.1 in
-    λ i. first i ∷ rest i
+pub given_functions : (version : Version) (values : List Data) (kept : List Entry)
+    → AreFunctionsOf (IsFunctionIn version) values kept
+    → (given : List Entry) × AllZip (IsFunctionIn version) values given
+given_functions version values kept h = (h.given, h.each)
+
+pub none_ordered : (version : Version) (values : List Data) (given : List Entry)
+    → AllZip (IsFunctionIn version) values given
+    → ((other : List Entry) → ¬ IsArranged by_bytes name_of given other)
+    → (kept : List Entry)
+    → ¬ AreFunctionsOf (IsFunctionIn version) values kept
+none_ordered version values given each none kept h =
+    none kept
+    (subst (λ g. IsArranged by_bytes name_of g kept)
+    (one_list (IsFunctionIn version) (one_in version) values h.given given h.each each) h.arranged)
+
+-- a list of values is that of one list of functions at most
+pub one_functions : (version : Version) (values : List Data) (a b : List Entry)
+    → AreFunctionsOf (IsFunctionIn version) values a
+    → AreFunctionsOf (IsFunctionIn version) values b
+    → a ≡ b
+one_functions version values a b h k =
+    let same = one_list (IsFunctionIn version) (one_in version) values h.given k.given h.each k.each in
+    one_arrangement nat_list_cmp_total name_of k.given a b
+    (subst (λ g. IsArranged by_bytes name_of g a) same h.arranged) k.arranged
 
 pub functions_of : (version : Version) (value : Data) (functions : List Data) (table : List Entry)
     → functions_in value ≡ Some (items_of functions)
     → IsTableIn (number_of version) (IsFunctionIn version) value table
-    → (given : List Entry) × (AllZip (IsFunctionIn version) functions given) × IsArranged by_bytes name_of given table
+    → AreFunctionsOf (IsFunctionIn version) functions table
 functions_of version value functions table e h =
     let same =
     same_items h.functions functions
     (some_same (items_of h.functions) (items_of functions)
     (sym (functions_there (number_of version) h.functions) ∙ (ap functions_in (sym h.is_value) ∙ e))) in
-    (h.given, subst (λ vs. AllZip (IsFunctionIn version) vs h.given) same h.are_functions, h.arranged)
+    subst (λ vs. AreFunctionsOf (IsFunctionIn version) vs table) same h.are_functions
 
-pub is_table : (version : Version) (value : Data) (functions : List Data) (given table : List Entry)
+pub is_table : (version : Version) (value : Data) (functions : List Data) (table : List Entry)
     → functions_in value ≡ Some (items_of functions)
     → version_of value ≡ Some (number_of version)
-    → AllZip (IsFunctionIn version) functions given
-    → IsArranged by_bytes name_of given table
+    → AreFunctionsOf (IsFunctionIn version) functions table
     → IsTableIn (number_of version) (IsFunctionIn version) value table
-is_table version value functions given table e at_version are_functions arranged = record {
+is_table version value functions table e at_version are_functions = record {
   functions = functions;
   is_value = of_functions (number_of version) value functions e at_version;
-  given = given;
   are_functions = are_functions;
-  arranged = arranged;
 }
 
 pub no_table : (version : Version) (value : Data) → functions_in value ≡ None → (table : List Entry)
     → ¬ IsTableIn (number_of version) (IsFunctionIn version) value table
 no_table version value e table h =
     none_some (functions_in value) _ e (ap functions_in h.is_value ∙ functions_there (number_of version) h.functions)
-
-pub none_ordered : (version : Version) (value : Data) (functions : List Data) (given : List Entry)
-    → functions_in value ≡ Some (items_of functions)
-    → AllZip (IsFunctionIn version) functions given
-    → ((other : List Entry) → ¬ IsArranged by_bytes name_of given other)
-    → (table : List Entry)
-    → ¬ IsTableIn (number_of version) (IsFunctionIn version) value table
-none_ordered version value functions given e are_functions none table h =
-    let found = functions_of version value functions table e h in
-    none table
-    (subst (λ g. IsArranged by_bytes name_of g table) (one_list version functions found.0 given found.1 are_functions) found.2)
 
 -- There is one table of a value
 
@@ -309,15 +323,12 @@ one_table_in : (version : Version) (value : Data) (a b : List Entry)
     → a ≡ b
 one_table_in version value a b h k =
     let found = ap functions_in k.is_value ∙ functions_there (number_of version) k.functions in
-    let of_h = functions_of version value k.functions a found h in
-    let same = one_list version k.functions of_h.0 k.given of_h.1 k.are_functions in
-    one_arrangement nat_list_cmp_total name_of k.given a b
-    (subst (λ g. IsArranged by_bytes name_of g a) same of_h.2) k.arranged
+    one_functions version k.functions a b (functions_of version value k.functions a found h) k.are_functions
 
-pub version_there : (version : ℕ) (IsFunction : Data → Entry → Type 0) (value : Data) (table : List Entry)
-    → IsTableIn version IsFunction value table
-    → version_of value ≡ Some version
-version_there version IsFunction value table h = ap version_of h.is_value
+pub version_there : (version : Version) (value : Data) (table : List Entry)
+    → IsTableIn (number_of version) (IsFunctionIn version) value table
+    → version_of value ≡ Some (number_of version)
+version_there version value table h = ap version_of h.is_value ∙ version_fits version
 
 -- no value is one of both versions
 pub not_both : (value : Data) → version_of value ≡ Some 1 → version_of value ≡ Some 2 → ⊥
@@ -327,9 +338,9 @@ pub one_table : (value : Data) (a b : List Entry) → IsTableValue value a → I
 one_table value a b (inl h) (inl k) = one_table_in Newer value a b h k
 one_table value a b (inr h) (inr k) = one_table_in Older value a b h k
 one_table value a b (inl h) (inr k) =
-    absurd (not_both value (version_there 1 IsOlderFunctionValue value b k) (version_there 2 IsFunctionValue value a h))
+    absurd (not_both value (version_there Older value b k) (version_there Newer value a h))
 one_table value a b (inr h) (inl k) =
-    absurd (not_both value (version_there 1 IsOlderFunctionValue value a h) (version_there 2 IsFunctionValue value b k))
+    absurd (not_both value (version_there Older value a h) (version_there Newer value b k))
 
 -- Which version is read
 
@@ -342,7 +353,7 @@ refused_older value WrongVersion e h = absurd h
 refused_older value WrongShape e h = inr (inl e, no)
   where
     no : (table : List Entry) → ¬ IsTableValue value table
-    no table (inl k) = not_both value e (version_there 2 IsFunctionValue value table k)
+    no table (inl k) = not_both value e (version_there Newer value table k)
     no table (inr k) = h table k
 refused_older value OutOfMemory e h = tt
 
@@ -355,7 +366,7 @@ refused_newer value WrongShape e h = inr (inr e, no)
   where
     no : (table : List Entry) → ¬ IsTableValue value table
     no table (inl k) = h table k
-    no table (inr k) = not_both value (version_there 1 IsOlderFunctionValue value table k) e
+    no table (inr k) = not_both value (version_there Older value table k) e
 refused_newer value OutOfMemory e h = tt
 
 -- Lists that are read one by one

@@ -8,10 +8,12 @@ use Rattle.serde_json.specs.Data.{Data, depth}
 use Rattle.serde_json.specs.Read.{read}
 use Rattle.table_json.specs.declared.fault.TableFault.{TableFault}
 use Rattle.table_json.specs.declared.fault.TableFault.TheVariants.{NotJson, WrongVersion, WrongShape, OutOfMemory}
+use Rattle.table_json.specs.declared.table.Version.{Version}
+use Rattle.table_json.specs.declared.table.Version.TheVariants.{Older, Newer}
 use Rattle.table_json.specs.Parts.{HasFits, IsTextFault, IsValueFault}
 use Rattle.table_json.specs.Tables.{Entry, are_apart, itself, HasOrder, IsInOrder, Rise}
 use Rattle.table_json.specs.TableTexts.{version_of, HasKnownVersion, HasWrongShape, HasWrongVersion, IsTableFault, IsTableText}
-use Rattle.table_json.specs.TableValues.{whole, parameter_value, function_value, table_value, IsFunctionValue, IsOlderFunctionValue, IsTableIn, IsTableValue}
+use Rattle.table_json.specs.TableValues.{whole, parameter_value, function_value, table_value, AreFunctionsOf, IsFunctionIn, IsFunctionValue, IsOlderFunctionValue, IsTableValue}
 use Rattle.table_json.proofs.Arranged.{each_permuted}
 use Rattle.table_json.proofs.Readings.{none_some, one_table, version_there}
 use Rattle.table_json.proofs.ValueParts.{some_same}
@@ -19,7 +21,7 @@ use Rattle.table_json.proofs.Writing.{table-depth}
 
 -- What is written reads back
 
-function_back : (f : Entry) → HasOrder f → HasFits f → IsFunctionValue (function_value f) f
+pub function_back : (f : Entry) → HasOrder f → HasFits f → IsFunctionValue (function_value f) f
 function_back f order fits = record {
   gives = map whole f.gives;
   causes = map whole f.causes;
@@ -51,15 +53,18 @@ functions_back : (fs : List Entry) → AllByRecursion HasOrder fs → AllByRecur
 functions_back [] order fits = tt
 functions_back (f ∷ fs) order fits = (function_back f order.0 fits.0, functions_back fs order.1 fits.1)
 
+pub list_back : (table : List Entry) → IsInOrder table → AllByRecursion HasFits table
+    → AreFunctionsOf IsFunctionValue (map function_value table) table
+list_back table order fits = record {
+  given = table;
+  each = functions_back table order.each_in_order fits;
+  arranged = record { same = IsPermutation-refl table; rise = order.names_rise };
+}
+
 table_back : (table : List Entry) → IsInOrder table → AllByRecursion HasFits table
     → IsTableValue (table_value table) table
-table_back table order fits = inl (record {
-  functions = map function_value table;
-  is_value = refl;
-  given = table;
-  are_functions = functions_back table order.each_in_order fits;
-  arranged = record { same = IsPermutation-refl table; rise = order.names_rise };
-})
+table_back table order fits =
+    inl (record { functions = map function_value table; is_value = refl; are_functions = list_back table order fits })
 
 pub text_back : (value : Data) (table : List Entry) (text : List ℕ) → value ≡ table_value table
     → AllByRecursion HasFits table
@@ -98,7 +103,7 @@ older_in_order value f h = record {
   params_rise = h.are_params.arranged.rise;
 }
 
-module _ (version : ℕ) (IsFunction : Data → Entry → Type 0) (each : (value : Data) (f : Entry) → IsFunction value f → HasOrder f) where
+module _ (IsFunction : Data → Entry → Type 0) (each : (value : Data) (f : Entry) → IsFunction value f → HasOrder f) where
   each_in_order : (values : List Data) (given : List Entry) → AllZip IsFunction values given
       → AllByRecursion HasOrder given
   each_in_order [] [] h = tt
@@ -106,16 +111,21 @@ module _ (version : ℕ) (IsFunction : Data → Entry → Type 0) (each : (value
   each_in_order (v ∷ values) [] h = absurd h
   each_in_order (v ∷ values) (f ∷ fs) h = (each v f h.0, each_in_order values fs h.1)
 
-  in_order_of : (value : Data) (table : List Entry) → IsTableIn version IsFunction value table → IsInOrder table
-  in_order_of value table h = record {
+  in_order_of : (values : List Data) (table : List Entry) → AreFunctionsOf IsFunction values table → IsInOrder table
+  in_order_of values table h = record {
     names_rise = h.arranged.rise;
-    each_in_order =
-        each_permuted HasOrder h.given table h.arranged.same (each_in_order h.functions h.given h.are_functions);
+    each_in_order = each_permuted HasOrder h.given table h.arranged.same (each_in_order values h.given h.each);
   }
 
+pub list_in_order : (version : Version) (values : List Data) (table : List Entry)
+    → AreFunctionsOf (IsFunctionIn version) values table
+    → IsInOrder table
+list_in_order Older = in_order_of IsOlderFunctionValue older_in_order
+list_in_order Newer = in_order_of IsFunctionValue newer_in_order
+
 pub in_order : (value : Data) (table : List Entry) → IsTableValue value table → IsInOrder table
-in_order value table (inl h) = in_order_of 2 IsFunctionValue newer_in_order value table h
-in_order value table (inr h) = in_order_of 1 IsOlderFunctionValue older_in_order value table h
+in_order value table (inl h) = list_in_order Newer h.functions table h.are_functions
+in_order value table (inr h) = list_in_order Older h.functions table h.are_functions
 
 -- A text is that of one table at most
 
@@ -130,14 +140,14 @@ no_other text value table other e h k =
 -- A text that is a table's is read, unless memory is refused
 
 known_version : (value : Data) (table : List Entry) → IsTableValue value table → HasKnownVersion value
-known_version value table (inl h) = inr (version_there 2 IsFunctionValue value table h)
-known_version value table (inr h) = inl (version_there 1 IsOlderFunctionValue value table h)
+known_version value table (inl h) = inr (version_there Newer value table h)
+known_version value table (inr h) = inl (version_there Older value table h)
 
-not_wrong_version : (value : Data) → HasKnownVersion value → HasWrongVersion value → ⊥
+pub not_wrong_version : (value : Data) → HasKnownVersion value → HasWrongVersion value → ⊥
 not_wrong_version value (inl e) h = h.2 (some_same h.0 1 (sym h.1 ∙ e))
 not_wrong_version value (inr e) h = h.3 (some_same h.0 2 (sym h.1 ∙ e))
 
-not_none : (value : Data) → HasKnownVersion value → version_of value ≡ None → ⊥
+pub not_none : (value : Data) → HasKnownVersion value → version_of value ≡ None → ⊥
 not_none value (inl e) none = none_some (version_of value) 1 none e
 not_none value (inr e) none = none_some (version_of value) 2 none e
 

@@ -9,19 +9,21 @@ use Rattle.serde_json.specs.Find.{as_number, as_u64, as_bool, as_str, as_array, 
 use Rattle.serde_json.specs.View.{items_of}
 use Rattle.table_json.specs.declared.table.Parameter.{Parameter}
 use Rattle.table_json.specs.declared.table.Parameter.TheVariants.{Cancel, Cause, Group}
-use Rattle.table_json.specs.Parts.{first_member, only_if_last, two_members, three_members, four_members, if_fits, position_in, if_text, called_in, group_in, first_found, parameter_in, function_in, older_function_in, functions_in, all_of}
+use Rattle.table_json.specs.declared.table.Version.{Version}
+use Rattle.table_json.specs.declared.table.Version.TheVariants.{Older, Newer}
+use Rattle.table_json.specs.Parts.{first_member, only_if_last, two_members, three_members, four_members, position_in, if_text, called_in, group_in, first_found, parameter_in, function_in, older_function_in, functions_in, all_of}
 use Rattle.table_json.specs.Tables.{itself, position_of}
 use Rattle.table_json.specs.TableTexts.{version_of}
-use Rattle.table_json.specs.TableValues.{whole, called_with, parameter_value, function_with, older_function_with, table_with, Fits}
+use Rattle.table_json.specs.TableValues.{whole, called_with, parameter_value, function_with, older_function_with, table_with, if_fits, number_of, Fits}
 
 -- One step of what may be missing
 
-and_then : {A B : Type 0} (f : A → Option B) (o : Option A) (b : B) → option_and_then f o ≡ Some b
+pub and_then : {A B : Type 0} (f : A → Option B) (o : Option A) (b : B) → option_and_then f o ≡ Some b
     → (a : A) × (o ≡ Some a) × (f a ≡ Some b)
 and_then f None b e = absurd (cc)
 and_then f (Some a) b e = (a, refl, e)
 
-mapped : {A B : Type 0} (f : A → B) (o : Option A) (b : B) → option_map f o ≡ Some b
+pub mapped : {A B : Type 0} (f : A → B) (o : Option A) (b : B) → option_map f o ≡ Some b
     → (a : A) × (o ≡ Some a) × (f a ≡ b)
 mapped f None b e = absurd (cc)
 mapped f (Some a) b e = (a, refl, cc)
@@ -29,7 +31,7 @@ mapped f (Some a) b e = (a, refl, cc)
 pub some_same : {A : Type 0} (a b : A) → Some a ≡ Some b → a ≡ b
 some_same a b e = cc
 
-if_so : {A : Type 0} (t : Bool) (o : Option A) (a : A) → (if t then o else None) ≡ Some a → (t ≡ true) × (o ≡ Some a)
+pub if_so : {A : Type 0} (t : Bool) (o : Option A) (a : A) → (if t then o else None) ≡ Some a → (t ≡ true) × (o ≡ Some a)
 if_so true o a e = (refl, e)
 if_so false o a e = absurd (cc)
 
@@ -43,7 +45,7 @@ of_object (string s) ms e = absurd (cc)
 of_object (array ds) ms e = absurd (cc)
 of_object (object ns) ms e = let same : ns ≡ ms = cc in ap object same
 
-of_array : (value : Data) (ds : Items) → as_array value ≡ Some ds → value ≡ array ds
+pub of_array : (value : Data) (ds : Items) → as_array value ≡ Some ds → value ≡ array ds
 of_array null ds e = absurd (cc)
 of_array (boolean b) ds e = absurd (cc)
 of_array (number n) ds e = absurd (cc)
@@ -51,7 +53,7 @@ of_array (string s) ds e = absurd (cc)
 of_array (array cs) ds e = let same : cs ≡ ds = cc in ap array same
 of_array (object ns) ds e = absurd (cc)
 
-of_string : (value : Data) (s : List ℕ) → as_str value ≡ Some s → value ≡ string s
+pub of_string : (value : Data) (s : List ℕ) → as_str value ≡ Some s → value ≡ string s
 of_string null s e = absurd (cc)
 of_string (boolean b) s e = absurd (cc)
 of_string (number n) s e = absurd (cc)
@@ -72,7 +74,7 @@ of_unsigned (unsigned k) m e = let same : k ≡ m = cc in ap unsigned same
 of_unsigned (negative z) m e = absurd (cc)
 of_unsigned (float x) m e = absurd (cc)
 
-of_number : (value : Data) (m : ℕ) → option_and_then as_u64 (as_number value) ≡ Some m → value ≡ whole m
+pub of_number : (value : Data) (m : ℕ) → option_and_then as_u64 (as_number value) ≡ Some m → value ≡ whole m
 of_number null m e = absurd (cc)
 of_number (boolean c) m e = absurd (cc)
 of_number (number n) m e = ap number (of_unsigned n m e)
@@ -94,7 +96,7 @@ of_last : {A : Type 0} (a b : A) (ms : Members) → only_if_last a ms ≡ Some b
 of_last a b no_members e = (cc, refl)
 of_last a b (member k d ms) e = absurd (cc)
 
-of_two : (first second : List ℕ) (value : Data) (found : Data × Data) → two_members first second value ≡ Some found
+pub of_two : (first second : List ℕ) (value : Data) (found : Data × Data) → two_members first second value ≡ Some found
     → value ≡ object (member first found.0 (member second found.1 no_members))
 unfolding two_members
 of_two first second value found e =
@@ -108,7 +110,7 @@ of_two first second value found e =
     ∙ ap (member second b.0.0) last.1))
     ∙ (λ i. object (member first (last.0 i).0 (member second (last.0 i).1 no_members)))
 
-of_three : (first second third : List ℕ) (value : Data) (found : Data × Data × Data)
+pub of_three : (first second third : List ℕ) (value : Data) (found : Data × Data × Data)
     → three_members first second third value ≡ Some found
     → value ≡ object (member first found.0 (member second found.1 (member third found.2 no_members)))
 unfolding three_members
@@ -145,15 +147,26 @@ of_four first second third fourth value found e =
     ∙ (λ i. object (member first (last.0 i).0 (member second (last.0 i).1 (member third (last.0 i).2
     (member fourth (last.0 i).3 no_members)))))
 
--- Positions
+-- Numbers that fit
 
-of_position : (value : Data) (n : ℕ) → position_in value ≡ Some n → (value ≡ whole n) × Fits n
-unfolding position_in
-of_position value n e =
+pub of_fitting : (value : Data) (n : ℕ) → option_and_then if_fits (option_and_then as_u64 (as_number value)) ≡ Some n
+    → (value ≡ whole n) × Fits n
+of_fitting value n e =
     let m = and_then if_fits (option_and_then as_u64 (as_number value)) n e in
     let small = if_so (nat_lt m.0 (2 ^ 32)) (Some m.0) n m.2 in
     let same : m.0 ≡ n = cc (small.1) in
     (of_number value m.0 m.1 ∙ ap whole same, subst Fits same (ltb-true m.0 (2 ^ 32) small.0))
+
+-- a version that is read fits
+pub version_fits : (version : Version) → if_fits (number_of version) ≡ Some (number_of version)
+version_fits Older = refl
+version_fits Newer = refl
+
+-- Positions
+
+pub of_position : (value : Data) (n : ℕ) → position_in value ≡ Some n → (value ≡ whole n) × Fits n
+unfolding position_in
+of_position value n e = of_fitting value n e
 
 pub position_there : (n : ℕ) → Fits n → position_in (whole n) ≡ Some n
 unfolding position_in
@@ -302,7 +315,7 @@ unfolding functions_in
 of_functions version value functions e at_version =
     let ms = and_then _ (two_members (codes "functions") (codes "version") value) (items_of functions) e in
     let is = of_two _ _ value ms.0 ms.1 in
-    let number = of_number ms.0.1 version (ap version_of (sym is) ∙ at_version) in
+    let number = (of_fitting ms.0.1 version (ap version_of (sym is) ∙ at_version)).0 in
     is
     ∙ (λ i. object (member (codes "functions") (of_array ms.0.0 (items_of functions) ms.2 i)
     (member (codes "version") (number i) no_members)))

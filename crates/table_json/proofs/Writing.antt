@@ -9,12 +9,12 @@ use Rattle.table_json.specs.Tables.{Entry}
 use Rattle.table_json.specs.TableValues.{whole, parameter_value, function_value, table_value}
 
 module _ {A : Type 0} (value_of : A → Data) where
-  none_float : ((a : A) → has_float (value_of a) ≡ false) → (xs : List A)
+  pub none_float : ((a : A) → has_float (value_of a) ≡ false) → (xs : List A)
       → items_have_float (items_of (map value_of xs)) ≡ false
   none_float each [] = refl
   none_float each (x ∷ xs) = ap (λ b. b || items_have_float (items_of (map value_of xs))) (each x) ∙ none_float each xs
 
-  not_deep : (n : ℕ) → ((a : A) → depth (value_of a) ≤ n) → (xs : List A) → items_depth (items_of (map value_of xs)) ≤ n
+  pub not_deep : (n : ℕ) → ((a : A) → depth (value_of a) ≤ n) → (xs : List A) → items_depth (items_of (map value_of xs)) ≤ n
   not_deep n each [] = omega arith
   not_deep n each (x ∷ xs) = omega (arith, each x, not_deep n each xs)
 
@@ -23,7 +23,7 @@ parameter-has_float (Cancel at calls) = refl
 parameter-has_float (Cause at calls) = refl
 parameter-has_float (Group at) = refl
 
-function-has_float : (f : Entry) → has_float (function_value f) ≡ false
+pub function-has_float : (f : Entry) → has_float (function_value f) ≡ false
 function-has_float f =
     let gives = none_float whole (λ n. refl) f.gives in
     let causes = none_float whole (λ n. refl) f.causes in
@@ -38,7 +38,7 @@ parameter-depth (Cancel at calls) = omega arith
 parameter-depth (Cause at calls) = omega arith
 parameter-depth (Group at) = omega arith
 
-function-depth : (f : Entry) → depth (function_value f) ≤ 3
+pub function-depth : (f : Entry) → depth (function_value f) ≤ 3
 function-depth f =
     let gives = not_deep whole 1 (λ n. omega arith) f.gives in
     let causes = not_deep whole 1 (λ n. omega arith) f.causes in

@@ -1,18 +1,16 @@
 -- What serves the proofs: the parts of a table's value, one by one.
-use Rattle.std.specs.Prelude.{ℕ, ◌≡◌, ◌^◌, List, [], ◌∷◌, Option, Some, None, option_and_then, option_map, Bool, if◌then◌else◌, ⊤, nat_lt, codes}
+use Rattle.std.specs.Prelude.{ℕ, ◌≡◌, List, [], ◌∷◌, Option, Some, None, option_and_then, option_map, Bool, if◌then◌else◌, ⊤, codes}
 use Rattle.std.specs.Str.{bytes_eq}
 use Rattle.serde_json.specs.Data.{Data, Items, Members, no_members, member}
 use Rattle.serde_json.specs.Find.{as_number, as_u64, as_bool, as_str, as_array, as_object}
 use Rattle.serde_json.specs.Read.{read}
 use Rattle.table_json.specs.declared.fault.TableFault.{TableFault}
 use Rattle.table_json.specs.declared.fault.TableFault.TheVariants.{NotJson, WrongVersion, WrongShape, OutOfMemory}
-use Rattle.table_json.specs.declared.read.Version.{Version}
-use Rattle.table_json.specs.declared.read.Version.TheVariants.{Older, Newer}
 use Rattle.table_json.specs.declared.table.Parameter.{Parameter}
 use Rattle.table_json.specs.declared.table.Parameter.TheVariants.{Cancel, Cause, Group}
 use Rattle.table_json.specs.Tables.{Entry, itself, position_of}
 use Rattle.table_json.specs.TableTexts.{HasWrongShape, HasWrongVersion}
-use Rattle.table_json.specs.TableValues.{AllFit, IsFunctionValue, IsOlderFunctionValue}
+use Rattle.table_json.specs.TableValues.{if_fits, AllFit}
 
 -- the value of the first member, where it has this key, and the members behind it
 abbrev pub first_member : List ℕ → Members → Option (Data × Members)
@@ -48,9 +46,6 @@ four_members first second third fourth value =
     option_and_then (λ d. only_if_last (a.0, b.0, c.0, d.0) d.1)
     (first_member fourth c.1)) (first_member third b.1)) (first_member second a.1)) (first_member first ms))
     (as_object value)
-
-abbrev pub if_fits : ℕ → Option ℕ
-if_fits n = if nat_lt n (2 ^ 32) then Some n else None
 
 unfoldable pub position_in : Data → Option ℕ
 position_in value = option_and_then if_fits (option_and_then as_u64 (as_number value))
@@ -118,15 +113,6 @@ pub record HasFits (f : Entry) : Type 0 where
   pub gives_fit : AllFit itself f.gives
   pub causes_fit : AllFit itself f.causes
   pub params_fit : AllFit position_of f.params
-
-abbrev pub number_of : Version → ℕ
-number_of Older = 1
-number_of Newer = 2
-
--- this is the value of the function in this version
-abbrev pub IsFunctionIn : Version → Data → Entry → Type 0
-IsFunctionIn Older = IsOlderFunctionValue
-IsFunctionIn Newer = IsFunctionValue
 
 -- nothing is kept of what is read, for this reason
 abbrev pub Refuses : {A : Type 0} → (A → Type 0) → TableFault → Type 0

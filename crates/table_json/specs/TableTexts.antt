@@ -6,17 +6,18 @@ use Rattle.serde_json.specs.Read.{read}
 use Rattle.table_json.specs.declared.fault.TableFault.{TableFault}
 use Rattle.table_json.specs.declared.fault.TableFault.TheVariants.{NotJson, WrongVersion, WrongShape, OutOfMemory}
 use Rattle.table_json.specs.Tables.{Entry}
-use Rattle.table_json.specs.TableValues.{IsTableValue}
+use Rattle.table_json.specs.TableValues.{if_fits, IsTableValue}
 
 pub record IsTableText (text : List ℕ) (table : List Entry) : Type 0 where
   pub value : Data
   pub is_json : read text ≡ Some value
   pub is_table : IsTableValue value table
 
--- The whole number that stands as the version. One with a sign, a point or an exponent, or of more than 64 bits, is no
+-- The whole number that stands as the version. One with a sign, a point or an exponent, or above 4,294,967,295, is no
 -- whole number.
 abbrev pub version_of : Data → Option ℕ
-version_of value = option_and_then as_u64 (option_and_then as_number (get (codes "version") value))
+version_of value =
+    option_and_then if_fits (option_and_then as_u64 (option_and_then as_number (get (codes "version") value)))
 
 -- the version is one that is read
 abbrev pub HasKnownVersion : Data → Type 0

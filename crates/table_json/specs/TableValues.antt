@@ -1,11 +1,13 @@
 -- Tables as JSON: the value of a table, as it is written, and which values are those of a table when they are read. As
 -- an object has each key once and in order, the order of keys is free in a text, and of equal keys the last one counts.
 -- What is written is version 2. Version 1, which knows of no causes, is read too.
-use Rattle.std.specs.Prelude.{ℕ, ◌≡◌, ◌<◌, ◌^◌, ◌⊎◌, Bool, true, false, List, [], map, codes}
+use Rattle.std.specs.Prelude.{ℕ, ◌≡◌, ◌<◌, ◌^◌, ◌⊎◌, Bool, true, false, if◌then◌else◌, List, [], Option, Some, None, nat_lt, map, codes}
 use Rattle.std.specs.List.{AllByRecursion, AllZip, list_all}
 use Rattle.std.specs.Ordering.{nat_cmp}
 use Rattle.serde_json.specs.Data.{Data, boolean, number, unsigned, string, array, object, member, no_members}
 use Rattle.serde_json.specs.View.{items_of}
+use Rattle.table_json.specs.declared.table.Version.{Version}
+use Rattle.table_json.specs.declared.table.Version.TheVariants.{Older, Newer}
 use Rattle.table_json.specs.declared.table.Parameter.{Parameter}
 use Rattle.table_json.specs.declared.table.Parameter.TheVariants.{Cancel, Cause, Group}
 use Rattle.table_json.specs.Tables.{Entry, itself, position_of, name_of, are_apart, by_bytes, IsArranged}
@@ -55,9 +57,13 @@ table_value table = table_with 2 (map function_value table)
 
 -- Which values are those of a table
 
--- a position is a whole number from 0 to 4,294,967,295
+-- positions and versions are whole numbers from 0 to 4,294,967,295
 abbrev pub Fits : ℕ → Type 0
 Fits n = n < 2 ^ 32
+
+-- the number, where it fits
+abbrev pub if_fits : ℕ → Option ℕ
+if_fits n = if nat_lt n (2 ^ 32) then Some n else None
 
 abbrev pub AllFit : {A : Type 0} → (A → ℕ) → List A → Type 0
 AllFit position xs = AllByRecursion (λ a. Fits (position a)) xs
@@ -108,16 +114,31 @@ pub record IsOlderFunctionValue (value : Data) (f : Entry) : Type 0 where
   pub are_params : AreValuesOf parameter_value position_of params f.params
   pub are_older : list_all is_older f.params ≡ true
 
+-- Functions in either version
+
+abbrev pub number_of : Version → ℕ
+number_of Older = 1
+number_of Newer = 2
+
+-- this is the value of the function in this version
+abbrev pub IsFunctionIn : Version → Data → Entry → Type 0
+IsFunctionIn Older = IsOlderFunctionValue
+IsFunctionIn Newer = IsFunctionValue
+
+-- these are the values of the functions, in any order: no name comes twice
+pub record AreFunctionsOf (IsFunction : Data → Entry → Type 0) (values : List Data) (kept : List Entry) : Type 0 where
+  pub given : List Entry
+  pub each : AllZip IsFunction values given
+  pub arranged : IsArranged by_bytes name_of given kept
+
 -- Tables
 
--- this is the value of the table, with this version and such functions in any order: no name comes twice
+-- this is the value of the table, with this version and such functions
 pub record IsTableIn (version : ℕ) (IsFunction : Data → Entry → Type 0) (value : Data) (table : List Entry)
     : Type 0 where
   pub functions : List Data
   pub is_value : value ≡ table_with version functions
-  pub given : List Entry
-  pub are_functions : AllZip IsFunction functions given
-  pub arranged : IsArranged by_bytes name_of given table
+  pub are_functions : AreFunctionsOf IsFunction functions table
 
 abbrev pub IsTableValue : Data → List Entry → Type 0
 IsTableValue value table =

@@ -1,6 +1,7 @@
 //! Tables of facts as JSON: the text of a table, and the table of a text. What a table says is in `specs/Tables.antt`,
 //! which values are those of a table in `specs/TableValues.antt`, and which texts, and why a text is none, in
-//! `specs/TableTexts.antt`; what is written of a table in `specs/WrittenTables.antt`.
+//! `specs/TableTexts.antt`; what is written of a table in `specs/WrittenTables.antt`. The functions of a table stand in
+//! other formats too, so what reads and writes these is offered beside, with the parts of objects that formats share.
 #![tactic(auto)]
 
 ghost use Rattle.table_json.specs.WrittenTables.{TablesInOrderAreWritten};
@@ -13,9 +14,10 @@ mod table;
 mod written;
 
 pub use fault::TableFault;
-pub use read::from_json;
-pub use table::{Function, Parameter, Table};
-pub use written::to_json;
+pub use parts::{position_in, three_members, two_members};
+pub use read::{from_json, read_functions, version_of};
+pub use table::{Function, OLDER_VERSION, Parameter, Table, VERSION, Version};
+pub use written::{as_written, function_values, to_json};
 
 /// A table that is in order, and tells something of each of its functions, is written as it stands.
 pub fn tables_in_order_are_written_as_they_stand()

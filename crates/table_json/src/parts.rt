@@ -21,9 +21,13 @@ fn next_member<'a>(members: &mut Iter<'a, String, Value>, key: &str) -> Option<&
     }
 }
 
-/// The values of an object that has these two keys and no others.
+/// The values of an object that has these two keys, in the order of their bytes, and no others.
 #[tactic(auto, unfolding(crate::specs::Parts::two_members))]
-fn two_members<'a>(value: &'a Value, first: &str, second: &str) -> Option<(&'a Value, &'a Value)>
+pub fn two_members<'a>(
+    value: &'a Value,
+    first: &str,
+    second: &str,
+) -> Option<(&'a Value, &'a Value)>
     ensures { option_map (λ found. (view found.0.now, view found.1.now)) result
         ≡ two_members first.now second.now (view value.now) }
 {
@@ -36,9 +40,9 @@ fn two_members<'a>(value: &'a Value, first: &str, second: &str) -> Option<(&'a V
     Some((one, two))
 }
 
-/// The values of an object that has these three keys and no others.
+/// The values of an object that has these three keys, in the order of their bytes, and no others.
 #[tactic(auto, unfolding(crate::specs::Parts::three_members))]
-fn three_members<'a>(
+pub fn three_members<'a>(
     value: &'a Value,
     first: &str,
     second: &str,
@@ -57,7 +61,7 @@ fn three_members<'a>(
     Some((one, two, three))
 }
 
-/// The values of an object that has these four keys and no others.
+/// The values of an object that has these four keys, in the order of their bytes, and no others.
 #[tactic(auto, unfolding(crate::specs::Parts::four_members))]
 fn four_members<'a>(
     value: &'a Value,
@@ -82,7 +86,7 @@ fn four_members<'a>(
 
 /// A position: a whole number of at most 32 bits.
 #[tactic(auto, unfolding(crate::specs::Parts::position_in))]
-pub(crate) fn position_in(value: &Value) -> Option<u32>
+pub fn position_in(value: &Value) -> Option<u32>
     ensures { result ≡ position_in (view value.now) }
 {
     let number = value.as_u64()?;

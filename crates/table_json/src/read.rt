@@ -5,26 +5,17 @@ ghost use Rattle.std.specs.List.{AllZip, list_all, list_any};
 ghost use Rattle.serde_json.specs.Read.{read};
 ghost use Rattle.serde_json.specs.View.{view};
 ghost use Rattle.table_json.specs.declared.fault.TableFault.TheVariants.{OutOfMemory};
-ghost use Rattle.table_json.specs.Parts.{all_of, number_of, parameter_in, position_in, IsFunctionIn, IsTextFault, IsValueFault, Refuses};
+ghost use Rattle.table_json.specs.Parts.{all_of, parameter_in, position_in, IsTextFault, IsValueFault, Refuses};
 ghost use Rattle.table_json.specs.Tables.{Entry, are_apart, entries_of, entry_of, itself, position_of, IsInOrder};
 ghost use Rattle.table_json.specs.TableTexts.{version_of, IsTableFault, IsTableText};
-ghost use Rattle.table_json.specs.TableValues.{is_older, parameter_value, whole, AreValuesOf, IsFunctionValue, IsOlderFunctionValue, IsTableIn, IsTableValue};
+ghost use Rattle.table_json.specs.TableValues.{is_older, number_of, parameter_value, whole, AreFunctionsOf, AreValuesOf, IsFunctionIn, IsFunctionValue, IsOlderFunctionValue, IsTableIn, IsTableValue};
 
 use crate::fault::TableFault;
 use crate::order::{functions_in_order, parameters_in_order, positions_in_order};
 use crate::parts::{function_in, functions_in, older_function_in, parameter_in, position_in};
-use crate::table::{Function, OLDER_VERSION, Parameter, Table, VERSION};
+use crate::table::{Function, OLDER_VERSION, Parameter, Table, VERSION, Version};
 use serde_json::Value;
 use std::alloc::Global;
-
-/// The versions that are read.
-#[derive(Clone, Copy)]
-enum Version {
-    /// `OLDER_VERSION`.
-    Older,
-    /// `VERSION`.
-    Newer,
-}
 
 /// Positions as they stand.
 fn positions_as_given(alloc: Global, values: &[Value]) -> Result<Vec<u32>, TableFault>
@@ -172,7 +163,8 @@ fn read_function(alloc: Global, version: Version, value: &Value) -> Result<Funct
     }
 }
 
-fn read_functions(
+/// Functions as they stand.
+fn functions_as_given(
     alloc: Global,
     version: Version,
     values: &[Value],
@@ -188,6 +180,29 @@ fn read_functions(
     Ok(given)
 }
 
+/// The functions of a list of values in this version, in the order of their names and each with its positions in order,
+/// however they stand in the list.
+///
+/// # Errors
+///
+/// One of the values is no function of that version, or a name comes twice: this is `TableFault::WrongShape`. Or memory
+/// was refused.
+pub fn read_functions(
+    alloc: Global,
+    version: Version,
+    values: &[Value],
+) -> Result<Vec<Function>, TableFault>
+    ensures ok { IfOk result
+        (λ functions. AreFunctionsOf (IsFunctionIn version) (map view values.now) (map entry_of functions.items)) }
+    ensures err { IfErr result (Refuses (AreFunctionsOf (IsFunctionIn version) (map view values.now))) }
+{
+    let given = functions_as_given(alloc, version, values)?;
+    match functions_in_order(given) {
+        Some(functions) => Ok(functions),
+        None => Err(TableFault::WrongShape),
+    }
+}
+
 /// The table of a value with this version.
 fn read_table(alloc: Global, version: Version, value: &Value) -> Result<Table, TableFault>
     requires { version_of (view value.now) ≡ Some (number_of version) }
@@ -198,17 +213,16 @@ fn read_table(alloc: Global, version: Version, value: &Value) -> Result<Table, T
     let Some(values) = functions_in(value) else {
         return Err(TableFault::WrongShape);
     };
-    let given = read_functions(alloc, version, values)?;
-    match functions_in_order(given) {
-        Some(functions) => Ok(Table { functions }),
-        None => Err(TableFault::WrongShape),
-    }
+    let functions = read_functions(alloc, version, values)?;
+    Ok(Table { functions })
 }
 
-fn version_of(value: &Value) -> Option<u64>
+/// The whole number that stands as the version of an object, one of at most 32 bits.
+pub fn version_of(value: &Value) -> Option<u32>
     ensures { result ≡ version_of (view value.now) }
 {
-    value.get("version").and_then(Value::as_u64)
+    let number = value.get("version").and_then(Value::as_u64)?;
+    u32::try_from(number).ok()
 }
 
 /// The table of a value; a wrong version is told before any other fault of its shape.
@@ -247,10 +261,11 @@ fn parse(alloc: Global, text: &str) -> Result<Value, TableFault>
 ///
 /// # Errors
 ///
-/// The text is no JSON; its version is missing or no whole number; it is another than 1 and 2; the rest is no table of
-/// that version, as a key is missing or unknown, a value of another kind, a position above 4,294,967,295, a function or
-/// a position comes twice, or a position stands in both `gives` and `causes`; or memory was refused. This is the order
-/// in which it is looked for them. A text that is a table's is refused for want of memory alone.
+/// The text is no JSON; its version is missing or no whole number up to 4,294,967,295; it is another than 1 and 2; the
+/// rest is no table of that version, as a key is missing or unknown, a value of another kind, a position above
+/// 4,294,967,295, a function or a position comes twice, or a position stands in both `gives` and `causes`; or memory
+/// was refused. This is the order in which it is looked for them. A text that is a table's is refused for want of
+/// memory alone.
 pub fn from_json(alloc: Global, text: &str) -> Result<Table, TableFault>
     ensures table { IfOk result (λ table. IsTableText text.now (entries_of table)) }
     ensures in_order { IfOk result (λ table. IsInOrder (entries_of table)) }

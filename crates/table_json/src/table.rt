@@ -1,10 +1,19 @@
 //! A table of facts: of each function, what its callers may rely on.
 
 /// The version of the format in which tables are written.
-pub(crate) const VERSION: u64 = 2;
+pub const VERSION: u32 = 2;
 
 /// The version before it, which knows of no causes. It is still read.
-pub(crate) const OLDER_VERSION: u64 = 1;
+pub const OLDER_VERSION: u32 = 1;
+
+/// The versions that are read.
+#[derive(Clone, Copy, Debug, Drop, PartialEq, Eq)]
+pub enum Version {
+    /// The version before the one that is written, number 1. It knows of no causes.
+    Older,
+    /// The version that is written, number 2.
+    Newer,
+}
 
 /// A parameter that a function tracks. Positions count single parameters from 0, and a receiver is none of them.
 #[derive(Clone, Copy, Debug, Drop, PartialEq, Eq)]

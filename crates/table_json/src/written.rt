@@ -90,8 +90,13 @@ fn functions_written(alloc: Global, functions: &[&Function]) -> Result<Vec<Funct
     Ok(written)
 }
 
-/// What is written of a table.
-fn written(alloc: Global, table: &Table) -> Result<Table, AllocError>
+/// What is written of a table: functions without positions are left out, the others stand in the order of their names,
+/// and each has its positions in their order.
+///
+/// # Errors
+///
+/// Memory was refused.
+pub fn as_written(alloc: Global, table: &Table) -> Result<Table, AllocError>
     ensures { IfOk result (λ written. AreWritten (entries_of table.now) (entries_of written)) }
 {
     let told = told_in_order(alloc, &table.functions)?;
@@ -149,7 +154,12 @@ fn function_value(alloc: Global, function: &Function) -> Result<Value, AllocErro
     json!(in alloc; {"causes": causes, "gives": gives, "name": &function.name, "params": params})
 }
 
-fn function_values(alloc: Global, functions: &[Function]) -> Result<Vec<Value>, AllocError>
+/// Functions as JSON, as they stand.
+///
+/// # Errors
+///
+/// Memory was refused.
+pub fn function_values(alloc: Global, functions: &[Function]) -> Result<Vec<Value>, AllocError>
     ensures values { IfOk result
         (λ values. map view values.items ≡ map function_value (map entry_of functions.now)) }
     ensures fit { IfOk result (λ values. AllByRecursion HasFits (map entry_of functions.now)) }
@@ -180,6 +190,6 @@ fn table_value(alloc: Global, table: &Table) -> Result<Value, AllocError>
 pub fn to_json(alloc: Global, table: &Table) -> Result<String, AllocError>
     ensures { IfOk result (λ text. IsWrittenText (entries_of table.now) (string_bytes text)) }
 {
-    let written = written(alloc, table)?;
+    let written = as_written(alloc, table)?;
     table_value(alloc, &written)?.to_string(alloc)
 }

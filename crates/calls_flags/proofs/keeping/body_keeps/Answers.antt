@@ -13,7 +13,7 @@ pub returns : goal.returns
 returns c =
     IfOk-weaker c.keeps_call.result _ _
     (λ keeps are file seen b tells few v is_there.
-    let told = c.in_ok-solution.ensures file seen b tells c.in-Some.is in
+    let told = c.in_ok-solution.ensures.paths file seen b tells c.in-Some.is in
     are (paths_of seen (promises_in (known_calls c.args.calls) (has c.args.credits.now) b.at) b) told.is_graph
     (told.are_variables ∙ ap (map variable_view) (sym c.deref.ensures.value)) told.classifies v is_there)
     c.keeps_call.ensures

@@ -15,5 +15,5 @@ returns c =
     settled paths
     (subst (λ vs. TellsPaths paths c.args.kept.now.graph (map variable_view vs)
     (cancel_arrives c.in_ok-solution.solution) (group_arrives c.in_ok-solution.solution)) (sym c.deref.ensures.value)
-    (c.in_ok-solution.ensures file seen b tells is_kept)))
+    (c.in_ok-solution.ensures.paths file seen b tells is_kept)))
     c.settled_captured.ensures

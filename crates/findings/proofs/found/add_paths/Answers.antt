@@ -22,7 +22,7 @@ returns c =
     let vs = map variable_view c.args.body.now.variables.items in
     let told = subst (λ credits. TellsPaths (paths_of f.seen (promises_in calls credits b.at) b) c.in-Some.kept.graph vs
     (cancel_arrives solution) (group_arrives solution)) (sym tells.are_credits)
-    (c.in_ok-solution.ensures number f.seen b is_body c.in-Some.is) in
+    (c.in_ok-solution.ensures.paths number f.seen b is_body c.in-Some.is) in
     adds_so c.args.diagnostics.now.items c.add_path_faults.new.diagnostics.items (IsPathEntry calls number f b)
     (IsFewPathEntry calls number f b) (few_paths calls number f b c.args.body.now is_body c.in-Some.kept c.in-Some.is)
     (adds_faults c.args.diagnostics.now.items c.add_path_faults.new.diagnostics.items number c.args.body.now.file

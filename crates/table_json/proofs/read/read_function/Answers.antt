@@ -1,8 +1,9 @@
 use Rattle.std.proofs.Common.{sym, subst}
 use Rattle.std.specs.Prelude.{IfErr, IfOk}
 use Rattle.serde_json.specs.View.{view}
-use Rattle.table_json.specs.Parts.{IsFunctionIn, Refuses}
+use Rattle.table_json.specs.Parts.{Refuses}
 use Rattle.table_json.specs.Tables.{entry_of}
+use Rattle.table_json.specs.TableValues.{IsFunctionIn}
 use Rattle.table_json.proofs.read.read_function.Goals as goal
 
 pub returns-in-Older-clause-ok : goal.returns-in-Older-clause-ok

@@ -1,23 +1,29 @@
-use Rattle.std.proofs.Common.{map, sym}
-use Rattle.std.proofs.lemmas.List.{drop_all}
+use Rattle.std.proofs.Common.{map}
 use Rattle.std.specs.List.{AllZip}
 use Rattle.serde_json.specs.View.{view}
-use Rattle.table_json.specs.Parts.{IsFunctionIn, Refuses}
+use Rattle.table_json.specs.Parts.{Refuses}
 use Rattle.table_json.specs.Tables.{entry_of}
-use Rattle.table_json.proofs.Readings.{handed_on, refuses_so, at_each, all_read}
+use Rattle.table_json.specs.TableValues.{AreFunctionsOf, IsFunctionIn}
+use Rattle.table_json.proofs.Readings.{handed_on, refuses_so, given_functions, none_ordered}
 use Rattle.table_json.proofs.read.read_functions.Goals as goal
 
-pub returns-in_err-read_function-clause-err : goal.returns-in_err-read_function-clause-err
-returns-in_err-read_function-clause-err c =
-    let values = c.args.values.now in
-    let value = c.value-item.result in
-    handed_on c.from_residual.result c.in_err-read_function.field-0.0 (Refuses (AllZip (IsFunctionIn c.args.version) (map view values)))
+pub returns-in_err-given-clause-err : goal.returns-in_err-given-clause-err
+returns-in_err-given-clause-err c =
+    let version = c.args.version in
+    let values = map view c.args.values.now in
+    handed_on c.from_residual.result c.in_err-given.field-0.0 (Refuses (AreFunctionsOf (IsFunctionIn version) values))
     c.from_residual.ensures.1
-    (refuses_so (IsFunctionIn c.args.version (view value)) (AllZip (IsFunctionIn c.args.version) (map view values))
-    (λ fs h. at_each (IsFunctionIn c.args.version) view values fs c.loop-value.value-index value c.loop-value-test.true
-    (sym c.value-item.is) h) c.in_err-read_function.field-0.0 c.in_err-read_function.ensures.err)
+    (refuses_so (AllZip (IsFunctionIn version) values) (AreFunctionsOf (IsFunctionIn version) values)
+    (given_functions version values) c.in_err-given.field-0.0 c.in_err-given.ensures.err)
 
-pub returns-clause-ok : goal.returns-clause-ok
-returns-clause-ok c =
-    all_read (IsFunctionIn c.args.version) view entry_of c.args.values.now _ c.loop-value.given.items
-    (drop_all c.loop-value.value-index c.args.values.now c.loop-value-test.false) c.loop-value.invariant
+pub returns-in-Some-clause-ok : goal.returns-in-Some-clause-ok
+returns-in-Some-clause-ok c = record {
+  given = map entry_of c.in_ok-given.given.items;
+  each = c.in_ok-given.ensures.ok;
+  arranged = c.in-Some.ensures.some;
+}
+
+pub returns-in-None-clause-err : goal.returns-in-None-clause-err
+returns-in-None-clause-err c =
+    none_ordered c.args.version (map view c.args.values.now) (map entry_of c.in_ok-given.given.items)
+    c.in_ok-given.ensures.ok c.in-None.ensures.none

@@ -1,7 +1,7 @@
 use Rattle.std.proofs.Common.{◌∙◌}
 use Rattle.std.proofs.lemmas.Result.{IfOk-weaker}
 use Rattle.all_packages.proofs.PackageNames.{names_are}
-use Rattle.all_packages.proofs.package_names.package_names.Goals as goal
+use Rattle.all_packages.proofs.package_names.names_of_packages.Goals as goal
 
 pub returns : goal.returns
 returns c =

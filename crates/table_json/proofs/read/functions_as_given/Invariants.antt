@@ -1,9 +1,9 @@
 use Rattle.std.proofs.Common.{◌++◌, List, drop, map}
 use Rattle.std.specs.List.{AllZip}
 use Rattle.serde_json.specs.View.{view}
-use Rattle.table_json.specs.Parts.{IsFunctionIn}
 use Rattle.table_json.specs.Tables.{Entry, entry_of}
-use Rattle.table_json.proofs.read.read_functions.Given as goal
+use Rattle.table_json.specs.TableValues.{IsFunctionIn}
+use Rattle.table_json.proofs.read.functions_as_given.Given as goal
 
 -- what is read of the values that are left completes what is read of all
 abbrev pub invariant-loop-value : goal.invariant-loop-value

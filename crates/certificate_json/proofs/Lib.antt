@@ -1,0 +1,6 @@
+mod BodyReadings
+mod CertificateLaws
+mod DistinctPaths
+mod PackageReadings
+mod WritingBack
+mod WrittenAsTheyStand

@@ -1,0 +1,11 @@
+use Rattle.std.proofs.Common.{ℕ, ◌++◌, List, drop, map}
+use Rattle.std.specs.List.{AllZip}
+use Rattle.serde_json.specs.View.{view}
+use Rattle.certificate_json.specs.CertificateValues.{IsMask}
+use Rattle.certificate_json.proofs.read.masks_as_given.Given as goal
+
+-- what is read of the values that are left completes what is read of all
+abbrev pub invariant-loop-value : goal.invariant-loop-value
+invariant-loop-value l =
+    (rest : List ℕ) → AllZip IsMask (map view (drop l.value-index l.values)) rest
+    → AllZip IsMask (map view l.values) (l.given.items ++ rest)

@@ -1,0 +1,107 @@
+-- What serves the proofs: the parts of the value of certificates, one by one.
+use Rattle.std.specs.Prelude.{ℕ, ◌≡◌, ◌^◌, List, Option, Some, None, option_and_then, option_map, if◌then◌else◌, ⊤, nat_lt, codes}
+use Rattle.std.specs.List.{AllByRecursion, AllZip}
+use Rattle.serde_json.specs.Data.{Data, Items}
+use Rattle.serde_json.specs.Find.{as_number, as_u64, as_str, as_array}
+use Rattle.serde_json.specs.Read.{read}
+use Rattle.table_json.specs.declared.fault.TableFault.{TableFault}
+use Rattle.table_json.specs.declared.fault.TableFault.TheVariants as table
+use Rattle.table_json.specs.Parts.{position_in, three_members, two_members, HasFits as HasFunctionFits}
+use Rattle.table_json.specs.TableTexts.{HasWrongVersion}
+use Rattle.table_json.specs.TableValues.{Fits}
+use Rattle.certificate_json.specs.declared.fault.CertificateFault.{CertificateFault}
+use Rattle.certificate_json.specs.declared.fault.CertificateFault.TheVariants.{NotJson, WrongVersion, WrongShape, OutOfMemory}
+use Rattle.certificate_json.specs.Certificates.{BodyEntry, PackageEntry}
+use Rattle.certificate_json.specs.CertificateTexts.{HasWrongShape}
+use Rattle.certificate_json.specs.CertificateValues.{certificates_value, package_value, IsSmall}
+use Rattle.certificate_json.specs.WrittenCertificates.{IsWrittenAs}
+
+abbrev pub if_small : ℕ → Option ℕ
+if_small n = if nat_lt n (2 ^ 16) then Some n else None
+
+unfoldable pub mask_in : Data → Option ℕ
+mask_in value = option_and_then if_small (option_and_then as_u64 (as_number value))
+
+-- the offset, the file, and the values of the states
+unfoldable pub body_in : Data → Option (ℕ × ℕ × Items)
+body_in value =
+    option_and_then (λ ms.
+    option_and_then (λ at.
+    option_and_then (λ file.
+    option_map (λ states. (at, file, states))
+    (as_array ms.2)) (position_in ms.1)) (position_in ms.0))
+    (three_members (codes "at") (codes "file") (codes "states") value)
+
+-- the path, and the values of the bodies and of the facts
+unfoldable pub package_in : Data → Option (List ℕ × Items × Items)
+package_in value =
+    option_and_then (λ ms.
+    option_and_then (λ bodies.
+    option_and_then (λ facts.
+    option_map (λ path. (path, bodies, facts))
+    (as_str ms.2)) (as_array ms.1)) (as_array ms.0))
+    (three_members (codes "bodies") (codes "facts") (codes "path") value)
+
+-- the packages, whatever the version
+unfoldable pub packages_in : Data → Option Items
+packages_in value =
+    option_and_then (λ ms. as_array ms.0) (two_members (codes "packages") (codes "version") value)
+
+-- What is written
+
+abbrev pub AllSmall : List ℕ → Type 0
+AllSmall masks = AllByRecursion IsSmall masks
+
+-- the numbers of a body fit, as do all that are kept in memory
+pub record HasBodyFits (b : BodyEntry) : Type 0 where
+  pub at_fits : Fits b.at
+  pub file_fits : Fits b.file
+  pub masks_small : AllByRecursion AllSmall b.states
+
+pub record HasPackageFits (p : PackageEntry) : Type 0 where
+  pub bodies_fit : AllByRecursion HasBodyFits p.bodies
+  pub facts_fit : AllByRecursion HasFunctionFits p.facts
+
+-- this is the value of what is written of the package
+pub record IsPackageText (p : PackageEntry) (value : Data) : Type 0 where
+  pub written : PackageEntry
+  pub is_written : IsWrittenAs p written
+  pub is_value : value ≡ package_value written
+  pub fits : HasPackageFits written
+
+-- this is the value of what is written of the packages
+pub record IsWholeText (packages : List PackageEntry) (value : Data) : Type 0 where
+  pub written : List PackageEntry
+  pub are_written : AllZip IsWrittenAs packages written
+  pub is_value : value ≡ certificates_value written
+  pub fit : AllByRecursion HasPackageFits written
+
+-- Faults
+
+-- the same fault, of certificates
+abbrev pub fault_of : TableFault → CertificateFault
+fault_of table.NotJson = NotJson
+fault_of table.WrongVersion = WrongVersion
+fault_of table.WrongShape = WrongShape
+fault_of table.OutOfMemory = OutOfMemory
+
+-- nothing is kept of what is read, for this reason
+abbrev pub Refuses : {A : Type 0} → (A → Type 0) → CertificateFault → Type 0
+Refuses {A} IsRead NotJson = ⊥
+Refuses {A} IsRead WrongVersion = ⊥
+Refuses {A} IsRead WrongShape = (a : A) → ¬ IsRead a
+Refuses {A} IsRead OutOfMemory = ⊤
+
+-- a value is not read as certificates, for this reason
+abbrev pub IsValueFault : Data → CertificateFault → Type 0
+IsValueFault value NotJson = ⊥
+IsValueFault value WrongVersion = HasWrongVersion value
+IsValueFault value WrongShape = HasWrongShape value
+IsValueFault value OutOfMemory = ⊤
+
+-- a text is not read as JSON, for this reason
+abbrev pub IsTextFault : List ℕ → CertificateFault → Type 0
+IsTextFault text NotJson = read text ≡ None
+IsTextFault text WrongVersion = ⊥
+IsTextFault text WrongShape = ⊥
+IsTextFault text OutOfMemory = ⊤

@@ -1,0 +1,112 @@
+-- The rows of a body are those of its least certificate.
+use Rattle.std.proofs.Common.{◌≡◌, ℕ, ◌+◌, Bool, true, false, List, [], ◌∷◌, length, map, Some, None, refl, sym, ap, ◌∙◌, subst, arith, true≢false}
+use Rattle.std.proofs.lemmas.Bool.{and_parts, eqb-true}
+use Rattle.std.proofs.lemmas.Option.{none-some}
+use Rattle.std.specs.Prelude.{◌==◌, not, ◌&&◌, is_some, slice_get}
+use Rattle.bodies.specs.Bodies.{has_paths, IsOrderedGraph, TellsBody}
+use Rattle.bodies.specs.NodeEvents.{node_event_view, changed}
+use Rattle.bodies.specs.declared.body.Body.{Body as KeptBody}
+use Rattle.bodies.specs.declared.graph.BodyGraph.{BodyGraph as KeptGraph}
+use Rattle.bodies.specs.declared.node.NodeEvent.{NodeEvent}
+use Rattle.certificates.proofs.MadeRows.{made_least}
+use Rattle.certificates.specs.BodyRows.{AreLeastRows}
+use Rattle.certificates.specs.Rows.{Vec, arriving, TellRows}
+use Rattle.checker.specs.Certificates.{groups_with_bits}
+use Rattle.checker.specs.LaidOutViews.{HasWholeOrder}
+use Rattle.flow.specs.GraphOfCode.{nodes}
+use Rattle.flow.specs.GraphViews.{occurrences_of}
+use Rattle.flow.specs.NodeOrder.{places}
+use Rattle.flow.specs.Walks.{Graph}
+use Rattle.maker.specs.AtNodes.{ClassifiesNodes}
+use Rattle.meaning.specs.BodyEvents.{Variable, variables_of, too_many_faults}
+use Rattle.meaning.specs.Classes.{CancelClass, GroupClass}
+use Rattle.meaning.specs.Code.{Occurrence}
+use Rattle.meaning.specs.Mentions.{BodyPlace}
+use Rattle.meaning.specs.Uses.{Event, Seen, UseFault}
+use Rattle.meaning_packages.specs.PathFaults.{Paths}
+use Rattle.std.specs.List.Sorted.{IsPermutation}
+
+-- where the nodes stand, whatever they do
+places_same : (n : ℕ) (os : List (Occurrence NodeEvent)) → places n (map (changed node_event_view) os) ≡ places n os
+places_same n [] = refl
+places_same n (o ∷ os) = ap (λ ps. record { at = o.at; order = o.order; node = n } ∷ ps) (places_same (n + 1) os)
+
+none_of : {A : Type 0} (xs : List A) → (length xs == 0) ≡ true → xs ≡ []
+none_of [] e = refl
+none_of (x ∷ xs) e = absurd (omega (arith, eqb-true (length (x ∷ xs)) 0 e))
+
+not_so : (b : Bool) → not b ≡ false → b ≡ true
+not_so true e = refl
+not_so false e = absurd (true≢false e)
+
+-- the rows of a body of these paths, with such a graph, by a table of its classes
+module _ (paths : Paths) (kept : KeptGraph) (ordered : IsOrderedGraph paths.code kept)
+    (few : too_many_faults paths.variables ≡ [])
+    (cancels : ℕ → ℕ → CancelClass → Bool) (groups : ℕ → ℕ → GroupClass → Bool)
+    (classifies : ClassifiesNodes paths.code paths.promises paths.variables cancels groups) where
+  same_places : places 0 (nodes paths.code) ≡ places 0 (occurrences_of kept.graph.nodes.items)
+  same_places =
+      sym (ap (λ (g : Graph Event). places 0 g.nodes) ordered.is_graph)
+      ∙ places_same 0 (occurrences_of kept.graph.nodes.items)
+
+  pub made_rows : (rows : List (Vec ℕ)) (vs : List Variable)
+      → vs ≡ paths.variables
+      → (HasWholeOrder kept → TellRows (arriving cancels groups (groups_with_bits vs)) vs kept.order.items rows)
+      → AreLeastRows paths rows
+  made_rows rows vs same told = record {
+    are_few = few;
+    is_least = record {
+      order = kept.order.items;
+      has_each = has_each;
+      ordered = ordered.ordered;
+      is_least = λ claims.
+          made_least paths kept.order.items claims cancels groups rows few has_each classifies
+          (subst (λ vs. TellRows (arriving cancels groups (groups_with_bits vs)) vs kept.order.items rows) same
+          (told ordered.same));
+    };
+  }
+    where
+      has_each : IsPermutation (places 0 (nodes paths.code)) kept.order.items
+      has_each = subst (λ ps. IsPermutation ps kept.order.items) (sym same_places) ordered.same
+
+-- A body of a file
+
+module _ (file : ℕ) (seen : Seen) (b : BodyPlace) (body : KeptBody) (tells : TellsBody file seen b body) where
+  -- a body with a graph has not too many variables
+  pub few_with : (kept : KeptGraph) → body.graph ≡ Some kept → too_many_faults (variables_of seen b.at) ≡ []
+  few_with kept is =
+      let has : has_paths (variables_of seen b.at) ≡ true = sym tells.has_graph ∙ ap is_some is in
+      none_of (too_many_faults (variables_of seen b.at))
+      (and_parts (not (length (variables_of seen b.at) == 0))
+      (length (too_many_faults (variables_of seen b.at)) == 0) has).1
+
+  pub few_unless : body.has_too_many ≡ false → too_many_faults (variables_of seen b.at) ≡ []
+  few_unless unset =
+      none_of (too_many_faults (variables_of seen b.at))
+      (not_so (length (too_many_faults (variables_of seen b.at)) == 0) (sym tells.too_many ∙ unset))
+
+  pub too_many : body.has_too_many ≡ true → too_many_faults (variables_of seen b.at) ≡ [] → ⊥
+  too_many set few =
+      true≢false (sym set ∙ tells.too_many ∙ ap (λ (fs : List UseFault). not (length fs == 0)) few)
+
+  -- one without a graph, and with not too many variables, has none
+  pub none_without : body.graph ≡ None → body.has_too_many ≡ false → variables_of seen b.at ≡ []
+  none_without is unset =
+      none_of (variables_of seen b.at)
+      (not_so (length (variables_of seen b.at) == 0)
+      (and_false_by (not (length (variables_of seen b.at) == 0))
+      (length (too_many_faults (variables_of seen b.at)) == 0) (ap (λ (fs : List UseFault). length fs == 0) (few_unless unset))
+      (sym tells.has_graph ∙ ap is_some is)))
+    where
+      and_false_by : (x y : Bool) → y ≡ true → (x && y) ≡ false → x ≡ false
+      and_false_by true y so e = absurd (true≢false (sym so ∙ e))
+      and_false_by false y so e = refl
+
+-- a body without variables has no classes
+pub no_classes : (paths : Paths) (cancels : ℕ → ℕ → CancelClass → Bool) (groups : ℕ → ℕ → GroupClass → Bool)
+    → paths.variables ≡ []
+    → ClassifiesNodes paths.code paths.promises paths.variables cancels groups
+no_classes paths cancels groups none = record {
+  of_cancel = λ i v at. absurd (none-some v (ap (λ vs. slice_get vs i) (sym none) ∙ at));
+  of_group = λ i v at. absurd (none-some v (ap (λ vs. slice_get vs i) (sym none) ∙ at));
+}

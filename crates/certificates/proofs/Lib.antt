@@ -1,0 +1,8 @@
+pub mod NodesInRange
+pub mod FewGroups
+pub mod ListsToNodes
+pub mod ClassBits
+pub mod LeastCertificates
+pub mod SetBits
+pub mod MadeRows
+pub mod BodyRows

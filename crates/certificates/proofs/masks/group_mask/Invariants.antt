@@ -1,0 +1,8 @@
+use Rattle.certificates.proofs.masks.group_mask.Given as goal
+use Rattle.certificates.specs.Rows.{passes, HasBits}
+use Rattle.states.specs.Bits.{group_class}
+
+-- the bits so far
+abbrev pub invariant-loop-bit : goal.invariant-loop-bit
+invariant-loop-bit g l =
+    HasBits l.bit (λ bit. passes (g.A.Arrivals.groups l.arrivals l.variable l.node) (group_class bit)) l.mask

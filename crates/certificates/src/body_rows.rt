@@ -1,0 +1,101 @@
+//! The rows of a body of a file.
+
+ghost use Rattle.std.specs.Prelude.{◌≡◌, ℕ, [], IfOk, Some, false, None};
+ghost use Rattle.bodies.specs.Bodies.{TellsBody};
+ghost use Rattle.certificates.specs.BodyRows.{AreLeastRows, AreLeastIf, none_pending};
+ghost use Rattle.credits.specs.CreditViews.{has};
+ghost use Rattle.events.specs.ToldViews.{TellsFile};
+ghost use Rattle.meaning.specs.Classes.{Promises};
+ghost use Rattle.meaning.specs.Mentions.{BodyPlace};
+ghost use Rattle.meaning.specs.Uses.{Seen};
+ghost use Rattle.meaning_packages.specs.Credits.{promises_in};
+ghost use Rattle.meaning_packages.specs.PathFaults.{paths_of};
+
+use crate::rows::rows_of;
+use bodies::{Body, BodyGraph, ordered_graph};
+use credit_search::search_body;
+use credits::{Calls, Credits};
+use events::Told;
+use states::{Arrivals, CancelClass, GroupClass};
+use std::alloc::{AllocError, Global};
+
+/// No class arrives anywhere, as in a body without variables.
+struct NoArrivals;
+
+impl Arrivals for NoArrivals {
+    ghost cancels = { λ none i n k. false };
+
+    ghost groups = { λ none i n k. false };
+
+    ghost pending_groups = { λ none. [] };
+
+    fn has_cancel(&self, _variable: usize, _node: usize, _class: CancelClass) -> bool {
+        false
+    }
+
+    fn has_group(&self, _variable: usize, _node: usize, _class: GroupClass) -> bool {
+        false
+    }
+
+    fn pending_groups(&self) -> &[u32] {
+        &[]
+    }
+
+    ghost no_others = { none_pending };
+}
+
+/// The rows of a body with variables, and not too many, of which this is the graph.
+fn searched_rows<'a, C: Calls>(
+    alloc: Global,
+    body: &Body<'_, 'a>,
+    kept: &BodyGraph<'_, 'a>,
+    calls: &C,
+    credits: &Credits,
+) -> Result<Vec<Vec<u16>>, AllocError>
+    ensures { IfOk result (λ rows. (file : ℕ) (seen : Seen) (b : BodyPlace) → TellsBody file seen b body.now
+        → body.now.graph ≡ Some kept.now
+        → AreLeastRows (paths_of seen (promises_in (C.are_called calls.now) (has credits.now) b.at) b) rows.items) }
+{
+    let solution = search_body(alloc, body, kept, calls, credits)?;
+    rows_of(alloc, &body.variables, kept, &solution)
+}
+
+/// The rows of a body without variables: an empty one for each node.
+fn empty_rows<'a>(
+    alloc: Global,
+    told: &Told<'a>,
+    body: &Body<'_, 'a>,
+) -> Result<Vec<Vec<u16>>, AllocError>
+    ensures { IfOk result (λ rows. (file : ℕ) (seen : Seen) (b : BodyPlace) → TellsFile seen told.now
+        → TellsBody file seen b body.now → body.now.graph ≡ None → body.now.has_too_many ≡ false
+        → (promises : Promises) → AreLeastRows (paths_of seen promises b) rows.items) }
+{
+    let kept = ordered_graph(alloc, told, body.place)?;
+    rows_of(alloc, &body.variables, &kept, &NoArrivals)
+}
+
+/// The rows of the least certificate of a body of a file that was told of, where the body relies on what is known of
+/// functions, and on these credits of the file's literals; none where it has too many variables.
+///
+/// # Errors
+///
+/// Memory was refused.
+pub fn least_rows<'a, C: Calls>(
+    alloc: Global,
+    told: &Told<'a>,
+    body: &Body<'_, 'a>,
+    calls: &C,
+    credits: &Credits,
+) -> Result<Option<Vec<Vec<u16>>>, AllocError>
+    ensures { IfOk result (λ rows. (file : ℕ) (seen : Seen) (b : BodyPlace) → TellsFile seen told.now
+        → TellsBody file seen b body.now
+        → AreLeastIf (paths_of seen (promises_in (C.are_called calls.now) (has credits.now) b.at) b) rows) }
+{
+    if body.has_too_many {
+        return Ok(None);
+    }
+    match &body.graph {
+        Some(kept) => Ok(Some(searched_rows(alloc, body, kept, calls, credits)?)),
+        None => Ok(Some(empty_rows(alloc, told, body)?)),
+    }
+}
