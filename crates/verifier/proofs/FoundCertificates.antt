@@ -1,0 +1,149 @@
+-- What is found of a body's certificate, by way of its graph in memory.
+use Rattle.std.proofs.Common.{◌≡◌, ℕ, ◌+◌, Bool, true, false, List, [], ◌∷◌, map, Option, Some, None, option_map, refl, sym, ap, ◌∙◌, subst}
+use Rattle.std.specs.Prelude.{◌↔◌, IsTrue}
+use Rattle.std.specs.List.Sorted.{IsPermutation}
+use Rattle.std.proofs.lemmas.Option.{same_Some}
+use Rattle.bodies.specs.Bodies.{IsOrderedGraph, code_in, has_too_many, TellsBody}
+use Rattle.bodies.specs.NodeEvents.{node_event_view, changed, events_graph}
+use Rattle.bodies.specs.declared.body.Body.{Body as KeptBody}
+use Rattle.bodies.specs.declared.graph.BodyGraph.{BodyGraph as KeptGraph}
+use Rattle.bodies.specs.declared.node.NodeEvent.{NodeEvent}
+use Rattle.calls_flags.specs.Claims.{function_name}
+use Rattle.checker.specs.Certificates.{CheckedBody, Holds, SettlesIn}
+use Rattle.checker.specs.LaidOutViews.{IsLaidOut, LaysOut, HasWholeOrder, body_of}
+use Rattle.checker.specs.declared.laid_out.LaidOut.{LaidOut}
+use Rattle.credits.specs.CreditViews.{is_among}
+use Rattle.events.specs.VariableViews.{variable_view}
+use Rattle.flow.specs.GraphOfCode.{nodes}
+use Rattle.flow.specs.GraphViews.{occurrences_of}
+use Rattle.flow.specs.NodeOrder.{places}
+use Rattle.flow.specs.Walks.{Graph, graph_of}
+use Rattle.flow.specs.declared.order.NodePlace.{NodePlace}
+use Rattle.meaning.specs.BodyEvents.{variables_of, too_many_faults}
+use Rattle.meaning.specs.Classes.{Promises}
+use Rattle.meaning.specs.Code.{Occurrence}
+use Rattle.meaning.specs.Mentions.{BodyPlace}
+use Rattle.meaning.specs.Uses.{Callee, Event, Seen}
+use Rattle.meaning_packages.specs.CallsFlags.{Flags}
+use Rattle.meaning_packages.specs.Credits.{Credits, promises_in}
+use Rattle.meaning_packages.specs.PathFaults.{Paths, paths_of}
+use Rattle.verifier.proofs.OneOrder.{one_order}
+use Rattle.verifier.specs.FoundBodies.{with_table, IsFound}
+use Rattle.verifier.specs.SettledPlaces.{SettlesPlace, SettlesSome}
+use Rattle.verifier.specs.Verified.{Given, flags_of_name, flags_of_body, IsOrder, checked, IsCertified, SettlesBy}
+
+-- the places of nodes are the same for other events
+same_places : (n : ℕ) (os : List (Occurrence NodeEvent)) → places n (map (changed node_event_view) os) ≡ places n os
+same_places n [] = refl
+same_places n (o ∷ os) = ap (λ ps. record { at = o.at; order = o.order; node = n } ∷ ps) (same_places (n + 1) os)
+
+module _ (given : Given) (own : Flags) (calls : Callee → ℕ → Bool) (number : ℕ) (seen : Seen) (credits : Credits)
+    (b : BodyPlace) (few : too_many_faults (variables_of seen b.at) ≡ []) (rows : List (List ℕ))
+    (are_given : given.rows number b.at ≡ Some rows) (kept : KeptGraph) (is : IsOrderedGraph (code_in seen b) kept) where
+  abbrev paths : Paths
+  paths = paths_of seen (promises_in calls credits b.at) b
+
+  abbrev body : CheckedBody
+  body = checked paths (flags_of_body own b) kept.order.items
+
+  nodes_are : places 0 (occurrences_of kept.graph.nodes.items) ≡ places 0 (nodes paths.code)
+  nodes_are =
+      sym (same_places 0 (occurrences_of kept.graph.nodes.items)) ∙ ap (λ (g : Graph Event). places 0 g.nodes) is.is_graph
+
+  is_order : IsOrder paths kept.order.items
+  is_order = record {
+    same = subst (λ ps. IsPermutation ps kept.order.items) nodes_are is.same;
+    ordered = is.ordered;
+  }
+
+  certified : Holds body rows → IsCertified given own calls number (with_table seen credits) b
+  certified h = record {
+    rows = rows;
+    order = kept.order.items;
+    are_few = few;
+    are_given = are_given;
+    is_order = is_order;
+    holds = h;
+  }
+
+  module _ (c : IsCertified given own calls number (with_table seen credits) b) where
+    same_rows : c.rows ≡ rows
+    same_rows = same_Some c.rows rows (sym c.are_given ∙ are_given)
+
+    same_order : c.order ≡ kept.order.items
+    same_order =
+        one_order (nodes paths.code) c.order kept.order.items c.is_order.same c.is_order.ordered is_order.same
+        is_order.ordered
+
+    its_holds : Holds body rows
+    its_holds =
+        subst (λ o. Holds (checked paths (flags_of_body own b) o) rows) same_order
+        (subst (λ r. Holds (checked paths (flags_of_body own b) c.order) r) same_rows c.holds)
+
+  settled_so : Holds body rows → (variable : ℕ) → SettlesSome body rows variable
+      → SettlesBy given own calls number (with_table seen credits) b variable
+  unfolding certified
+  settled_so h variable s = record {
+    certified = certified h;
+    place = s.place;
+    found = s.settles.found;
+    is_of_body = s.settles.is_there;
+    is_captured = s.settles.is_captured;
+    is_it = s.settles.is_it;
+    settles = s.settles.settles;
+  }
+
+  settles_so : (variable : ℕ) → SettlesBy given own calls number (with_table seen credits) b variable
+      → SettlesSome body rows variable
+  settles_so variable h = record {
+    place = h.place;
+    settles = record {
+      found = h.found;
+      is_there = h.is_of_body;
+      is_captured = h.is_captured;
+      is_it = h.is_it;
+      settles =
+          subst (λ o. SettlesIn (checked paths (flags_of_body own b) o) rows h.place h.found) (same_order h.certified)
+          (subst (λ r. SettlesIn (checked paths (flags_of_body own b) h.certified.order) r h.place h.found)
+          (same_rows h.certified) h.settles);
+    };
+  }
+
+  -- in memory
+  module _ (there : CheckedBody) (same : there ≡ body) (result : Bool) (tests : IsTrue result ↔ Holds there rows) where
+    pub found_none : result ≡ false → IsFound given own calls number (with_table seen credits) b None
+    found_none e c =
+        let yes = tests.1 (subst (λ x. Holds x rows) (sym same) (its_holds c)) in
+        let bad : true ≡ false = sym yes ∙ e in
+        cc
+
+    pub found_some : result ≡ true → (numbers : List ℕ)
+        → ((variable : ℕ) → (is_among numbers variable ≡ true) ↔ SettlesSome there rows variable)
+        → IsFound given own calls number (with_table seen credits) b (Some numbers)
+    found_some e numbers settled =
+        let h = subst (λ x. Holds x rows) same (tests.0 e) in (
+          certified h,
+          λ variable. (
+            λ k. settled_so h variable (subst (λ x. SettlesSome x rows variable) same ((settled variable).0 k)),
+            λ k. (settled variable).1 (subst (λ x. SettlesSome x rows variable) (sym same) (settles_so variable k)),
+          ),
+        )
+
+-- the body that is laid out
+module _ (seen : Seen) (b : BodyPlace) (number : ℕ) (told : KeptBody) (tells : TellsBody number seen b told)
+    (kept : KeptGraph) (is : IsOrderedGraph (code_in seen b) kept) (laid : LaidOut) where
+  pub laid_so : LaysOut told.variables.items kept laid → IsLaidOut laid
+  laid_so lays = lays.is_laid_out is.same
+
+  pub same_body : LaysOut told.variables.items kept laid
+      → (own : Flags) (calls : Callee → ℕ → Bool) (credits : Credits) (name : Option (List ℕ))
+      → name ≡ function_name b
+      → body_of laid (promises_in calls credits told.place.at) (flags_of_name own name)
+      ≡ checked (paths_of seen (promises_in calls credits b.at) b) (flags_of_body own b) kept.order.items
+  same_body lays own calls credits name is_name = λ i. record {
+    graph = (ap (λ (k : KeptGraph). events_graph k.graph) lays.is_kept ∙ is.is_graph) i;
+    order = ap (λ (k : KeptGraph). k.order.items) lays.is_kept i;
+    variables = (ap (map variable_view) lays.are_variables ∙ tells.are_variables) i;
+    promises = ap (λ (p : BodyPlace). promises_in calls credits p.at) tells.is_place i;
+    is_claimed = ap (flags_of_name own) is_name i;
+  }

@@ -1,0 +1,15 @@
+mod BareFiles
+mod BelievedFlags
+mod CertifiedBodies
+mod FairCredits
+mod FoundBackward
+mod FoundCertificates
+mod FoundPackages
+mod GivenMaps
+mod OneOrder
+mod OneVerified
+mod OwnPasses
+mod SaidFiles
+mod SaidParts
+mod SettledRows
+mod VerifiedYes

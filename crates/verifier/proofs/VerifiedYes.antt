@@ -1,0 +1,124 @@
+-- Of a package of whose files nothing is said by certificates, what its table knows of functions holds, and no finding
+-- of `check` is to be said of it. So the promise is that of `yes_is_quiet`.
+use Rattle.std.proofs.Common.{◌≡◌, ℕ, ◌+◌, inl, inr, List, [], ◌∷◌, ◌++◌, map, Some, Contains, refl, sym, ap, ◌∙◌, subst}
+use Rattle.std.specs.Prelude.{slice_get}
+use Rattle.checker.specs.CheckerLaws.{HaveOwnPlaces, LeavesNoFault, KeepsClaims, SettlesWhatItSays}
+use Rattle.flow.specs.GraphOfCode.{nodes}
+use Rattle.meaning.proofs.Membership.{contains_here, contains_nil, contains_there, contains_cases, contains_map}
+use Rattle.meaning.specs.BodyEvents.{bodies_of, seen_file, sites_of}
+use Rattle.meaning.specs.Classes.{Promises}
+use Rattle.meaning.specs.Code.{Code, skip, does, leave, then_code, either, repeats, up_to, Occurrence}
+use Rattle.meaning.specs.Mentions.{BodyPlace}
+use Rattle.meaning.specs.Tracked.{Known}
+use Rattle.meaning.specs.TreeOfText.{IsTreeOf}
+use Rattle.meaning.specs.Uses.{Seen, Event}
+use Rattle.meaning_packages.specs.CallsFlags.{FileWithCredits, calls_by}
+use Rattle.meaning_packages.specs.Credits.{AreFairCredits}
+use Rattle.meaning_packages.specs.PathFaults.{paths_of}
+use Rattle.meaning_reports.specs.Loaded.{LoadedPackage, Tables, imported_flags, seen_files, seen_from, trees_of, known_in}
+use Rattle.meaning_runs.proofs.OccurrencePlaces.{occurrences_have_places}
+use Rattle.meaning_runs.proofs.PackageYes.{IsKnown, AreKnownWell, yes_of_a_package_is_quiet_by}
+use Rattle.meaning_runs.specs.OccurrencePlaces.{occurrences}
+use Rattle.meaning_runs.specs.Promise.{AreFairlyCredited, no_file, file_and, AreTreesOfTexts}
+use Rattle.path_faults.proofs.Places.{contains_at, place_of}
+use Rattle.tree.specs.Syntax.{SourceFile}
+use Rattle.verifier.proofs.CertifiedBodies.{nothing_is_found, claims_are_consistent}
+use Rattle.verifier.proofs.FairCredits.{credits_are_fair}
+use Rattle.verifier.proofs.OneVerified.{seen_of}
+use Rattle.verifier.specs.Rules.{GivenByPath, IsVerified, by_certificates}
+use Rattle.verifier.specs.VerifierLaws.{BodiesHaveOwnPlaces, SaysNothing, YesOfVerifiedIsQuiet}
+
+-- Places of nodes
+
+nodes_are : {E : Type 0} (c : Code E) → nodes c ≡ occurrences c
+nodes_are skip = refl
+nodes_are (does o) = refl
+nodes_are (leave w) = refl
+nodes_are (then_code a b) = λ i. nodes_are b i ++ nodes_are a i
+nodes_are (either a b) = λ i. nodes_are b i ++ nodes_are a i
+nodes_are (repeats a) = nodes_are a
+nodes_are (up_to w a) = nodes_are a
+
+places_of_text : (text : List ℕ) (tree : SourceFile) (known : Known) → IsTreeOf text tree
+    → BodiesHaveOwnPlaces (seen_file known tree)
+places_of_text text tree known is b promises there n m o p is_o is_p same same_order =
+    let code = (paths_of (seen_file known tree) promises b).code in
+    (occurrences_have_places Event text tree known b (sites_of (seen_file known tree) b.at) is there).one_each n m o p
+    (ap (λ os. slice_get os n) (sym (nodes_are code)) ∙ is_o) (ap (λ os. slice_get os m) (sym (nodes_are code)) ∙ is_p)
+    same same_order
+
+-- each file is a tree that is looked at
+pub tree_of : (known : ℕ → Known) (n : ℕ) (trees : List SourceFile) (seen : Seen) → Contains (seen_from known n trees) seen
+    → (tree : SourceFile) × Contains trees tree × (k : ℕ) × (seen_file (known k) tree ≡ seen)
+tree_of known n [] seen h = absurd (contains_nil seen h)
+tree_of known n (tree ∷ trees) seen h =
+    elim (contains_cases (seen_file (known n) tree) seen (seen_from known (n + 1) trees) h) [
+      | inl same ↦ (tree, contains_here tree trees, n, same)
+      | inr later ↦
+          let w = tree_of known (n + 1) trees seen later in
+          (w.0, contains_there tree w.0 trees w.1, w.2, w.3)
+    ]
+
+-- Credits
+
+all_fair : (files : List FileWithCredits)
+    → ((file : FileWithCredits) → Contains files file → AreFairCredits file.seen file.credits)
+    → AreFairlyCredited (seen_of files) files
+all_fair [] fair = no_file
+all_fair (f ∷ fs) fair =
+    file_and refl (fair f (contains_here f fs)) (all_fair fs (λ file h. fair file (contains_there f file fs h)))
+
+-- Packages
+
+module _ (leaves : LeavesNoFault) (keeps : KeepsClaims) (settles : SettlesWhatItSays) (given : GivenByPath) where
+  known_by_certificates : AreKnownWell (by_certificates given)
+  known_by_certificates ps tables i q is none its signatures said_none texts =
+      let files = its.files in
+      let flags = (tables q.path).calls in
+      let verified = its.is_verified in
+      record {
+        known = record {
+          has_no_whole_fault = none;
+          files = files;
+          are_files = subst (λ seens. AreFairlyCredited seens files) verified.are_seen (all_fair files fair);
+          are_flags =
+              claims_are_consistent keeps (given q.path) files (imported_flags q tables) flags verified.are_flags own_places
+              nothing;
+          are_signatures = signatures;
+        };
+        none = λ number file x there finding.
+            nothing_is_found leaves (given q.path) flags (calls_by flags (imported_flags q tables)) number file
+            (own_places file (contains_at files number file there)) (nothing number file there) x finding;
+      }
+    where
+      fair : (file : FileWithCredits) → Contains its.files file → AreFairCredits file.seen file.credits
+      fair file h =
+          let w = place_of its.files file h in
+          credits_are_fair settles (given q.path) (tables q.path).calls
+          (calls_by (tables q.path).calls (imported_flags q tables)) w.0 file (its.is_verified.are_credits w.0 file w.1)
+
+      own_places : (file : FileWithCredits) → Contains its.files file → BodiesHaveOwnPlaces file.seen
+      own_places file h =
+          let among = contains_map (λ (f : FileWithCredits). f.seen) its.files file h in
+          let w = tree_of (known_in ps tables q) 0 (trees_of q) file.seen
+          (subst (λ seens. Contains seens file.seen) its.is_verified.are_seen among) in
+          let text = texts w.0 w.1 in
+          subst BodiesHaveOwnPlaces w.3 (places_of_text text.0 w.0 (known_in ps tables q w.2) text.1)
+
+      nothing : (number : ℕ) (file : FileWithCredits) → slice_get its.files number ≡ Some file
+          → SaysNothing (given q.path) (tables q.path).calls
+          (calls_by (tables q.path).calls (imported_flags q tables)) number file
+      nothing number file there x said = said_none x (record {
+        loaded = q;
+        files = its.files;
+        flags = (tables q.path).calls;
+        is_verified = its.is_verified;
+        number = number;
+        file = file;
+        is_file = there;
+        is_said = said;
+      })
+
+pub yes_of_verified_is_quiet : LeavesNoFault → KeepsClaims → SettlesWhatItSays → YesOfVerifiedIsQuiet
+yes_of_verified_is_quiet leaves keeps settles given =
+    yes_of_a_package_is_quiet_by (by_certificates given) (known_by_certificates leaves keeps settles given)

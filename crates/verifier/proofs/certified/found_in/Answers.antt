@@ -1,0 +1,48 @@
+use Rattle.std.proofs.Common.{◌≡◌, option_map, ap, ◌∙◌, subst}
+use Rattle.calls_flags.specs.Claims.{function_name}
+use Rattle.calls_flags.specs.KnownCalls.{is_called, known_calls}
+use Rattle.checker.specs.LaidOutViews.{LaysOut, body_of}
+use Rattle.credits.specs.CreditViews.{has}
+use Rattle.meaning_packages.specs.Credits.{promises_in}
+use Rattle.verifier.proofs.FoundCertificates.{found_none, found_some, laid_so, same_body}
+use Rattle.verifier.specs.GivenViews.{rows_view}
+use Rattle.verifier.specs.Verified.{flags_of_name}
+use Rattle.verifier.proofs.certified.found_in.Goals as goal
+
+pub returns-then-not-holds : goal.returns-then-not-holds
+returns-then-not-holds c = λ number seen b tells is few g given.
+    let own = is_called c.args.grounds.calls.own.now in
+    let calls = known_calls c.args.grounds.calls in
+    let credits = has c.args.credits.now in
+    let kept = c.args.kept.now in
+    let told = c.args.given.body.now in
+    let laid = c.in_ok-laid_out.laid_out in
+    let name = option_map (λ n. n.now) c.function_name.result in
+    let lays : LaysOut told.variables.items kept laid =
+    subst (λ vs. LaysOut vs kept laid) c.deref.ensures.value c.in_ok-laid_out.ensures in
+    let is_name : name ≡ function_name b = c.function_name.ensures ∙ ap function_name tells.is_place in
+    found_none g own calls number seen credits b few (rows_view c.args.given.rows.now) given kept is
+    (body_of laid (promises_in calls credits told.place.at) (flags_of_name own name))
+    (same_body seen b number told tells kept is laid lays own calls credits name is_name) c.holds.result
+    (c.holds.ensures (laid_so seen b number told tells kept is laid lays)) c.if-not-holds.true
+
+pub returns : goal.returns
+returns c = λ number seen b tells is few g given.
+    let own = is_called c.args.grounds.calls.own.now in
+    let calls = known_calls c.args.grounds.calls in
+    let credits = has c.args.credits.now in
+    let kept = c.args.kept.now in
+    let told = c.args.given.body.now in
+    let laid = c.in_ok-laid_out.laid_out in
+    let name = option_map (λ n. n.now) c.function_name.result in
+    let lays : LaysOut told.variables.items kept laid =
+    subst (λ vs. LaysOut vs kept laid) c.deref.ensures.value c.in_ok-laid_out.ensures in
+    let is_name : name ≡ function_name b = c.function_name.ensures ∙ ap function_name tells.is_place in
+    let promises = promises_in calls credits told.place.at in
+    let claims = flags_of_name own name in
+    let is_laid = laid_so seen b number told tells kept is laid lays in
+    found_some g own calls number seen credits b few (rows_view c.args.given.rows.now) given kept is
+    (body_of laid promises claims)
+    (same_body seen b number told tells kept is laid lays own calls credits name is_name) c.holds.result
+    (c.holds.ensures is_laid) c.if-not-holds.false c.in_ok-settled_captured.field-0.items
+    (c.in_ok-settled_captured.ensures is_laid promises claims)

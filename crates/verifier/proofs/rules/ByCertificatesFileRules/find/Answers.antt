@@ -1,0 +1,36 @@
+use Rattle.std.proofs.Common.{◌≡◌, map, sym, ap, ◌∙◌, subst}
+use Rattle.calls_flags.specs.FilesBodies.{TellAll, with_all_credits}
+use Rattle.calls_flags.specs.ToldFiles.{TellAllSeen}
+use Rattle.calls_flags.specs.KnownCalls.{is_called, flags_by_path}
+use Rattle.facts.specs.FactViews.{facts_by_name}
+use Rattle.meaning_reports.specs.Loaded.{seen_files}
+use Rattle.verifier.proofs.BareFiles.{all_told, as_seen}
+use Rattle.verifier.proofs.FoundPackages.{have_facts, are_flags, each}
+use Rattle.verifier.specs.GivenViews.{given_by, given_of, package_by, TellsGiven}
+use Rattle.verifier.proofs.rules.ByCertificatesFileRules.find.Goals as goal
+
+pub returns : goal.returns
+returns c = λ ps tables i p is_p loaded around told none.
+    let by = given_by c.args.self.now in
+    let seens = seen_files ps tables p in
+    let are_files = subst (TellAllSeen seens) (sym c.deref.ensures.value) told.are_files in
+    let bare = c.in_ok-files.ensures seens are_files in
+    let fs = with_all_credits seens c.in_ok-files.files.items in
+    let seen = as_seen seens c.in_ok-files.files.items bare.are_as_many in
+    let told_all = all_told seens c.in_ok-files.files.items bare in
+    let to_claim = subst (TellAll fs) (sym c.deref-2.ensures.value) told_all in
+    let to_say = subst (TellAll fs) (sym c.deref-3.ensures.value) told_all in
+    let given : TellsGiven (by p.path) c.in_ok-given.given =
+    subst (λ o. TellsGiven (given_of o) c.in_ok-given.given) (c.of.ensures ∙ ap (package_by c.args.self.now) (c.as_str.ensures.value ∙ sym loaded.is_path))
+    c.in_ok-given.ensures in
+    let flags = is_called c.in_ok-called.called in
+    let imported = flags_by_path c.args.around.calls.now in
+    let claimed = c.in_ok-called.ensures fs to_claim (have_facts ps tables p (facts_by_name c.args.told.now.signatures)
+    told.are_signatures fs seen) (by p.path) given in
+    let said = c.in_ok-diagnostics.ensures fs to_say (by p.path) given in
+    record {
+      are_flags = are_flags by ps tables i p is_p flags imported around.are_calls fs seen claimed
+          c.in_ok-diagnostics.diagnostics.items said;
+      each = each by ps tables i p is_p flags imported around.are_calls fs seen claimed
+          c.in_ok-diagnostics.diagnostics.items said;
+    }

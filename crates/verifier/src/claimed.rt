@@ -1,0 +1,72 @@
+//! Which parameters the functions of a package are known to call, by its certificates.
+
+ghost use Rattle.std.specs.Prelude.{◌≡◌, List, IfOk, map};
+ghost use Rattle.calls_flags.specs.Claims.{claim_view, HaveFacts};
+ghost use Rattle.calls_flags.specs.FilesBodies.{TellAll};
+ghost use Rattle.calls_flags.specs.KnownCalls.{is_called};
+ghost use Rattle.facts.specs.FactViews.{facts_by_name};
+ghost use Rattle.meaning_packages.specs.CallsFlags.{FileWithCredits};
+ghost use Rattle.verifier.specs.BelievedClaims.{believes, is_believed};
+ghost use Rattle.verifier.specs.GivenViews.{TellsGiven, claim_in, params_at};
+ghost use Rattle.verifier.specs.Verified.{AreClaimed, Given as MeantGiven};
+
+use crate::given::{GivenClaims, GivenPackage};
+use calls_flags::{Called, Claim, FileBodies, called_by, find_claims};
+use facts::{Table, TrackedType};
+use std::alloc::{AllocError, Global};
+
+/// Whether the claim is given, with the type that the parameter has.
+fn is_believed<'a>(table: &Table<'a>, given: &GivenClaims<'_>, claim: Claim<'a>) -> bool
+    ensures { result ≡ is_believed (facts_by_name table.now) (λ name k. claim_in (params_at given.now name) k)
+        (claim_view claim.entry) }
+{
+    let parameter = claim.parameter;
+    let Some(cancel_type) = given.of(parameter.name, parameter.position) else {
+        return false;
+    };
+    match table.facts(parameter.name) {
+        Some(facts) => facts.takes(TrackedType::Cancel(cancel_type), parameter.position),
+        None => false,
+    }
+}
+
+/// Those of the claims that are believed.
+fn believed<'a>(
+    alloc: Global,
+    table: &Table<'a>,
+    given: &GivenClaims<'_>,
+    claims: &[Claim<'a>],
+) -> Result<Vec<Claim<'a>>, AllocError>
+    ensures { IfOk result (λ kept. map claim_view kept.items ≡ believes (facts_by_name table.now)
+        (λ name k. claim_in (params_at given.now name) k) (map claim_view claims.now)) }
+{
+    let mut kept = Vec::new(alloc);
+    for claim in claims {
+        if is_believed(table, given, *claim) {
+            kept.push(*claim)?;
+        }
+    }
+    Ok(kept)
+}
+
+/// Finds which parameters the functions of a package are known to call, where they have these facts: those of which it
+/// may be known, and of which it is claimed, with their types.
+///
+/// # Errors
+///
+/// Memory was refused.
+pub fn find_claimed<'a>(
+    alloc: Global,
+    table: &Table<'a>,
+    given: &GivenPackage<'_>,
+    files: &[FileBodies<'_, 'a>],
+) -> Result<Called<'a>, AllocError>
+    ensures { IfOk result (λ called. (fs : List FileWithCredits) → TellAll fs files.now
+        → HaveFacts (facts_by_name table.now) fs
+        → (g : MeantGiven) → TellsGiven g given.now
+        → AreClaimed fs g (is_called called)) }
+{
+    let claims = find_claims(alloc, table, files)?;
+    let kept = believed(alloc, table, &given.claims, &claims)?;
+    called_by(alloc, &kept)
+}

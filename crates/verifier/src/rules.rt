@@ -1,0 +1,39 @@
+//! The rules of `verify` for the files of a package.
+
+ghost use Rattle.verifier.specs.GivenViews.{given_by};
+ghost use Rattle.verifier.specs.Rules.{by_certificates};
+
+use crate::bare_files::bare_files;
+use crate::by_certificates::ByCertificates;
+use crate::claimed::find_claimed;
+use crate::given::given_package;
+use crate::said::find_said;
+use all_packages::{Around, FileRules, FoundFiles, ToldPackage};
+use calls_flags::KnownCalls;
+use std::alloc::{AllocError, Global};
+use whole_packages::LoadedPackage;
+
+impl FileRules for ByCertificates<'_> {
+    ghost rules = { λ by. by_certificates (given_by by) };
+
+    fn find<'a>(
+        &self,
+        alloc: Global,
+        loaded: &'a LoadedPackage,
+        told: &ToldPackage<'a>,
+        around: Around<'_, 'a>,
+    ) -> Result<FoundFiles<'a>, AllocError> {
+        let given = given_package(alloc, self.of(loaded.path.as_str()))?;
+        let files = bare_files(alloc, &told.files)?;
+        let called = find_claimed(alloc, &told.signatures, &given, &files)?;
+        let calls = KnownCalls {
+            own: &called,
+            imported: around.calls,
+        };
+        let diagnostics = find_said(alloc, &given, calls, &files)?;
+        Ok(FoundFiles {
+            diagnostics,
+            called,
+        })
+    }
+}
