@@ -1,7 +1,9 @@
-"""What bench/lexer, bench/parser and bench/check share: Go texts, and how programs are built and timed."""
+"""What bench/lexer, bench/parser, bench/check and bench/damaged share: Go texts, packages, and how programs are built and
+timed."""
 
 import os
 import random
+import re
 import shutil
 import subprocess
 import sys
@@ -73,6 +75,40 @@ def generate_go(folder, size):
         names.append(write(folder, f"go{len(names)}.go", text))
         made += len(text)
     return names
+
+
+def go_root():
+    """The folder of Go's own library, or None where the go command is not installed."""
+    if shutil.which("go") is None:
+        return None
+    return os.path.join(subprocess.check_output(["go", "env", "GOROOT"], text=True).strip(), "src")
+
+
+def is_read(name):
+    return name.endswith(".go") and not name.endswith("_test.go")
+
+
+def packages_below(top):
+    """The words PATH=DIR of the folders below this one that have Go files, and the bytes of these files."""
+    words, size = [], 0
+    for folder, folders, names in os.walk(os.path.realpath(top)):
+        folders[:] = sorted(one for one in folders if one not in ("testdata", "vendor") and one[0] not in "._")
+        files = [os.path.join(folder, name) for name in names if is_read(name)]
+        if files:
+            words.append(f"{os.path.relpath(folder, os.path.realpath(top))}={folder}")
+            size += sum(map(os.path.getsize, files))
+    return words, size
+
+
+def answer(words, **how):
+    """What a command answers: its status, and the bytes on its two streams."""
+    done = subprocess.run(words, stdout=subprocess.PIPE, stderr=subprocess.PIPE, **how)
+    return done.returncode, done.stdout, done.stderr
+
+
+def verdicts(report):
+    """The verdict, yes or no, of each import path in a report."""
+    return {path: verdict.decode() for verdict, path in re.findall(rb"^(yes|no) (.*)$", report, re.M)}
 
 
 def write(folder, name, data):

@@ -158,19 +158,7 @@ module _ (rules : Rules) (ps : List LoadedPackage) (kept : List KeptPackage) (ra
 -- The report
 
 module _ (rules : Rules) (ps : List LoadedPackage) (kept : List KeptPackage) (judged : JudgedByPath)
-    (marks : List Bool) (are : AreAllJudged rules ps kept judged marks) (found : List Judged)
-    (same : map Some found ≡ map judged (map (λ p. p.path) ps)) where
-  -- what was said of a package
-  pub said_of : (i : ℕ) (p : LoadedPackage) (j : Judged) → slice_get ps i ≡ Some p → slice_get found i ≡ Some j
-      → judged p.path ≡ Some j
-  said_of i p j is is_said =
-      let there : slice_get (map Some found) i ≡ Some (Some j) = slice_get-map Some found i ∙ ap (option_map Some) is_said in
-      let path : slice_get (map (λ (q : LoadedPackage). q.path) ps) i ≡ Some p.path =
-      slice_get-map (λ (q : LoadedPackage). q.path) ps i ∙ ap (option_map (λ (q : LoadedPackage). q.path)) is in
-      let here : slice_get (map judged (map (λ (q : LoadedPackage). q.path) ps)) i ≡ Some (judged p.path) =
-      slice_get-map judged (map (λ (q : LoadedPackage). q.path) ps) i ∙ ap (option_map judged) path in
-      same_Some (judged p.path) (Some j) (sym here ∙ (ap (λ xs. slice_get xs i) (sym same) ∙ there))
-
+    (marks : List Bool) (are : AreAllJudged rules ps kept judged marks) where
   right : AreRight rules ps kept judged marks
   right = are.are_right
 
@@ -178,7 +166,8 @@ module _ (rules : Rules) (ps : List LoadedPackage) (kept : List KeptPackage) (ju
       → IsJudgment rules ps (tables_of judged) i p j
   is_judgment i p j is e = right.are_judgments i p j is e (tables_of judged) (they_agree rules ps kept judged marks right)
 
-  are_tables : AreTablesBy rules.are_flags ps (tables_of judged)
+  -- the tables of what was judged are those of the packages
+  pub are_tables : AreTablesBy rules.are_flags ps (tables_of judged)
   are_tables = record {
     of_package = λ i p is.
         let j = some_from (judged p.path) (are.were_judged i p is) in
@@ -191,37 +180,49 @@ module _ (rules : Rules) (ps : List LoadedPackage) (kept : List KeptPackage) (ju
       other path none None e = record { no_signature = λ name. refl; no_flag = λ name k. refl }
       other path none (Some j) e = let g = right.are_given path j e in absurd (none g.0 g.1 g.2 g.3)
 
-  -- what is said at a place
-  said_at : (i : ℕ) (said : Said) → slice_get (map said_view found) i ≡ Some said
-      → (j : Judged) × (slice_get found i ≡ Some j) × (said_view j ≡ said)
-  said_at i said is = by (slice_get found i) refl
-    where
-      by : (o : Option Judged) → slice_get found i ≡ o
-          → (j : Judged) × (slice_get found i ≡ Some j) × (said_view j ≡ said)
-      by None e = absurd (none-some said (sym (slice_get-map said_view found i ∙ ap (option_map said_view) e) ∙ is))
-      by (Some j) e =
-          (j, e, same_Some (said_view j) said (sym (slice_get-map said_view found i ∙ ap (option_map said_view) e) ∙ is))
+  module _ (found : List Judged) (same : map Some found ≡ map judged (map (λ p. p.path) ps)) where
+    -- what was said of a package
+    pub said_of : (i : ℕ) (p : LoadedPackage) (j : Judged) → slice_get ps i ≡ Some p → slice_get found i ≡ Some j
+        → judged p.path ≡ Some j
+    said_of i p j is is_said =
+        let there : slice_get (map Some found) i ≡ Some (Some j) = slice_get-map Some found i ∙ ap (option_map Some) is_said in
+        let path : slice_get (map (λ (q : LoadedPackage). q.path) ps) i ≡ Some p.path =
+        slice_get-map (λ (q : LoadedPackage). q.path) ps i ∙ ap (option_map (λ (q : LoadedPackage). q.path)) is in
+        let here : slice_get (map judged (map (λ (q : LoadedPackage). q.path) ps)) i ≡ Some (judged p.path) =
+        slice_get-map judged (map (λ (q : LoadedPackage). q.path) ps) i ∙ ap (option_map judged) path in
+        same_Some (judged p.path) (Some j) (sym here ∙ (ap (λ xs. slice_get xs i) (sym same) ∙ there))
 
-  pub is_report : ((i : ℕ) (p : LoadedPackage) → slice_get ps i ≡ Some p
-      → (k : KeptPackage) × (slice_get kept i ≡ Some k) × (p.path ≡ string_bytes k.path))
-      → IsReportBy rules ps (map said_view found)
-  is_report paths = record {
-    tables = tables_of judged;
-    are_tables = are_tables;
-    is_as_long =
-        let found_size = length-map found said_view in
-        let all_size = length-map found Some in
-        let path_size = length-map ps (λ (p : LoadedPackage). p.path) in
-        let judged_size = length-map (map (λ (p : LoadedPackage). p.path) ps) judged in
-        let same_size = ap length same in
-        omega (arith, found_size, all_size, path_size, judged_size, same_size);
-    of_package = λ i p said is is_said.
-        let j = said_at i said is_said in
-        let e = said_of i p j.0 is j.1 in
-        let k = paths i p is in
-        let told = right.are_told i p k.0 j.0 is k.1 e in (
-          ap (λ (s : Said). s.path) (sym j.2) ∙ (told.is_path ∙ sym k.2),
-          subst (λ (s : Said). AreFindingsBy rules ps (tables_of judged) i s.entries) j.2 (is_judgment i p j.0 is e).are_findings,
-          ap (λ (s : Said). s.table) (sym j.2) ∙ ap table_or_none (sym e),
-        );
-  }
+    -- what is said at a place
+    said_at : (i : ℕ) (said : Said) → slice_get (map said_view found) i ≡ Some said
+        → (j : Judged) × (slice_get found i ≡ Some j) × (said_view j ≡ said)
+    said_at i said is = by (slice_get found i) refl
+      where
+        by : (o : Option Judged) → slice_get found i ≡ o
+            → (j : Judged) × (slice_get found i ≡ Some j) × (said_view j ≡ said)
+        by None e = absurd (none-some said (sym (slice_get-map said_view found i ∙ ap (option_map said_view) e) ∙ is))
+        by (Some j) e =
+            (j, e, same_Some (said_view j) said (sym (slice_get-map said_view found i ∙ ap (option_map said_view) e) ∙ is))
+
+    pub is_report : ((i : ℕ) (p : LoadedPackage) → slice_get ps i ≡ Some p
+        → (k : KeptPackage) × (slice_get kept i ≡ Some k) × (p.path ≡ string_bytes k.path))
+        → IsReportBy rules ps (map said_view found)
+    is_report paths = record {
+      tables = tables_of judged;
+      are_tables = are_tables;
+      is_as_long =
+          let found_size = length-map found said_view in
+          let all_size = length-map found Some in
+          let path_size = length-map ps (λ (p : LoadedPackage). p.path) in
+          let judged_size = length-map (map (λ (p : LoadedPackage). p.path) ps) judged in
+          let same_size = ap length same in
+          omega (arith, found_size, all_size, path_size, judged_size, same_size);
+      of_package = λ i p said is is_said.
+          let j = said_at i said is_said in
+          let e = said_of i p j.0 is j.1 in
+          let k = paths i p is in
+          let told = right.are_told i p k.0 j.0 is k.1 e in (
+            ap (λ (s : Said). s.path) (sym j.2) ∙ (told.is_path ∙ sym k.2),
+            subst (λ (s : Said). AreFindingsBy rules ps (tables_of judged) i s.entries) j.2 (is_judgment i p j.0 is e).are_findings,
+            ap (λ (s : Said). s.table) (sym j.2) ∙ ap table_or_none (sym e),
+          );
+    }

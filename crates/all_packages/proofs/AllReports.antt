@@ -7,18 +7,18 @@ use Rattle.std.proofs.lemmas.Option.{none-some, slice_get_within}
 use Rattle.imports.specs.Ranks.{HasRank, IsOrder}
 use Rattle.imports.specs.Settling.{place_from}
 use Rattle.whole_packages.specs.declared.loaded_package.LoadedPackage.{LoadedPackage as KeptPackage}
-use Rattle.whole_packages.specs.LoadedViews.{TellPackages}
+use Rattle.whole_packages.specs.LoadedViews.{HaveDistinctPaths, TellPackages}
 use Rattle.whole_packages.specs.WholeEntries.{is_set, TellsOrder}
 use Rattle.meaning_reports.proofs.ImportsOf.{list_item}
 use Rattle.meaning_reports.specs.Loaded.{LoadedPackage, import_list}
 use Rattle.meaning_reports.specs.PackageReports.{Rules}
 use Rattle.all_packages.specs.declared.judged.Judged.{Judged}
 use Rattle.all_packages.specs.declared.given.Given.{Given}
-use Rattle.all_packages.specs.Progress.{JudgedByPath, AreRight, AreAllJudged, TellsGiven, kept_paths}
+use Rattle.all_packages.specs.Progress.{JudgedByPath, AreAllIn, AreDistinct, AreRight, AreAllJudged, TellsGiven, kept_paths}
 use Rattle.all_packages.specs.Reports.{AreReportsBy}
 use Rattle.all_packages.proofs.AllPackages.{said_of, is_report}
 use Rattle.all_packages.proofs.KeptNext.{package_of}
-use Rattle.all_packages.proofs.PathsInOrder.{paths_of, same_paths, kept_of}
+use Rattle.all_packages.proofs.PathsInOrder.{all_in, are_distinct, paths_of, same_paths, kept_of}
 
 pub none_right : (rules : Rules) (ps : List LoadedPackage) (given : Given) → TellsGiven ps given
     → (judged : JudgedByPath) (marks : List Bool)
@@ -82,3 +82,17 @@ reports_so rules ps kept tell judged marks are found same = record {
   where
     here : map Some found ≡ map judged (paths_of ps)
     here = same ∙ ap (map judged) (sym (same_paths ps kept tell))
+
+-- the same in the order of the packages
+pub in_order_so : (rules : Rules) (ps : List LoadedPackage) (kept : List KeptPackage) → TellPackages ps kept
+    → HaveDistinctPaths ps
+    → (judged : JudgedByPath) (marks : List Bool)
+    → AreAllJudged rules ps kept judged marks
+    → (found : List Judged)
+    → (AreDistinct (kept_paths kept) → AreAllIn judged (kept_paths kept) → map Some found ≡ map judged (kept_paths kept))
+    → AreReportsBy rules ps kept found
+in_order_so rules ps kept tell distinct judged marks all found same =
+    let paths = same_paths ps kept tell in
+    reports_so rules ps kept tell judged marks all found
+    (same (subst AreDistinct paths (are_distinct ps distinct))
+    (subst (AreAllIn judged) paths (all_in ps judged all.were_judged)))

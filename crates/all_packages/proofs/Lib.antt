@@ -1,4 +1,4 @@
-mod AllPackages
+pub mod AllPackages
 mod AllReports
 mod FoundPackages
 mod ImportedTables

@@ -9,6 +9,7 @@ use Rattle.whole_packages.specs.declared.loaded_package.LoadedPackage.{LoadedPac
 use Rattle.whole_packages.specs.LoadedViews.{TellsPackage, TellPackages, HaveDistinctPaths}
 use Rattle.table_json.specs.declared.table.Table.{Table}
 use Rattle.table_json.specs.Tables.{Entry, entries_of}
+use Rattle.tree.specs.View.{file_syntax}
 use Rattle.meaning_reports.specs.Loaded.{LoadedPackage, PackageTable, Tables, means_in, trees_of}
 use Rattle.meaning_reports.specs.PackageTables.{IsTable, empty, full}
 use Rattle.all_packages.specs.declared.judged.Judged.{Judged}
@@ -91,6 +92,22 @@ known_names ps tables i p table (empty x whole none) name known =
 known_names ps tables i p table (full flags none its same calls) name known =
     known_is_declared name (means_in ps p) (trees_of p) (subst (λ o. is_some o ≡ true) (same name) known)
 
+-- what is told of the functions whose names a package declares is its table
+pub is_plain : (ps : List LoadedPackage) (tables : Tables) (i : ℕ) (p : LoadedPackage) (k : KeptPackage)
+    (table : PackageTable) (entries : List Entry) → TellsPackage p k
+    → IsTable ps tables i p table
+    → TellsNames (declared_names (map file_syntax k.trees.items)) table entries
+    → IsPlain table entries
+is_plain ps tables i p k table entries tells is_table told = record {
+  names = told.names;
+  rise = told.in_order.rise;
+  are_all = λ name known.
+      told.in_order.are_there name
+      (subst (λ trees. Contains (declared_names trees) name) tells.are_trees
+      (known_names ps tables i p table is_table name known));
+  are_told = told.are_told;
+}
+
 module _ (kept : List KeptPackage) (said : List Judged) (ts : List Table) (are : AreTablesFrom kept 0 said ts) where
   module _ (ps : List LoadedPackage) (tell : TellPackages ps kept) (reports : AreReports ps kept said) where
     plain_at : (i : ℕ) (j : Judged) (t : Table) (p : LoadedPackage) (k : KeptPackage) → slice_get said i ≡ Some j
@@ -99,16 +116,9 @@ module _ (kept : List KeptPackage) (said : List Judged) (ts : List Table) (are :
         → TellsPackage p k
         → TellsNames (names_of_kept (slice_get kept i)) (table_view j) (entries_of t)
         → IsPlain (table_view j) (entries_of t)
-    plain_at i j t p k is_j is_k is_p tells told = record {
-      names = told.names;
-      rise = told.in_order.rise;
-      are_all = λ name known.
-          told.in_order.are_there name
-          (subst (λ o. Contains (names_of_kept o) name) (sym is_k)
-          (subst (λ trees. Contains (declared_names trees) name) tells.are_trees
-          (known_names ps reports.is_report.tables i p (table_view j) is_table name known)));
-      are_told = told.are_told;
-    }
+    plain_at i j t p k is_j is_k is_p tells told =
+        is_plain ps reports.is_report.tables i p k (table_view j) (entries_of t) tells is_table
+        (subst (λ o. TellsNames (names_of_kept o) (table_view j) (entries_of t)) is_k told)
       where
         here : slice_get (map said_view said) i ≡ Some (said_view j)
         here = slice_get-map said_view said i ∙ ap (λ o. option_map said_view o) is_j

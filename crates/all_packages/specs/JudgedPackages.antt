@@ -5,7 +5,7 @@ use Rattle.meaning_reports.specs.Loaded.{LoadedPackage, Tables, imported_flags}
 use Rattle.meaning_reports.specs.PackageReports.{Rules, by_paths}
 use Rattle.all_packages.specs.declared.packages.JudgedBy.{JudgedBy}
 use Rattle.all_packages.specs.declared.packages.JudgedPackages.{JudgedPackages}
-use Rattle.all_packages.specs.Judgments.{IsJudgment}
+use Rattle.all_packages.specs.Judgments.{table_view, IsJudgment}
 use Rattle.all_packages.specs.Progress.{judged_in, marks_in, tables_of, AreAllJudged, TellsGiven}
 use Rattle.all_packages.specs.ToldPackages.{IsToldIf}
 
@@ -21,10 +21,11 @@ AreAll = AreAllBy by_paths
 abbrev pub tables_in : JudgedPackages → Tables
 tables_in all = tables_of (judged_in all.progress)
 
--- what is said of the package, what was told of it, and what its imports' functions are known to call
+-- what is said of the package, its table, what was told of it, and what its imports' functions are known to call
 pub record IsJudgedBy (ps : List LoadedPackage) (all : JudgedPackages) (i : ℕ) (p : LoadedPackage) (found : JudgedBy)
     : Type 0 where
   pub is_judgment : IsJudgment by_paths ps (tables_in all) i p found.judged.now
+  pub is_table : tables_in all p.path ≡ table_view found.judged.now
   pub is_told : IsToldIf ps (tables_in all) i p found.told
   pub are_calls : (path name : List ℕ) (k : ℕ)
       → flags_by_path found.calls path name k ≡ imported_flags p (tables_in all) path name k

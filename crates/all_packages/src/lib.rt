@@ -21,5 +21,5 @@ pub use judged::{Around, Judged, PackageTable};
 pub use package_names::names_of_packages;
 pub use packages::{JudgedBy, JudgedPackages, judge_packages, judge_packages_by};
 pub use reports::{Report, whole_report, whole_report_by};
-pub use tables::final_tables;
+pub use tables::{final_tables, package_table};
 pub use told_package::ToldPackage;

@@ -270,6 +270,17 @@ impl<'a> JudgedPackages<'a> {
             None => Ok(None),
         }
     }
+
+    /// What is said of each package, in their order, and what is known of its functions.
+    pub(crate) fn into_judged(self, alloc: Global) -> Result<Vec<Judged<'a>>, AllocError>
+        ensures { IfOk result (λ found. (ps : List MeantPackage) → TellPackages ps self.entry.given.packages.now
+            → HaveDistinctPaths ps → AreAll ps self.entry
+            → AreReports ps self.entry.given.packages.now found.items) }
+    {
+        let JudgedPackages { given, progress } = self;
+        let Progress { judged, .. } = progress;
+        in_their_order(alloc, given.packages, judged)
+    }
 }
 
 /// Judges packages of different paths, and their files by these rules: what is to be said of each, in their order, and

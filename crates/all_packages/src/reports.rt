@@ -1,14 +1,17 @@
 //! What is said of packages that were judged, and its text.
 
-ghost use Rattle.std.specs.Prelude.{◌≡◌, IfOk, map};
+ghost use Rattle.std.specs.Prelude.{◌≡◌, List, IfOk, map};
 ghost use Rattle.std.specs.List.{list_all};
-ghost use Rattle.all_packages.specs.Reports.{is_yes, report_in, TellsReport, TellsReportBy};
+ghost use Rattle.all_packages.specs.JudgedPackages.{AreAll};
+ghost use Rattle.all_packages.specs.Reports.{is_yes, report_in, IsTold, TellsReport, TellsReportBy};
+ghost use Rattle.meaning_reports.specs.Loaded.{LoadedPackage as MeantPackage};
 ghost use Rattle.report.specs.ReportText.{report_text};
+ghost use Rattle.whole_packages.specs.LoadedViews.{HaveDistinctPaths, TellPackages};
 
 use crate::by_paths::ByPaths;
 use crate::file_rules::FileRules;
 use crate::judged::Judged;
-use crate::packages::check_by;
+use crate::packages::{JudgedPackages, check_by};
 use report::{PackageReport, PutFault, Sink, write_text};
 use std::alloc::{AllocError, Global};
 use whole_packages::LoadedPackage;
@@ -87,6 +90,32 @@ pub struct Report {
     pub yes: bool,
 }
 
+/// The report of packages of which this is said.
+fn told(alloc: Global, judged: Vec<Judged<'_>>) -> Result<Report, AllocError>
+    ensures { IfOk result (IsTold judged.entry.items) }
+{
+    let reports = reports_of(alloc, judged)?;
+    let text = text_of(alloc, &reports)?;
+    let yes = are_yes(&reports);
+    Ok(Report { text, yes })
+}
+
+impl<'a> JudgedPackages<'a> {
+    /// The report of the packages, if they have different paths.
+    ///
+    /// # Errors
+    ///
+    /// Memory was refused.
+    pub fn into_report(self, alloc: Global) -> Result<Report, AllocError>
+        ensures { IfOk result (λ report. ((ps : List MeantPackage) → TellPackages ps self.entry.given.packages.now
+            → HaveDistinctPaths ps → AreAll ps self.entry)
+            → TellsReport self.entry.given.packages.now report) }
+    {
+        let judged = self.into_judged(alloc)?;
+        told(alloc, judged)
+    }
+}
+
 /// Judges packages of different paths, and their files by these rules, and tells what is to be said of them.
 ///
 /// # Errors
@@ -100,10 +129,7 @@ pub fn whole_report_by<R: FileRules>(
     ensures { IfOk result (TellsReportBy (R.rules rules.now) packages.now) }
 {
     let judged = check_by(alloc, packages, rules)?;
-    let reports = reports_of(alloc, judged)?;
-    let text = text_of(alloc, &reports)?;
-    let yes = are_yes(&reports);
-    Ok(Report { text, yes })
+    told(alloc, judged)
 }
 
 /// Judges packages of different paths by the paths of bodies, and tells what is to be said of them.

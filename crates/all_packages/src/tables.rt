@@ -1,21 +1,23 @@
 //! What is known of the functions of packages, as plain values. What it says is in `specs/Tables.antt`.
 
-ghost use Rattle.std.specs.Prelude.{◌≡◌, ◌++◌, IfOk, OnOk, flat_map, map};
+ghost use Rattle.std.specs.Prelude.{◌≡◌, ◌++◌, ℕ, List, IfOk, OnOk, flat_map, map};
 ghost use Rattle.all_packages.specs.Judgments.{table_view};
-ghost use Rattle.all_packages.specs.Tables.{as_list, declared_name, declared_names, entries_for, entry_told, if_told, is_none_of, parameter_kept, parameter_told, result_told, AreInOrder, AreTablesFrom, IsTableAt, TellsNames, TellsTables};
+ghost use Rattle.all_packages.specs.Tables.{as_list, declared_name, declared_names, entries_for, entry_told, if_told, is_none_of, parameter_kept, parameter_told, result_told, AreInOrder, AreTablesFrom, IsPlain, IsTableAt, TellsNames, TellsTables};
 ghost use Rattle.facts.specs.FactViews.{cancel_result_view, facts_view, parameter_view, tracked_type_view, type_view};
 ghost use Rattle.imports.specs.Views.{text_views};
 ghost use Rattle.calls_flags.specs.KnownCalls.{is_called};
+ghost use Rattle.meaning_reports.specs.Loaded.{LoadedPackage as MeantPackage, Tables};
+ghost use Rattle.meaning_reports.specs.PackageTables.{IsTable};
 ghost use Rattle.table_json.specs.Tables.{entries_of, entry_of};
-ghost use Rattle.table_json.specs.TableValues.{if_fits};
 ghost use Rattle.tree.specs.View.{file_syntax, top_level_syntax};
+ghost use Rattle.whole_packages.specs.LoadedViews.{TellsPackage};
 
 use crate::judged::Judged;
 use crate::packages::check;
 use calls_flags::Called;
 use facts::{CancelResult, CancelType, FunctionFacts, TrackedParameter, TrackedType};
 use std::alloc::{AllocError, Global};
-use table_json::{Function, Parameter, Table};
+use table_json::{Function, Parameter, Table, if_fits};
 use tree::{File, TopLevelDecl};
 use whole_packages::LoadedPackage;
 
@@ -65,13 +67,6 @@ fn names_in_order<'a>(alloc: Global, trees: &'a [File]) -> Result<Vec<&'a str>, 
     names.sort_unstable();
     names.dedup();
     Ok(names)
-}
-
-/// The position, if it is one that a table can have.
-fn if_fits(position: usize) -> Option<u32>
-    ensures { result ≡ if_fits position }
-{
-    u32::try_from(position).ok()
 }
 
 /// Adds the position of a result, if it is of that type and a table can have it.
@@ -241,6 +236,24 @@ fn table_of(alloc: Global, trees: &[File], judged: &Judged<'_>) -> Result<Table,
     let names = names_in_order(alloc, trees)?;
     let functions = functions_of(alloc, &names, judged)?;
     Ok(Table { functions })
+}
+
+/// The table of this package, which was judged so: what is known of its functions. One of which nothing is told is left
+/// out, and so is a position that is not below 2^32.
+///
+/// # Errors
+///
+/// Memory was refused.
+pub fn package_table(
+    alloc: Global,
+    loaded: &LoadedPackage,
+    judged: &Judged<'_>,
+) -> Result<Table, AllocError>
+    ensures { IfOk result (λ table. (ps : List MeantPackage) (tables : Tables) (i : ℕ) (p : MeantPackage)
+        → TellsPackage p loaded.now → IsTable ps tables i p (table_view judged.now)
+        → IsPlain (table_view judged.now) (entries_of table)) }
+{
+    table_of(alloc, &loaded.trees, judged)
 }
 
 /// The table of the package of that place.

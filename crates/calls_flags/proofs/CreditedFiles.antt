@@ -1,26 +1,17 @@
 -- Files with their bodies and credits, and the same files as they were seen.
-use Rattle.std.proofs.Common.{◌≡◌, ℕ, zero, suc, ◌+◌, ◌<◌, ◌⊎◌, inl, inr, List, [], ◌∷◌, ◌++◌, length, Some, refl, sym, ap, ◌∙◌, subst, arith}
-use Rattle.std.specs.Prelude.{slice_get}
-use Rattle.std.proofs.lemmas.Option.{none-some, same_Some, slice_get_within}
-use Rattle.std.proofs.lemmas.List.{length-append}
+use Rattle.std.proofs.Common.{◌≡◌, suc, List, [], ◌∷◌, length, refl, arith}
 use Rattle.meaning.specs.Uses.{Seen}
-use Rattle.meaning_packages.specs.CallsFlags.{FileWithCredits}
 use Rattle.meaning_packages.specs.Credits.{AreFullCredits}
 use Rattle.meaning_reports.specs.PackageTables.{AreCredited, no_file, file_and}
 use Rattle.credits.specs.CreditViews.{has}
-use Rattle.path_faults.proofs.Places.{element_at}
-use Rattle.calls_flags.specs.declared.told_file.ToldFile.{ToldFile}
 use Rattle.calls_flags.specs.declared.file_bodies.FileBodies.{FileBodies}
-use Rattle.calls_flags.specs.ToldFiles.{TellsSeen, TellAllSeen}
-use Rattle.calls_flags.specs.FilesBodies.{with_credits, with_all_credits, TellsWithCredits, TellAll, HasBodies, HaveBodies}
+use Rattle.calls_flags.specs.FilesBodies.{with_all_credits, TellAll, HaveBodies}
+use Rattle.calls_flags.proofs.KeptFiles.{tell_all, EachKept}
 
 -- they have their credits
 
-abbrev AreFull : List Seen → List FileBodies → Type 0
-AreFull seens ks = (i : ℕ) (seen : Seen) (k : FileBodies) → slice_get seens i ≡ Some seen → slice_get ks i ≡ Some k
-    → AreFullCredits seen (has k.credits)
-
-credited : (seens : List Seen) (ks : List FileBodies) → length seens ≡ length ks → AreFull seens ks
+credited : (seens : List Seen) (ks : List FileBodies) → length seens ≡ length ks
+    → EachKept (λ i seen k. AreFullCredits seen (has k.credits)) seens ks
     → AreCredited seens (with_all_credits seens ks)
 credited [] ks size full = no_file
 credited (seen ∷ seens) [] size full = absurd (omega (arith, size))
@@ -34,94 +25,5 @@ all_credited seens ks h = credited seens ks h.are_as_many (λ i seen k is is_kep
 
 -- what is kept is those files
 
-as_many : (seens : List Seen) (ks : List FileBodies) → length seens ≡ length ks
-    → length (with_all_credits seens ks) ≡ length ks
-as_many [] [] size = refl
-as_many [] (k ∷ ks) size = absurd (omega (arith, size))
-as_many (seen ∷ seens) [] size = absurd (omega (arith, size))
-as_many (seen ∷ seens) (k ∷ ks) size = let same = as_many seens ks (omega (arith, size)) in omega (arith, same)
-
-record IsSeen (seens : List Seen) (i : ℕ) (file : FileWithCredits) (k : FileBodies) : Type 0 where
-  seen : Seen
-  is_there : slice_get seens i ≡ Some seen
-  is_it : with_credits seen k ≡ file
-
-seen_at : (seens : List Seen) (ks : List FileBodies) (i : ℕ) (file : FileWithCredits) (k : FileBodies)
-    → slice_get (with_all_credits seens ks) i ≡ Some file
-    → slice_get ks i ≡ Some k
-    → IsSeen seens i file k
-seen_at [] ks i file k is is_kept = absurd (none-some file is)
-seen_at (seen ∷ seens) [] i file k is is_kept = absurd (none-some file is)
-seen_at (seen ∷ seens) (t ∷ ks) zero file k is is_kept = record {
-  seen = seen;
-  is_there = refl;
-  is_it = ap (with_credits seen) (sym (same_Some t k is_kept)) ∙ same_Some (with_credits seen t) file is;
-}
-seen_at (seen ∷ seens) (t ∷ ks) (suc i) file k is is_kept =
-    let w = seen_at seens ks i file k is is_kept in
-    record { seen = w.seen; is_there = w.is_there; is_it = w.is_it }
-
 pub all_told : (seens : List Seen) (ks : List FileBodies) → HaveBodies seens ks → TellAll (with_all_credits seens ks) ks
-all_told seens ks h = record {
-  are_as_many = as_many seens ks h.are_as_many;
-  each = λ i file k is is_kept.
-      let w = seen_at seens ks i file k is is_kept in
-      subst (λ f. TellsWithCredits i f k) w.is_it (h.each i w.seen k w.is_there is_kept).tells;
-}
-
--- One file after the other
-
--- the bodies of the files before that place are made
-pub record AreMade (files : List ToldFile) (count : ℕ) (made : List FileBodies) : Type 0 where
-  pub are_as_many : length made ≡ count
-  pub each : (i : ℕ) (file : ToldFile) (k : FileBodies) → slice_get files i ≡ Some file → slice_get made i ≡ Some k
-      → (seen : Seen)
-      → TellsSeen seen file
-      → HasBodies i seen k
-
-pub none_made : (files : List ToldFile) (made : List FileBodies) → made ≡ [] → AreMade files 0 made
-none_made files made none = record {
-  are_as_many = ap length none;
-  each = λ i file k is is_made. absurd (none-some k (ap (λ ks. slice_get ks i) (sym none) ∙ is_made));
-}
-
-last_or_before : {X : Type 0} (xs : List X) (y : X) (i : ℕ) (z : X) → slice_get (xs ++ y ∷ []) i ≡ Some z
-    → (slice_get xs i ≡ Some z) ⊎ ((i ≡ length xs) × (y ≡ z))
-last_or_before [] y zero z e = inr (refl, same_Some y z e)
-last_or_before [] y (suc i) z e = absurd (none-some z e)
-last_or_before (x ∷ xs) y zero z e = inl e
-last_or_before (x ∷ xs) y (suc i) z e =
-    elim (last_or_before xs y i z e) [ inl before ↦ inl before | inr last ↦ inr (ap suc last.0, last.1) ]
-
-pub one_made : (files : List ToldFile) (count : ℕ) (made next : List FileBodies) (file : ToldFile) (k : FileBodies)
-    → slice_get files count ≡ Some file
-    → next ≡ made ++ k ∷ []
-    → ((seen : Seen) → TellsSeen seen file → HasBodies count seen k)
-    → AreMade files count made
-    → AreMade files (count + 1) next
-one_made files count made next file k is_there is_next has h = record {
-  are_as_many = ap length is_next ∙ (length-append made (k ∷ []) ∙ ap (λ n. n + 1) h.are_as_many);
-  each = λ i f j is is_made seen tells.
-      elim (last_or_before made k i j (ap (λ ks. slice_get ks i) (sym is_next) ∙ is_made)) [
-        | inl before ↦ h.each i f j is before seen tells
-        | inr last ↦ this_one i f j is (last.0 ∙ h.are_as_many) last.1 seen tells
-      ];
-}
-  where
-    this_one : (i : ℕ) (f : ToldFile) (j : FileBodies) → slice_get files i ≡ Some f → i ≡ count → k ≡ j
-        → (seen : Seen) → TellsSeen seen f → HasBodies i seen j
-    this_one i f j is same it seen tells =
-        let same_file : f ≡ file = same_Some f file (sym is ∙ ap (slice_get files) same ∙ is_there) in
-        subst (λ n. HasBodies n seen j) (sym same)
-        (subst (HasBodies count seen) it (has seen (subst (TellsSeen seen) same_file tells)))
-
-pub all_made : (files : List ToldFile) (count : ℕ) (made : List FileBodies) → length files ≡ count → AreMade files count made
-    → (seens : List Seen) → TellAllSeen seens files → HaveBodies seens made
-all_made files count made size h seens told = record {
-  are_as_many = told.are_as_many ∙ size ∙ sym h.are_as_many;
-  each = λ i seen k is is_made.
-      let within : i < length files =
-      (let l = slice_get_within made i k is_made in omega (arith, l, size, h.are_as_many)) in
-      let f = element_at files i within in
-      h.each i f.0 k f.2 is_made seen (told.each i seen f.0 is f.2);
-}
+all_told seens ks h = tell_all seens ks h.are_as_many (λ i seen k is is_kept. (h.each i seen k is is_kept).tells)

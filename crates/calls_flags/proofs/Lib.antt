@@ -5,5 +5,6 @@ pub mod ClaimsOf
 pub mod CreditedFiles
 mod GreatestFlags
 pub mod KeptClaims
+pub mod KeptFiles
 mod MoreCalls
 mod ToldInOrder

@@ -1,10 +1,13 @@
 -- A text is that of one list of packages at most, which is in order; and why a text is none.
-use Rattle.std.proofs.Common.{◌≡◌, inl, inr, ℕ, List, [], ◌∷◌, Some, None, refl, sym, subst, ◌∙◌}
+use Rattle.std.proofs.Common.{◌≡◌, inl, inr, ℕ, List, [], ◌∷◌, Some, refl, sym, subst, ◌∙◌}
 use Rattle.std.specs.List.{AllByRecursion, AllZip}
 use Rattle.serde_json.specs.Data.{Data}
 use Rattle.serde_json.specs.Read.{read}
+use Rattle.table_json.specs.declared.fault.TableFault.{TableFault}
+use Rattle.table_json.specs.declared.fault.TableFault.TheVariants as table
 use Rattle.table_json.specs.declared.table.Version.{Version}
-use Rattle.table_json.proofs.Readings.{none_some}
+use Rattle.table_json.specs.Parts.{IsTextFault, IsValueFault}
+use Rattle.table_json.proofs.Readings.{known, none_some}
 use Rattle.table_json.proofs.TableLaws.{list_in_order, not_none, not_wrong_version}
 use Rattle.table_json.proofs.ValueParts.{some_same}
 use Rattle.certificate_json.specs.declared.fault.CertificateFault.{CertificateFault}
@@ -12,8 +15,8 @@ use Rattle.certificate_json.specs.declared.fault.CertificateFault.TheVariants.{N
 use Rattle.certificate_json.specs.Certificates.{PackageEntry, AreInOrder, HasOrder}
 use Rattle.certificate_json.specs.CertificateTexts.{AreCertificatesOf, HasWrongShape, IsCertificateFault}
 use Rattle.certificate_json.specs.CertificateValues.{AreCertificatesIn, IsPackageIn}
-use Rattle.certificate_json.specs.Parts.{IsTextFault, IsValueFault}
-use Rattle.certificate_json.proofs.PackageReadings.{known, one_meaning, version_there}
+use Rattle.certificate_json.specs.Parts.{fault_of}
+use Rattle.certificate_json.proofs.PackageReadings.{one_meaning, version_there}
 
 -- What is read is in order
 
@@ -58,10 +61,12 @@ not_wrong_shape version value packages h (inl none) =
     not_none value (known version value (version_there version value packages h)) none
 not_wrong_shape version value packages h (inr none) = none.1 version packages h
 
-pub only_memory : (text : List ℕ) (fault : CertificateFault) → IsCertificateFault text fault → (version : Version)
-    (packages : List PackageEntry)
-    → AreCertificatesOf text version packages
-    → fault ≡ OutOfMemory
+-- where the text is that of certificates, memory was refused
+abbrev pub IsOfMemory : List ℕ → CertificateFault → Type 0
+IsOfMemory text fault =
+    (version : Version) (packages : List PackageEntry) → AreCertificatesOf text version packages → fault ≡ OutOfMemory
+
+pub only_memory : (text : List ℕ) (fault : CertificateFault) → IsCertificateFault text fault → IsOfMemory text fault
 only_memory text NotJson h version packages k = absurd (none_some (read text) k.value h k.is_json)
 only_memory text WrongVersion h version packages k =
     let is =
@@ -75,16 +80,18 @@ only_memory text WrongShape h version packages k =
     absurd (not_wrong_shape version h.0 packages is h.2)
 only_memory text OutOfMemory h version packages k = refl
 
-pub of_text_fault : (text : List ℕ) (fault : CertificateFault) → IsTextFault text fault → IsCertificateFault text fault
-of_text_fault text NotJson h = h
-of_text_fault text WrongVersion h = absurd h
-of_text_fault text WrongShape h = absurd h
-of_text_fault text OutOfMemory h = tt
+-- a fault of a text or of its value is that of the certificates
+pub of_text_fault : (text : List ℕ) (fault : TableFault) → IsTextFault text fault
+    → IsCertificateFault text (fault_of fault)
+of_text_fault text table.NotJson h = h
+of_text_fault text table.WrongVersion h = absurd h
+of_text_fault text table.WrongShape h = absurd h
+of_text_fault text table.OutOfMemory h = tt
 
-pub of_value_fault : (text : List ℕ) (value : Data) (fault : CertificateFault) → read text ≡ Some value
-    → IsValueFault value fault
-    → IsCertificateFault text fault
-of_value_fault text value NotJson e h = absurd h
-of_value_fault text value WrongVersion e h = (value, e, h)
-of_value_fault text value WrongShape e h = (value, e, h)
-of_value_fault text value OutOfMemory e h = tt
+pub of_value_fault : (text : List ℕ) (value : Data) (fault : TableFault) → read text ≡ Some value
+    → IsValueFault HasWrongShape value fault
+    → IsCertificateFault text (fault_of fault)
+of_value_fault text value table.NotJson e h = absurd h
+of_value_fault text value table.WrongVersion e h = (value, e, h)
+of_value_fault text value table.WrongShape e h = (value, e, h)
+of_value_fault text value table.OutOfMemory e h = tt

@@ -1,51 +1,21 @@
 -- Packages and certificates, from what is found in their values.
-use Rattle.std.proofs.Common.{◌≡◌, ℕ, inl, inr, List, [], ◌++◌, Some, None, codes, map, refl, sym, ap, subst, ◌∙◌, arith}
-use Rattle.std.proofs.lemmas.List.{append-nil}
+use Rattle.std.proofs.Common.{◌≡◌, ℕ, inr, List, Some, None, codes, refl, sym, ap, subst, ◌∙◌}
 use Rattle.std.specs.List.{AllZip}
 use Rattle.serde_json.specs.Data.{Data, array, object, string, Items, member, no_members}
 use Rattle.serde_json.specs.Find.{as_array, as_str}
 use Rattle.serde_json.specs.View.{items_of}
 use Rattle.table_json.specs.declared.fault.TableFault.{TableFault}
-use Rattle.table_json.specs.declared.fault.TableFault.TheVariants as table
 use Rattle.table_json.specs.declared.table.Version.{Version}
-use Rattle.table_json.specs.declared.table.Version.TheVariants.{Older, Newer}
-use Rattle.table_json.specs.Parts.{three_members, two_members, Refuses as RefusesFacts}
-use Rattle.table_json.specs.TableTexts.{version_of, HasKnownVersion}
+use Rattle.table_json.specs.Parts.{three_members, two_members, IsValueFault, Refuses}
+use Rattle.table_json.specs.TableTexts.{version_of}
 use Rattle.table_json.specs.TableValues.{number_of, AreFunctionsOf, IsFunctionIn}
-use Rattle.table_json.proofs.Readings.{none_some, one_functions, one_list}
-use Rattle.table_json.proofs.ValueParts.{and_then, mapped, some_same, of_array, of_fitting, of_string, of_three, of_two, same_items, version_fits}
-use Rattle.certificate_json.specs.declared.fault.CertificateFault.{CertificateFault}
-use Rattle.certificate_json.specs.declared.fault.CertificateFault.TheVariants.{NotJson, WrongVersion, WrongShape, OutOfMemory}
-use Rattle.certificate_json.specs.Certificates.{BodyEntry, PackageEntry, AreApart}
+use Rattle.table_json.proofs.Readings.{none_some, one_functions, one_list, one_version, refused_in}
+use Rattle.table_json.proofs.ValueParts.{and_then, mapped, some_same, of_array, of_list, of_string, of_three, same_items, version_fits}
+use Rattle.certificate_json.specs.Certificates.{PackageEntry, AreApart}
+use Rattle.certificate_json.specs.CertificateTexts.{HasWrongShape}
 use Rattle.certificate_json.specs.CertificateValues.{certificates_with, package_with, AreBodiesOf, AreCertificatesIn, IsPackageIn}
-use Rattle.certificate_json.specs.Parts.{fault_of, package_in, packages_in, IsValueFault, Refuses}
+use Rattle.certificate_json.specs.Parts.{package_in, packages_in}
 use Rattle.certificate_json.proofs.BodyReadings.{one_bodies}
-
--- Nothing is read
-
--- what is read of a whole is read of its part, so a part that is refused refuses the whole
-pub refuses_so : {A B : Type 0} (P : A → Type 0) (Q : B → Type 0) → ((b : B) → Q b → (a : A) × P a)
-    → (fault : CertificateFault)
-    → Refuses P fault
-    → Refuses Q fault
-refuses_so P Q part NotJson h = h
-refuses_so P Q part WrongVersion h = h
-refuses_so P Q part WrongShape h = λ b q. let p = part b q in h p.0 p.1
-refuses_so P Q part OutOfMemory h = tt
-
--- facts that are refused as those of a table are refused as those of a package
-pub refused_as : {A : Type 0} (P : A → Type 0) (fault : TableFault) → RefusesFacts P fault → Refuses P (fault_of fault)
-refused_as P table.NotJson h = h
-refused_as P table.WrongVersion h = h
-refused_as P table.WrongShape h = h
-refused_as P table.OutOfMemory h = h
-
--- a list that is read one by one, whose elements are kept as they are read
-pub all_read_plain : {X A B : Type 0} (R : A → B → Type 0) (seen : X → A) (xs left : List X) (bs : List B) → left ≡ []
-    → ((rest : List B) → AllZip R (map seen left) rest → AllZip R (map seen xs) (bs ++ rest))
-    → AllZip R (map seen xs) bs
-all_read_plain R seen xs left bs none so =
-    subst (AllZip R (map seen xs)) (append-nil bs) (so [] (subst (λ zs. AllZip R (map seen zs) []) (sym none) tt))
 
 -- Packages
 
@@ -135,13 +105,7 @@ of_packages : (version : ℕ) (value : Data) (values : List Data) → packages_i
     → version_of value ≡ Some version
     → value ≡ certificates_with version values
 unfolding packages_in
-of_packages version value values e at_version =
-    let ms = and_then _ (two_members (codes "packages") (codes "version") value) (items_of values) e in
-    let is = of_two _ _ value ms.0 ms.1 in
-    let number = (of_fitting ms.0.1 version (ap version_of (sym is) ∙ at_version)).0 in
-    is
-    ∙ (λ i. object (member (codes "packages") (of_array ms.0.0 (items_of values) ms.2 i)
-    (member (codes "version") (number i) no_members)))
+of_packages = of_list (codes "packages") λ first second. refl
 
 packages_there : (version : ℕ) (values : List Data)
     → packages_in (certificates_with version values) ≡ Some (items_of values)
@@ -197,47 +161,20 @@ one_in version value a b h k =
 
 -- Certificates of any version
 
-one_is_not_two : (m n : ℕ) → m ≡ 1 → n ≡ 2 → m ≡ n → ⊥
-one_is_not_two m n one two same = omega (arith, one, two, same)
-
-one_number : (v w : Version) → number_of v ≡ number_of w → v ≡ w
-one_number Older Older e = refl
-one_number Older Newer e = absurd (one_is_not_two 1 2 refl refl e)
-one_number Newer Older e = absurd (one_is_not_two 1 2 refl refl (sym e))
-one_number Newer Newer e = refl
-
 pub version_there : (version : Version) (value : Data) (packages : List PackageEntry)
     → AreCertificatesIn version value packages
     → version_of value ≡ Some (number_of version)
 version_there version value packages h = ap version_of h.is_value ∙ version_fits version
 
-pub one_version : (value : Data) (v w : Version) (packages : List PackageEntry) → version_of value ≡ Some (number_of w)
-    → AreCertificatesIn v value packages
-    → v ≡ w
-one_version value v w packages e h =
-    one_number v w (some_same (number_of v) (number_of w) (sym (version_there v value packages h) ∙ e))
-
 pub one_meaning : (value : Data) (v w : Version) (a b : List PackageEntry) → AreCertificatesIn v value a
     → AreCertificatesIn w value b
     → (v ≡ w) × (a ≡ b)
 one_meaning value v w a b h k =
-    let same = one_version value v w a (version_there w value b k) h in
+    let same = one_version value v w (version_there v value a h) (version_there w value b k) in
     (same, one_in w value a b (subst (λ u. AreCertificatesIn u value a) same h) k)
 
-pub known : (version : Version) (value : Data) → version_of value ≡ Some (number_of version) → HasKnownVersion value
-known Older value e = inl e
-known Newer value e = inr e
-
 -- where the version is right, what is refused in that version is no certificates
-pub refused_in : (version : Version) (value : Data) (fault : CertificateFault)
-    → version_of value ≡ Some (number_of version)
+pub refused : (version : Version) (value : Data) (fault : TableFault) → version_of value ≡ Some (number_of version)
     → Refuses (AreCertificatesIn version value) fault
-    → IsValueFault value fault
-refused_in version value NotJson e h = h
-refused_in version value WrongVersion e h = absurd h
-refused_in version value WrongShape e h = inr (known version value e, no)
-  where
-    no : (v : Version) (packages : List PackageEntry) → ¬ AreCertificatesIn v value packages
-    no v packages k =
-        h packages (subst (λ u. AreCertificatesIn u value packages) (one_version value v version packages e k) k)
-refused_in version value OutOfMemory e h = tt
+    → IsValueFault HasWrongShape value fault
+refused = refused_in AreCertificatesIn version_there HasWrongShape λ value is_known none. inr (is_known, none)

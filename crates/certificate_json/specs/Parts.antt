@@ -1,18 +1,15 @@
 -- What serves the proofs: the parts of the value of certificates, one by one.
-use Rattle.std.specs.Prelude.{ℕ, ◌≡◌, ◌^◌, List, Option, Some, None, option_and_then, option_map, if◌then◌else◌, ⊤, nat_lt, codes}
+use Rattle.std.specs.Prelude.{ℕ, ◌≡◌, ◌^◌, List, Option, Some, None, option_and_then, option_map, if◌then◌else◌, nat_lt, codes}
 use Rattle.std.specs.List.{AllByRecursion, AllZip}
 use Rattle.serde_json.specs.Data.{Data, Items}
 use Rattle.serde_json.specs.Find.{as_number, as_u64, as_str, as_array}
-use Rattle.serde_json.specs.Read.{read}
 use Rattle.table_json.specs.declared.fault.TableFault.{TableFault}
 use Rattle.table_json.specs.declared.fault.TableFault.TheVariants as table
 use Rattle.table_json.specs.Parts.{position_in, three_members, two_members, HasFits as HasFunctionFits}
-use Rattle.table_json.specs.TableTexts.{HasWrongVersion}
 use Rattle.table_json.specs.TableValues.{Fits}
 use Rattle.certificate_json.specs.declared.fault.CertificateFault.{CertificateFault}
 use Rattle.certificate_json.specs.declared.fault.CertificateFault.TheVariants.{NotJson, WrongVersion, WrongShape, OutOfMemory}
 use Rattle.certificate_json.specs.Certificates.{BodyEntry, PackageEntry}
-use Rattle.certificate_json.specs.CertificateTexts.{HasWrongShape}
 use Rattle.certificate_json.specs.CertificateValues.{certificates_value, package_value, IsSmall}
 use Rattle.certificate_json.specs.WrittenCertificates.{IsWrittenAs}
 
@@ -84,24 +81,3 @@ fault_of table.NotJson = NotJson
 fault_of table.WrongVersion = WrongVersion
 fault_of table.WrongShape = WrongShape
 fault_of table.OutOfMemory = OutOfMemory
-
--- nothing is kept of what is read, for this reason
-abbrev pub Refuses : {A : Type 0} → (A → Type 0) → CertificateFault → Type 0
-Refuses {A} IsRead NotJson = ⊥
-Refuses {A} IsRead WrongVersion = ⊥
-Refuses {A} IsRead WrongShape = (a : A) → ¬ IsRead a
-Refuses {A} IsRead OutOfMemory = ⊤
-
--- a value is not read as certificates, for this reason
-abbrev pub IsValueFault : Data → CertificateFault → Type 0
-IsValueFault value NotJson = ⊥
-IsValueFault value WrongVersion = HasWrongVersion value
-IsValueFault value WrongShape = HasWrongShape value
-IsValueFault value OutOfMemory = ⊤
-
--- a text is not read as JSON, for this reason
-abbrev pub IsTextFault : List ℕ → CertificateFault → Type 0
-IsTextFault text NotJson = read text ≡ None
-IsTextFault text WrongVersion = ⊥
-IsTextFault text WrongShape = ⊥
-IsTextFault text OutOfMemory = ⊤

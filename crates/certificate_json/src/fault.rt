@@ -1,6 +1,6 @@
 //! Why a text is not read.
 
-use std::alloc::{AllocError, AllocFailed};
+use table_json::TableFault;
 
 /// Why a text is not read as certificates. The first reason that holds is told, in this order.
 #[derive(Clone, Copy, Debug, Drop, PartialEq, Eq)]
@@ -16,24 +16,19 @@ pub enum CertificateFault {
     OutOfMemory,
 }
 
-impl From<AllocError> for CertificateFault {
+/// The same fault, of certificates.
+impl From<TableFault> for CertificateFault {
     ghost use Rattle.std.specs.Prelude.{◌≡◌};
-    ghost use Rattle.certificate_json.specs.declared.fault.CertificateFault.TheVariants.{OutOfMemory};
+    ghost use Rattle.certificate_json.specs.Parts.{fault_of};
 
-    ghost from_gives = { λ _ fault. fault ≡ OutOfMemory };
+    ghost from_gives = { λ fault same. same ≡ fault_of fault };
 
-    fn from(_error: AllocError) -> CertificateFault {
-        CertificateFault::OutOfMemory
-    }
-}
-
-impl<T: Drop> From<AllocFailed<T>> for CertificateFault {
-    ghost use Rattle.std.specs.Prelude.{◌≡◌};
-    ghost use Rattle.certificate_json.specs.declared.fault.CertificateFault.TheVariants.{OutOfMemory};
-
-    ghost from_gives = { λ _ fault. fault ≡ OutOfMemory };
-
-    fn from(_error: AllocFailed<T>) -> CertificateFault {
-        CertificateFault::OutOfMemory
+    fn from(fault: TableFault) -> CertificateFault {
+        match fault {
+            TableFault::NotJson => CertificateFault::NotJson,
+            TableFault::WrongVersion => CertificateFault::WrongVersion,
+            TableFault::WrongShape => CertificateFault::WrongShape,
+            TableFault::OutOfMemory => CertificateFault::OutOfMemory,
+        }
     }
 }

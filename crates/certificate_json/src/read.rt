@@ -2,17 +2,16 @@
 
 ghost use Rattle.std.specs.Prelude.{◌≡◌, List, Some, IfErr, IfOk, map};
 ghost use Rattle.std.specs.List.{AllZip};
-ghost use Rattle.serde_json.specs.Read.{read};
 ghost use Rattle.serde_json.specs.View.{view};
 ghost use Rattle.table_json.specs.declared.table.Version.{Version};
+ghost use Rattle.table_json.specs.Parts.{IsValueFault, Refuses};
 ghost use Rattle.table_json.specs.Tables.{entries_of};
 ghost use Rattle.table_json.specs.TableTexts.{version_of};
 ghost use Rattle.table_json.specs.TableValues.{number_of, AreFunctionsOf, IsFunctionIn};
 ghost use Rattle.certificate_json.specs.declared.fault.CertificateFault.TheVariants.{OutOfMemory};
 ghost use Rattle.certificate_json.specs.Certificates.{body_of, package_of, packages_of, AreInOrder, PackageEntry};
-ghost use Rattle.certificate_json.specs.CertificateTexts.{AreCertificatesOf, IsCertificateFault};
+ghost use Rattle.certificate_json.specs.CertificateTexts.{AreCertificatesOf, HasWrongShape, IsCertificateFault};
 ghost use Rattle.certificate_json.specs.CertificateValues.{AreBodiesOf, AreCertificatesIn, AreMasks, IsBodyValue, IsMask, IsPackageIn};
-ghost use Rattle.certificate_json.specs.Parts.{fault_of, IsTextFault, IsValueFault, Refuses};
 
 use crate::certificates::{Body, Certificates, Package};
 use crate::fault::CertificateFault;
@@ -20,21 +19,21 @@ use crate::order::{are_apart, bodies_in_order};
 use crate::parts::{body_in, mask_in, package_in, packages_in};
 use serde_json::Value;
 use std::alloc::Global;
-use table_json::{OLDER_VERSION, Table, TableFault, VERSION, Version, read_functions, version_of};
+use table_json::{Table, TableFault, Version, known_version, parse, read_functions};
 
 // Bodies
 
-fn read_mask(value: &Value) -> Result<u16, CertificateFault>
+fn read_mask(value: &Value) -> Result<u16, TableFault>
     ensures ok { IfOk result (IsMask (view value.now)) }
     ensures err { IfErr result (Refuses (IsMask (view value.now))) }
 {
     match mask_in(value) {
         Some(mask) => Ok(mask),
-        None => Err(CertificateFault::WrongShape),
+        None => Err(TableFault::WrongShape),
     }
 }
 
-fn masks_as_given(alloc: Global, values: &[Value]) -> Result<Vec<u16>, CertificateFault>
+fn masks_as_given(alloc: Global, values: &[Value]) -> Result<Vec<u16>, TableFault>
     ensures ok { IfOk result (λ masks. AllZip IsMask (map view values.now) masks.items) }
     ensures err { IfErr result (Refuses (AllZip IsMask (map view values.now))) }
 {
@@ -46,18 +45,18 @@ fn masks_as_given(alloc: Global, values: &[Value]) -> Result<Vec<u16>, Certifica
 }
 
 /// The masks of one node.
-fn read_masks(alloc: Global, value: &Value) -> Result<Vec<u16>, CertificateFault>
+fn read_masks(alloc: Global, value: &Value) -> Result<Vec<u16>, TableFault>
     ensures ok { IfOk result (λ masks. AreMasks (view value.now) masks.items) }
     ensures err { IfErr result (Refuses (AreMasks (view value.now))) }
 {
     let Some(values) = value.as_array() else {
-        return Err(CertificateFault::WrongShape);
+        return Err(TableFault::WrongShape);
     };
     masks_as_given(alloc, values)
 }
 
 /// The masks of all nodes.
-fn read_states(alloc: Global, values: &[Value]) -> Result<Vec<Vec<u16>>, CertificateFault>
+fn read_states(alloc: Global, values: &[Value]) -> Result<Vec<Vec<u16>>, TableFault>
     ensures ok { IfOk result
         (λ states. AllZip AreMasks (map view values.now) (map (λ masks. masks.items) states.items)) }
     ensures err { IfErr result (Refuses (AllZip AreMasks (map view values.now))) }
@@ -69,12 +68,12 @@ fn read_states(alloc: Global, values: &[Value]) -> Result<Vec<Vec<u16>>, Certifi
     Ok(given)
 }
 
-fn read_body(alloc: Global, value: &Value) -> Result<Body, CertificateFault>
+fn read_body(alloc: Global, value: &Value) -> Result<Body, TableFault>
     ensures ok { IfOk result (λ body. IsBodyValue (view value.now) (body_of body)) }
     ensures err { IfErr result (Refuses (IsBodyValue (view value.now))) }
 {
     let Some(parts) = body_in(value) else {
-        return Err(CertificateFault::WrongShape);
+        return Err(TableFault::WrongShape);
     };
     let states = read_states(alloc, parts.states)?;
     Ok(Body {
@@ -85,7 +84,7 @@ fn read_body(alloc: Global, value: &Value) -> Result<Body, CertificateFault>
 }
 
 /// Bodies as they stand.
-fn bodies_as_given(alloc: Global, values: &[Value]) -> Result<Vec<Body>, CertificateFault>
+fn bodies_as_given(alloc: Global, values: &[Value]) -> Result<Vec<Body>, TableFault>
     ensures ok { IfOk result (λ given. AllZip IsBodyValue (map view values.now) (map body_of given.items)) }
     ensures err { IfErr result (Refuses (AllZip IsBodyValue (map view values.now))) }
 {
@@ -96,50 +95,36 @@ fn bodies_as_given(alloc: Global, values: &[Value]) -> Result<Vec<Body>, Certifi
     Ok(given)
 }
 
-fn read_bodies(alloc: Global, values: &[Value]) -> Result<Vec<Body>, CertificateFault>
+fn read_bodies(alloc: Global, values: &[Value]) -> Result<Vec<Body>, TableFault>
     ensures ok { IfOk result (λ bodies. AreBodiesOf (map view values.now) (map body_of bodies.items)) }
     ensures err { IfErr result (Refuses (AreBodiesOf (map view values.now))) }
 {
     let given = bodies_as_given(alloc, values)?;
     match bodies_in_order(given) {
         Some(bodies) => Ok(bodies),
-        None => Err(CertificateFault::WrongShape),
+        None => Err(TableFault::WrongShape),
     }
 }
 
 // Facts
 
-/// The same fault, of certificates.
-fn fault_of(fault: TableFault) -> CertificateFault
-    ensures { result ≡ fault_of fault }
-{
-    match fault {
-        TableFault::NotJson => CertificateFault::NotJson,
-        TableFault::WrongVersion => CertificateFault::WrongVersion,
-        TableFault::WrongShape => CertificateFault::WrongShape,
-        TableFault::OutOfMemory => CertificateFault::OutOfMemory,
-    }
-}
-
-fn read_facts(alloc: Global, version: Version, values: &[Value]) -> Result<Table, CertificateFault>
+fn read_facts(alloc: Global, version: Version, values: &[Value]) -> Result<Table, TableFault>
     ensures ok { IfOk result
         (λ facts. AreFunctionsOf (IsFunctionIn version) (map view values.now) (entries_of facts)) }
     ensures err { IfErr result (Refuses (AreFunctionsOf (IsFunctionIn version) (map view values.now))) }
 {
-    match read_functions(alloc, version, values) {
-        Ok(functions) => Ok(Table { functions }),
-        Err(fault) => Err(fault_of(fault)),
-    }
+    let functions = read_functions(alloc, version, values)?;
+    Ok(Table { functions })
 }
 
 // Packages
 
-fn read_package(alloc: Global, version: Version, value: &Value) -> Result<Package, CertificateFault>
+fn read_package(alloc: Global, version: Version, value: &Value) -> Result<Package, TableFault>
     ensures ok { IfOk result (λ kept. IsPackageIn version (view value.now) (package_of kept)) }
     ensures err { IfErr result (Refuses (IsPackageIn version (view value.now))) }
 {
     let Some(parts) = package_in(value) else {
-        return Err(CertificateFault::WrongShape);
+        return Err(TableFault::WrongShape);
     };
     let bodies = read_bodies(alloc, parts.bodies)?;
     let facts = read_facts(alloc, version, parts.facts)?;
@@ -155,7 +140,7 @@ fn packages_as_given(
     alloc: Global,
     version: Version,
     values: &[Value],
-) -> Result<Vec<Package>, CertificateFault>
+) -> Result<Vec<Package>, TableFault>
     ensures ok { IfOk result
         (λ given. AllZip (IsPackageIn version) (map view values.now) (map package_of given.items)) }
     ensures err { IfErr result (Refuses (AllZip (IsPackageIn version) (map view values.now))) }
@@ -168,73 +153,34 @@ fn packages_as_given(
 }
 
 /// The packages of a value with this version.
-fn read_packages(
-    alloc: Global,
-    version: Version,
-    value: &Value,
-) -> Result<Vec<Package>, CertificateFault>
+fn read_packages(alloc: Global, version: Version, value: &Value) -> Result<Vec<Package>, TableFault>
     requires { version_of (view value.now) ≡ Some (number_of version) }
     ensures ok { IfOk result
         (λ packages. AreCertificatesIn version (view value.now) (map package_of packages.items)) }
     ensures err { IfErr result (Refuses (AreCertificatesIn version (view value.now))) }
 {
     let Some(values) = packages_in(value) else {
-        return Err(CertificateFault::WrongShape);
+        return Err(TableFault::WrongShape);
     };
     let packages = packages_as_given(alloc, version, values)?;
     if are_apart(alloc, &packages)? {
         Ok(packages)
     } else {
-        Err(CertificateFault::WrongShape)
-    }
-}
-
-/// The certificates of a value with this version.
-fn read_version(
-    alloc: Global,
-    version: Version,
-    value: &Value,
-) -> Result<Certificates, CertificateFault>
-    requires { version_of (view value.now) ≡ Some (number_of version) }
-    ensures ok { IfOk result (λ found. AreCertificatesIn found.version (view value.now) (packages_of found)) }
-    ensures err { IfErr result (IsValueFault (view value.now)) }
-{
-    match read_packages(alloc, version, value) {
-        Ok(packages) => Ok(Certificates { version, packages }),
-        Err(fault) => Err(fault),
+        Err(TableFault::WrongShape)
     }
 }
 
 /// The certificates of a value; a wrong version is told before any other fault of its shape.
-fn read_value(alloc: Global, value: &Value) -> Result<Certificates, CertificateFault>
+fn read_value(alloc: Global, value: &Value) -> Result<Certificates, TableFault>
     ensures ok { IfOk result (λ found. AreCertificatesIn found.version (view value.now) (packages_of found)) }
-    ensures err { IfErr result (IsValueFault (view value.now)) }
+    ensures err { IfErr result (IsValueFault HasWrongShape (view value.now)) }
 {
-    match version_of(value) {
-        Some(VERSION) => read_version(alloc, Version::Newer, value),
-        Some(OLDER_VERSION) => read_version(alloc, Version::Older, value),
-        Some(_) => Err(CertificateFault::WrongVersion),
-        None => Err(CertificateFault::WrongShape),
-    }
+    let version = known_version(value)?;
+    let packages = read_packages(alloc, version, value)?;
+    Ok(Certificates { version, packages })
 }
 
 // Texts
-
-fn parse(alloc: Global, text: &str) -> Result<Value, CertificateFault>
-    ensures ok { IfOk result (λ value. read text.now ≡ Some (view value)) }
-    ensures err { IfErr result (IsTextFault text.now) }
-{
-    match Value::from_str(alloc, text) {
-        Ok(value) => Ok(value),
-        Err(error) => {
-            if error.is_memory() {
-                Err(CertificateFault::OutOfMemory)
-            } else {
-                Err(CertificateFault::NotJson)
-            }
-        }
-    }
-}
 
 /// The certificates of a text, and the version of the text. The packages stand as they do in the text, the bodies of
 /// each by file and offset, and its facts as those of a table: functions by the bytes of their names, and the positions
@@ -261,5 +207,5 @@ pub fn from_json(alloc: Global, text: &str) -> Result<Certificates, CertificateF
         → fault ≡ OutOfMemory) }
 {
     let value = parse(alloc, text)?;
-    read_value(alloc, &value)
+    Ok(read_value(alloc, &value)?)
 }

@@ -8,7 +8,7 @@ use Rattle.certificates.proofs.FewGroups.{bits_fit}
 use Rattle.certificates.proofs.ListsToNodes.{only, LeadsTo, cancel_leads, cancel_comes, group_leads, group_comes}
 use Rattle.certificates.proofs.NodesInRange.{contains_at, start_in_range, next_in_range}
 use Rattle.certificates.specs.Least.{HasJust, HasReached, IsLeast, body_with}
-use Rattle.certificates.specs.LeastLaws.{StartsInOwnGroups, IsCertified, HasNoFault, KeepsEachClaim, LeastHolds, LeastSettles, LeastIsWithin, HasClassesOf}
+use Rattle.certificates.specs.LeastLaws.{StartsInOwnGroups, CanHaveCertificate, HasNoFault, KeepsEachClaim, LeastHolds, LeastSettles, LeastIsWithin, HasClassesOf}
 use Rattle.checker.specs.Certificates.{CheckedBody, groups_of, spare, groups_with_bits, class_of_bit, bit_of_class, mask_at, IsClosed, IsClosedFor, IsOwed, is_kept, has_claim, MayBeCancel, MayBeLive, MayBeUncalled, is_open, is_left, IsFault, loses_cancel, loses_group, returns_live, returns_uncalled, Holds, IsSettledBy, SettlesIn}
 use Rattle.flow.specs.GraphOfCode.{nodes}
 use Rattle.flow.specs.Walks.{Graph, graph_of}
@@ -300,7 +300,7 @@ module _ (paths : Paths) (order : List NodePlace) (claims : ℕ → Bool) where
 
 -- Of any body of these paths
 
-module _ (paths : Paths) (b : CheckedBody) (certified : IsCertified paths b) where
+module _ (paths : Paths) (b : CheckedBody) (certified : CanHaveCertificate paths b) where
   is_body : body paths b.order b.is_claimed ≡ b
   is_body i = record {
     graph = sym certified.is_of.is_graph i;

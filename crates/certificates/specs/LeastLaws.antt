@@ -25,7 +25,7 @@ StartsInOwnGroups b = (n : ℕ) (o : Occurrence Event) (g : ℕ)
     → Contains (groups_of b.variables) g
 
 -- the body, of those paths, has not too many variables
-pub record IsCertified (paths : Paths) (b : CheckedBody) : Type 0 where
+pub record CanHaveCertificate (paths : Paths) (b : CheckedBody) : Type 0 where
   pub is_of : IsOf paths b
   pub are_few : too_many_faults paths.variables ≡ []
   pub starts_in_own_groups : StartsInOwnGroups b
@@ -43,7 +43,7 @@ KeepsEachClaim paths b = (i : ℕ) (v : Variable)
 
 abbrev pub LeastHolds : Type 0
 LeastHolds = (paths : Paths) (b : CheckedBody) (states : List (List ℕ))
-    → IsCertified paths b
+    → CanHaveCertificate paths b
     → HasNoFault paths
     → KeepsEachClaim paths b
     → IsLeast b states
@@ -51,7 +51,7 @@ LeastHolds = (paths : Paths) (b : CheckedBody) (states : List (List ℕ))
 
 abbrev pub LeastSettles : Type 0
 LeastSettles = (paths : Paths) (b : CheckedBody) (states : List (List ℕ))
-    → IsCertified paths b
+    → CanHaveCertificate paths b
     → IsLeast b states
     → (i : ℕ) (v : Variable)
     → slice_get paths.variables i ≡ Some v

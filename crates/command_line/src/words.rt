@@ -1,26 +1,37 @@
 //! What the words of the command line ask for.
 
-ghost use Rattle.std.specs.Prelude.{◌≡◌, ◌↔◌, ◌++◌, Bool, ℕ, List, Contains, IfOk, OnOk, IfSome, IsTrue, map};
-ghost use Rattle.command_line.specs.Words.{texts_of, without_escape, AsksForHelp, IsAsked, IsCheck};
+ghost use Rattle.std.specs.Prelude.{◌≡◌, ◌↔◌, ◌++◌, Bool, ℕ, List, [], ◌∷◌, Contains, IfOk, OnOk, IfSome, IsTrue, map, option_map};
+ghost use Rattle.command_line.specs.Words.{file_in, texts_of, AsksForHelp, IsAsked};
+ghost use Rattle.command_line.specs.KeptWords.{AreKept, IsAskedBy};
 
 use clap::error::ErrorKind;
 use clap::{Arg, ArgAction, Command, Error};
 use std::alloc::{AllocError, Global};
 use std::convert::AsStr;
 
-/// The command of the program.
+/// The commands of the program.
 const CHECK_WORD: &str = "check";
+
+const VERIFY_WORD: &str = "verify";
+
+/// The option whose value is the file of certificates.
+const OPTION: &str = "--cert";
+
+/// With this a word begins that has the option and its value.
+const FILE_AFTER: &str = "--cert=";
 
 const ABOUT: &str = "Finds cancel functions of contexts that may not be called in Go packages";
 
 const AFTER: &str = "Exit status:
   0  yes: nothing was found in any package
   1  no: something was found
-  2  wrong arguments, or a file could not be read or the report not written
+  2  wrong arguments, or something could not be read or written
 
 Examples:
   ctxvet check example.org/pool=./pool
-  ctxvet check $(go list -f '{{.ImportPath}}={{.Dir}}' ./...)";
+  ctxvet check $(go list -f '{{.ImportPath}}={{.Dir}}' ./...)
+  ctxvet check --cert pool.json example.org/pool=./pool
+  ctxvet verify --cert pool.json example.org/pool=./pool";
 
 const CHECK: &str = "Checks packages and prints their report";
 
@@ -31,6 +42,19 @@ finding,
 and then `yes PATH` where nothing was found, else `no PATH`.
 What a package imports is known where it is given too; other packages are taken as unknown.";
 
+const VERIFY: &str =
+    "Judges packages by the certificates of an earlier check, and prints their report";
+
+const AFTER_VERIFY: &str =
+    "The report goes to standard output, in the form of that of `ctxvet check`. Nothing is searched for:
+the certificate of each body is looked through once. Where it is missing or does not hold, that is
+a finding, LC16.";
+
+const OUT: &str =
+    "Writes what was found for each body to this file too, as JSON: the certificates of the packages";
+
+const IN: &str = "The file of certificates";
+
 const PACKAGE: &str = "A package's import path, `=`, and the folder of its files: \
 each file there is read that ends in .go and not in _test.go";
 
@@ -39,11 +63,22 @@ const ESCAPE: &str = "--";
 
 const VERSION: &str = "0.1.0";
 
+/// The words of packages, `PATH=DIR` each, and the file of certificates that goes with them.
+#[derive(Debug, Drop)]
+pub struct FileWords<'a> {
+    pub file: &'a str,
+    pub packages: Vec<&'a str>,
+}
+
 /// What the words ask for.
 #[derive(Debug, Drop)]
 pub enum Asked<'a> {
     /// To check the packages of these words, `PATH=DIR` each.
-    Packages(Vec<&'a str>),
+    Check(Vec<&'a str>),
+    /// To check packages, and to write certificates to the file.
+    Certify(FileWords<'a>),
+    /// To judge packages by the certificates in the file.
+    Verify(FileWords<'a>),
     /// Help or the version: this text, for standard output.
     Help(String),
     /// Nothing that the program understands: this text says why, for standard error.
@@ -59,21 +94,60 @@ pub fn read_words<'a, S: AsStr>(alloc: Global, words: &'a [S]) -> Result<Asked<'
     ensures { IfOk result (λ asked. IsAsked (map S.text words.now) asked) }
 {
     match understood(alloc, words) {
-        Ok(()) => asked_packages(alloc, words),
+        Ok(()) => asked_command(alloc, words),
         Err(error) => explained(alloc, &error, words),
     }
 }
 
-/// The packages that the words, which the library understands, ask for.
-fn asked_packages<'a, S: AsStr>(alloc: Global, words: &'a [S]) -> Result<Asked<'a>, AllocError>
+/// The command that the words, which the library understands, ask for.
+fn asked_command<'a, S: AsStr>(alloc: Global, words: &'a [S]) -> Result<Asked<'a>, AllocError>
     ensures { IfOk result (λ asked. IsAsked (map S.text words.now) asked) }
 {
     match words.split_first() {
-        Some((command, rest)) if command.as_str() == CHECK_WORD => {
-            Ok(Asked::Packages(without_escape(alloc, rest)?))
+        Some((command, rest)) => {
+            let kept = kept_words(alloc, rest)?;
+            Ok(asked_of(alloc, command.as_str(), kept))
         }
-        _ => Ok(Asked::Wrong(String::new(alloc))),
+        None => Ok(Asked::Wrong(String::new(alloc))),
     }
+}
+
+/// What a command with these words behind it asks for.
+fn asked_of<'a>(alloc: Global, command: &str, kept: Kept<'a>) -> Asked<'a>
+    ensures { IsAskedBy command.now kept.entry result }
+{
+    let Kept { files, packages } = kept;
+    if command == CHECK_WORD && files.is_empty() {
+        return Asked::Check(packages);
+    }
+    let Some(file) = only_one(&files) else {
+        return Asked::Wrong(String::new(alloc));
+    };
+    let asked = FileWords { file, packages };
+    if command == CHECK_WORD {
+        Asked::Certify(asked)
+    } else if command == VERIFY_WORD {
+        Asked::Verify(asked)
+    } else {
+        Asked::Wrong(String::new(alloc))
+    }
+}
+
+/// The file, where there is just one.
+fn only_one<'a>(files: &[&'a str]) -> Option<&'a str>
+    ensures { IfSome result (λ file. texts_of files.now ≡ file.now ∷ []) }
+{
+    match files.split_first() {
+        Some((file, rest)) if rest.is_empty() => Some(*file),
+        _ => None,
+    }
+}
+
+/// What is kept of the words behind a command: the files that `--cert` names, and the words of packages.
+#[derive(Drop)]
+pub struct Kept<'a> {
+    files: Vec<&'a str>,
+    packages: Vec<&'a str>,
 }
 
 /// Adds all of these words.
@@ -86,18 +160,38 @@ fn add_all<'a, S: AsStr>(words: &'a [S], kept: &mut Vec<&'a str>) -> Result<(), 
     Ok(())
 }
 
-/// The words but for the first `--`.
-fn without_escape<'a, S: AsStr>(alloc: Global, words: &'a [S]) -> Result<Vec<&'a str>, AllocError>
-    ensures { IfOk result (λ kept. texts_of kept.items ≡ without_escape (map S.text words.now)) }
+/// The file that stands in a word behind `--cert=`.
+fn file_in(word: &str) -> Option<&str>
+    ensures { option_map (λ file. file.now) result ≡ file_in word.now }
 {
-    let mut kept = Vec::new(alloc);
+    word.strip_prefix(FILE_AFTER)
+}
+
+/// What these words, those behind a command, name.
+fn kept_words<'a, S: AsStr>(alloc: Global, words: &'a [S]) -> Result<Kept<'a>, AllocError>
+    ensures { IfOk result (AreKept (map S.text words.now)) }
+{
+    let mut kept = Kept {
+        files: Vec::new(alloc),
+        packages: Vec::new(alloc),
+    };
+    let mut after_option = false;
     for (place, word) in words.iter().enumerate() {
-        if word.as_str() == ESCAPE {
+        let word = word.as_str();
+        if after_option {
+            kept.files.push(word)?;
+            after_option = false;
+        } else if word == ESCAPE {
             let (_, rest) = words.split_at(place + 1);
-            add_all(rest, &mut kept)?;
+            add_all(rest, &mut kept.packages)?;
             return Ok(kept);
+        } else if word == OPTION {
+            after_option = true;
+        } else if let Some(file) = file_in(word) {
+            kept.files.push(file)?;
+        } else {
+            kept.packages.push(word)?;
         }
-        kept.push(word.as_str())?;
     }
     Ok(kept)
 }
@@ -124,16 +218,16 @@ fn explained<'a, S: AsStr>(
 
 /// The words that the program understands.
 fn command<'a>(alloc: Global) -> Result<Command<'a>, AllocError> {
-    let package = Arg::new(alloc, "package")
-        .value_name("PATH=DIR")
-        .help(PACKAGE)
-        .required(true)
-        .num_args(1..)
-        .action(ArgAction::Append);
     let check = Command::new(alloc, CHECK_WORD)
         .about(CHECK)
         .after_help(AFTER_CHECK)
-        .arg(package)?;
+        .arg(file(alloc).value_name("OUT").help(OUT))?
+        .arg(package(alloc))?;
+    let verify = Command::new(alloc, VERIFY_WORD)
+        .about(VERIFY)
+        .after_help(AFTER_VERIFY)
+        .arg(file(alloc).value_name("IN").help(IN).required(true))?
+        .arg(package(alloc))?;
     Command::new(alloc, "ctxvet")
         .about(ABOUT)
         .version(VERSION)
@@ -142,7 +236,23 @@ fn command<'a>(alloc: Global) -> Result<Command<'a>, AllocError> {
         .no_binary_name(true)
         .subcommand_required(true)
         .arg_required_else_help(true)
-        .subcommand(check)
+        .subcommand(check)?
+        .subcommand(verify)
+}
+
+/// The option that names a file of certificates.
+fn file<'a>(alloc: Global) -> Arg<'a> {
+    Arg::new(alloc, "cert").long("cert").action(ArgAction::Set)
+}
+
+/// The words of packages, at least one.
+fn package<'a>(alloc: Global) -> Arg<'a> {
+    Arg::new(alloc, "package")
+        .value_name("PATH=DIR")
+        .help(PACKAGE)
+        .required(true)
+        .num_args(1..)
+        .action(ArgAction::Append)
 }
 
 /// That the library understands the words, those after the program's name, and they ask for no help.

@@ -1,2 +1,3 @@
+mod FaultsOfCommands
 mod ReadGiven
 mod WrittenParts

@@ -4,7 +4,7 @@ use Rattle.std.proofs.lemmas.Result.{err_from_is_err_and}
 use Rattle.load.specs.declared.packages.GivenPackage.{GivenPackage}
 use Rattle.folders.specs.ReadFaults.{IsReadFault}
 use Rattle.folders.specs.declared.fault.Fault.{Fault}
-use Rattle.folders.specs.declared.fault.Fault.TheVariants.{WordNotText, WrongWords, BadPackage, CannotRead, CannotWrite, TwoPackages, TooManyPackages, OutOfMemory}
+use Rattle.folders.specs.declared.fault.Fault.TheVariants.{CannotRead, CannotWrite, TwoPackages, TooManyPackages, OutOfMemory}
 use Rattle.driver.specs.declared.packages.NamedPackage.{NamedPackage}
 use Rattle.driver.specs.Packages.{AreGiven, AreNamed}
 use Rattle.driver.specs.Faults.{HasBadWord, IsCheckFault, IsReportFault}
@@ -35,26 +35,17 @@ none_bad (w ∷ ws) (n ∷ ns) h (inr bad) = none_bad ws ns h.1 bad.1
 pub of_reading : (words : List (List ℕ)) (packages : List NamedPackage) (fault : Fault) → AreNamed words packages
     → IsReadFault fault
     → IsCheckFault words fault
-of_reading words packages WordNotText named is = is
-of_reading words packages (WrongWords which) named is = is
-of_reading words packages (BadPackage text) named is = absurd is
 of_reading words packages (CannotRead name) named is = none_bad words packages named
-of_reading words packages CannotWrite named is = absurd is
-of_reading words packages (TwoPackages path) named is = absurd is
-of_reading words packages TooManyPackages named is = absurd is
 of_reading words packages OutOfMemory named is = tt
+of_reading words packages _ named is = absurd is
 
 pub of_report : (words : List (List ℕ)) (given : List GivenPackage) (fault : Fault) → AreGiven words given
     → IsReportFault given fault
     → IsCheckFault words fault
-of_report words given WordNotText are is = is
-of_report words given (WrongWords which) are is = is
-of_report words given (BadPackage text) are is = absurd is
-of_report words given (CannotRead name) are is = absurd is
-of_report words given CannotWrite are is = absurd is
 of_report words given (TwoPackages path) are is = record { given = given; are_given = are; is_fault = is }
 of_report words given TooManyPackages are is = record { given = given; are_given = are; is_fault = is }
 of_report words given OutOfMemory are is = tt
+of_report words given _ are is = absurd is
 
 pub of_judging : (words : List (List ℕ)) (given : List GivenPackage) (fault : Fault) → AreGiven words given
     → (fault ≡ CannotWrite) ⊎ IsReportFault given fault

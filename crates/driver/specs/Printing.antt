@@ -2,7 +2,7 @@
 use Rattle.std.specs.Prelude.{◌≡◌, ℕ, Bool, true, false, ◌||◌, List, ◌++◌, Option, Result, Ok, Err}
 use Rattle.std.specs.Io.KnownBytes.{Appends}
 use Rattle.folders.specs.declared.fault.Fault.{Fault}
-use Rattle.folders.specs.declared.fault.Fault.TheVariants.{WordNotText, WrongWords, BadPackage, CannotRead, CannotWrite, TwoPackages, TooManyPackages, OutOfMemory}
+use Rattle.folders.specs.declared.fault.Fault.TheVariants.{CannotWrite}
 
 -- a beginning of the text was written, and nothing else
 pub record AppendsFront (old new : Option (List ℕ)) (text : List ℕ) : Type 0 where
@@ -17,14 +17,8 @@ refused_after before (Ok done) = before
 refused_after before (Err why) = true
 
 abbrev pub is_of_writing : Fault → Bool
-is_of_writing WordNotText = false
-is_of_writing (WrongWords which) = false
-is_of_writing (BadPackage text) = false
-is_of_writing (CannotRead name) = false
 is_of_writing CannotWrite = true
-is_of_writing (TwoPackages path) = false
-is_of_writing TooManyPackages = false
-is_of_writing OutOfMemory = false
+is_of_writing _ = false
 
 -- whether a write was refused, after a call that may end with a fault: one was, just where its fault is that of writing
 abbrev pub refused_by : {T : Type 0} → Bool → Result T Fault → Bool

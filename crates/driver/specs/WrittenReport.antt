@@ -1,59 +1,91 @@
--- What a run of the program has written when it ends, by its status: the whole text of the report on the packages that
--- its words name, and nothing besides; or, where a word asks for help, what the library of the command line writes; and
--- after a fault nothing, or, where the fault is that of writing, a beginning of that text and nothing besides.
-use Rattle.std.specs.Prelude.{◌≡◌, ◌⊎◌, ℕ, Bool, true, false, List, Option}
+-- What a run of the program has written on standard output when it ends, by its status: the whole text of the report
+-- for which its words ask, and nothing besides; or, where a word asks for help, what the library of the command line
+-- writes. After a fault that is nothing, or, where the fault is that of writing, a beginning of that text and nothing
+-- besides. The file for certificates is written after the report, so where it can't be, all of the report is written.
+use Rattle.std.specs.Prelude.{◌≡◌, ◌⊎◌, ℕ, Bool, true, false, List, [], ◌∷◌, Option, codes}
 use Rattle.std.specs.Io.KnownBytes.{Appends}
+use Rattle.certificate_json.specs.declared.certificates.Certificates.{Certificates}
 use Rattle.load.specs.declared.packages.GivenPackage.{GivenPackage}
-use Rattle.command_line.specs.Words.{AsksForHelp, IsCheck}
+use Rattle.command_line.specs.Words.{AsksForHelp, IsCommand}
 use Rattle.folders.specs.declared.fault.Fault.{Fault}
-use Rattle.folders.specs.declared.fault.Fault.TheVariants.{CannotWrite}
+use Rattle.folders.specs.declared.fault.Fault.TheVariants.{CannotWrite, CannotWriteFile}
+use Rattle.judge.specs.Certified.{IsCertifiedReport}
+use Rattle.judge.specs.Verified.{IsVerifiedReport}
 use Rattle.judge.specs.Reports.{IsReport, Report}
+use Rattle.driver.specs.Certificates.{StandIn}
 use Rattle.driver.specs.Packages.{AreGiven}
 use Rattle.driver.specs.Faults.{IsRunFault, LeavesUnwritten}
 use Rattle.driver.specs.Printing.{AppendsFront}
 use Rattle.driver.specs.declared.status.Status.{Status}
 use Rattle.driver.specs.declared.status.Status.TheVariants.{Fine, Found, Faulty}
 
--- The report on the given packages was written to a writer that held `old` and holds `new`.
-pub record WritesReportOf (given : List GivenPackage) (yes : Bool) (old new : Option (List ℕ)) : Type 0 where
-  pub report : Report
-  pub is_report : IsReport given report
-  pub verdict : report.yes ≡ yes
-  pub written : Appends old new report.text.items
+-- this report, with this verdict, was written to a writer that held `old` and holds `new`
+abbrev pub IsWritten : Option (List ℕ) → Option (List ℕ) → Bool → Report → Type 0
+IsWritten old new verdict report = (report.yes ≡ verdict) × Appends old new report.text.items
 
--- Those were the packages that these words name.
-pub record WritesReport (words : List (List ℕ)) (yes : Bool) (old new : Option (List ℕ)) : Type 0 where
+-- a beginning of this report was written, and nothing besides
+abbrev pub IsBegun : Option (List ℕ) → Option (List ℕ) → Report → Type 0
+IsBegun old new report = AppendsFront old new report.text.items
+
+-- this holds of the report on the packages that these words name
+pub record OfReport (words : List (List ℕ)) (holds : Report → Type 0) : Type 0 where
   pub given : List GivenPackage
   pub are_given : AreGiven words given
-  pub told : WritesReportOf given yes old new
-
--- the words ask to check packages, whose report it was
-pub record ChecksPackages (words : List (List ℕ)) (yes : Bool) (old new : Option (List ℕ)) : Type 0 where
-  pub packages : List (List ℕ)
-  pub is_check : IsCheck words packages
-  pub report : WritesReport packages yes old new
-
--- A beginning of the report on the given packages was written, and nothing besides.
-pub record BeginsReportOf (given : List GivenPackage) (old new : Option (List ℕ)) : Type 0 where
   pub report : Report
   pub is_report : IsReport given report
-  pub begun : AppendsFront old new report.text.items
+  pub so : holds report
 
--- Those were the packages that these words name.
-pub record BeginsReport (words : List (List ℕ)) (old new : Option (List ℕ)) : Type 0 where
+-- the same where this is the text of their certificates
+pub record OfCertifiedReport (words : List (List ℕ)) (text : List ℕ) (holds : Report → Type 0) : Type 0 where
   pub given : List GivenPackage
   pub are_given : AreGiven words given
-  pub told : BeginsReportOf given old new
+  pub report : Report
+  pub is_report : IsCertifiedReport given report text
+  pub so : holds report
 
--- the words ask to check packages, of whose report it was a beginning
-pub record BeginsCheck (words : List (List ℕ)) (old new : Option (List ℕ)) : Type 0 where
+-- the same of their report by certificates that stand in a file
+pub record OfVerifiedReport (words : List (List ℕ)) (holds : Report → Type 0) : Type 0 where
+  pub given : List GivenPackage
+  pub are_given : AreGiven words given
+  pub certificates : Certificates
+  pub stand_in : StandIn certificates
+  pub report : Report
+  pub is_report : IsVerifiedReport given certificates report
+  pub so : holds report
+
+-- the words ask to check packages, and this holds of their report
+pub record OfCheck (words : List (List ℕ)) (holds : Report → Type 0) : Type 0 where
   pub packages : List (List ℕ)
-  pub is_check : IsCheck words packages
-  pub report : BeginsReport packages old new
+  pub is_check : IsCommand (codes "check") words [] packages
+  pub report : OfReport packages holds
 
--- what a run with these words has written where its fault is that of writing
+-- the words ask to check packages and to write certificates, and this holds of the report
+pub record OfCertify (words : List (List ℕ)) (holds : Report → Type 0) : Type 0 where
+  pub file : List ℕ
+  pub packages : List (List ℕ)
+  pub is_certify : IsCommand (codes "check") words (file ∷ []) packages
+  pub text : List ℕ
+  pub report : OfCertifiedReport packages text holds
+
+-- the words ask to judge packages by certificates, and this holds of the report
+pub record OfVerify (words : List (List ℕ)) (holds : Report → Type 0) : Type 0 where
+  pub file : List ℕ
+  pub packages : List (List ℕ)
+  pub is_verify : IsCommand (codes "verify") words (file ∷ []) packages
+  pub report : OfVerifiedReport packages holds
+
+-- this holds of the report for which the words ask
+abbrev pub OfAsked : List (List ℕ) → (Report → Type 0) → Type 0
+OfAsked words holds = OfCheck words holds ⊎ OfCertify words holds ⊎ OfVerify words holds
+
+-- what a run with these words has written where its fault is that of writing, and where it is that of the file
 abbrev pub LeavesBegun : List (List ℕ) → Fault → Option (List ℕ) → Option (List ℕ) → Type 0
-LeavesBegun words fault old new = fault ≡ CannotWrite → AsksForHelp words ⊎ BeginsCheck words old new
+LeavesBegun words fault old new = fault ≡ CannotWrite → AsksForHelp words ⊎ OfAsked words (IsBegun old new)
+
+abbrev pub LeavesWhole : List (List ℕ) → Fault → Option (List ℕ) → Option (List ℕ) → Type 0
+LeavesWhole words fault old new = (name : _)
+    → fault ≡ CannotWriteFile name
+    → (verdict : Bool) × OfCertify words (IsWritten old new verdict)
 
 -- a fault of these words ended the run
 pub record EndsInFault (words : List (List ℕ)) (old new : Option (List ℕ)) : Type 0 where
@@ -61,10 +93,11 @@ pub record EndsInFault (words : List (List ℕ)) (old new : Option (List ℕ)) :
   pub is_fault : IsRunFault words fault
   pub unwritten : LeavesUnwritten fault old new
   pub begun : LeavesBegun words fault old new
+  pub whole : LeavesWhole words fault old new
 
 -- What a run with these words has written where it ends with this status. Which words are wrong the library of the
 -- command line says.
 abbrev pub EndsWith : List (List ℕ) → Status → Option (List ℕ) → Option (List ℕ) → Type 0
-EndsWith words Fine old new = AsksForHelp words ⊎ ChecksPackages words true old new
-EndsWith words Found old new = ChecksPackages words false old new
+EndsWith words Fine old new = AsksForHelp words ⊎ OfAsked words (IsWritten old new true)
+EndsWith words Found old new = OfAsked words (IsWritten old new false)
 EndsWith words Faulty old new = (new ≡ old) ⊎ EndsInFault words old new

@@ -1,11 +1,16 @@
-//! The program `ctxvet` as a library: reads the Go files of packages, has them judged, and prints the report.
+//! The program `ctxvet` as a library: reads the Go files of packages, has them judged, and prints the report. It writes
+//! certificates, and reads them.
 #![tactic(auto)]
 
+mod certificate_input;
+mod certify;
+mod notes;
 mod packages;
 mod printing;
 mod program;
 mod reports;
 mod status;
+mod verify;
 mod writers;
 
 pub use folders::{Fault, words_fault};

@@ -1,6 +1,6 @@
 //! The packages that words of the command line name.
 
-ghost use Rattle.std.specs.Prelude.{IfErr, IfOk};
+ghost use Rattle.std.specs.Prelude.{◌≡◌, IfErr, IfOk, true, false};
 ghost use Rattle.command_line.specs.Words.{texts_of};
 ghost use Rattle.driver.specs.Packages.{AreNamed, AreRead, IsNamed, IsRead};
 ghost use Rattle.driver.specs.Faults.{IsWordFault, IsWordsFault};
@@ -64,6 +64,21 @@ fn read_package<'a, R: Files + AllocGlobal>(
     })
 }
 
+/// Whether a folder was asked for its files so far. Only `read_packages` asks, so that nobody else can tell of it.
+#[derive(Clone, Copy, Debug)]
+pub struct FoldersAsked {
+    any: bool,
+}
+
+impl FoldersAsked {
+    /// No folder was asked so far.
+    pub fn none() -> FoldersAsked
+        ensures { result.any ≡ false }
+    {
+        FoldersAsked { any: false }
+    }
+}
+
 /// The packages with the Go files of their folders, in their order. Folders that have no Go file are kept.
 ///
 /// # Errors
@@ -73,10 +88,13 @@ pub fn read_packages<'a, R: Files + AllocGlobal>(
     rt: &R,
     packages: &[NamedPackage<'a>],
     empty: &mut Vec<&'a str>,
+    folders: &mut FoldersAsked,
 ) -> Result<Vec<GivenPackage>, Fault>
     ensures read { IfOk result (λ given. AreRead packages.now given.items) }
     ensures fault { IfErr result IsReadFault }
+    ensures asked { folders.new.any ≡ true }
 {
+    folders.any = true;
     let mut given = Vec::new(rt.alloc());
     for one in packages {
         given.push(read_package(rt, *one, empty)?)?;

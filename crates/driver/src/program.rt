@@ -5,12 +5,16 @@ ghost use Rattle.command_line.specs.Words.{texts_of};
 ghost use Rattle.driver.specs.Faults.{IsCheckFault, IsReportFault, IsRunFault, LeavesUnwritten};
 ghost use Rattle.driver.specs.Printing.{refused_by};
 ghost use Rattle.driver.specs.Statuses.{status_code, status_of};
-ghost use Rattle.driver.specs.WrittenReport.{BeginsReport, BeginsReportOf, EndsWith, LeavesBegun, WritesReport, WritesReportOf};
+ghost use Rattle.driver.specs.WrittenReport.{EndsWith, IsBegun, IsWritten, LeavesBegun, LeavesWhole, OfReport};
+ghost use Rattle.judge.specs.Reports.{IsReport, Report};
 
-use crate::packages::{all_named, read_packages};
+use crate::certify::certify;
+use crate::notes::{PROGRAM, note_empty};
+use crate::packages::{FoldersAsked, all_named, read_packages};
 use crate::printing::print;
 use crate::reports::report_of;
 use crate::status::Status;
+use crate::verify::verify;
 use crate::writers::Refusals;
 use command_line::{Asked, read_words};
 use folders::{Fault, fail};
@@ -19,9 +23,6 @@ use std::alloc::Global;
 use std::convert::AsStr;
 use std::io::Write;
 use std::rt::Files;
-
-/// The program's name, with which the lines of its faults begin.
-const PROGRAM: &str = "ctxvet";
 
 /// Runs the program with the words after its name: prints its report or help on `out` and its fault on `err`, and
 /// returns its status. 0: each package is yes, or help or the version was asked for. 1: some package is no. 2: a fault,
@@ -63,10 +64,17 @@ fn answer<R: Files + AllocGlobal, S: AsStr, W: Write, E: Write>(
     ensures unwritten { IfErr result (λ fault. LeavesUnwritten fault (W.contents out.old) (W.contents out.new)) }
     ensures begun { IfErr result (λ fault.
         LeavesBegun (map S.text words.now) fault (W.contents out.old) (W.contents out.new)) }
+    ensures whole { IfErr result (λ fault.
+        LeavesWhole (map S.text words.now) fault (W.contents out.old) (W.contents out.new)) }
     ensures refused { refusals.new.any ≡ refused_by refusals.old.any result }
 {
     match read_words(rt.alloc(), words)? {
-        Asked::Packages(packages) => check(rt, &packages, out, err, refusals),
+        Asked::Check(packages) => check(rt, &packages, out, err, refusals),
+        Asked::Certify(asked) => {
+            let done = certify(rt, &asked, out, err, refusals)?;
+            Ok(done.status)
+        }
+        Asked::Verify(asked) => verify(rt, &asked, out, err, refusals),
         Asked::Help(text) => {
             print(out, text.as_bytes(), refusals)?;
             Ok(Status::Fine)
@@ -90,27 +98,19 @@ fn check<R: Files + AllocGlobal, W: Write, E: Write>(
     refusals: &mut Refusals,
 ) -> Result<Status, Fault>
     ensures written { IfOk result (λ status. (yes : Bool) × (status ≡ status_of yes)
-        × WritesReport (texts_of words.now) yes (W.contents out.old) (W.contents out.new)) }
+        × OfReport (texts_of words.now) (IsWritten (W.contents out.old) (W.contents out.new) yes)) }
     ensures fault { IfErr result (IsCheckFault (texts_of words.now)) }
     ensures unwritten { IfErr result (λ fault. LeavesUnwritten fault (W.contents out.old) (W.contents out.new)) }
     ensures begun { IfErr result (λ fault. fault ≡ Fault.CannotWrite
-        → BeginsReport (texts_of words.now) (W.contents out.old) (W.contents out.new)) }
+        → OfReport (texts_of words.now) (IsBegun (W.contents out.old) (W.contents out.new))) }
     ensures refused { refusals.new.any ≡ refused_by refusals.old.any result }
 {
     let packages = all_named(rt.alloc(), words)?;
     let mut empty = Vec::new(rt.alloc());
-    let given = read_packages(rt, &packages, &mut empty)?;
+    let given = read_packages(rt, &packages, &mut empty, &mut FoldersAsked::none())?;
     let status = report(rt.alloc(), given, out, refusals)?;
     note_empty(&empty, err);
     Ok(status)
-}
-
-/// Says of each of these folders that it has no Go file. Where standard error fails, nobody is left to be told.
-fn note_empty<E: Write>(folders: &[&str], err: &mut E) {
-    for folder in folders {
-        let _ = writeln!(err, "{PROGRAM}: note: no Go files in {folder}");
-    }
-    let _ = err.flush();
 }
 
 /// Judges these packages, and prints their report.
@@ -121,11 +121,12 @@ fn report<W: Write>(
     refusals: &mut Refusals,
 ) -> Result<Status, Fault>
     ensures written { IfOk result (λ status. (yes : Bool) × (status ≡ status_of yes)
-        × WritesReportOf given.items yes (W.contents out.old) (W.contents out.new)) }
+        × (report : Report) × IsReport given.items report
+        × IsWritten (W.contents out.old) (W.contents out.new) yes report) }
     ensures fault { IfErr result (λ fault. (fault ≡ Fault.CannotWrite) ⊎ IsReportFault given.items fault) }
     ensures unwritten { IfErr result (λ fault. LeavesUnwritten fault (W.contents out.old) (W.contents out.new)) }
     ensures begun { IfErr result (λ fault. fault ≡ Fault.CannotWrite
-        → BeginsReportOf given.items (W.contents out.old) (W.contents out.new)) }
+        → (report : Report) × IsReport given.items report × IsBegun (W.contents out.old) (W.contents out.new) report) }
     ensures refused { refusals.new.any ≡ refused_by refusals.old.any result }
 {
     let report = report_of(alloc, given)?;

@@ -1,11 +1,14 @@
-//! The report of given packages, with the faults that the program tells.
+//! The reports of given packages, with the faults that the program tells.
 
-ghost use Rattle.std.specs.Prelude.{◌≡◌, IfErr, IfOk};
-ghost use Rattle.driver.specs.Faults.{told_fault, IsReportFault};
+ghost use Rattle.std.specs.Prelude.{◌≡◌, IfErr, IfOk, string_bytes};
+ghost use Rattle.driver.specs.Faults.{told_fault, told_verify_fault, IsReportFault, IsVerdictFault};
+ghost use Rattle.judge.specs.Certified.{IsCertifiedReport};
 ghost use Rattle.judge.specs.Reports.{IsReport};
+ghost use Rattle.judge.specs.Verified.{IsVerifiedReport};
 
+use certificate_json::Certificates;
 use folders::Fault;
-use judge::Report;
+use judge::{CertifiedReport, Report, VerifyFault};
 use load::{GivenPackage, LoadFault};
 use std::alloc::Global;
 
@@ -33,5 +36,53 @@ pub fn report_of(alloc: Global, given: Vec<GivenPackage>) -> Result<Report, Faul
     match judge::report_of(alloc, given) {
         Ok(report) => Ok(report),
         Err(fault) => Err(told_fault(fault)),
+    }
+}
+
+/// The report of these packages, in the order of their paths, and the certificates of their bodies.
+///
+/// # Errors
+///
+/// As `report_of`.
+pub fn certified_report_of(
+    alloc: Global,
+    given: Vec<GivenPackage>,
+) -> Result<CertifiedReport, Fault>
+    ensures report { IfOk result
+        (λ told. IsCertifiedReport given.items told.report (string_bytes told.certificates)) }
+    ensures fault { IfErr result (IsReportFault given.items) }
+{
+    match judge::certified_report_of(alloc, given) {
+        Ok(told) => Ok(told),
+        Err(fault) => Err(told_fault(fault)),
+    }
+}
+
+/// Why packages are not judged by certificates, as the program tells it.
+fn told_verify_fault(fault: VerifyFault) -> Fault
+    ensures { result ≡ told_verify_fault fault }
+{
+    match fault {
+        VerifyFault::NotLoaded(fault) => told_fault(fault),
+        VerifyFault::TooOld(path) => Fault::CertificateTooOld(path),
+    }
+}
+
+/// The report of these packages by these certificates, in the order of their paths.
+///
+/// # Errors
+///
+/// As `report_of`; after these faults, the certificates are too old.
+pub fn verified_report_of(
+    alloc: Global,
+    given: Vec<GivenPackage>,
+    certificates: &Certificates,
+) -> Result<Report, Fault>
+    ensures report { IfOk result (IsVerifiedReport given.items certificates.now) }
+    ensures fault { IfErr result (IsVerdictFault given.items certificates.now) }
+{
+    match judge::verified_report_of(alloc, given, certificates) {
+        Ok(report) => Ok(report),
+        Err(fault) => Err(told_verify_fault(fault)),
     }
 }

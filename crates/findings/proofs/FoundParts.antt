@@ -1,5 +1,5 @@
 -- Entries that are added part by part.
-use Rattle.std.proofs.Common.{◌≡◌, ℕ, zero, suc, ◌+◌, ◌<◌, ◌⊎◌, inl, inr, Bool, List, [], ◌∷◌, ◌++◌, map, drop, length, get_or, Contains, Some, refl, sym, ap, ◌∙◌, subst, arith}
+use Rattle.std.proofs.Common.{◌≡◌, ℕ, zero, suc, ◌+◌, ◌⊎◌, inl, inr, Bool, List, [], ◌∷◌, ◌++◌, map, Contains, Some, refl, sym, ap, ◌∙◌, subst, arith}
 use Rattle.std.specs.Prelude.{◌↔◌, None, is_some, slice_get}
 use Rattle.std.proofs.lemmas.Bool.{false≢true}
 use Rattle.bodies.specs.Bodies.{TellsBody}
@@ -7,8 +7,7 @@ use Rattle.bodies.specs.declared.body.Body.{Body as KeptBody}
 use Rattle.bodies.specs.declared.graph.BodyGraph.{BodyGraph as KeptGraph}
 use Rattle.credit_search.proofs.SettledBodies.{paths_there, few_there}
 use Rattle.std.proofs.lemmas.List.Elements.{Contains-append_left, Contains-append_right, Contains-append_cases}
-use Rattle.std.proofs.lemmas.List.{drop_more}
-use Rattle.std.proofs.lemmas.Option.{none-some, same_Some, slice_get-get_or}
+use Rattle.std.proofs.lemmas.Option.{none-some, same_Some}
 use Rattle.meaning.specs.Mentions.{BodyPlace}
 use Rattle.meaning.specs.Uses.{Callee}
 use Rattle.meaning.specs.BodyEvents.{Variable, variables_of, body_faults, outer_faults}
@@ -20,7 +19,7 @@ use Rattle.meaning.specs.BodyEvents.{bodies_of}
 use Rattle.report.specs.Entries.{Entry, entry_of}
 use Rattle.report.specs.declared.diagnostics.Diagnostic.{Diagnostic}
 use Rattle.meaning_reports.specs.PackageReports.{use_entry, path_entry, IsFileFinding, outside_bodies, of_use, of_path}
-use Rattle.findings.specs.FoundEntries.{AddsEntries, IsEntryOf, IsPathEntry, IsFewPathEntry, known_paths, IsBodyEntry, IsEntryOfBodies, IsFoundIn, use_entries, path_entries}
+use Rattle.findings.specs.FoundEntries.{AddsEntries, IsEntryOf, IsPathEntry, IsFewPathEntry, known_paths, IsBodyEntry, IsOfBodies, IsEntryOfBodies, IsFoundIn, use_entries, path_entries}
 
 -- a list is added
 pub adds_list : (before after : List Diagnostic) (added : List Entry) → map entry_of after ≡ map entry_of before ++ added
@@ -99,10 +98,8 @@ adds_all before so_far Rest All none on = on so_far (adds_none so_far Rest none)
 
 -- Bodies
 
-module _ (calls : Callee → ℕ → Bool) (number : ℕ) (f : FileWithCredits) (b : BodyPlace) (left here : List BodyPlace)
-    (is_next : here ≡ b ∷ left) where
-  pub first_body : (x : Entry)
-      → (IsBodyEntry calls number f b x ⊎ IsEntryOfBodies calls number f left x) ↔ IsEntryOfBodies calls number f here x
+module _ (IsOfBody : BodyPlace → Entry → Type 0) (b : BodyPlace) (left here : List BodyPlace) (is_next : here ≡ b ∷ left) where
+  pub first_body : (x : Entry) → (IsOfBody b x ⊎ IsOfBodies IsOfBody left x) ↔ IsOfBodies IsOfBody here x
   first_body x = (
     λ h. elim h [
       | inl one ↦ record {
@@ -117,14 +114,14 @@ module _ (calls : Callee → ℕ → Bool) (number : ℕ) (f : FileWithCredits) 
       }
     ],
     λ h. elim (contains_cases b h.body left (subst (λ bs. Contains bs h.body) is_next h.is_there)) [
-      | inl same ↦ inl (subst (λ y. IsBodyEntry calls number f y x) (sym same) h.is_entry)
+      | inl same ↦ inl (subst (λ y. IsOfBody y x) (sym same) h.is_entry)
       | inr later ↦ inr (record { body = h.body; is_there = later; is_entry = h.is_entry })
     ],
   )
 
-pub no_body : (calls : Callee → ℕ → Bool) (number : ℕ) (f : FileWithCredits) (left : List BodyPlace) → left ≡ []
-    → (x : Entry) → IsEntryOfBodies calls number f left x → ⊥
-no_body calls number f left none x h = contains_nil h.body (subst (λ bs. Contains bs h.body) none h.is_there)
+pub no_body : (IsOfBody : BodyPlace → Entry → Type 0) (left : List BodyPlace) → left ≡ []
+    → (x : Entry) → IsOfBodies IsOfBody left x → ⊥
+no_body IsOfBody left none x h = contains_nil h.body (subst (λ bs. Contains bs h.body) none h.is_there)
 
 -- Files
 

@@ -50,13 +50,14 @@ IsBodyEntry calls number file b x =
     (Contains (use_entries number (body_faults file.seen b.at)) x ⊎ IsPassEntry calls number file b x)
     ⊎ IsFewPathEntry calls number file b x
 
--- of one of these bodies
-pub record IsEntryOfBodies
-    (calls : Callee → ℕ → Bool) (number : ℕ) (file : FileWithCredits) (bodies : List BodyPlace) (x : Entry)
-    : Type 0 where
+-- of one of these bodies, whatever is so of an entry of each
+pub record IsOfBodies (IsOfBody : BodyPlace → Entry → Type 0) (bodies : List BodyPlace) (x : Entry) : Type 0 where
   pub body : BodyPlace
   pub is_there : Contains bodies body
-  pub is_entry : IsBodyEntry calls number file body x
+  pub is_entry : IsOfBody body x
+
+abbrev pub IsEntryOfBodies : (Callee → ℕ → Bool) → ℕ → FileWithCredits → List BodyPlace → Entry → Type 0
+IsEntryOfBodies calls number file = IsOfBodies (IsBodyEntry calls number file)
 
 -- A package
 

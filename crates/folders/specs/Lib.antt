@@ -1,5 +1,7 @@
--- To be trusted: which words name a package, which files of a folder are its sources, and what can go wrong there.
+-- To be trusted: which words name a package, which files of a folder are its sources, what can go wrong there, and
+-- which files were written.
 pub mod Names
 pub mod Packages
 pub mod GoFiles
 pub mod ReadFaults
+pub mod WrittenFiles

@@ -19,12 +19,27 @@ pub enum Fault {
     /// The word has no `=`, nothing before or after its first one, or a control code before it. Escaped.
     #[error("bad package: {0}")]
     BadPackage(String),
-    /// The folder can't be listed, or the file can't be read or is no file. Escaped.
+    /// The folder can't be listed, or the file can't be read, or is none where one of a package should be. Escaped.
     #[error("cannot read: {0}")]
     CannotRead(String),
     /// The report, or the lines, could not be written.
     #[error("cannot write: standard output")]
     CannotWrite,
+    /// The file could not be written. Escaped.
+    #[error("cannot write: {0}")]
+    CannotWriteFile(String),
+    /// The file of certificates is not UTF-8, or no JSON.
+    #[error("certificate is not JSON")]
+    CertificateNotJson,
+    /// The file of certificates is JSON, but has no certificates of a version that is known.
+    #[error("certificate has another shape")]
+    CertificateWrongShape,
+    /// The file of certificates has a version that is not known.
+    #[error("certificate version not known")]
+    CertificateWrongVersion,
+    /// The certificates have an older version, in which those of the package of this path can't be told. Escaped.
+    #[error("certificate version too old: {0}")]
+    CertificateTooOld(String),
     /// Two packages have this path.
     #[error("two packages of one path: {0}")]
     TwoPackages(String),

@@ -27,6 +27,10 @@ const HELP: &str = "Shows what ctxvet makes of Go files, step by step
                          | and for each variable what may be so before the event, as a sum. Of a cancel function:
                          1 unset, 2 open, 4 safe, and 8, 16, .. left to the first group, the second, .. Of a group:
                          1 not made, 2 idle, 4 live, 8 a Wait is deferred. 0 where nothing arrives
+  inspect certs PATH=DIR..
+                         certificates in words: as graph, but with the names of what may be so: of a cancel function
+                         unset, open, safe, and pending in the groups that it is left to; of a group unmade, idle, live,
+                         and awaited, where a Wait is deferred; none where nothing arrives
   inspect facts PATH=DIR..
                          for each package a line with PATH and, as JSON, what is known of its functions
   inspect --help
@@ -38,8 +42,9 @@ For those who work on ctxvet:
                          of a folder's path says what its entries are:
                          names         Go sources, in which marks say what each name means
                          codes, rows   Go sources, in which marks say what is reported
-                         events, graphs, facts, tokens, trees
-                                       files, and after them the lines of inspect events, graph, facts, tokens or tree
+                         events, graphs, certs, facts, tokens, trees
+                                       files, and after them the lines of inspect events, graph, certs, facts, tokens
+                                       or tree
                          packages      folders, each with the packages of a run of ctxvet check
                          examples      packages, each with a run of its own
                          counts        files, on all of which inspect count is run
@@ -151,6 +156,7 @@ fn shown_by(word: &str) -> Option<Shown> {
     match word {
         "events" => Some(Shown::Events),
         "graph" => Some(Shown::Graphs),
+        "certs" => Some(Shown::Certificates),
         "facts" => Some(Shown::Facts),
         _ => None,
     }

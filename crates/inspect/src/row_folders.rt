@@ -53,6 +53,7 @@ fn cases_of(name: &str) -> Option<Cases> {
         "names" => Some(Cases::Compared(Compared::Names)),
         "events" => Some(shown_cases(RowKind::Packages(Shown::Events))),
         "graphs" => Some(shown_cases(RowKind::Packages(Shown::Graphs))),
+        "certs" => Some(shown_cases(RowKind::Packages(Shown::Certificates))),
         "facts" => Some(shown_cases(RowKind::Packages(Shown::Facts))),
         "tokens" => Some(shown_cases(RowKind::Tokens)),
         "trees" => Some(shown_cases(RowKind::Trees)),

@@ -31,6 +31,7 @@ pub fn push_body<'a>(
         Page {
             source: page.source,
             body,
+            classes: page.classes,
         },
     )?;
     push_nodes(alloc, text, page, body)

@@ -67,7 +67,8 @@ fn push_known(
     }
 }
 
-fn state_text(state: GroupState) -> &'static str {
+/// The word of a group's state, with a blank before it.
+pub fn state_text(state: GroupState) -> &'static str {
     match state {
         GroupState::Idle => " idle",
         GroupState::Live => " live",

@@ -1,9 +1,11 @@
 //! The lines of a body's graph: each node with what can directly follow it, and with the classes of the variables that
 //! arrive there.
 
+use crate::class_names::push_names;
 use crate::node_lines::push_node;
-use crate::page::Page;
+use crate::page::{Classes, Page};
 use bodies::BodyGraph;
+use events::Variable;
 use flow::NodePlace;
 use maker::Solution;
 use states::{Arrivals, FIRST_PENDING, GROUP_CLASSES, cancel_class, group_class};
@@ -26,7 +28,10 @@ pub fn push_graph(
         if let Some(node) = kept.graph.nodes.get(place.node) {
             push_node(text, page, number, node.occurrence)?;
             push_next(alloc, text, &numbers, &node.next)?;
-            push_masks(text, page, solution, place.node)?;
+            match page.classes {
+                Classes::Sums => push_masks(text, page, solution, place.node)?,
+                Classes::Names => push_names(text, page, solution, place.node)?,
+            }
             text.push('\n')?;
         }
     }
@@ -81,14 +86,19 @@ fn push_masks(
         text.push_str(" |")?;
     }
     for (place, variable) in page.body.variables.iter().enumerate() {
-        let mask = if variable.kind.is_cancel() {
-            cancel_mask(solution, place, node)
-        } else {
-            group_mask(solution, place, node)
-        };
+        let mask = mask_of(solution, place, *variable, node);
         write!(text, " {mask}")?;
     }
     Ok(())
+}
+
+/// The classes of a variable, which has that place, at a node, as a sum.
+pub fn mask_of(solution: &Solution, place: usize, variable: Variable<'_>, node: usize) -> u32 {
+    if variable.kind.is_cancel() {
+        cancel_mask(solution, place, node)
+    } else {
+        group_mask(solution, place, node)
+    }
 }
 
 /// The bit, where something is so.

@@ -3,6 +3,7 @@
 #![tactic(auto)]
 
 mod body_lines;
+mod class_names;
 mod event_words;
 mod fact_lines;
 mod graph_lines;

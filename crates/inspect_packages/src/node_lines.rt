@@ -41,6 +41,7 @@ fn push_kept<'a>(
     let own = Page {
         source: page.source,
         body,
+        classes: page.classes,
     };
     match page.calls {
         None => push_events(text, own, kept),

@@ -1,7 +1,7 @@
 //! The lines of packages' bodies.
 
 use crate::body_lines::push_body;
-use crate::page::{FilePage, place_of};
+use crate::page::{Classes, FilePage, place_of};
 use crate::use_fault_lines::push_outer;
 use all_packages::{JudgedBy, ToldPackage, judge_packages};
 use calls_flags::{KnownCalls, bodies_of_files};
@@ -16,6 +16,8 @@ pub enum Nodes {
     Events,
     /// The same, with what may follow each, and the classes that arrive there.
     Graphs,
+    /// The same, with the names of these classes.
+    Certificates,
 }
 
 /// The lines of what the bodies of these packages do, in the order of packages, files and bodies: as they were judged.
@@ -89,9 +91,10 @@ fn push_files<'a>(
         own: &judged.table.called,
         imported: &found.calls,
     };
-    let calls = match nodes {
-        Nodes::Events => None,
-        Nodes::Graphs => Some(known),
+    let (calls, classes) = match nodes {
+        Nodes::Events => (None, Classes::Sums),
+        Nodes::Graphs => (Some(known), Classes::Sums),
+        Nodes::Certificates => (Some(known), Classes::Names),
     };
     for (source, file) in judged.report.sources.iter().zip(files.iter()) {
         push_file(
@@ -101,6 +104,7 @@ fn push_files<'a>(
                 source,
                 file,
                 calls,
+                classes,
             },
         )?;
     }

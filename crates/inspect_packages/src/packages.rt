@@ -15,6 +15,8 @@ pub enum Shown {
     Events,
     /// The same, with the graph of each body, and the classes that arrive at its nodes.
     Graphs,
+    /// The same, with the names of these classes: what a certificate says.
+    Certificates,
     /// Their final tables.
     Facts,
 }
@@ -82,6 +84,7 @@ fn text_of_loaded(
     match shown {
         Shown::Events => text_of_bodies(alloc, packages, Nodes::Events),
         Shown::Graphs => text_of_bodies(alloc, packages, Nodes::Graphs),
+        Shown::Certificates => text_of_bodies(alloc, packages, Nodes::Certificates),
         Shown::Facts => text_of_facts(alloc, packages),
     }
 }

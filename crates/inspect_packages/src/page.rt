@@ -6,6 +6,15 @@ use events::Variable;
 use lexer::{Place, Source, place};
 use std::alloc::AllocError;
 
+/// How the classes of variables that arrive at a node are shown.
+#[derive(Clone, Copy)]
+pub enum Classes {
+    /// Of each variable as a sum.
+    Sums,
+    /// By their names.
+    Names,
+}
+
 /// A file of a package, with its bodies.
 #[derive(Clone, Copy)]
 pub struct FilePage<'s, 'e, 'a> {
@@ -13,6 +22,7 @@ pub struct FilePage<'s, 'e, 'a> {
     pub file: &'s FileBodies<'e, 'a>,
     /// What is known of functions, where it is shown what may follow a node and which classes arrive there.
     pub calls: Option<KnownCalls<'s, 'a>>,
+    pub classes: Classes,
 }
 
 /// A body, and its file's text.
@@ -20,6 +30,7 @@ pub struct FilePage<'s, 'e, 'a> {
 pub struct Page<'s, 'e, 'a> {
     pub source: &'s Source,
     pub body: &'s Body<'e, 'a>,
+    pub classes: Classes,
 }
 
 /// The place of an offset. Past the text's end it is that of the end.

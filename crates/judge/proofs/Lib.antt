@@ -5,3 +5,6 @@ mod Loads
 mod SameTexts
 mod OneLoad
 mod OneReport
+mod CertifiedReports
+mod VerifiedPlaces
+mod VerifiedReports

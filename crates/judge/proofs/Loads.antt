@@ -25,7 +25,7 @@ tell_loaded given packages load = record {
 }
 
 -- what is said of loaded packages by these rules is the report of those that were given
-pub is_report_by : (rules : Rules) → YesOfAPackageIsQuietBy rules → EntriesLieInFilesBy rules
+unfoldable pub is_report_by : (rules : Rules) → YesOfAPackageIsQuietBy rules → EntriesLieInFilesBy rules
     → (given : List GivenPackage) (packages : List KeptPackage) (report : Report)
     → IsLoad given packages
     → TellsReportBy rules packages report

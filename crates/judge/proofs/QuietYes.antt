@@ -1,5 +1,5 @@
 -- The trees of loaded packages are those of texts, so that what a yes says of runs holds of a report on them.
-use Rattle.std.proofs.Common.{◌≡◌, ℕ, ◌+◌, zero, suc, true, false, inl, inr, List, [], ◌∷◌, map, Option, Some, None, Contains, refl, sym, ap, ◌∙◌, subst}
+use Rattle.std.proofs.Common.{◌≡◌, ℕ, ◌+◌, zero, suc, true, false, inl, inr, List, [], ◌∷◌, map, Some, Contains, refl, ap, ◌∙◌, subst}
 use Rattle.std.specs.Prelude.{slice_get, option_map}
 use Rattle.std.proofs.lemmas.Option.{slice_get-map}
 use Rattle.lexer.specs.declared.source.Source.{Source}
@@ -14,10 +14,10 @@ use Rattle.load.specs.Readings.{AreReadingsOf}
 use Rattle.load.specs.GivenPackages.{PathAndFiles, AreLoaded}
 use Rattle.all_packages.specs.declared.judged.Judged.{Judged}
 use Rattle.report.specs.Entries.{entry_of}
-use Rattle.all_packages.specs.Reports.{says_nothing, is_yes, said_view}
+use Rattle.all_packages.specs.Reports.{says_nothing, said_view}
 use Rattle.meaning_runs.specs.Promise.{AreTreesOfTexts}
-use Rattle.meaning_runs.specs.PackageYes.{program_of, YesOfAPackageIsQuietBy}
-use Rattle.judge.specs.QuietYes.{IsToldYes, YesAreQuiet}
+use Rattle.meaning_runs.specs.PackageYes.{YesOfAPackageIsQuietBy}
+use Rattle.judge.specs.QuietYes.{YesAreQuiet}
 
 abbrev tree_in : NumberedTree → SourceFile
 tree_in t = t.tree

@@ -1,6 +1,6 @@
 -- The text of a report is that of the paths, the sources and the entries of its packages: nothing else that is kept of a
 -- report changes it. So by `one_report` packages with the same sources have one text.
-use Rattle.std.proofs.Common.{◌≡◌, ℕ, zero, suc, List, [], ◌∷◌, ◌++◌, length, map, flat_map, Some, refl, ap, ◌∙◌, sym, arith}
+use Rattle.std.proofs.Common.{◌≡◌, ℕ, suc, List, [], ◌∷◌, ◌++◌, map, flat_map, Some, refl, ap, ◌∙◌, sym}
 use Rattle.std.specs.Prelude.{slice_get, decimal, codes}
 use Rattle.std.specs.List.{concat}
 use Rattle.lexer.specs.declared.source.Source.{Source}

@@ -3,3 +3,5 @@ pub mod QuietYes
 pub mod SourcePlaces
 pub mod Reports
 pub mod OneReport
+pub mod Certified
+pub mod Verified

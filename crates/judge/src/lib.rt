@@ -2,9 +2,13 @@
 //! the report of given packages is says `specs/Reports.antt`.
 #![tactic(auto)]
 
+mod certified;
 mod laws;
 mod reports;
+mod verified;
 
 pub use all_packages::Report;
+pub use certified::{CertifiedReport, certified_report_of};
 pub use laws::given_packages_have_one_report;
 pub use reports::report_of;
+pub use verified::{VerifyFault, verified_report_of};

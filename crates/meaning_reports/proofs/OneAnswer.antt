@@ -1,6 +1,6 @@
 -- There is one answer: a file has one table of full credits, and a package one table of the most consistent flags.
 use Rattle.std.proofs.Common.{◌≡◌, ℕ, zero, suc, ◌+◌, ◌<◌, ◌≤◌, Bool, true, false, ◌&&◌, if◌then◌else◌, List, [], ◌∷◌, Some, nat_lt, refl, sym, ◌∙◌, subst, arith}
-use Rattle.std.specs.Prelude.{◌==◌}
+use Rattle.std.specs.Prelude.{◌==◌, ◌↔◌}
 use Rattle.std.proofs.lemmas.Bool.{ltb-true}
 use Rattle.std.proofs.lemmas.Bool.Decides.{Decides-eqb}
 use Rattle.meaning.specs.Mentions.{BodyPlace}
@@ -11,7 +11,7 @@ use Rattle.meaning.specs.BodyEvents.{bodies_of}
 use Rattle.meaning_packages.specs.CallsFlags.{Flags, FileWithCredits, AreMost}
 use Rattle.meaning_reports.specs.PackageTables.{AreCredited, no_file, file_and}
 
-same_test : (a b : Bool) → (a ≡ true → b ≡ true) → (b ≡ true → a ≡ true) → a ≡ b
+pub same_test : (a b : Bool) → (a ≡ true → b ≡ true) → (b ≡ true → a ≡ true) → a ≡ b
 same_test true b there back = sym (there refl)
 same_test false true there back = back refl
 same_test false false there back = refl
@@ -34,7 +34,7 @@ before_bound at (x ∷ bs) b e = by (x.at == at) (Decides-eqb x.at at).0 (before
     by false same later is = let l = later is in omega (arith, l)
 
 -- tables that agree on what lies after a literal
-same_behind : (one other : Credits) (literal : ℕ)
+pub same_behind : (one other : Credits) (literal : ℕ)
     → ((later number : ℕ) → literal < later → one later number ≡ other later number)
     → begun_after literal one ≡ begun_after literal other
 same_behind one other literal agree = λ i later number. by later number (nat_lt literal later) refl i
@@ -42,6 +42,43 @@ same_behind one other literal agree = λ i later number. by later number (nat_lt
     by : (later number : ℕ) (t : Bool) → nat_lt literal later ≡ t → (t && one later number) ≡ (t && other later number)
     by later number false e = refl
     by later number true e = agree later number (ltb-true literal later e)
+
+-- whatever credits are, where those of a literal are a body's, and rely only on those behind it
+module _ (bodies : List BodyPlace) (IsCredit : Credits → ℕ → ℕ → Type 0)
+    (body_there : (credits : Credits) (literal number : ℕ) → IsCredit credits literal number
+    → (b : BodyPlace) × (body_at literal bodies ≡ Some b))
+    (credit_too : (one other : Credits) (literal number : ℕ) → begun_after literal one ≡ begun_after literal other
+    → IsCredit one literal number
+    → IsCredit other literal number) where
+  abbrev AreCredits : Credits → Type 0
+  AreCredits credits = (literal number : ℕ) → (credits literal number ≡ true) ↔ IsCredit credits literal number
+
+  none_past : (credits : Credits) → AreCredits credits → (literal number : ℕ) → bound bodies ≤ literal
+      → credits literal number ≡ false
+  none_past credits are literal number past = by (credits literal number) refl
+    where
+      by : (t : Bool) → credits literal number ≡ t → t ≡ false
+      by false e = refl
+      by true e =
+          let b = body_there credits literal number ((are literal number).0 e) in
+          absurd (let l = before_bound literal bodies b.0 b.1 in omega (arith, l, past))
+
+  module _ (one other : Credits) (are : AreCredits one) (too : AreCredits other) where
+    -- from the last literal to the first
+    same_from : (k literal : ℕ) → bound bodies ≤ literal + k → (number : ℕ)
+        → one literal number ≡ other literal number
+    same_from zero literal past number =
+        let behind_all : bound bodies ≤ literal = omega (arith, past) in
+        none_past one are literal number behind_all ∙ sym (none_past other too literal number behind_all)
+    same_from (suc k) literal past number =
+        let same = same_behind one other literal (λ later n l. same_from k later (omega (arith, l, past)) n) in
+        same_test (one literal number) (other literal number)
+        (λ e. (too literal number).1 (credit_too one other literal number same ((are literal number).0 e)))
+        (λ e. (are literal number).1 (credit_too other one literal number (sym same) ((too literal number).0 e)))
+
+  pub one_table_by : (one other : Credits) → AreCredits one → AreCredits other → one ≡ other
+  one_table_by one other are too = λ i literal number.
+      same_from one other are too (bound bodies) literal (omega arith) number i
 
 module _ (seen : Seen) where
   credited_too : (one other : Credits) (literal number : ℕ) → begun_after literal one ≡ begun_after literal other
@@ -58,33 +95,10 @@ module _ (seen : Seen) where
     settles = subst (λ c. Settles (paths_of seen (record { calls = no_calls; credits = c }) h.body) h.variable) same h.settles;
   }
 
-  module _ (one other : Credits) (full : AreFullCredits seen one) (full_too : AreFullCredits seen other) where
-    none_past : (credits : Credits) → AreFullCredits seen credits → (literal number : ℕ) → bound (bodies_of seen) ≤ literal
-        → credits literal number ≡ false
-    none_past credits are literal number past = by (credits literal number) refl
-      where
-        by : (t : Bool) → credits literal number ≡ t → t ≡ false
-        by false e = refl
-        by true e =
-            let h = (are.each literal number).0 e in
-            absurd (let l = before_bound literal (bodies_of seen) h.body h.is_there in omega (arith, l, past))
-
-    -- from the last literal to the first
-    same_from : (k literal : ℕ) → bound (bodies_of seen) ≤ literal + k → (number : ℕ)
-        → one literal number ≡ other literal number
-    same_from zero literal past number =
-        let behind_all : bound (bodies_of seen) ≤ literal = omega (arith, past) in
-        none_past one full literal number behind_all ∙ sym (none_past other full_too literal number behind_all)
-    same_from (suc k) literal past number =
-        let same = same_behind one other literal (λ later n l. same_from k later (omega (arith, l, past)) n) in
-        same_test (one literal number) (other literal number)
-        (λ e. (full_too.each literal number).1 (credited_too one other literal number same ((full.each literal number).0 e)))
-        (λ e. (full.each literal number).1
-        (credited_too other one literal number (sym same) ((full_too.each literal number).0 e)))
-
-  pub one_table : (one other : Credits) → AreFullCredits seen one → AreFullCredits seen other → one ≡ other
-  one_table one other full full_too = λ i literal number.
-      same_from one other full full_too (bound (bodies_of seen)) literal (omega arith) number i
+  one_table : (one other : Credits) → AreFullCredits seen one → AreFullCredits seen other → one ≡ other
+  one_table one other full full_too =
+      one_table_by (bodies_of seen) (IsCredited seen) (λ credits literal number h. (h.body, h.is_there)) credited_too one other
+      full.each full_too.each
 
 -- Files
 

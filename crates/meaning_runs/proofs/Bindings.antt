@@ -65,8 +65,8 @@ use_binds_nothing (return_event handed) h = refl
 
 pub mention_harmless : (seen : Seen) (l : Local) (kind : Option VariableKind) (bodies : List BodyPlace) (m : Mention) → Harmless (mention_outcome seen l kind bodies m).events
 mention_harmless seen l kind bodies m =
-    mention_fits (λ e. (u : VariableAt) → BindsCancel e u → ⊥)
-    (λ e h u b. no_binding e u (use_binds_nothing e h) b) seen l kind bodies m
+    mention_fits (λ e. (u : VariableAt) → BindsCancel e u → ⊥) bodies l
+    (λ e h own u b. no_binding e u (use_binds_nothing e h) b) seen kind m
 
 same_body : (bodies : List BodyPlace) (m n : ℕ) → is_body m bodies ≡ true → is_body n bodies ≡ true → m ≡ n
 same_body [] m n h k = let bad : false ≡ true = h in cc

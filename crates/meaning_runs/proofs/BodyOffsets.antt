@@ -5,14 +5,14 @@ use Rattle.std.proofs.lemmas.List.Elements.{Contains-append_cases}
 use Rattle.tree.specs.declared.operator.DeclKeyword.{DeclKeyword}
 use Rattle.tree.specs.Syntax.{Parameters, Specs, no_spec, value_and, type_and, declaration_of, Block, Function, TopLevelDeclaration, function_declaration, general_declaration, ImportSpec, ImportDeclaration, SourceFile}
 use Rattle.meaning.specs.Mentions.{BodyPlace, Mark, mentions, defers_literal, returns, opens, closes, part_of, expressions_marks, optional_marks, signature_marks, statements_marks, receiver_marks, function_body, function_marks, outer_specs_marks, top_level_marks, top_levels_marks, file_marks}
-use Rattle.meaning.specs.Tracked.{Placed, placed}
+use Rattle.meaning.specs.Tracked.{Placed, outer, placed}
 use Rattle.meaning.specs.TreeOfText.{first_place, IsTreeOf}
 use Rattle.meaning.specs.Grammar.{as_type, as_expression, IsLast, SpellsSpecs, SpellsDeclaration, SpellsImportSpec, SpellsImportSpecs, SpellsOneImport, SpellsImports, SpellsReceiver, SpellsBody, SpellsFunction, SpellsTopLevel, SpellsTopLevels, SpellsFile}
 use Rattle.meaning.proofs.Membership.{contains_nil, contains_here, contains_there, contains_cases}
 use Rattle.meaning.specs.BodyEvents.{opened_by, opened_in}
-use Rattle.meaning_runs.specs.BodyOffsets.{BodiesAreApart}
+use Rattle.meaning_runs.specs.BodyOffsets.{BodiesAreApart, BeginOnce, BodiesBeginOnce}
 use Rattle.meaning_runs.proofs.LeftSides.{is_placed}
-use Rattle.meaning_runs.proofs.BodyOffsetsWithin.{AllBefore}
+use Rattle.meaning_runs.proofs.BodyOffsetsWithin.{AllBefore, OpenOnce}
 use Rattle.meaning_runs.proofs.BodyOffsetsTokens.{tokens_ordered, tokens_under}
 use Rattle.meaning_runs.proofs.AskedSites.{CodeSite, unasked_at, asked_statements}
 use Rattle.meaning_runs.proofs.SitesWithin.{Sited, no_site, from_site}
@@ -144,6 +144,27 @@ bodies_are_apart text tree t =
       one_each = λ b c first second same.
           w.one_each b c (opens_one (file_marks tree) b first) (opens_one (file_marks tree) c second) same;
     }
+
+-- the bodies that the marks open, wherever these stand
+begin_once : (bodies : List BodyPlace) (ms : List Mark) → OpenOnce ms → BeginOnce (opened_in (placed bodies ms))
+unfolding placed
+begin_once bodies [] h = tt
+begin_once bodies (mentions m ∷ ms) h = begin_once bodies ms h.1
+begin_once bodies (defers_literal site at ∷ ms) h = begin_once bodies ms h.1
+begin_once bodies (returns at es ∷ ms) h = begin_once bodies ms h.1
+begin_once bodies (opens b ∷ ms) h = (
+  λ c among same.
+      let w = opened_there (placed (b ∷ bodies) ms) c among in
+      let m = subst (λ (m : Mark). Contains ms m) w.2 (is_placed (b ∷ bodies) ms w.0 w.1) in
+      h.0 (opens c) m b c refl refl same,
+  begin_once (b ∷ bodies) ms h.1,
+)
+begin_once bodies (closes ∷ ms) h = begin_once (outer bodies) ms h.1
+
+pub bodies_begin_once : BodiesBeginOnce
+bodies_begin_once text tree t =
+    let g = whole_file text tree (first_place t.tokens) t.last 0 tt (tokens_ordered text t.tokens t.cut) t.spelled in
+    begin_once [] (file_marks tree) g.within.once
 
 -- the sites and the literals under `defer` of a file whose tree is the tree of a text
 pub record AreSited (text : List ℕ) (tree : SourceFile) : Type 0 where

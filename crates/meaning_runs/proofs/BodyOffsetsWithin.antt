@@ -3,7 +3,7 @@ use Rattle.std.proofs.Common.{◌≡◌, ℕ, ◌+◌, ◌<◌, ◌≤◌, ◌�
 use Rattle.std.proofs.lemmas.List.Elements.{Contains-append_cases}
 use Rattle.meaning.specs.Mentions.{BodyPlace, Mark, mentions, defers_literal, returns, opens, closes, in_body}
 use Rattle.meaning.specs.Tracked.{Placed, placed}
-use Rattle.meaning.proofs.Membership.{contains_cases, contains_nil}
+use Rattle.meaning.proofs.Membership.{contains_cases, contains_here, contains_nil, contains_there}
 use Rattle.meaning_runs.specs.BodyOffsets.{AreFalling}
 
 -- all these bodies begin before the offset
@@ -17,12 +17,34 @@ Falls bodies ms = (p : Placed) → Contains (placed bodies ms) p → AreFalling 
 abbrev pub Splits : List BodyPlace → List Mark → Type 0
 Splits bodies ms = (ns : List Mark) → placed bodies (ms ++ ns) ≡ placed bodies ms ++ placed bodies ns
 
+-- the second mark opens no body where the first one does
+abbrev OpensElsewhere : Mark → Mark → Type 0
+OpensElsewhere m n = (b c : BodyPlace) → m ≡ opens b → n ≡ opens c → b.at ≡ c.at → ⊥
+
+-- no two of the marks open a body at one offset
+abbrev pub OpenOnce : List Mark → Type 0
+OpenOnce [] = Unit {0}
+OpenOnce (m ∷ ms) = ((n : Mark) → Contains ms n → OpensElsewhere m n) × OpenOnce ms
+
+open_once_both : (ms ns : List Mark) → OpenOnce ms → OpenOnce ns
+    → ((m n : Mark) → Contains ms m → Contains ns n → OpensElsewhere m n)
+    → OpenOnce (ms ++ ns)
+open_once_both [] ns h k across = k
+open_once_both (m ∷ ms) ns h k across = (
+  λ n among. elim (Contains-append_cases ms ns n among) [
+    | inl x ↦ h.0 n x
+    | inr x ↦ across m n (contains_here m ms) x
+  ],
+  open_once_both ms ns h.1 k λ l n x y. across l n (contains_there m l ms x) y,
+)
+
 pub record Within (lo hi : ℕ) (ms : List Mark) : Type 0 where
   pub goes_up : lo ≤ hi
   pub splits : (bodies : List BodyPlace) → Splits bodies ms
   pub falls : (bodies : List BodyPlace) → AreFalling bodies → AllBefore lo bodies → Falls bodies ms
   pub inside : (b : BodyPlace) → Contains ms (opens b) → (lo ≤ b.at) × (b.at < hi)
   pub one_each : (b c : BodyPlace) → Contains ms (opens b) → Contains ms (opens c) → b.at ≡ c.at → b ≡ c
+  pub once : OpenOnce ms
 
 -- no body begins or ends here
 abbrev pub IsPlain : Mark → Type 0
@@ -51,6 +73,7 @@ no_marks up = record {
   falls = λ bodies h below p among. absurd (contains_nil p (subst (λ (l : List Placed). Contains l p) (placed_nil bodies) among));
   inside = λ b among. absurd (contains_nil (opens b) among);
   one_each = λ b c first second same. absurd (contains_nil (opens b) first);
+  once = tt;
 }
 
 not_plain : (b : BodyPlace) (m : Mark) → IsPlain m → m ≡ opens b → ⊥
@@ -76,6 +99,7 @@ plain_and m {ms} plain w = record {
       ];
   inside = λ b among. w.inside b (behind_plain b m ms plain among);
   one_each = λ b c first second same. w.one_each b c (behind_plain b m ms plain first) (behind_plain c m ms plain second) same;
+  once = (λ n among b c e f same. not_plain b m plain e, w.once);
 }
 
 pub wider : {lo mid hi : ℕ} {ms : List Mark} → mid ≤ hi → Within lo mid ms → Within lo hi ms
@@ -85,6 +109,7 @@ wider {lo} {mid} {hi} up w = record {
   falls = w.falls;
   inside = λ b among. let k = w.inside b among in (k.0, omega (arith, k.1, up));
   one_each = w.one_each;
+  once = w.once;
 }
 
 pub longer : {low lo hi : ℕ} {ms : List Mark} → low ≤ lo → Within lo hi ms → Within low hi ms
@@ -94,6 +119,7 @@ longer {low} {lo} {hi} up w = record {
   falls = λ bodies h below. w.falls bodies h λ c among. omega (arith, below c among, up);
   inside = λ b among. let k = w.inside b among in (omega (arith, k.0, up), k.1);
   one_each = w.one_each;
+  once = w.once;
 }
 
 split_both : (bodies : List BodyPlace) (ms ns : List Mark) → Splits bodies ms → Splits bodies ns → Splits bodies (ms ++ ns)
@@ -134,6 +160,12 @@ one_of_both {ms = ms} {ns = ns} apart h k b c first second same =
       ]
     ]
 
+once_of_both : {lo hi low high : ℕ} {ms ns : List Mark} → Apart lo hi low high → Within lo hi ms → Within low high ns → OpenOnce (ms ++ ns)
+once_of_both {ms = ms} {ns = ns} apart h k = open_once_both ms ns h.once k.once λ m n first second b c e f same.
+    let x = h.inside b (subst (λ (o : Mark). Contains ms o) e first) in
+    let y = k.inside c (subst (λ (o : Mark). Contains ns o) f second) in
+    apart b.at c.at x.0 x.1 y.0 y.1 same
+
 both_apart : {lo hi l h' l2 h2 : ℕ} {ms ns : List Mark} → Apart l h' l2 h2 → Within l h' ms → Within l2 h2 ns → Within lo hi ms → Within lo hi ns → Within lo hi (ms ++ ns)
 both_apart {ms = ms} {ns = ns} apart first second h k = record {
   goes_up = h.goes_up;
@@ -141,6 +173,7 @@ both_apart {ms = ms} {ns = ns} apart first second h k = record {
   falls = λ bodies fall below. falls_both bodies ms ns (h.splits bodies) (h.falls bodies fall below) (k.falls bodies fall below);
   inside = inside_both h k;
   one_each = one_of_both apart first second;
+  once = once_of_both apart first second;
 }
 
 -- one part, and then the other
@@ -204,6 +237,26 @@ one_more b bodies below c among = elim (contains_cases b c bodies among) [
   | inr h ↦ omega (arith, below c h)
 ]
 
+-- a body, and those that begin in it
+body_once : {hi : ℕ} (b : BodyPlace) {ms : List Mark} → Within (b.at + 1) hi ms → OpenOnce (in_body b ms)
+body_once b {ms} w = (
+  λ n among c d e f same. elim (Contains-append_cases ms (closes ∷ []) n among) [
+    | inl x ↦
+        let here : b.at ≡ c.at = ap (λ (y : BodyPlace). y.at) (same_body b c e) in
+        let k = w.inside d (subst (λ (o : Mark). Contains ms o) f x) in
+        omega (arith, here, same, k.0)
+    | inr last ↦ elim (contains_cases closes n [] last) [
+      | inl g ↦ not_closed d (g ∙ f)
+      | inr none ↦ contains_nil n none
+    ]
+  ],
+  open_once_both ms (closes ∷ []) w.once (λ n none. absurd (contains_nil n none), tt) λ m n first last c d e f same.
+      elim (contains_cases closes n [] last) [
+        | inl g ↦ not_closed d (g ∙ f)
+        | inr none ↦ contains_nil n none
+      ],
+)
+
 pub body_within : {hi : ℕ} (b : BodyPlace) {ms : List Mark} → Within (b.at + 1) hi ms → Within b.at hi (in_body b ms)
 body_within {hi} b {ms} w = record {
   goes_up = let k : b.at + 1 ≤ hi = w.goes_up in omega arith;
@@ -227,4 +280,5 @@ body_within {hi} b {ms} w = record {
       | inr f ↦ w.one_each c d e f same
     ]
   ];
+  once = body_once b w;
 }

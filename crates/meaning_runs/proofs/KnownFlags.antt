@@ -70,7 +70,7 @@ second_among earlier (x ∷ xs) f e = by (is_called_before x earlier) e (second_
     by true q go = subst (λ y. Contains (x ∷ xs) y) (some_inj x f q) (contains_here x xs)
     by false q go = contains_there x f xs (go q)
 
-no_second : (ps : List LoadedPackage) (i : ℕ) (q : LoadedPackage) → slice_get ps i ≡ Some q → HasNoWholeFault ps i → second_function (trees_of q) ≡ None
+pub no_second : (ps : List LoadedPackage) (i : ℕ) (q : LoadedPackage) → slice_get ps i ≡ Some q → HasNoWholeFault ps i → second_function (trees_of q) ≡ None
 no_second ps i q is none = by (second_function (trees_of q)) refl
   where
     by : (o : Option FunctionName) → second_function (trees_of q) ≡ o → second_function (trees_of q) ≡ None

@@ -18,12 +18,12 @@ mod SavedLiterals
 mod BodyOffsetsRules
 mod BodyOffsetsParts
 mod BodyOffsetsSpelled
-mod BodyOffsets
+pub mod BodyOffsets
 mod QuietPromise
 pub mod PackageYes
 mod ExampleRuns
 pub mod EventSources
-mod MentionEvents
+pub mod MentionEvents
 mod Bindings
 pub mod OwnVariables
 mod OwnBindings
@@ -31,7 +31,7 @@ pub mod Captured
 mod BoundOnce
 mod OwnNumbers
 mod LeftSides
-mod NamedBodies
+pub mod NamedBodies
 mod FilePlaces
 mod NameRules
 mod NameParts
@@ -40,7 +40,7 @@ mod NamePlaces
 mod MentionPlaces
 mod FaultPlaces
 pub mod EntryPlaces
-mod KnownFlags
+pub mod KnownFlags
 mod TrackedBindings
 mod LeavingLists
 mod LastReturns

@@ -1,13 +1,14 @@
 -- The events of a mention: what holds of each call, pass, loan, start, try and wait holds of all that a mention gives
--- which binds nothing. No mention gives a return or a literal under `defer`.
-use Rattle.std.proofs.Common.{◌≡◌, ℕ, Bool, true, false, inl, inr, List, [], ◌∷◌, Option, Some, None, Contains, refl, subst}
+-- which binds nothing. A local is passed on in the body that declares it alone. No mention gives a return or a literal
+-- under `defer`.
+use Rattle.std.proofs.Common.{◌≡◌, ℕ, Bool, true, false, inl, inr, List, [], ◌∷◌, Option, Some, None, Contains, refl, sym, subst, ◌∙◌}
 use Rattle.std.specs.Prelude.{◌&&◌, ◌||◌, if◌then◌else◌, codes}
 use Rattle.std.specs.List.{list_all}
 use Rattle.std.specs.Str.{bytes_eq}
 use Rattle.meaning.specs.FunctionFacts.{CancelType, cancel_type, group_type, VariableKind, cancel, group}
 use Rattle.meaning.specs.Mentions.{BodyPlace, Row, Call, Role, elsewhere, called, called_in_brackets, argument, returned, left, names_type, new_literal, parameter_pointer, Mention}
 use Rattle.meaning.specs.Tracked.{Known, variable_of, LocalRole, parameter, receiver, variadic, result, in_block, Local}
-use Rattle.meaning.specs.Uses.{Seen, found, kind_of, tracked_kind, VariableAt, Event, other, obtain, clear, call, defer_call, pass, defer_pass, lend, start, try, wait, defer_wait, make, defer_literal, return_event, Binding, obtained, cleared, made, binding_at, binding_event, allowed_if, either_use, variable_at, cancel_called, cancel_passed, cancel_use, group_started, group_tried, group_awaited, group_limited, group_called, group_lent, group_use, kind_use, use_outcome, mention_outcome, binding_outcome, row_outcome, role_outcome, local_outcome, variable_outcome, is_own, has_no_argument, has_its_arguments, is_statement_place, is_deferred_place, takes, is_given_as, cancel_type_of, is_call_place, callee_of, body_gives, is_free, only_argument, started_literal, is_member_of, literals_between, is_statement_or_value, is_item_place, is_deferred}
+use Rattle.meaning.specs.Uses.{Seen, found, kind_of, tracked_kind, Event, other, obtain, clear, call, defer_call, pass, defer_pass, lend, start, try, wait, defer_wait, make, defer_literal, return_event, Binding, obtained, cleared, made, binding_at, binding_event, allowed_if, either_use, variable_at, cancel_called, cancel_passed, cancel_use, group_started, group_tried, group_awaited, group_limited, group_called, group_lent, group_use, kind_use, use_outcome, mention_outcome, binding_outcome, row_outcome, role_outcome, local_outcome, variable_outcome, is_own, has_no_argument, has_its_arguments, is_statement_place, is_deferred_place, takes, is_given_as, cancel_type_of, is_call_place, callee_of, body_gives, is_free, only_argument, started_literal, is_member_of, literals_between, is_statement_or_value, is_item_place, is_deferred}
 use Rattle.meaning.proofs.Membership.{contains_cases, contains_nil}
 use Rattle.meaning_runs.specs.RunLists.{is_return}
 
@@ -48,6 +49,19 @@ use_is_told (make u state) h = refl
 use_is_told (defer_literal at) h = h
 use_is_told (return_event handed) h = h
 
+-- the event passes that variable on
+abbrev pub passes : Event → Option ℕ
+passes (pass u f k) = Some u.number
+passes (defer_pass u f k) = Some u.number
+passes e = None
+
+-- what the event passes on, if it does, is this local, and in the body that declares it
+abbrev pub PassesOwn : List BodyPlace → Local → Event → Type 0
+PassesOwn bodies l e = (n : ℕ) → passes e ≡ Some n → (is_own l bodies ≡ true) × (l.number ≡ n)
+
+passes_nothing : (bodies : List BodyPlace) (l : Local) (e : Event) → passes e ≡ None → PassesOwn bodies l e
+passes_nothing bodies l e none n is = let bad : None ≡ Some n = sym none ∙ is in absurd (cc)
+
 module _ (P : Event → Type 0) where
   -- the property holds of each of these events
   abbrev pub AllFit : List Event → Type 0
@@ -65,180 +79,193 @@ module _ (P : Event → Type 0) where
   one_fits x p e h =
       elim (contains_cases x e [] h) [ inl same ↦ subst P same p | inr n ↦ absurd (contains_nil e n) ]
 
-  module _ (fits : (e : Event) → is_use e ≡ true → P e) where
-    allowed : (b : Bool) (es : List Event) → AllFit es → AllFitIf (allowed_if b es)
-    allowed true es h = h
-    allowed false es h = tt
+  allowed : (b : Bool) (es : List Event) → AllFit es → AllFitIf (allowed_if b es)
+  allowed true es h = h
+  allowed false es h = tt
 
-    one_of : (o k : Option (List Event)) → AllFitIf o → AllFitIf k → AllFitIf (either_use o k)
-    one_of None k h m = m
-    one_of (Some es) k h m = h
+  one_of : (o k : Option (List Event)) → AllFitIf o → AllFitIf k → AllFitIf (either_use o k)
+  one_of None k h m = m
+  one_of (Some es) k h m = h
 
-    one_allowed : (b c : Bool) (x y : Event)
-        → is_use x ≡ true
-        → is_use y ≡ true
-        → AllFitIf (either_use (allowed_if b (x ∷ [])) (allowed_if c (y ∷ [])))
-    one_allowed b c x y p q =
-        one_of (allowed_if b (x ∷ [])) (allowed_if c (y ∷ [])) (allowed b (x ∷ []) (one_fits x (fits x p)))
-        (allowed c (y ∷ []) (one_fits y (fits y q)))
+  one_allowed : (b c : Bool) (x y : Event) → P x → P y
+      → AllFitIf (either_use (allowed_if b (x ∷ [])) (allowed_if c (y ∷ [])))
+  one_allowed b c x y p q =
+      one_of (allowed_if b (x ∷ [])) (allowed_if c (y ∷ [])) (allowed b (x ∷ []) (one_fits x p))
+      (allowed c (y ∷ []) (one_fits y q))
 
-    if_so : (b : Bool) (o k : Option (List Event)) → AllFitIf o → AllFitIf k → AllFitIf (if b then o else k)
-    if_so true o k h m = h
-    if_so false o k h m = m
+  if_so : (b : Bool) (o k : Option (List Event)) → AllFitIf o → AllFitIf k → AllFitIf (if b then o else k)
+  if_so true o k h m = h
+  if_so false o k h m = m
 
-    cancel_called_fits : (t : CancelType) (v : ℕ) (selected : Option (List ℕ)) (c : Call)
-        → AllFitIf (cancel_called t v selected c)
-    cancel_called_fits t v (Some m) c = tt
-    cancel_called_fits t v None c =
+  module _ (bodies : List BodyPlace) (l : Local)
+      (fits : (e : Event) → is_use e ≡ true → PassesOwn bodies l e → P e) where
+    -- what passes nothing on
+    idle_fits : (e : Event) → is_use e ≡ true → passes e ≡ None → P e
+    idle_fits e h none = fits e h (passes_nothing bodies l e none)
+
+    own_fits : (e : Event) → is_use e ≡ true → is_own l bodies ≡ true → passes e ≡ Some l.number → P e
+    own_fits e h own is_it = fits e h λ n is. let same : l.number ≡ n = cc (sym is_it ∙ is) in (own, same)
+
+    cancel_called_fits : (t : CancelType) (selected : Option (List ℕ)) (c : Call)
+        → AllFitIf (cancel_called t l.number selected c)
+    cancel_called_fits t (Some m) c = tt
+    cancel_called_fits t None c =
         one_allowed (has_its_arguments t c && is_statement_place c.place)
-        (has_its_arguments t c && is_deferred_place c.place) (call v) (defer_call v) refl refl
+        (has_its_arguments t c && is_deferred_place c.place) (call l.number) (defer_call l.number)
+        (idle_fits (call l.number) refl refl) (idle_fits (defer_call l.number) refl refl)
 
-    cancel_passed_fits : (known : Known) (t : CancelType) (v : VariableAt) (selected : Option (List ℕ)) (k : ℕ)
-        (b : Bool) (c : Call)
-        → AllFitIf (cancel_passed known t v selected k b c)
-    cancel_passed_fits known t v None k false c =
+    cancel_passed_fits : is_own l bodies ≡ true → (known : Known) (t : CancelType) (m : Mention)
+        (selected : Option (List ℕ)) (k : ℕ) (b : Bool) (c : Call)
+        → AllFitIf (cancel_passed known t (variable_at l m) selected k b c)
+    cancel_passed_fits own known t m None k false c =
+        let passed = pass (variable_at l m) (callee_of known c.callee) k in
+        let saved = defer_pass (variable_at l m) (callee_of known c.callee) k in
         one_allowed (takes known c (cancel_type t) k && is_call_place c.place)
-        (takes known c (cancel_type t) k && is_deferred_place c.place) (pass v (callee_of known c.callee) k)
-        (defer_pass v (callee_of known c.callee) k) refl refl
-    cancel_passed_fits known t v None k true c = tt
-    cancel_passed_fits known t v (Some m) k b c = tt
+        (takes known c (cancel_type t) k && is_deferred_place c.place) passed saved (own_fits passed refl own refl)
+        (own_fits saved refl own refl)
+    cancel_passed_fits own known t m None k true c = tt
+    cancel_passed_fits own known t m (Some n) k b c = tt
 
-    cancel_use_fits : (known : Known) (t : CancelType) (l : Local) (bodies : List BodyPlace) (m : Mention) (r : Role)
+    cancel_use_fits : (known : Known) (t : CancelType) (m : Mention) (r : Role)
         → AllFitIf (cancel_use known t l bodies m r)
-    cancel_use_fits known t l bodies m elsewhere = tt
-    cancel_use_fits known t l bodies m (called c) = cancel_called_fits t l.number m.named.selected c
-    cancel_use_fits known t l bodies m called_in_brackets = tt
-    cancel_use_fits known t l bodies m (argument k b c) =
-        if_so (is_own l bodies) (cancel_passed known t (variable_at l m) m.named.selected k b c) None
-        (cancel_passed_fits known t (variable_at l m) m.named.selected k b c) tt
-    cancel_use_fits known t l bodies m (returned k) =
+    cancel_use_fits known t m elsewhere = tt
+    cancel_use_fits known t m (called c) = cancel_called_fits t m.named.selected c
+    cancel_use_fits known t m called_in_brackets = tt
+    cancel_use_fits known t m (argument k b c) = by (is_own l bodies) refl
+      where
+        by : (own : Bool) → is_own l bodies ≡ own
+            → AllFitIf (if own then cancel_passed known t (variable_at l m) m.named.selected k b c else None)
+        by true own = cancel_passed_fits own known t m m.named.selected k b c
+        by false own = tt
+    cancel_use_fits known t m (returned k) =
         allowed (is_own l bodies && is_given_as k t (body_gives known bodies)) [] none_given
-    cancel_use_fits known t l bodies m (left k row) = tt
-    cancel_use_fits known t l bodies m (names_type row) = tt
-    cancel_use_fits known t l bodies m (new_literal row) = tt
-    cancel_use_fits known t l bodies m parameter_pointer = tt
+    cancel_use_fits known t m (left k row) = tt
+    cancel_use_fits known t m (names_type row) = tt
+    cancel_use_fits known t m (new_literal row) = tt
+    cancel_use_fits known t m parameter_pointer = tt
 
-    group_called_fits : (seen : Seen) (l : Local) (bodies : List BodyPlace) (selected : Option (List ℕ)) (c : Call)
+    group_called_fits : (seen : Seen) (selected : Option (List ℕ)) (c : Call)
         → AllFitIf (group_called seen l bodies selected c)
-    group_called_fits seen l bodies None c = tt
-    group_called_fits seen l bodies (Some m) c =
+    group_called_fits seen None c = tt
+    group_called_fits seen (Some m) c =
         let inside = list_all (is_member_of seen.known l) (literals_between l.body bodies) in
         let saved = list_all is_deferred (literals_between l.body bodies) in
         let limited = if bytes_eq m (codes "SetLimit") then group_limited l bodies c else None in
         let awaited = if bytes_eq m (codes "Wait") then group_awaited l bodies c else limited in
         let tried = if bytes_eq m (codes "TryGo") then group_tried seen l bodies c else awaited in
+        let started = start l.number (started_literal (only_argument c)) in
+        let attempted = try l.number (started_literal (only_argument c)) in
         if_so (bytes_eq m (codes "Go")) (group_started seen l bodies c) tried
-        (allowed (is_statement_place c.place && (is_free seen (only_argument c) && inside))
-        (start l.number (started_literal (only_argument c)) ∷ [])
-        (one_fits (start l.number (started_literal (only_argument c)))
-        (fits (start l.number (started_literal (only_argument c))) refl)))
+        (allowed (is_statement_place c.place && (is_free seen (only_argument c) && inside)) (started ∷ [])
+        (one_fits started (idle_fits started refl refl)))
         (if_so (bytes_eq m (codes "TryGo")) (group_tried seen l bodies c) awaited
-        (allowed (is_statement_or_value c.place && (is_free seen (only_argument c) && inside))
-        (try l.number (started_literal (only_argument c)) ∷ [])
-        (one_fits (try l.number (started_literal (only_argument c)))
-        (fits (try l.number (started_literal (only_argument c))) refl)))
+        (allowed (is_statement_or_value c.place && (is_free seen (only_argument c) && inside)) (attempted ∷ [])
+        (one_fits attempted (idle_fits attempted refl refl)))
         (if_so (bytes_eq m (codes "Wait")) (group_awaited l bodies c) limited
         (one_allowed (has_no_argument c &&
         ((is_statement_or_value c.place || (is_item_place c.place && is_own l bodies)) && saved))
-        (has_no_argument c && (is_deferred_place c.place && saved)) (wait l.number) (defer_wait l.number) refl refl)
+        (has_no_argument c && (is_deferred_place c.place && saved)) (wait l.number) (defer_wait l.number)
+        (idle_fits (wait l.number) refl refl) (idle_fits (defer_wait l.number) refl refl))
         (if_so (bytes_eq m (codes "SetLimit")) (group_limited l bodies c) None
         (allowed (is_statement_place c.place && is_own l bodies) [] none_given) tt)))
 
-    group_lent_fits : (known : Known) (l : Local) (bodies : List BodyPlace) (selected : Option
-        (List ℕ)) (k : ℕ) (c : Call)
+    group_lent_fits : (known : Known) (selected : Option (List ℕ)) (k : ℕ) (c : Call)
         → AllFitIf (group_lent known l bodies selected k c)
-    group_lent_fits known l bodies None k c =
-        allowed (is_own l bodies && (takes known c group_type k && is_call_place c.place))
-        (lend l.number (callee_of known c.callee) k ∷ [])
-        (one_fits (lend l.number (callee_of known c.callee) k) (fits (lend l.number (callee_of known c.callee) k) refl))
-    group_lent_fits known l bodies (Some m) k c = tt
+    group_lent_fits known None k c =
+        let lent = lend l.number (callee_of known c.callee) k in
+        allowed (is_own l bodies && (takes known c group_type k && is_call_place c.place)) (lent ∷ [])
+        (one_fits lent (idle_fits lent refl refl))
+    group_lent_fits known (Some m) k c = tt
 
-    group_use_fits : (seen : Seen) (l : Local) (bodies : List BodyPlace) (m : Mention) (r : Role)
-        → AllFitIf (group_use seen l bodies m r)
-    group_use_fits seen l bodies m elsewhere = tt
-    group_use_fits seen l bodies m (called c) = group_called_fits seen l bodies m.named.selected c
-    group_use_fits seen l bodies m called_in_brackets = tt
-    group_use_fits seen l bodies m (argument k b c) = group_lent_fits seen.known l bodies m.named.selected k c
-    group_use_fits seen l bodies m (returned k) = tt
-    group_use_fits seen l bodies m (left k row) = tt
-    group_use_fits seen l bodies m (names_type row) = tt
-    group_use_fits seen l bodies m (new_literal row) = tt
-    group_use_fits seen l bodies m parameter_pointer = tt
+    group_use_fits : (seen : Seen) (m : Mention) (r : Role) → AllFitIf (group_use seen l bodies m r)
+    group_use_fits seen m elsewhere = tt
+    group_use_fits seen m (called c) = group_called_fits seen m.named.selected c
+    group_use_fits seen m called_in_brackets = tt
+    group_use_fits seen m (argument k b c) = group_lent_fits seen.known m.named.selected k c
+    group_use_fits seen m (returned k) = tt
+    group_use_fits seen m (left k row) = tt
+    group_use_fits seen m (names_type row) = tt
+    group_use_fits seen m (new_literal row) = tt
+    group_use_fits seen m parameter_pointer = tt
 
-    kind_use_fits : (seen : Seen) (l : Local) (kind : VariableKind) (bodies : List BodyPlace) (m : Mention)
-        → AllFitIf (kind_use seen l kind bodies m)
-    kind_use_fits seen l cancel bodies m = cancel_use_fits seen.known (cancel_type_of seen l) l bodies m m.role
-    kind_use_fits seen l group bodies m = group_use_fits seen l bodies m m.role
+    kind_use_fits : (seen : Seen) (kind : VariableKind) (m : Mention) → AllFitIf (kind_use seen l kind bodies m)
+    kind_use_fits seen cancel m = cancel_use_fits seen.known (cancel_type_of seen l) m m.role
+    kind_use_fits seen group m = group_use_fits seen m m.role
 
-    use_outcome_fits : (kind : VariableKind) (l : Local) (m : Mention) (o : Option (List Event))
-        → AllFitIf o
+    use_outcome_fits : (kind : VariableKind) (m : Mention) (o : Option (List Event)) → AllFitIf o
         → AllFit (use_outcome kind l m o).events
-    use_outcome_fits kind l m None h = none_given
-    use_outcome_fits kind l m (Some es) h = h
+    use_outcome_fits kind m None h = none_given
+    use_outcome_fits kind m (Some es) h = h
 
-    pub mention_fits : (seen : Seen) (l : Local) (kind : Option VariableKind) (bodies : List BodyPlace) (m : Mention)
+    pub mention_fits : (seen : Seen) (kind : Option VariableKind) (m : Mention)
         → AllFit (mention_outcome seen l kind bodies m).events
-    mention_fits seen l None bodies m = none_given
-    mention_fits seen l (Some kind) bodies m =
-        use_outcome_fits kind l m (kind_use seen l kind bodies m) (kind_use_fits seen l kind bodies m)
+    mention_fits seen None m = none_given
+    mention_fits seen (Some kind) m = use_outcome_fits kind m (kind_use seen l kind bodies m) (kind_use_fits seen kind m)
 
-  module _ (fits : (e : Event) → is_told_of_mention e ≡ true → P e) where
-    of_use : (e : Event) → is_use e ≡ true → P e
-    of_use e h = fits e (use_is_told e h)
+  module _ (bodies : List BodyPlace) (l : Local)
+      (fits : (e : Event) → is_told_of_mention e ≡ true → PassesOwn bodies l e → P e) where
+    of_use : (e : Event) → is_use e ≡ true → PassesOwn bodies l e → P e
+    of_use e h own = fits e (use_is_told e h) own
 
-    unbound_fits : (seen : Seen) (l : Local) (bodies : List BodyPlace) (m : Mention)
+    unbound_fits : (seen : Seen) (m : Mention)
         → AllFit (mention_outcome seen l (tracked_kind seen (Some l)) bodies m).events
-    unbound_fits seen l bodies m = mention_fits of_use seen l (tracked_kind seen (Some l)) bodies m
+    unbound_fits seen m = mention_fits bodies l of_use seen (tracked_kind seen (Some l)) m
 
-    binding_fits : (known : Known) (l : Local) (m : Mention) (row : Row) (binding : Binding)
+    binding_fits : (known : Known) (m : Mention) (row : Row) (binding : Binding)
         → P (binding_event known l m row binding)
-    binding_fits known l m row (obtained k) = fits (binding_event known l m row (obtained k)) refl
-    binding_fits known l m row cleared = fits (binding_event known l m row cleared) refl
-    binding_fits known l m row (made state) = fits (binding_event known l m row (made state)) refl
+    binding_fits known m row (obtained k) =
+        let e = binding_event known l m row (obtained k) in
+        fits e refl (passes_nothing bodies l e refl)
+    binding_fits known m row cleared =
+        let e = binding_event known l m row cleared in
+        fits e refl (passes_nothing bodies l e refl)
+    binding_fits known m row (made state) =
+        let e = binding_event known l m row (made state) in
+        fits e refl (passes_nothing bodies l e refl)
 
     here_fits : (own : Bool) (x : Event) → P x → AllFit (if own then x ∷ [] else [])
     here_fits true x q = one_fits x q
     here_fits false x q = none_given
 
-    bound_fits : (seen : Seen) (l : Local) (kind : VariableKind) (bodies : List BodyPlace) (m : Mention) (row : Row)
-        (binding : Binding) (r : LocalRole)
+    bound_fits : (seen : Seen) (kind : VariableKind) (m : Mention) (row : Row) (binding : Binding) (r : LocalRole)
         → AllFit (binding_outcome seen l kind bodies m row binding r).events
-    bound_fits seen l kind bodies m row binding (parameter k) = none_given
-    bound_fits seen l kind bodies m row binding receiver = none_given
-    bound_fits seen l kind bodies m row binding variadic = none_given
-    bound_fits seen l kind bodies m row binding result = none_given
-    bound_fits seen l kind bodies m row binding in_block =
-        here_fits (is_own l bodies) (binding_event seen.known l m row binding) (binding_fits seen.known l m row binding)
+    bound_fits seen kind m row binding (parameter k) = none_given
+    bound_fits seen kind m row binding receiver = none_given
+    bound_fits seen kind m row binding variadic = none_given
+    bound_fits seen kind m row binding result = none_given
+    bound_fits seen kind m row binding in_block =
+        here_fits (is_own l bodies) (binding_event seen.known l m row binding) (binding_fits seen.known m row binding)
 
-    row_fits : (seen : Seen) (l : Local) (kind : Option VariableKind) (bodies : List BodyPlace) (m : Mention)
-        (row : Row) (binding : Option Binding)
+    row_fits : (seen : Seen) (kind : Option VariableKind) (m : Mention) (row : Row) (binding : Option Binding)
         → AllFit (row_outcome seen l kind bodies m row binding).events
-    row_fits seen l None bodies m row None = none_given
-    row_fits seen l None bodies m row (Some binding) = none_given
-    row_fits seen l (Some kind) bodies m row None = unbound_fits seen l bodies m
-    row_fits seen l (Some kind) bodies m row (Some binding) = bound_fits seen l kind bodies m row binding l.role
+    row_fits seen None m row None = none_given
+    row_fits seen None m row (Some binding) = none_given
+    row_fits seen (Some kind) m row None = unbound_fits seen m
+    row_fits seen (Some kind) m row (Some binding) = bound_fits seen kind m row binding l.role
 
-    role_fits : (seen : Seen) (l : Local) (bodies : List BodyPlace) (m : Mention) (r : Role)
-        → AllFit (role_outcome seen l bodies m r).events
-    role_fits seen l bodies m (left k row) =
-        row_fits seen l (kind_of seen (Some l)) bodies m row (binding_at seen row k)
-    role_fits seen l bodies m elsewhere = unbound_fits seen l bodies m
-    role_fits seen l bodies m (called c) = unbound_fits seen l bodies m
-    role_fits seen l bodies m called_in_brackets = unbound_fits seen l bodies m
-    role_fits seen l bodies m (argument k x c) = unbound_fits seen l bodies m
-    role_fits seen l bodies m (returned k) = unbound_fits seen l bodies m
-    role_fits seen l bodies m (names_type row) = unbound_fits seen l bodies m
-    role_fits seen l bodies m (new_literal row) = unbound_fits seen l bodies m
-    role_fits seen l bodies m parameter_pointer = unbound_fits seen l bodies m
+    role_fits : (seen : Seen) (m : Mention) (r : Role) → AllFit (role_outcome seen l bodies m r).events
+    role_fits seen m (left k row) = row_fits seen (kind_of seen (Some l)) m row (binding_at seen row k)
+    role_fits seen m elsewhere = unbound_fits seen m
+    role_fits seen m (called c) = unbound_fits seen m
+    role_fits seen m called_in_brackets = unbound_fits seen m
+    role_fits seen m (argument k x c) = unbound_fits seen m
+    role_fits seen m (returned k) = unbound_fits seen m
+    role_fits seen m (names_type row) = unbound_fits seen m
+    role_fits seen m (new_literal row) = unbound_fits seen m
+    role_fits seen m parameter_pointer = unbound_fits seen m
 
-    local_fits : (seen : Seen) (bodies : List BodyPlace) (m : Mention) (o : Option Local)
-        → AllFit (local_outcome seen bodies m o).events
-    local_fits seen bodies m None = none_given
-    local_fits seen bodies m (Some l) = role_fits seen l bodies m m.role
+  local_fits : (seen : Seen) (bodies : List BodyPlace) (m : Mention) (o : Option Local)
+      → ((l : Local) → o ≡ Some l → (e : Event) → is_told_of_mention e ≡ true → PassesOwn bodies l e → P e)
+      → AllFit (local_outcome seen bodies m o).events
+  local_fits seen bodies m None fits = none_given
+  local_fits seen bodies m (Some l) fits = role_fits bodies l (fits l refl) seen m m.role
 
-    pub variable_fits : (seen : Seen) (bodies : List BodyPlace) (m : Mention)
-        → AllFit (variable_outcome seen bodies m).events
-    variable_fits seen bodies m = local_fits seen bodies m (found seen (variable_of seen.known m))
+  pub variable_fits : (seen : Seen) (bodies : List BodyPlace) (m : Mention)
+      → ((l : Local) → found seen (variable_of seen.known m) ≡ Some l
+      → (e : Event) → is_told_of_mention e ≡ true → PassesOwn bodies l e
+      → P e)
+      → AllFit (variable_outcome seen bodies m).events
+  variable_fits seen bodies m fits = local_fits seen bodies m (found seen (variable_of seen.known m)) fits
 
 -- No returns, and no literals under `defer`
 
@@ -265,7 +292,8 @@ told_is_no_return (return_event handed) h = let bad : false ≡ true = h in cc
 
 pub mentions_are_quiet : (seen : Seen) (bodies : List BodyPlace) (m : Mention)
     → AreQuiet (variable_outcome seen bodies m).events
-mentions_are_quiet seen bodies m = variable_fits (λ e. is_return e ≡ false) told_is_no_return seen bodies m
+mentions_are_quiet seen bodies m =
+    variable_fits (λ e. is_return e ≡ false) seen bodies m λ l is e told own. told_is_no_return e told
 
 -- it saves the call of a literal
 abbrev is_deferral : Event → Bool
@@ -293,6 +321,7 @@ pub mentions_defer_no_literal : (seen : Seen) (bodies : List BodyPlace) (m : Men
     → Contains (variable_outcome seen bodies m).events (defer_literal at)
     → ⊥
 mentions_defer_no_literal seen bodies m at h =
-    let bad : true ≡ false = variable_fits (λ e. is_deferral e ≡ false) told_is_no_deferral seen bodies m
+    let bad : true ≡ false =
+    variable_fits (λ e. is_deferral e ≡ false) seen bodies m (λ l is e told own. told_is_no_deferral e told)
     (defer_literal at) h in
     cc

@@ -21,3 +21,13 @@ pub record AreApart (marks : List Placed) : Type 0 where
 
 abbrev pub BodiesAreApart : Type 0
 BodiesAreApart = (text : List ℕ) (tree : SourceFile) → IsTreeOf text tree → AreApart (placed [] (file_marks tree))
+
+-- no two of these bodies begin at one offset, so none comes twice in the list
+abbrev pub BeginOnce : List BodyPlace → Type 0
+BeginOnce [] = Unit {0}
+BeginOnce (b ∷ bs) = ((c : BodyPlace) → Contains bs c → b.at ≡ c.at → ⊥) × BeginOnce bs
+
+abbrev pub BodiesBeginOnce : Type 0
+BodiesBeginOnce = (text : List ℕ) (tree : SourceFile)
+    → IsTreeOf text tree
+    → BeginOnce (opened_in (placed [] (file_marks tree)))

@@ -1,7 +1,7 @@
 //! The machine that an analysed program is, and laws of it. It runs nothing.
 #![tactic(auto)]
 
-ghost use Rattle.meaning_runs.specs.BodyOffsets.{BodiesAreApart};
+ghost use Rattle.meaning_runs.specs.BodyOffsets.{BodiesAreApart, BodiesBeginOnce};
 ghost use Rattle.meaning_runs.specs.CallSteps.{CallsHaveSteps};
 ghost use Rattle.meaning_runs.specs.Doings.{MovesAreLists};
 ghost use Rattle.meaning_runs.specs.Laws.{ContextsAreSound, FramesHaveSteps};
@@ -25,6 +25,11 @@ pub fn moves_are_lists<E>()
 /// In the tree of a text no two bodies begin at one offset, and a body that stands in another begins behind it.
 pub fn bodies_are_apart()
     ensures { BodiesAreApart }
+{}
+
+/// In the tree of a text no body comes twice: the marks of the file open no two bodies at one offset.
+pub fn bodies_begin_once()
+    ensures { BodiesBeginOnce }
 {}
 
 /// Each event of a body is that of a mark in it, or says nothing, or is the return at the body's end.

@@ -1,18 +1,12 @@
-//! Tests of the program's outside: its words, folders of real files, several packages, what the system refuses, and its
-//! writers. And of tables as texts.
+//! Tests of the program's outside by what stands in for the system: what it refuses, and writers. And of tables as
+//! texts.
 #![tactic(auto)]
 
 #[cfg(test)]
-mod packages;
-#[cfg(test)]
-mod real_folders;
-#[cfg(test)]
 mod refusals;
 #[cfg(test)]
-mod runs;
+mod stand_in;
 #[cfg(test)]
 mod table_texts;
-#[cfg(test)]
-mod words;
 #[cfg(test)]
 mod writers;

@@ -13,9 +13,9 @@ use Rattle.table_json.specs.declared.fault.TableFault.TheVariants.{NotJson, Wron
 use Rattle.table_json.specs.declared.table.Version.{Version}
 use Rattle.table_json.specs.declared.table.Version.TheVariants.{Older, Newer}
 use Rattle.table_json.specs.declared.table.Parameter.{Parameter}
-use Rattle.table_json.specs.Parts.{all_of, function_in, functions_in, older_function_in, parameter_in, position_in, IsValueFault, Refuses}
+use Rattle.table_json.specs.Parts.{all_of, function_in, functions_in, older_function_in, parameter_in, position_in, IsValueFault, IsVersionFault, Refuses}
 use Rattle.table_json.specs.Tables.{Entry, are_apart, by_bytes, itself, name_of, position_of, IsArranged}
-use Rattle.table_json.specs.TableTexts.{version_of}
+use Rattle.table_json.specs.TableTexts.{version_of, HasKnownVersion, HasWrongShape}
 use Rattle.table_json.specs.TableValues.{is_older, number_of, whole, parameter_value, function_with, older_function_with, AreFunctionsOf, AreValuesOf, IsFunctionIn, IsFunctionValue, IsOlderFunctionValue, IsTableIn, IsTableValue}
 use Rattle.table_json.proofs.Arranged.{one_arrangement}
 use Rattle.table_json.proofs.ValueParts.{Finds, finds_positions, finds_parameters, of_all, all_there, of_function, function_there, of_older_function, older_function_there, of_functions, functions_there, same_items, some_same, version_fits}
@@ -344,30 +344,68 @@ one_table value a b (inr h) (inl k) =
 
 -- Which version is read
 
--- where the version is right, what is refused in that version is no table
-pub refused_older : (value : Data) (fault : TableFault) → version_of value ≡ Some 1
-    → Refuses (IsTableIn 1 IsOlderFunctionValue value) fault
-    → IsValueFault value fault
-refused_older value NotJson e h = h
-refused_older value WrongVersion e h = absurd h
-refused_older value WrongShape e h = inr (inl e, no)
-  where
-    no : (table : List Entry) → ¬ IsTableValue value table
-    no table (inl k) = not_both value e (version_there Newer value table k)
-    no table (inr k) = h table k
-refused_older value OutOfMemory e h = tt
+-- a value has one version at most
+pub one_version : (value : Data) (v w : Version) → version_of value ≡ Some (number_of v)
+    → version_of value ≡ Some (number_of w)
+    → v ≡ w
+one_version value Older Older e h = refl
+one_version value Older Newer e h = absurd (not_both value e h)
+one_version value Newer Older e h = absurd (not_both value h e)
+one_version value Newer Newer e h = refl
 
-pub refused_newer : (value : Data) (fault : TableFault) → version_of value ≡ Some 2
-    → Refuses (IsTableIn 2 IsFunctionValue value) fault
-    → IsValueFault value fault
-refused_newer value NotJson e h = h
-refused_newer value WrongVersion e h = absurd h
-refused_newer value WrongShape e h = inr (inr e, no)
+pub known : (version : Version) (value : Data) → version_of value ≡ Some (number_of version) → HasKnownVersion value
+known Older value e = inl e
+known Newer value e = inr e
+
+-- a value without a version that is read is refused for this, where it has a wrong shape if it has no version
+pub refused_version : (HasWrong : Data → Type 0) (value : Data) → (version_of value ≡ None → HasWrong value)
+    → (fault : TableFault)
+    → IsVersionFault value fault
+    → IsValueFault HasWrong value fault
+refused_version HasWrong value wrong NotJson h = h
+refused_version HasWrong value wrong WrongVersion h = h
+refused_version HasWrong value wrong WrongShape h = wrong h
+refused_version HasWrong value wrong OutOfMemory h = absurd h
+
+-- where the version is right, what is refused in that version is refused in any
+module _ {A : Type 0} (IsIn : Version → Data → A → Type 0)
+    (version_in : (version : Version) (value : Data) (a : A) → IsIn version value a
+    → version_of value ≡ Some (number_of version))
+    (HasWrong : Data → Type 0)
+    (none_in : (value : Data) → HasKnownVersion value → ((version : Version) (a : A) → ¬ IsIn version value a)
+    → HasWrong value) where
+  pub refused_in : (version : Version) (value : Data) (fault : TableFault)
+      → version_of value ≡ Some (number_of version)
+      → Refuses (IsIn version value) fault
+      → IsValueFault HasWrong value fault
+  refused_in version value NotJson e h = h
+  refused_in version value WrongVersion e h = absurd h
+  refused_in version value WrongShape e h = none_in value (known version value e) no
+    where
+      no : (v : Version) (a : A) → ¬ IsIn v value a
+      no v a k = h a (subst (λ u. IsIn u value a) (one_version value v version (version_in v value a k) e) k)
+  refused_in version value OutOfMemory e h = tt
+
+-- a table of that version
+abbrev IsTableOf : Version → Data → List Entry → Type 0
+IsTableOf version = IsTableIn (number_of version) (IsFunctionIn version)
+
+pub table_in : (version : Version) (value : Data) (table : List Entry) → IsTableOf version value table
+    → IsTableValue value table
+table_in Older value table h = inr h
+table_in Newer value table h = inl h
+
+pub refused_table : (version : Version) (value : Data) (fault : TableFault)
+    → version_of value ≡ Some (number_of version)
+    → Refuses (IsTableOf version value) fault
+    → IsValueFault HasWrongShape value fault
+refused_table = refused_in IsTableOf version_there HasWrongShape none_in
   where
-    no : (table : List Entry) → ¬ IsTableValue value table
-    no table (inl k) = h table k
-    no table (inr k) = not_both value (version_there Older value table k) e
-refused_newer value OutOfMemory e h = tt
+    none_in : (value : Data) → HasKnownVersion value
+        → ((version : Version) (table : List Entry) → ¬ IsTableOf version value table)
+        → HasWrongShape value
+    none_in value is_known none =
+        inr (is_known, λ table h. elim h [ inl newer ↦ none Newer table newer | inr older ↦ none Older table older ])
 
 -- Lists that are read one by one
 
@@ -381,9 +419,14 @@ module _ {X A B : Type 0} (R : A → B → Type 0) (seen : X → A) where
   at_each (y ∷ xs) (b ∷ bs) zero x within is h = (b, subst (λ z. R (seen z) b) is h.0)
   at_each (y ∷ xs) (b ∷ bs) (suc i) x within is h = at_each xs bs i x (omega arith) is h.1
 
+  -- and so those that are kept as they are read
+  pub all_read_plain : (xs left : List X) (bs : List B) → left ≡ []
+      → ((rest : List B) → AllZip R (map seen left) rest → AllZip R (map seen xs) (bs ++ rest))
+      → AllZip R (map seen xs) bs
+  all_read_plain xs left bs none so =
+      subst (AllZip R (map seen xs)) (append-nil bs) (so [] (subst (λ zs. AllZip R (map seen zs) []) (sym none) tt))
+
   pub all_read : {Y : Type 0} (told : Y → B) (xs left : List X) (ys : List Y) → left ≡ []
       → ((rest : List B) → AllZip R (map seen left) rest → AllZip R (map seen xs) (map told ys ++ rest))
       → AllZip R (map seen xs) (map told ys)
-  all_read told xs left ys none so =
-      subst (AllZip R (map seen xs)) (append-nil (map told ys))
-      (so [] (subst (λ zs. AllZip R (map seen zs) []) (sym none) tt))
+  all_read told xs left ys none so = all_read_plain xs left (map told ys) none so

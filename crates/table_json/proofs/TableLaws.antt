@@ -15,7 +15,7 @@ use Rattle.table_json.specs.Tables.{Entry, are_apart, itself, HasOrder, IsInOrde
 use Rattle.table_json.specs.TableTexts.{version_of, HasKnownVersion, HasWrongShape, HasWrongVersion, IsTableFault, IsTableText}
 use Rattle.table_json.specs.TableValues.{whole, parameter_value, function_value, table_value, AreFunctionsOf, IsFunctionIn, IsFunctionValue, IsOlderFunctionValue, IsTableValue}
 use Rattle.table_json.proofs.Arranged.{each_permuted}
-use Rattle.table_json.proofs.Readings.{none_some, one_table, version_there}
+use Rattle.table_json.proofs.Readings.{known, none_some, one_table, version_there}
 use Rattle.table_json.proofs.ValueParts.{some_same}
 use Rattle.table_json.proofs.Writing.{table-depth}
 
@@ -140,8 +140,8 @@ no_other text value table other e h k =
 -- A text that is a table's is read, unless memory is refused
 
 known_version : (value : Data) (table : List Entry) → IsTableValue value table → HasKnownVersion value
-known_version value table (inl h) = inr (version_there Newer value table h)
-known_version value table (inr h) = inl (version_there Older value table h)
+known_version value table (inl h) = known Newer value (version_there Newer value table h)
+known_version value table (inr h) = known Older value (version_there Older value table h)
 
 pub not_wrong_version : (value : Data) → HasKnownVersion value → HasWrongVersion value → ⊥
 not_wrong_version value (inl e) h = h.2 (some_same h.0 1 (sym h.1 ∙ e))
@@ -174,7 +174,7 @@ of_text_fault text WrongShape h = absurd h
 of_text_fault text OutOfMemory h = tt
 
 pub of_value_fault : (text : List ℕ) (value : Data) (fault : TableFault) → read text ≡ Some value
-    → IsValueFault value fault
+    → IsValueFault HasWrongShape value fault
     → IsTableFault text fault
 of_value_fault text value NotJson e h = absurd h
 of_value_fault text value WrongVersion e h = (value, e, h)

@@ -14,7 +14,7 @@ use Rattle.table_json.specs.declared.table.Version.TheVariants.{Older, Newer}
 use Rattle.table_json.specs.Parts.{first_member, only_if_last, two_members, three_members, four_members, position_in, if_text, called_in, group_in, first_found, parameter_in, function_in, older_function_in, functions_in, all_of}
 use Rattle.table_json.specs.Tables.{itself, position_of}
 use Rattle.table_json.specs.TableTexts.{version_of}
-use Rattle.table_json.specs.TableValues.{whole, called_with, parameter_value, function_with, older_function_with, table_with, if_fits, number_of, Fits}
+use Rattle.table_json.specs.TableValues.{whole, list, called_with, parameter_value, function_with, older_function_with, table_with, if_fits, number_of, Fits}
 
 -- One step of what may be missing
 
@@ -307,18 +307,28 @@ older_function_there name gives params = refl
 
 -- Tables
 
+-- a list under a key before that of the version
+pub of_list : (key : List ℕ)
+    → ((first second : Data) → version_of (object (member key first (member (codes "version") second no_members)))
+    ≡ option_and_then if_fits (option_and_then as_u64 (as_number second)))
+    → (version : ℕ) (value : Data) (values : List Data)
+    → option_and_then (λ ms. as_array ms.0) (two_members key (codes "version") value) ≡ Some (items_of values)
+    → version_of value ≡ Some version
+    → value ≡ object (member key (list values) (member (codes "version") (whole version) no_members))
+of_list key found_behind version value values e at_version =
+    let ms = and_then _ (two_members key (codes "version") value) (items_of values) e in
+    let is = of_two _ _ value ms.0 ms.1 in
+    let number = (of_fitting ms.0.1 version
+    (sym (found_behind ms.0.0 ms.0.1) ∙ (ap version_of (sym is) ∙ at_version))).0 in
+    is
+    ∙ (λ i. object (member key (of_array ms.0.0 (items_of values) ms.2 i) (member (codes "version") (number i) no_members)))
+
 pub of_functions : (version : ℕ) (value : Data) (functions : List Data)
     → functions_in value ≡ Some (items_of functions)
     → version_of value ≡ Some version
     → value ≡ table_with version functions
 unfolding functions_in
-of_functions version value functions e at_version =
-    let ms = and_then _ (two_members (codes "functions") (codes "version") value) (items_of functions) e in
-    let is = of_two _ _ value ms.0 ms.1 in
-    let number = (of_fitting ms.0.1 version (ap version_of (sym is) ∙ at_version)).0 in
-    is
-    ∙ (λ i. object (member (codes "functions") (of_array ms.0.0 (items_of functions) ms.2 i)
-    (member (codes "version") (number i) no_members)))
+of_functions = of_list (codes "functions") λ first second. refl
 
 pub functions_there : (version : ℕ) (functions : List Data)
     → functions_in (table_with version functions) ≡ Some (items_of functions)

@@ -9,7 +9,7 @@ use Rattle.table_json.specs.declared.fault.TableFault.TheVariants.{NotJson, Wron
 use Rattle.table_json.specs.declared.table.Parameter.{Parameter}
 use Rattle.table_json.specs.declared.table.Parameter.TheVariants.{Cancel, Cause, Group}
 use Rattle.table_json.specs.Tables.{Entry, itself, position_of}
-use Rattle.table_json.specs.TableTexts.{HasWrongShape, HasWrongVersion}
+use Rattle.table_json.specs.TableTexts.{version_of, HasWrongVersion}
 use Rattle.table_json.specs.TableValues.{if_fits, AllFit}
 
 -- the value of the first member, where it has this key, and the members behind it
@@ -121,12 +121,19 @@ Refuses {A} IsRead WrongVersion = ⊥
 Refuses {A} IsRead WrongShape = (a : A) → ¬ IsRead a
 Refuses {A} IsRead OutOfMemory = ⊤
 
--- a value is not read as a table, for this reason
-abbrev pub IsValueFault : Data → TableFault → Type 0
-IsValueFault value NotJson = ⊥
-IsValueFault value WrongVersion = HasWrongVersion value
-IsValueFault value WrongShape = HasWrongShape value
-IsValueFault value OutOfMemory = ⊤
+-- a value has no version that is read, for this reason
+abbrev pub IsVersionFault : Data → TableFault → Type 0
+IsVersionFault value NotJson = ⊥
+IsVersionFault value WrongVersion = HasWrongVersion value
+IsVersionFault value WrongShape = version_of value ≡ None
+IsVersionFault value OutOfMemory = ⊥
+
+-- a value is not read, for this reason, where a wrong shape is this
+abbrev pub IsValueFault : (Data → Type 0) → Data → TableFault → Type 0
+IsValueFault HasWrong value NotJson = ⊥
+IsValueFault HasWrong value WrongVersion = HasWrongVersion value
+IsValueFault HasWrong value WrongShape = HasWrong value
+IsValueFault HasWrong value OutOfMemory = ⊤
 
 -- a text is not read as JSON, for this reason
 abbrev pub IsTextFault : List ℕ → TableFault → Type 0

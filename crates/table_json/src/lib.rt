@@ -14,8 +14,8 @@ mod table;
 mod written;
 
 pub use fault::TableFault;
-pub use parts::{position_in, three_members, two_members};
-pub use read::{from_json, read_functions, version_of};
+pub use parts::{if_fits, position_in, three_members, two_members};
+pub use read::{from_json, known_version, parse, read_functions};
 pub use table::{Function, OLDER_VERSION, Parameter, Table, VERSION, Version};
 pub use written::{as_written, function_values, to_json};
 

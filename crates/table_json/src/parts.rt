@@ -3,6 +3,7 @@
 ghost use Rattle.std.specs.Prelude.{◌≡◌, option_map};
 ghost use Rattle.serde_json.specs.View.{view, items_view, members_view};
 ghost use Rattle.table_json.specs.Parts.{called_in, first_member, four_members, function_in, functions_in, group_in, older_function_in, parameter_in, position_in, three_members, two_members};
+ghost use Rattle.table_json.specs.TableValues.{if_fits};
 
 use crate::table::Parameter;
 use serde_json::Value;
@@ -82,6 +83,13 @@ fn four_members<'a>(
         return None;
     }
     Some((one, two, three, four))
+}
+
+/// The number, if a table can have it: it is below 2^32.
+pub fn if_fits(number: usize) -> Option<u32>
+    ensures { result ≡ if_fits number }
+{
+    u32::try_from(number).ok()
 }
 
 /// A position: a whole number of at most 32 bits.

@@ -5,9 +5,9 @@ ghost use Rattle.std.specs.List.{AllZip, list_all, list_any};
 ghost use Rattle.serde_json.specs.Read.{read};
 ghost use Rattle.serde_json.specs.View.{view};
 ghost use Rattle.table_json.specs.declared.fault.TableFault.TheVariants.{OutOfMemory};
-ghost use Rattle.table_json.specs.Parts.{all_of, parameter_in, position_in, IsTextFault, IsValueFault, Refuses};
+ghost use Rattle.table_json.specs.Parts.{all_of, parameter_in, position_in, IsTextFault, IsValueFault, IsVersionFault, Refuses};
 ghost use Rattle.table_json.specs.Tables.{Entry, are_apart, entries_of, entry_of, itself, position_of, IsInOrder};
-ghost use Rattle.table_json.specs.TableTexts.{version_of, IsTableFault, IsTableText};
+ghost use Rattle.table_json.specs.TableTexts.{version_of, HasWrongShape, IsTableFault, IsTableText};
 ghost use Rattle.table_json.specs.TableValues.{is_older, number_of, parameter_value, whole, AreFunctionsOf, AreValuesOf, IsFunctionIn, IsFunctionValue, IsOlderFunctionValue, IsTableIn, IsTableValue};
 
 use crate::fault::TableFault;
@@ -225,20 +225,39 @@ pub fn version_of(value: &Value) -> Option<u32>
     u32::try_from(number).ok()
 }
 
-/// The table of a value; a wrong version is told before any other fault of its shape.
-fn read_value(alloc: Global, value: &Value) -> Result<Table, TableFault>
-    ensures ok { IfOk result (λ table. IsTableValue (view value.now) (entries_of table)) }
-    ensures err { IfErr result (IsValueFault (view value.now)) }
+/// The version of an object, one that is read.
+///
+/// # Errors
+///
+/// It is a whole number of at most 32 bits other than 1 and 2: this is `TableFault::WrongVersion`. Or it is missing or
+/// no such number: this is `TableFault::WrongShape`.
+pub fn known_version(value: &Value) -> Result<Version, TableFault>
+    ensures ok { IfOk result (λ version. version_of (view value.now) ≡ Some (number_of version)) }
+    ensures err { IfErr result (IsVersionFault (view value.now)) }
 {
     match version_of(value) {
-        Some(VERSION) => read_table(alloc, Version::Newer, value),
-        Some(OLDER_VERSION) => read_table(alloc, Version::Older, value),
+        Some(VERSION) => Ok(Version::Newer),
+        Some(OLDER_VERSION) => Ok(Version::Older),
         Some(_) => Err(TableFault::WrongVersion),
         None => Err(TableFault::WrongShape),
     }
 }
 
-fn parse(alloc: Global, text: &str) -> Result<Value, TableFault>
+/// The table of a value; a wrong version is told before any other fault of its shape.
+fn read_value(alloc: Global, value: &Value) -> Result<Table, TableFault>
+    ensures ok { IfOk result (λ table. IsTableValue (view value.now) (entries_of table)) }
+    ensures err { IfErr result (IsValueFault HasWrongShape (view value.now)) }
+{
+    let version = known_version(value)?;
+    read_table(alloc, version, value)
+}
+
+/// The value of a text.
+///
+/// # Errors
+///
+/// The text is no JSON, or nests too deep: this is `TableFault::NotJson`. Or memory was refused.
+pub fn parse(alloc: Global, text: &str) -> Result<Value, TableFault>
     ensures ok { IfOk result (λ value. read text.now ≡ Some (view value)) }
     ensures err { IfErr result (IsTextFault text.now) }
 {

@@ -1,7 +1,7 @@
 -- Credits by certificates hold under themselves, whatever is known of functions: the classes of a variable that a
 -- literal captures do not depend on that, since no event of the literal passes it on.
 use Rattle.std.proofs.Common.{◌≡◌, ℕ, Bool, true, false, List, [], ◌∷◌, ◌++◌, Some, Contains, refl, sym, ap, ◌∙◌, subst}
-use Rattle.std.specs.Prelude.{◌==◌, ◌&&◌, not, if◌then◌else◌, slice_get}
+use Rattle.std.specs.Prelude.{◌==◌, ◌&&◌, not, if◌then◌else◌}
 use Rattle.std.proofs.lemmas.Bool.Decides.{Decides-eqb}
 use Rattle.std.proofs.lemmas.List.Elements.{Contains-append_left}
 use Rattle.checker.specs.CheckerLaws.{SettlesWhatItSays}
@@ -17,12 +17,13 @@ use Rattle.meaning_packages.specs.CallsFlags.{Flags, FileWithCredits}
 use Rattle.meaning_packages.specs.Credits.{Credits, body_at, begun_after, promises_in, no_calls, is_safe, is_live, is_settled, Settles, IsCredited}
 use Rattle.meaning_packages.specs.PathFaults.{paths_of}
 use Rattle.meaning_runs.proofs.EventSources.{list_has, of_body, marked}
+use Rattle.meaning_runs.proofs.MentionEvents.{passes}
 use Rattle.meaning_runs.specs.Bodies.{Body, code_of}
 use Rattle.meaning_runs.specs.EventSources.{HasSource, says_nothing, falls_off, of_mark}
 use Rattle.path_faults.proofs.Places.{contains_at}
 use Rattle.verifier.proofs.CertifiedBodies.{is_of}
 use Rattle.verifier.proofs.OneVerified.{at_its_offset}
-use Rattle.verifier.proofs.OwnPasses.{passes, captured_is_not_passed}
+use Rattle.verifier.proofs.OwnPasses.{captured_is_not_passed}
 use Rattle.verifier.specs.Verified.{Given, flags_of_body, checked, IsCreditedBy}
 use Rattle.verifier.specs.VerifierLaws.{CreditsAreFair}
 

@@ -1,24 +1,24 @@
 -- Certificates are looked at from the last body of a file to the first: what is found of a body stays, since it relies
 -- only on the literals after it.
-use Rattle.std.proofs.Common.{◌≡◌, ℕ, zero, suc, ◌+◌, ◌<◌, ◌≤◌, ◌⊎◌, inl, inr, Bool, true, false, ◌&&◌, List, [], ◌∷◌, ◌++◌, take, drop, length, get_or, Contains, Option, Some, None, nat_eq, nat_lt, refl, sym, ap, ◌∙◌, subst, arith}
-use Rattle.std.specs.Prelude.{◌↔◌, ◌==◌, slice_get}
-use Rattle.std.proofs.lemmas.Bool.{ltb-true, ne_eqb, true≢false}
+use Rattle.std.proofs.Common.{◌≡◌, ℕ, zero, suc, ◌+◌, ◌≤◌, ◌⊎◌, inl, inr, Bool, true, false, List, [], ◌∷◌, ◌++◌, take, drop, length, Contains, Some, None, nat_eq, refl, sym, ap, ◌∙◌, subst, arith}
+use Rattle.std.specs.Prelude.{◌↔◌, slice_get}
+use Rattle.std.proofs.lemmas.Bool.{ne_eqb, true≢false}
 use Rattle.std.proofs.lemmas.Bool.Decides.{Decides-eqb}
 use Rattle.std.proofs.lemmas.List.{take_all, take_more, drop_all, drop_more}
 use Rattle.std.proofs.lemmas.Option.{none-some, same_Some, get_or_from_slice_get, slice_get_within}
 use Rattle.credit_search.proofs.BodiesByPlace.{none_of_more, is_first, is_behind}
-use Rattle.findings.proofs.FoundParts.{adds_so, adds_none, adds_both}
+use Rattle.findings.proofs.FoundParts.{adds_so, adds_none, adds_both, first_body, no_body}
 use Rattle.findings.specs.FoundEntries.{AddsEntries}
-use Rattle.meaning.proofs.Membership.{contains_nil, contains_here, contains_there, contains_cases}
 use Rattle.meaning.specs.BodyEvents.{bodies_of, opened_in}
 use Rattle.meaning.specs.Mentions.{BodyPlace}
 use Rattle.meaning.specs.Uses.{Callee, Seen}
 use Rattle.meaning_packages.proofs.BodyPlaces.{AreInPlace, are_in_place}
 use Rattle.meaning_packages.specs.CallsFlags.{Flags}
 use Rattle.meaning_packages.specs.Credits.{body_at, Credits, begun_after}
+use Rattle.meaning_reports.proofs.OneAnswer.{same_behind}
 use Rattle.report.specs.Entries.{Entry}
 use Rattle.report.specs.declared.diagnostics.Diagnostic.{Diagnostic}
-use Rattle.verifier.proofs.OneVerified.{same_behind, certified_too, credited_too}
+use Rattle.verifier.proofs.OneVerified.{certified_too, credited_too}
 use Rattle.verifier.specs.FoundBodies.{with_table, IsUncertified, IsUncertifiedIn, FindsBody, AreFoundBut}
 use Rattle.verifier.specs.Verified.{Given, SettlesBy, IsCreditedBy, AreGivenCredits}
 
@@ -61,7 +61,7 @@ module _ (given : Given) (own : Flags) (calls : Callee → ℕ → Bool) (number
   all_uncertified_too before after bodies x same h = record {
     body = h.body;
     is_there = h.is_there;
-    is_uncertified = uncertified_too before after h.body x (same h.body h.is_there) h.is_uncertified;
+    is_entry = uncertified_too before after h.body x (same h.body h.is_there) h.is_entry;
   }
 
   -- the next body, from the last on
@@ -128,30 +128,19 @@ module _ (given : Given) (own : Flags) (calls : Callee → ℕ → Bool) (number
 
     entries_so : (x : Entry) → (AreNot before (drop (i + 1) (bodies_of seen)) x ⊎ IsNot before b x)
         ↔ AreNot after (drop i (bodies_of seen)) x
-    entries_so x = (
-      λ h. elim h [
-        | inl old ↦
-            let o = all_uncertified_too before after (drop (i + 1) (bodies_of seen)) x behind old in
-            record {
-              body = o.body;
-              is_there = subst (λ bs. Contains bs o.body) (sym this_and_rest) (contains_there b o.body _ o.is_there);
-              is_uncertified = o.is_uncertified;
-            }
-        | inr new ↦ record {
-          body = b;
-          is_there = subst (λ bs. Contains bs b) (sym this_and_rest) (contains_here b _);
-          is_uncertified = uncertified_too before after b x (agree b.at (omega arith)) new;
-        }
-      ],
-      λ h. elim (contains_cases b h.body _ (subst (λ bs. Contains bs h.body) this_and_rest h.is_there)) [
-        | inl same ↦
-            inr (uncertified_too after before b x (sym (agree b.at (omega arith)))
-            (subst (λ y. IsNot after y x) (sym same) h.is_uncertified))
-        | inr later ↦
-            inl (all_uncertified_too after before (drop (i + 1) (bodies_of seen)) x (λ c k. sym (behind c k))
-            (record { body = h.body; is_there = later; is_uncertified = h.is_uncertified }))
-      ],
-    )
+    entries_so x =
+        let rest = drop (i + 1) (bodies_of seen) in
+        let one_and_rest = first_body (IsNot after) b rest (drop i (bodies_of seen)) this_and_rest x in
+        let here = agree b.at (omega arith) in (
+          λ h. one_and_rest.0 (elim h [
+            | inl old ↦ inr (all_uncertified_too before after rest x behind old)
+            | inr new ↦ inl (uncertified_too before after b x here new)
+          ]),
+          λ h. elim (one_and_rest.1 h) [
+            | inl one ↦ inr (uncertified_too after before b x (sym here) one)
+            | inr later ↦ inl (all_uncertified_too after before rest x (λ c k. sym (behind c k)) later)
+          ],
+        )
 
     pub next_found : AreFoundBut given own calls number seen i after first said_then
     next_found = record {
@@ -183,8 +172,8 @@ module _ (given : Given) (own : Flags) (calls : Callee → ℕ → Bool) (number
           (sym (ap (body_at literal) (sym (take_all count (bodies_of seen) all)) ∙ is_none) ∙ h.is_there)),
     );
     entries =
-        adds_none said (AreNot credits (drop count (bodies_of seen))) λ x h.
-        contains_nil h.body (subst (λ bs. Contains bs h.body) (drop_all count (bodies_of seen) all) h.is_there);
+        adds_none said (AreNot credits (drop count (bodies_of seen)))
+        (no_body (IsNot credits) (drop count (bodies_of seen)) (drop_all count (bodies_of seen) all));
   }
 
   -- where no body is left

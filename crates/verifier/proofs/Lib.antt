@@ -1,4 +1,3 @@
-mod BareFiles
 mod BelievedFlags
 mod CertifiedBodies
 mod FairCredits
@@ -12,4 +11,4 @@ mod OwnPasses
 mod SaidFiles
 mod SaidParts
 mod SettledRows
-mod VerifiedYes
+pub mod VerifiedYes

@@ -1,8 +1,7 @@
 -- There is one answer by certificates: which flags are claimed is seen in the files, and then each file has one table of
 -- credits, since a literal relies only on those that begin after it.
-use Rattle.std.proofs.Common.{◌≡◌, ℕ, zero, suc, ◌+◌, ◌<◌, ◌≤◌, Bool, true, false, ◌&&◌, if◌then◌else◌, List, [], ◌∷◌, map, length, Some, Contains, nat_lt, refl, sym, ap, ◌∙◌, subst, arith}
-use Rattle.std.specs.Prelude.{◌==◌, ◌↔◌, slice_get}
-use Rattle.std.proofs.lemmas.Bool.{ltb-true}
+use Rattle.std.proofs.Common.{◌≡◌, ℕ, suc, ◌+◌, Bool, true, false, if◌then◌else◌, List, [], ◌∷◌, map, Some, Contains, refl, sym, ap, ◌∙◌, subst, arith}
+use Rattle.std.specs.Prelude.{◌==◌, slice_get}
 use Rattle.std.proofs.lemmas.Bool.Decides.{Decides-eqb}
 use Rattle.checker.specs.Certificates.{Holds}
 use Rattle.meaning.proofs.Membership.{contains_map, contains_unmap}
@@ -13,16 +12,12 @@ use Rattle.meaning.specs.Uses.{Callee, Seen, facts_take_type}
 use Rattle.meaning_packages.specs.CallsFlags.{Flags, FileWithCredits, IsClaim, calls_by}
 use Rattle.meaning_packages.specs.Credits.{body_at, Credits, begun_after}
 use Rattle.meaning_packages.specs.PathFaults.{paths_of}
+use Rattle.meaning_reports.proofs.OneAnswer.{same_test, one_table_by}
 use Rattle.meaning_reports.specs.Loaded.{LoadedPackage, Tables, imported_flags, means_in, seen_files, seen_from, signatures_of, trees_of}
-use Rattle.verifier.specs.Rules.{GivenByPath, IsVerified, AreFlagsByCertificates}
+use Rattle.verifier.specs.Rules.{GivenByPath, IsVerified}
 use Rattle.verifier.specs.FoundBodies.{with_table}
 use Rattle.verifier.specs.Verified.{Given, IsClaimed, AreClaimed, flags_of_body, checked, IsCertified, SettlesBy, IsCreditedBy, AreGivenCredits}
 use Rattle.verifier.specs.VerifierLaws.{FlagsAreDetermined}
-
-pub same_test : (a b : Bool) → (a ≡ true → b ≡ true) → (b ≡ true → a ≡ true) → a ≡ b
-same_test true b there back = sym (there refl)
-same_test false true there back = back refl
-same_test false false there back = refl
 
 -- Flags
 
@@ -57,21 +52,6 @@ one_claimed files others same given flags more are too = λ i name k.
 
 -- Credits
 
--- no body begins so far on
-abbrev bound : List BodyPlace → ℕ
-bound [] = 0
-bound (b ∷ bs) = b.at + 1 + bound bs
-
-before_bound : (at : ℕ) (bs : List BodyPlace) (b : BodyPlace) → body_at at bs ≡ Some b → at < bound bs
-before_bound at [] b e = cc
-before_bound at (x ∷ bs) b e = by (x.at == at) (Decides-eqb x.at at).0 (before_bound at bs b) e
-  where
-    by : (t : Bool) → (t ≡ true → x.at ≡ at) → (body_at at bs ≡ Some b → at < bound bs)
-        → (if t then Some x else body_at at bs) ≡ Some b
-        → at < x.at + 1 + bound bs
-    by true same later is = let here = same refl in omega (arith, here)
-    by false same later is = let l = later is in omega (arith, l)
-
 pub at_its_offset : (at : ℕ) (bs : List BodyPlace) (b : BodyPlace) → body_at at bs ≡ Some b → b.at ≡ at
 at_its_offset at [] b e = cc
 at_its_offset at (x ∷ bs) b e = by (x.at == at) (Decides-eqb x.at at).0 (at_its_offset at bs b) e
@@ -81,16 +61,6 @@ at_its_offset at (x ∷ bs) b e = by (x.at == at) (Decides-eqb x.at at).0 (at_it
         → b.at ≡ at
     by true same rest is = let it : x ≡ b = cc in ap (λ y. y.at) (sym it) ∙ same refl
     by false same rest is = rest is
-
--- tables that agree on what lies after a literal
-pub same_behind : (one other : Credits) (literal : ℕ)
-    → ((later number : ℕ) → literal < later → one later number ≡ other later number)
-    → begun_after literal one ≡ begun_after literal other
-same_behind one other literal agree = λ i later number. by later number (nat_lt literal later) refl i
-  where
-    by : (later number : ℕ) (t : Bool) → nat_lt literal later ≡ t → (t && one later number) ≡ (t && other later number)
-    by later number false e = refl
-    by later number true e = agree later number (ltb-true literal later e)
 
 module _ (given : Given) (own : Flags) (calls : Callee → ℕ → Bool) (number : ℕ) (seen : Seen) where
   -- what certifies a body lies after it
@@ -136,36 +106,12 @@ module _ (given : Given) (own : Flags) (calls : Callee → ℕ → Bool) (number
         h.settled;
   }
 
-  module _ (one other : Credits) (are : AreGivenCredits given own calls number (with_table seen one))
-      (too : AreGivenCredits given own calls number (with_table seen other)) where
-    none_past : (credits : Credits) → AreGivenCredits given own calls number (with_table seen credits)
-        → (literal variable : ℕ) → bound (bodies_of seen) ≤ literal
-        → credits literal variable ≡ false
-    none_past credits their literal variable past = by (credits literal variable) refl
-      where
-        by : (t : Bool) → credits literal variable ≡ t → t ≡ false
-        by false e = refl
-        by true e =
-            let h = (their literal variable).0 e in
-            absurd (let l = before_bound literal (bodies_of seen) h.body h.is_there in omega (arith, l, past))
-
-    -- from the last literal to the first
-    same_from : (k literal : ℕ) → bound (bodies_of seen) ≤ literal + k → (variable : ℕ)
-        → one literal variable ≡ other literal variable
-    same_from zero literal past variable =
-        let behind_all : bound (bodies_of seen) ≤ literal = omega (arith, past) in
-        none_past one are literal variable behind_all ∙ sym (none_past other too literal variable behind_all)
-    same_from (suc k) literal past variable =
-        let same = same_behind one other literal (λ later n l. same_from k later (omega (arith, l, past)) n) in
-        same_test (one literal variable) (other literal variable)
-        (λ e. (too literal variable).1 (credited_too one other literal variable same ((are literal variable).0 e)))
-        (λ e. (are literal variable).1 (credited_too other one literal variable (sym same) ((too literal variable).0 e)))
-
   pub one_table : (one other : Credits) → AreGivenCredits given own calls number (with_table seen one)
       → AreGivenCredits given own calls number (with_table seen other)
       → one ≡ other
-  one_table one other are too = λ i literal variable.
-      same_from one other are too (bound (bodies_of seen)) literal (omega arith) variable i
+  one_table one other are too =
+      one_table_by (bodies_of seen) (λ credits. IsCreditedBy given own calls number (with_table seen credits))
+      (λ credits literal variable h. (h.body, h.is_there)) credited_too one other are too
 
 -- Files
 

@@ -1,9 +1,9 @@
 -- What is said of files that are gone over one after the other.
-use Rattle.std.proofs.Common.{◌≡◌, ℕ, zero, suc, ◌+◌, ◌<◌, ◌≤◌, ◌⊎◌, inl, inr, Bool, List, [], ◌∷◌, ◌++◌, map, take, length, get_or, Contains, Some, None, refl, sym, ap, ◌∙◌, subst, arith}
+use Rattle.std.proofs.Common.{◌≡◌, ℕ, zero, suc, ◌+◌, ◌<◌, ◌≤◌, ◌⊎◌, inl, inr, Bool, List, [], ◌∷◌, ◌++◌, map, take, length, Contains, Some, refl, sym, ap, ◌∙◌, subst, arith}
 use Rattle.std.specs.Prelude.{◌↔◌, slice_get}
 use Rattle.std.proofs.lemmas.List.{length-map, length-take-le, take_all, take_more}
-use Rattle.std.proofs.lemmas.Option.{none-some, same_Some, get_or_from_slice_get, slice_get_within}
-use Rattle.findings.specs.FoundEntries.{AddsEntries}
+use Rattle.std.proofs.lemmas.Option.{none-some, get_or_from_slice_get, slice_get_within}
+use Rattle.calls_flags.proofs.KeptFiles.{last_or_before}
 use Rattle.meaning.proofs.Membership.{contains_nil}
 use Rattle.meaning.specs.Uses.{Callee, Seen}
 use Rattle.meaning_packages.specs.CallsFlags.{Flags, FileWithCredits}
@@ -16,14 +16,6 @@ use Rattle.verifier.specs.Verified.{Given, AreGivenCredits, IsSaid}
 -- A list with one element more
 
 module _ {X : Type 0} where
-  pub last_or_before : (xs : List X) (y : X) (i : ℕ) (z : X) → slice_get (xs ++ y ∷ []) i ≡ Some z
-      → (slice_get xs i ≡ Some z) ⊎ ((i ≡ length xs) × (y ≡ z))
-  last_or_before [] y zero z e = inr (refl, same_Some y z e)
-  last_or_before [] y (suc i) z e = absurd (none-some z e)
-  last_or_before (x ∷ xs) y zero z e = inl e
-  last_or_before (x ∷ xs) y (suc i) z e =
-      elim (last_or_before xs y i z e) [ inl before ↦ inl before | inr last ↦ inr (ap suc last.0, last.1) ]
-
   there_still : (xs : List X) (y : X) (i : ℕ) (z : X) → slice_get xs i ≡ Some z → slice_get (xs ++ y ∷ []) i ≡ Some z
   there_still [] y i z e = absurd (none-some z e)
   there_still (x ∷ xs) y zero z e = e

@@ -1,6 +1,6 @@
 -- What is said of a body and of a file, part by part.
 use Rattle.std.proofs.Common.{◌≡◌, ℕ, ◌⊎◌, inl, inr, Bool, true, false, List, [], ◌∷◌, ◌++◌, map, length, Contains, Some, None, refl, sym, ap, ◌∙◌, subst}
-use Rattle.std.specs.Prelude.{◌↔◌, ◌==◌, not, if◌then◌else◌}
+use Rattle.std.specs.Prelude.{◌↔◌, ◌==◌, not}
 use Rattle.std.proofs.lemmas.Bool.{false≢true}
 use Rattle.std.proofs.lemmas.Bool.Decides.{Decides-eqb}
 use Rattle.std.proofs.lemmas.List.{nil_from_length}
@@ -10,7 +10,7 @@ use Rattle.credits.specs.CreditViews.{has, is_among, SettlesThese}
 use Rattle.credits.specs.declared.table.Credits.{Credits as KeptCredits}
 use Rattle.findings.proofs.FoundParts.{adds_list, adds_so, adds_none, adds_both}
 use Rattle.findings.specs.FoundEntries.{use_entries, AddsEntries, IsPassEntry}
-use Rattle.meaning.proofs.Membership.{contains_nil, contains_here, contains_there, contains_cases, contains_map, contains_unmap}
+use Rattle.meaning.proofs.Membership.{contains_nil, contains_here, contains_cases, contains_map, contains_unmap}
 use Rattle.meaning.specs.BodyEvents.{Variable, bodies_of, variables_of, too_many_faults, outer_faults, body_faults}
 use Rattle.meaning.specs.Mentions.{BodyPlace}
 use Rattle.meaning.specs.Uses.{Callee, Seen}
@@ -21,8 +21,8 @@ use Rattle.mentions.specs.MarkViews.{body_view}
 use Rattle.report.specs.Entries.{Entry, entry_of}
 use Rattle.report.specs.declared.diagnostics.Diagnostic.{Diagnostic}
 use Rattle.verifier.specs.FoundBodies.{with_table, IsFound, IsUncertified, IsUncertifiedIn, FindsBody}
-use Rattle.verifier.specs.SaidEntries.{uncertified_entries, IsUseOrPass, IsUseOrPassIn, SaysAll}
-use Rattle.verifier.specs.Verified.{Given, IsCertified, SettlesBy, AreGivenCredits, IsSaid, outside_bodies, of_use, of_pass, not_certified, uncertified_entry}
+use Rattle.verifier.specs.SaidEntries.{uncertified_entries, IsUseOrPassIn, SaysAll}
+use Rattle.verifier.specs.Verified.{Given, IsCertified, AreGivenCredits, IsSaid, outside_bodies, of_use, of_pass, not_certified, uncertified_entry}
 
 -- A body
 
@@ -103,35 +103,6 @@ module _ (given : Given) (own : Flags) (calls : Callee → ℕ → Bool) (number
           (adds_list said said_then (uncertified_entries body.has_too_many body.file (body_view body.place)) added);
     }
 
--- Bodies, as they are gone over
-
-module _ (calls : Callee → ℕ → Bool) (number : ℕ) (f : FileWithCredits) (b : BodyPlace) (left here : List BodyPlace)
-    (is_next : here ≡ b ∷ left) where
-  pub first_body : (x : Entry)
-      → (IsUseOrPass calls number f b x ⊎ IsUseOrPassIn calls number f left x) ↔ IsUseOrPassIn calls number f here x
-  first_body x = (
-    λ h. elim h [
-      | inl one ↦ record {
-        body = b;
-        is_there = subst (λ bs. Contains bs b) (sym is_next) (contains_here b left);
-        is_entry = one;
-      }
-      | inr w ↦ record {
-        body = w.body;
-        is_there = subst (λ bs. Contains bs w.body) (sym is_next) (contains_there b w.body left w.is_there);
-        is_entry = w.is_entry;
-      }
-    ],
-    λ h. elim (contains_cases b h.body left (subst (λ bs. Contains bs h.body) is_next h.is_there)) [
-      | inl same ↦ inl (subst (λ y. IsUseOrPass calls number f y x) (sym same) h.is_entry)
-      | inr later ↦ inr (record { body = h.body; is_there = later; is_entry = h.is_entry })
-    ],
-  )
-
-pub no_body : (calls : Callee → ℕ → Bool) (number : ℕ) (f : FileWithCredits) (left : List BodyPlace) → left ≡ []
-    → (x : Entry) → IsUseOrPassIn calls number f left x → ⊥
-no_body calls number f left none x h = contains_nil h.body (subst (λ bs. Contains bs h.body) none h.is_there)
-
 -- A file
 
 module _ (given : Given) (own : Flags) (calls : Callee → ℕ → Bool) (number : ℕ) (file : FileWithCredits) where
@@ -154,8 +125,8 @@ module _ (given : Given) (own : Flags) (calls : Callee → ℕ → Bool) (number
 
   is_said : (x : Entry) → OneOfAll x → IsSaid given own calls number file x
   is_said x (inl (inl h)) =
-      subst (IsSaid given own calls number file) (sym h.is_uncertified.is_entry)
-      (not_certified h.body h.is_there h.is_uncertified.are_few h.is_uncertified.is_not)
+      subst (IsSaid given own calls number file) (sym h.is_entry.is_entry)
+      (not_certified h.body h.is_there h.is_entry.are_few h.is_entry.is_not)
   is_said x (inl (inr h)) =
       let w = contains_unmap (use_entry number) (outer_faults file.seen) x h in
       subst (IsSaid given own calls number file) w.2 (outside_bodies w.0 w.1)
@@ -182,7 +153,7 @@ module _ (given : Given) (own : Flags) (calls : Callee → ℕ → Bool) (number
       inl (inl (record {
         body = b;
         is_there = there;
-        is_uncertified = record { are_few = few; is_not = none; is_entry = refl };
+        is_entry = record { are_few = few; is_not = none; is_entry = refl };
       }))
 
   said_so : (x : Entry) → OneOfAll x ↔ IsSaid given own calls number file x

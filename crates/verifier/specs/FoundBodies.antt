@@ -1,7 +1,7 @@
 -- What the program finds of the certificates of a file's bodies: one body after the other, the last first.
-use Rattle.std.specs.Prelude.{ℕ, ◌≡◌, ◌↔◌, Bool, true, false, List, [], take, drop, Option, Some, None, nat_eq, Contains}
+use Rattle.std.specs.Prelude.{ℕ, ◌≡◌, ◌↔◌, Bool, true, false, List, [], take, drop, Option, Some, None, nat_eq}
 use Rattle.credits.specs.CreditViews.{is_among}
-use Rattle.findings.specs.FoundEntries.{AddsEntries}
+use Rattle.findings.specs.FoundEntries.{AddsEntries, IsOfBodies}
 use Rattle.meaning.specs.BodyEvents.{bodies_of, variables_of, too_many_faults}
 use Rattle.meaning.specs.Mentions.{BodyPlace}
 use Rattle.meaning.specs.Uses.{Callee, Seen}
@@ -30,10 +30,8 @@ module _ (given : Given) (own : Flags) (calls : Callee → ℕ → Bool) (number
     pub is_entry : x ≡ uncertified_entry number b
 
   -- of one of these bodies
-  pub record IsUncertifiedIn (bodies : List BodyPlace) (x : Entry) : Type 0 where
-    pub body : BodyPlace
-    pub is_there : Contains bodies body
-    pub is_uncertified : IsUncertified body x
+  abbrev pub IsUncertifiedIn : List BodyPlace → Entry → Type 0
+  IsUncertifiedIn = IsOfBodies IsUncertified
 
 module _ (given : Given) (own : Flags) (calls : Callee → ℕ → Bool) (number : ℕ) (seen : Seen) where
   -- what the body settles is told of its offset, and nothing changes elsewhere; and it is said if it is not certified

@@ -1,7 +1,7 @@
 -- What is said of the bodies of a file besides, as the program goes over them: use faults and faults of passes.
-use Rattle.std.specs.Prelude.{ℕ, ◌≡◌, ◌↔◌, ◌⊎◌, Bool, if◌then◌else◌, List, [], ◌∷◌, map, Option, Some, slice_get, Contains}
-use Rattle.findings.specs.FoundEntries.{use_entries, AddsEntries, IsPassEntry}
-use Rattle.meaning.specs.BodyEvents.{bodies_of, body_faults}
+use Rattle.std.specs.Prelude.{ℕ, ◌≡◌, ◌↔◌, ◌⊎◌, Bool, if◌then◌else◌, List, [], ◌∷◌, map, Some, slice_get, Contains}
+use Rattle.findings.specs.FoundEntries.{use_entries, AddsEntries, IsOfBodies, IsPassEntry}
+use Rattle.meaning.specs.BodyEvents.{body_faults}
 use Rattle.meaning.specs.Mentions.{BodyPlace}
 use Rattle.meaning.specs.Uses.{Callee, Seen}
 use Rattle.meaning_packages.specs.CallsFlags.{Flags, FileWithCredits}
@@ -20,10 +20,8 @@ module _ (calls : Callee → ℕ → Bool) (number : ℕ) (file : FileWithCredit
   IsUseOrPass b x = Contains (use_entries number (body_faults file.seen b.at)) x ⊎ IsPassEntry calls number file b x
 
   -- of one of these bodies
-  pub record IsUseOrPassIn (bodies : List BodyPlace) (x : Entry) : Type 0 where
-    pub body : BodyPlace
-    pub is_there : Contains bodies body
-    pub is_entry : IsUseOrPass body x
+  abbrev pub IsUseOrPassIn : List BodyPlace → Entry → Type 0
+  IsUseOrPassIn = IsOfBodies IsUseOrPass
 
 -- all is said that is to be said of the file, with the credits that it has by its certificates
 pub record SaysAll

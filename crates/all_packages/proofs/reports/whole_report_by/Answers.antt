@@ -1,15 +1,12 @@
-use Rattle.std.proofs.Common.{ap, ◌∙◌}
-use Rattle.std.specs.List.{list_all}
-use Rattle.report.specs.ReportText.{report_text}
-use Rattle.all_packages.specs.Reports.{is_yes}
+use Rattle.std.proofs.lemmas.Result.{IfOk-weaker}
 use Rattle.all_packages.proofs.reports.whole_report_by.Goals as goal
 
 pub returns : goal.returns
-returns g c = record {
-  said = c.in_ok-judged.judged.items;
-  are_reports = c.in_ok-judged.ensures;
-  told = record {
-    is_text = c.in_ok-text.ensures ∙ ap report_text (c.deref.ensures.value ∙ c.in_ok-reports.ensures);
-    verdict = c.are_yes-yes.ensures ∙ ap (list_all is_yes) (c.deref-2.ensures.value ∙ c.in_ok-reports.ensures);
-  };
-}
+returns g c =
+    IfOk-weaker c.told.result _ _
+    (λ report told. record {
+      said = c.in_ok-judged.judged.items;
+      are_reports = c.in_ok-judged.ensures;
+      told = told;
+    })
+    c.told.ensures

@@ -1,12 +1,11 @@
 use Rattle.std.proofs.Common.{map}
 use Rattle.std.specs.List.{AllZip}
 use Rattle.serde_json.specs.View.{view}
-use Rattle.table_json.proofs.Readings.{handed_on}
+use Rattle.table_json.specs.Parts.{Refuses}
+use Rattle.table_json.proofs.Readings.{handed_on, refuses_so}
 use Rattle.certificate_json.specs.Certificates.{body_of}
 use Rattle.certificate_json.specs.CertificateValues.{AreBodiesOf, IsBodyValue}
-use Rattle.certificate_json.specs.Parts.{Refuses}
 use Rattle.certificate_json.proofs.BodyReadings.{given_bodies, none_ordered}
-use Rattle.certificate_json.proofs.PackageReadings.{refuses_so}
 use Rattle.certificate_json.proofs.read.read_bodies.Goals as goal
 
 pub returns-in_err-given-clause-err : goal.returns-in_err-given-clause-err

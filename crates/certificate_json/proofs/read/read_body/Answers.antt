@@ -1,11 +1,10 @@
 use Rattle.std.proofs.Common.{map, sym, subst}
 use Rattle.std.specs.List.{AllZip}
 use Rattle.serde_json.specs.View.{view}
+use Rattle.table_json.specs.Parts.{Refuses}
 use Rattle.certificate_json.specs.CertificateValues.{AreMasks, IsBodyValue}
-use Rattle.certificate_json.specs.Parts.{Refuses}
-use Rattle.table_json.proofs.Readings.{handed_on}
+use Rattle.table_json.proofs.Readings.{handed_on, refuses_so}
 use Rattle.certificate_json.proofs.BodyReadings.{is_body, no_body, states_of}
-use Rattle.certificate_json.proofs.PackageReadings.{refuses_so}
 use Rattle.certificate_json.proofs.read.read_body.Goals as goal
 
 pub returns-in_default-clause-err : goal.returns-in_default-clause-err

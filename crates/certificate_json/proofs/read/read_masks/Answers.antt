@@ -2,9 +2,9 @@ use Rattle.std.proofs.Common.{map, sym, subst}
 use Rattle.std.proofs.lemmas.Result.{IfErr-weaker, IfOk-weaker}
 use Rattle.std.specs.List.{AllZip}
 use Rattle.serde_json.specs.View.{view}
+use Rattle.table_json.proofs.Readings.{refuses_so}
 use Rattle.certificate_json.specs.CertificateValues.{AreMasks, IsMask}
 use Rattle.certificate_json.proofs.BodyReadings.{are_masks, masks_of, no_masks}
-use Rattle.certificate_json.proofs.PackageReadings.{refuses_so}
 use Rattle.certificate_json.proofs.read.read_masks.Goals as goal
 
 pub returns-in_default-clause-err : goal.returns-in_default-clause-err

@@ -1,12 +1,12 @@
 use Rattle.std.proofs.Common.{map, sym, subst}
 use Rattle.serde_json.specs.View.{view}
+use Rattle.table_json.specs.Parts.{Refuses}
 use Rattle.table_json.specs.Tables.{entries_of}
 use Rattle.table_json.specs.TableValues.{AreFunctionsOf, IsFunctionIn}
-use Rattle.table_json.proofs.Readings.{handed_on}
+use Rattle.table_json.proofs.Readings.{handed_on, refuses_so}
 use Rattle.certificate_json.specs.Certificates.{body_of}
 use Rattle.certificate_json.specs.CertificateValues.{AreBodiesOf, IsPackageIn}
-use Rattle.certificate_json.specs.Parts.{Refuses}
-use Rattle.certificate_json.proofs.PackageReadings.{is_package, no_package, parts_of, refuses_so}
+use Rattle.certificate_json.proofs.PackageReadings.{is_package, no_package, parts_of}
 use Rattle.certificate_json.proofs.read.read_package.Goals as goal
 
 pub returns-in_default-clause-err : goal.returns-in_default-clause-err

@@ -1,11 +1,11 @@
 use Rattle.std.proofs.Common.{◌∙◌, map, sym, subst, true≢false}
 use Rattle.std.specs.List.{AllZip}
 use Rattle.serde_json.specs.View.{view}
-use Rattle.table_json.proofs.Readings.{handed_on}
+use Rattle.table_json.specs.Parts.{Refuses}
+use Rattle.table_json.proofs.Readings.{handed_on, refuses_so}
 use Rattle.certificate_json.specs.Certificates.{package_of, AreApart}
 use Rattle.certificate_json.specs.CertificateValues.{AreCertificatesIn, IsPackageIn}
-use Rattle.certificate_json.specs.Parts.{Refuses}
-use Rattle.certificate_json.proofs.PackageReadings.{are_certificates, each_of, no_certificates, not_apart, refuses_so}
+use Rattle.certificate_json.proofs.PackageReadings.{are_certificates, each_of, no_certificates, not_apart}
 use Rattle.certificate_json.proofs.read.read_packages.Goals as goal
 
 pub returns-in_default-clause-err : goal.returns-in_default-clause-err

@@ -2,10 +2,9 @@ use Rattle.std.proofs.Common.{map, sym}
 use Rattle.std.proofs.lemmas.List.{drop_all}
 use Rattle.std.specs.List.{AllZip}
 use Rattle.serde_json.specs.View.{view}
-use Rattle.table_json.proofs.Readings.{handed_on, at_each, all_read}
+use Rattle.table_json.specs.Parts.{Refuses}
+use Rattle.table_json.proofs.Readings.{handed_on, at_each, all_read, refuses_so}
 use Rattle.certificate_json.specs.CertificateValues.{AreMasks}
-use Rattle.certificate_json.specs.Parts.{Refuses}
-use Rattle.certificate_json.proofs.PackageReadings.{refuses_so}
 use Rattle.certificate_json.proofs.read.read_states.Goals as goal
 
 pub returns-in_err-read_masks-clause-err : goal.returns-in_err-read_masks-clause-err

@@ -3,7 +3,7 @@ use Rattle.command_line.specs.Words.{texts_of}
 use Rattle.driver.specs.Faults.{IsCheckFault}
 use Rattle.folders.specs.declared.fault.Fault.TheVariants.{CannotWrite}
 use Rattle.driver.specs.Packages.{AreGiven, AreRead}
-use Rattle.driver.specs.WrittenReport.{BeginsReport}
+use Rattle.driver.specs.WrittenReport.{IsBegun, OfReport}
 use Rattle.driver.proofs.ReadGiven.{handed_on, of_judging, of_reading}
 use Rattle.driver.proofs.program.check.Goals as goal
 
@@ -40,6 +40,19 @@ returns-in_err-status-clause-begun g c =
       are_named = c.in_ok-packages.ensures.named;
       are_read = subst (λ packages. AreRead packages given) c.deref.ensures.value c.in_ok-given.ensures.read;
     } in
-    handed_on c.from_residual-in_err-status.result c.in_err-status.field-0.0 (λ f. f ≡ CannotWrite → BeginsReport words old new)
+    handed_on c.from_residual-in_err-status.result c.in_err-status.field-0.0 (λ f. f ≡ CannotWrite → OfReport words (IsBegun old new))
     c.from_residual-in_err-status.ensures.1
-    (λ e. record { given = given; are_given = are; told = c.in_err-status.ensures.begun e })
+    (λ e. let begun = c.in_err-status.ensures.begun e in
+    record { given = given; are_given = are; report = begun.0; is_report = begun.1; so = begun.2 })
+
+pub returns-clause-written : goal.returns-clause-written
+returns-clause-written g c =
+    let given = c.in_ok-given.given.items in
+    let told = c.in_ok-status.ensures.written in
+    let are : AreGiven (texts_of c.args.words.now) given
+    = record {
+      packages = c.in_ok-packages.packages.items;
+      are_named = c.in_ok-packages.ensures.named;
+      are_read = subst (λ packages. AreRead packages given) c.deref.ensures.value c.in_ok-given.ensures.read;
+    } in
+    (told.0, told.1, record { given = given; are_given = are; report = told.2; is_report = told.3; so = told.4 })

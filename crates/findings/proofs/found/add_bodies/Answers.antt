@@ -1,5 +1,4 @@
-use Rattle.std.proofs.Common.{◌+◌, length, refl, sym, ap, ◌∙◌, drop, subst, arith}
-use Rattle.std.specs.Prelude.{slice_get}
+use Rattle.std.proofs.Common.{◌+◌, length, refl, sym, ap, drop, subst, arith}
 use Rattle.std.proofs.lemmas.List.{drop_all}
 use Rattle.std.proofs.lemmas.Option.{slice_get_read}
 use Rattle.std.proofs.lemmas.Slice.Zip.{AllZip-long}
@@ -26,7 +25,7 @@ loop-body-preserved c = λ number f tells.
     adds_next c.args.diagnostics.now.items c.loop-body.diagnostics.items
     (IsBodyEntry calls number f w.first) (IsEntryOfBodies calls number f (drop (i + 1) bs))
     (IsEntryOfBodies calls number f (drop i bs)) (IsEntryOfBodies calls number f bs)
-    (first_body calls number f w.first (drop (i + 1) bs) (drop i bs)
+    (first_body (IsBodyEntry calls number f) w.first (drop (i + 1) bs) (drop i bs)
     (next_is (TellsBody number f.seen) bs i c.body-item.result w))
     c.add_body.new.diagnostics.items (c.in_ok-add_body.ensures number f tells w.first w.is_so)
     (c.loop-body.invariant number f tells)
@@ -34,7 +33,7 @@ loop-body-preserved c = λ number f tells.
 pub returns : goal.returns
 returns c = λ number f tells.
     adds_all c.args.diagnostics.now.items c.loop-body.diagnostics.items _ _
-    (no_body (known_calls c.args.calls) number f (drop c.loop-body.body-index (bodies_of f.seen))
+    (no_body (IsBodyEntry (known_calls c.args.calls) number f) (drop c.loop-body.body-index (bodies_of f.seen))
     (drop_all c.loop-body.body-index (bodies_of f.seen)
     (let size = AllZip-long (TellsBody number f.seen) (bodies_of f.seen) c.args.file.now.bodies.items tells.are_bodies in
     let same = ap length c.deref-body-items.ensures.value in

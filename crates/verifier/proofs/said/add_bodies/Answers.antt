@@ -6,9 +6,8 @@ use Rattle.bodies.specs.Bodies.{TellsBody}
 use Rattle.calls_flags.specs.KnownCalls.{known_calls}
 use Rattle.credit_search.proofs.PairedLists.{pair_at, next_is}
 use Rattle.credits.specs.CreditViews.{has}
-use Rattle.findings.proofs.FoundParts.{adds_next, adds_all}
+use Rattle.findings.proofs.FoundParts.{adds_next, adds_all, first_body, no_body}
 use Rattle.meaning.specs.BodyEvents.{bodies_of}
-use Rattle.verifier.proofs.SaidParts.{first_body, no_body}
 use Rattle.verifier.specs.FoundBodies.{with_table}
 use Rattle.verifier.specs.SaidEntries.{IsUseOrPass, IsUseOrPassIn}
 use Rattle.verifier.proofs.said.add_bodies.Goals as goal
@@ -28,14 +27,14 @@ loop-body-preserved c = λ number seen told tell.
     adds_next c.args.diagnostics.now.items c.loop-body.diagnostics.items
     (IsUseOrPass calls number f w.first) (IsUseOrPassIn calls number f (drop (i + 1) bs))
     (IsUseOrPassIn calls number f (drop i bs)) (IsUseOrPassIn calls number f bs)
-    (first_body calls number f w.first (drop (i + 1) bs) (drop i bs) (next_is (TellsBody number seen) bs i c.body-item.result w))
+    (first_body (IsUseOrPass calls number f) w.first (drop (i + 1) bs) (drop i bs) (next_is (TellsBody number seen) bs i c.body-item.result w))
     c.add_body.new.diagnostics.items (c.in_ok-add_body.ensures number seen w.first told w.is_so)
     (c.loop-body.invariant number seen told tell)
 
 pub returns : goal.returns
 returns c = λ number seen told tell.
     adds_all c.args.diagnostics.now.items c.loop-body.diagnostics.items _ _
-    (no_body (known_calls c.args.grounds.calls) number (with_table seen (has c.args.credits.now))
+    (no_body (IsUseOrPass (known_calls c.args.grounds.calls) number (with_table seen (has c.args.credits.now)))
     (drop c.loop-body.body-index (bodies_of seen))
     (drop_all c.loop-body.body-index (bodies_of seen)
     (let size = AllZip-long (TellsBody number seen) (bodies_of seen) c.args.bodies.now tell in

@@ -3,7 +3,7 @@ use Rattle.imports.specs.Views.{text_views}
 use Rattle.calls_flags.specs.KnownCalls.{is_called_in}
 use Rattle.all_packages.specs.JudgedPackages.{tables_in}
 use Rattle.meaning_reports.specs.PackageReports.{by_paths}
-use Rattle.all_packages.specs.Progress.{judged_in, marks_in, IsReady, KnowsImports}
+use Rattle.all_packages.specs.Progress.{judged_in, marks_in, table_or_none, IsReady, KnowsImports}
 use Rattle.all_packages.proofs.ImportedTables.{are_calls}
 use Rattle.all_packages.proofs.NextPackage.{they_agree}
 use Rattle.all_packages.proofs.packages.JudgedPackages.by_imports.Goals as goal
@@ -21,6 +21,7 @@ returns c = λ ps i p are is_p tells list judged.
     let knows = subst (λ qs. KnowsImports before qs c.in_ok-imports.imports) paths c.in_ok-imports.ensures in
     record {
       is_judgment = right.are_judgments i p c.args.judged.now is_p judged tables agrees;
+      is_table = ap table_or_none judged;
       is_told = c.in_ok-told.ensures ps tables i p is_p tells
           (c.around.ensures.known ps tables i p before are.are_given is_p ready agrees knows);
       are_calls = λ path name k.

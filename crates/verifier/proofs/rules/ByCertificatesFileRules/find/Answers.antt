@@ -1,10 +1,10 @@
-use Rattle.std.proofs.Common.{◌≡◌, map, sym, ap, ◌∙◌, subst}
+use Rattle.std.proofs.Common.{sym, ap, ◌∙◌, subst}
+use Rattle.calls_flags.proofs.KeptFiles.{as_seen, tell_all}
 use Rattle.calls_flags.specs.FilesBodies.{TellAll, with_all_credits}
 use Rattle.calls_flags.specs.ToldFiles.{TellAllSeen}
 use Rattle.calls_flags.specs.KnownCalls.{is_called, flags_by_path}
 use Rattle.facts.specs.FactViews.{facts_by_name}
 use Rattle.meaning_reports.specs.Loaded.{seen_files}
-use Rattle.verifier.proofs.BareFiles.{all_told, as_seen}
 use Rattle.verifier.proofs.FoundPackages.{have_facts, are_flags, each}
 use Rattle.verifier.specs.GivenViews.{given_by, given_of, package_by, TellsGiven}
 use Rattle.verifier.proofs.rules.ByCertificatesFileRules.find.Goals as goal
@@ -17,7 +17,7 @@ returns c = λ ps tables i p is_p loaded around told none.
     let bare = c.in_ok-files.ensures seens are_files in
     let fs = with_all_credits seens c.in_ok-files.files.items in
     let seen = as_seen seens c.in_ok-files.files.items bare.are_as_many in
-    let told_all = all_told seens c.in_ok-files.files.items bare in
+    let told_all = tell_all seens c.in_ok-files.files.items bare.are_as_many bare.each in
     let to_claim = subst (TellAll fs) (sym c.deref-2.ensures.value) told_all in
     let to_say = subst (TellAll fs) (sym c.deref-3.ensures.value) told_all in
     let given : TellsGiven (by p.path) c.in_ok-given.given =

@@ -1,0 +1,6 @@
+-- To be trusted: where `check` and `verify` agree.
+pub mod AgreementLaws
+pub mod PackageLaws
+pub mod CertificateLaws
+-- For a reader of the laws: in which groups the bodies of a file start literals.
+pub mod OwnGroups

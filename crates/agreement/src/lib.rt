@@ -1,0 +1,56 @@
+//! Where `check` and `verify` agree: the least certificates, which `check` makes, are believed by `verify` exactly
+//! where `check` has nothing to say. It runs nothing.
+#![tactic(auto)]
+
+ghost use Rattle.agreement.specs.AgreementLaws.{LeastCertificatesAreBelieved, WhatIsBelievedHasNoFinding};
+ghost use Rattle.agreement.specs.PackageLaws.{ReportsAgree};
+ghost use Rattle.agreement.specs.CertificateLaws.{CertificatesAgree};
+ghost use Rattle.agreement.specs.OwnGroups.{StartsHaveOwnGroups, TextsStartNoOutermost};
+
+/// Each group in which a node of a body starts a literal is one of the body's variables, in each file in which no local
+/// starts a literal that stands in no other body.
+pub fn starts_have_own_groups()
+    ensures { StartsHaveOwnGroups }
+{}
+
+/// So it is in the tree of a text, whose names mean what they mean in its package.
+pub fn texts_start_no_outermost()
+    ensures { TextsStartNoOutermost }
+{}
+
+/// Where `check` finds nothing in a file, its least certificates are believed: `verify` relies on the same literals,
+/// and says nothing of the file.
+pub fn least_certificates_are_believed()
+    ensures { LeastCertificatesAreBelieved }
+{
+    verifier::credits_are_fair();
+    verifier::nothing_is_found();
+}
+
+/// Where `verify` says nothing of a file by its least certificates, `check` finds nothing in it.
+pub fn what_is_believed_has_no_finding()
+    ensures { WhatIsBelievedHasNoFinding }
+{
+    verifier::credits_are_fair();
+    verifier::nothing_is_found();
+}
+
+/// Where what is given for each package of texts is what `check` makes of it, the reports of both say yes of the same
+/// packages, and know the same of their functions.
+pub fn reports_agree()
+    ensures { ReportsAgree }
+{
+    meaning_runs::bodies_are_apart();
+    verifier::credits_are_fair();
+    verifier::nothing_is_found();
+}
+
+/// By the certificates that `check` makes of packages of texts, the reports of both say yes of the same packages, and
+/// know the same of their functions.
+pub fn certificates_agree()
+    ensures { CertificatesAgree }
+{
+    meaning_runs::bodies_are_apart();
+    verifier::credits_are_fair();
+    verifier::nothing_is_found();
+}

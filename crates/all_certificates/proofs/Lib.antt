@@ -1,0 +1,7 @@
+mod AddedEntries
+mod AllCertified
+mod CertifiedPackage
+mod RisingLists
+mod FactOrder
+mod BodyOrder
+pub mod InOrder

@@ -1,0 +1,7 @@
+use Rattle.std.proofs.Common.{ap, refl, rules}
+use Rattle.std.proofs.lemmas.List.{nil_from_length}
+use Rattle.command_line.specs.Words.{texts_of}
+use Rattle.command_line.proofs.words.asked_of.Goals as goal
+
+pub returns-then-is_empty : goal.returns-then-is_empty
+returns-then-is_empty c = (search rules, ap texts_of (nil_from_length c.args.kept.files.items (search rules)), refl)

@@ -1,0 +1,195 @@
+//! Folders of real files. Links stand for files without rights, which a superuser would read.
+
+use crate::runs::{expect_check, expect_transcript, outcome};
+use std::fs::File;
+use std::os::unix::fs::symlink;
+use std::test::Fail;
+use std::{env, fs, process};
+
+/// What stands in a folder under a name.
+#[derive(Clone, Copy)]
+pub enum FolderEntry {
+    Text(&'static str),
+    /// So many NUL bytes, which take no room on the disk.
+    Sparse(u64),
+    Folder,
+    /// A folder with a file `x.go` of this text.
+    Package(&'static str),
+    /// A link to this path.
+    Link(&'static str),
+}
+
+/// An empty folder of this process, for a test of this name.
+pub fn new_folder(rt: &HostRuntime, name: &str) -> Result<String, Fail> {
+    let parent = env::temp_dir(rt)?;
+    let id = process::id(rt.process());
+    let path = format!(in rt.alloc(); "{}/ctxvet-{id}-{name}", parent.as_str())?;
+    if fs::exists(rt, path.as_str())? {
+        fs::remove_dir_all(rt, path.as_str())?;
+    }
+    fs::create_dir(rt, path.as_str())?;
+    Ok(path)
+}
+
+/// Puts an entry of this name into the folder.
+fn make(rt: &HostRuntime, folder: &str, name: &str, entry: FolderEntry) -> Result<(), Fail> {
+    let path = format!(in rt.alloc(); "{folder}/{name}")?;
+    match entry {
+        FolderEntry::Text(text) => fs::write(rt, path, text)?,
+        FolderEntry::Sparse(size) => File::create(rt, path)?.set_len(size)?,
+        FolderEntry::Folder => fs::create_dir(rt, path)?,
+        FolderEntry::Package(text) => {
+            fs::create_dir(rt, path.as_str())?;
+            fs::write(rt, format!(in rt.alloc(); "{path}/x.go")?, text)?;
+        }
+        FolderEntry::Link(target) => symlink(rt, target, path)?,
+    }
+    Ok(())
+}
+
+/// A folder of this process with these entries, for a test of this name.
+pub fn folder_with(
+    rt: &HostRuntime,
+    test: &str,
+    entries: &[(&str, FolderEntry)],
+) -> Result<String, Fail> {
+    let folder = new_folder(rt, test)?;
+    for (name, entry) in entries {
+        make(rt, folder.as_str(), *name, *entry)?;
+    }
+    Ok(folder)
+}
+
+const EMPTY: FolderEntry = FolderEntry::Text("");
+
+/// The outcome of a check on a folder without Go files.
+pub const NO_GO_FILES: &str = "yes a\nstatus 0\nctxvet: note: no Go files in DIR\n";
+
+/// What stands in a folder, and the outcome of a check on it.
+type Case = (&'static [(&'static str, FolderEntry)], &'static str);
+
+const ROWS: &[Case] = &[
+    (&[], NO_GO_FILES),
+    // No Go file of the package: a test, other names, and a folder.
+    (
+        &[
+            ("a_test.go", EMPTY),
+            ("notes.txt", EMPTY),
+            ("go", EMPTY),
+            ("line\nbreak", EMPTY),
+            ("x.go", FolderEntry::Folder),
+        ],
+        NO_GO_FILES,
+    ),
+    // In the order of the bytes of their names.
+    (
+        &[("a.go", EMPTY), ("B.go", EMPTY)],
+        "DIR/B.go:1:1: LC02 - unexpected token\n\
+        DIR/a.go:1:1: LC02 - unexpected token\nno a\nstatus 1\n",
+    ),
+    // Links are followed.
+    (
+        &[
+            ("text", EMPTY),
+            ("inner", FolderEntry::Folder),
+            ("a.go", FolderEntry::Link("inner")),
+            ("b.go", FolderEntry::Link("text")),
+        ],
+        "DIR/b.go:1:1: LC02 - unexpected token\nno a\nstatus 1\n",
+    ),
+    // No file stands there: nothing, a device, a link to itself.
+    (
+        &[("a.go", EMPTY), ("d.go", FolderEntry::Link("none"))],
+        "status 2\nctxvet: cannot read: DIR/d.go\n",
+    ),
+    (
+        &[
+            ("c.go", FolderEntry::Link("/dev/null")),
+            ("d.go", FolderEntry::Link("none")),
+        ],
+        "status 2\nctxvet: cannot read: DIR/c.go\n",
+    ),
+    (
+        &[("b.go", FolderEntry::Link("b.go"))],
+        "status 2\nctxvet: cannot read: DIR/b.go\n",
+    ),
+    // No line could name the file.
+    (
+        &[("a.go", EMPTY), ("x\nyes a\ny.go", EMPTY)],
+        "status 2\nctxvet: cannot read: DIR\n",
+    ),
+    (
+        &[("\x7f.go", EMPTY)],
+        "status 2\nctxvet: cannot read: DIR\n",
+    ),
+    // 1 MiB, one byte more, and 2 GiB, of which no more is read.
+    (
+        &[("a.go", FolderEntry::Sparse(1_048_576))],
+        "DIR/a.go:1:1: LC01 - NUL byte\nno a\nstatus 1\n",
+    ),
+    (
+        &[
+            ("a.go", FolderEntry::Sparse(1_048_577)),
+            ("b.go", FolderEntry::Sparse(2_147_483_648)),
+        ],
+        "DIR/a.go:1:1: LC01 - file over 1 MiB\n\
+        DIR/b.go:1:1: LC01 - file over 1 MiB\nno a\nstatus 1\n",
+    ),
+];
+
+#[test]
+fn folders_are_read(rt: HostRuntime) -> Result<(), Fail> {
+    for (entries, wanted) in ROWS {
+        let folder = folder_with(&rt, "rows", *entries)?;
+        expect_check(&rt, folder.as_str(), *wanted)?;
+        fs::remove_dir_all(&rt, folder.as_str())?;
+    }
+    Ok(())
+}
+
+const FOLDERS: &[(&str, FolderEntry)] = &[
+    ("x=y", FolderEntry::Package("")),
+    ("inner", FolderEntry::Package("")),
+    ("link", FolderEntry::Link("inner")),
+    ("line\nbreak", FolderEntry::Folder),
+];
+
+const TRANSCRIPT: &str = "\
+# The first `=` of a word parts it, a slash is not doubled, and a link to a folder is one.
+$ check a=DIR/x=y
+DIR/x=y/x.go:1:1: LC02 - unexpected token
+no a
+status 1
+$ check a=DIR/inner/
+DIR/inner/x.go:1:1: LC02 - unexpected token
+no a
+status 1
+$ check a=DIR/link
+DIR/link/x.go:1:1: LC02 - unexpected token
+no a
+status 1
+# No folder.
+$ check a=DIR/none
+status 2
+ctxvet: cannot read: DIR/none
+$ check a=DIR/inner/x.go
+status 2
+ctxvet: cannot read: DIR/inner/x.go
+$ check a=DIR/\x1b[1mnone
+status 2
+ctxvet: cannot read: DIR/\\u{1b}[1mnone
+";
+
+#[test]
+fn names_of_folders(rt: HostRuntime) -> Result<(), Fail> {
+    let outer = folder_with(&rt, "names", FOLDERS)?;
+    expect_transcript(&rt, outer.as_str(), TRANSCRIPT)?;
+    // A folder that no line could name.
+    let words = ["check", "a=DIR/line\nbreak"];
+    let found = outcome(&rt, outer.as_str(), words.as_slice())?;
+    assert_eq!(rt;
+        found.as_str(),
+        "status 2\nctxvet: cannot read: DIR/line\\nbreak\n"
+    );
+    Ok(fs::remove_dir_all(&rt, outer.as_str())?)
+}

@@ -1,0 +1,48 @@
+-- The certificates that are read from a file, and why none are. Which bytes a file has, no contract can say.
+use Rattle.std.specs.Prelude.{◌⊎◌, ⊤, ℕ, List}
+use Rattle.std.specs.Str.{IsUtf8}
+use Rattle.certificate_json.specs.CertificateTexts.{AreCertificatesOf, IsCertificateFault}
+use Rattle.certificate_json.specs.Certificates.{packages_of}
+use Rattle.certificate_json.specs.declared.certificates.Certificates.{Certificates}
+use Rattle.certificate_json.specs.declared.fault.CertificateFault.{CertificateFault}
+use Rattle.certificate_json.specs.declared.fault.CertificateFault.TheVariants as certificate_fault
+use Rattle.folders.specs.declared.fault.Fault.{Fault}
+use Rattle.folders.specs.declared.fault.Fault.TheVariants.{CannotRead, CertificateNotJson, CertificateWrongShape, CertificateWrongVersion, OutOfMemory}
+
+-- these bytes are the text of the certificates, in their version
+abbrev pub AreTextOf : List ℕ → Certificates → Type 0
+AreTextOf bytes certificates = AreCertificatesOf bytes certificates.version (packages_of certificates)
+
+-- some bytes, those of the file, are their text
+pub record StandIn (certificates : Certificates) : Type 0 where
+  pub bytes : List ℕ
+  pub are_text : AreTextOf bytes certificates
+
+-- why these bytes are the text of none; what is not UTF-8 is no JSON
+abbrev pub IsBytesFault : List ℕ → Fault → Type 0
+IsBytesFault bytes CertificateNotJson =
+    (IsUtf8 bytes → ⊥) ⊎ IsCertificateFault bytes certificate_fault.NotJson
+IsBytesFault bytes CertificateWrongShape = IsCertificateFault bytes certificate_fault.WrongShape
+IsBytesFault bytes CertificateWrongVersion = IsCertificateFault bytes certificate_fault.WrongVersion
+IsBytesFault bytes OutOfMemory = ⊤
+IsBytesFault bytes _ = ⊥
+
+-- some bytes, those of the file, have this fault
+pub record HaveFault (fault : Fault) : Type 0 where
+  pub bytes : List ℕ
+  pub is_fault : IsBytesFault bytes fault
+
+-- the fault of a file that is read for certificates
+abbrev pub IsInputFault : Fault → Type 0
+IsInputFault (CannotRead name) = ⊤
+IsInputFault OutOfMemory = ⊤
+IsInputFault fault = HaveFault fault
+
+-- What serves the proofs
+
+-- why a text is none of certificates, as the program tells it
+abbrev pub told_certificate_fault : CertificateFault → Fault
+told_certificate_fault certificate_fault.NotJson = CertificateNotJson
+told_certificate_fault certificate_fault.WrongShape = CertificateWrongShape
+told_certificate_fault certificate_fault.WrongVersion = CertificateWrongVersion
+told_certificate_fault certificate_fault.OutOfMemory = OutOfMemory

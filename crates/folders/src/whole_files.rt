@@ -1,0 +1,166 @@
+//! Files that are read or written whole.
+
+ghost use Rattle.std.specs.Prelude.{◌≡◌, IfErr, IfOk, OnOk};
+ghost use Rattle.std.specs.Fs.{file_type, IsFile};
+ghost use Rattle.std.specs.Io.KnownBytes.{Appends};
+ghost use Rattle.folders.specs.ReadFaults.{IsReadFault};
+ghost use Rattle.folders.specs.WrittenFiles.{HoldsAll};
+
+use crate::fault::{self, Fault};
+use crate::names::escaped;
+use std::alloc::{AllocError, Global};
+use std::fs::{self, File, Metadata, OpenFile, OpenOptions};
+use std::io::{self, ErrorKind, Write};
+use std::path::{Path, PathBuf};
+use std::rt::Files;
+
+/// All bytes of the file of this name.
+///
+/// # Errors
+///
+/// The file can't be read, or memory was refused.
+pub fn read_file<R: Files + AllocGlobal>(rt: &R, name: &str) -> Result<Vec<u8>, Fault>
+    ensures { IfErr result IsReadFault }
+{
+    match fs::read(rt, name) {
+        Ok(bytes) => Ok(bytes),
+        Err(error) => {
+            let name = escaped(rt.alloc(), name)?;
+            Err(fault::reading(&error, name))
+        }
+    }
+}
+
+/// A file that is to be written: its name, and how the line of a fault names it. So that fault takes no more memory.
+#[derive(Debug, Drop)]
+pub struct UnwrittenFile<'a> {
+    name: &'a str,
+    escaped: String,
+}
+
+impl<'a> UnwrittenFile<'a> {
+    /// The file of this name.
+    ///
+    /// # Errors
+    ///
+    /// Memory was refused.
+    pub fn named(alloc: Global, name: &'a str) -> Result<UnwrittenFile<'a>, AllocError>
+        ensures { IfOk result (λ file. file.name.now ≡ name.now) }
+    {
+        let escaped = escaped(alloc, name)?;
+        Ok(UnwrittenFile { name, escaped })
+    }
+}
+
+/// A file that was written: its name, and all that it was given. Only `write_file` makes one, so that nobody else can
+/// tell of a file that was not written.
+#[derive(Debug, Drop)]
+pub struct WrittenFile<'a> {
+    name: &'a str,
+    text: String,
+}
+
+/// Writes the file, so that it has this text and nothing else, or leaves what stands under its name as it was. A pipe,
+/// a device or another special file is written as it stands.
+///
+/// # Errors
+///
+/// The file can't be written.
+pub fn write_file<'a, R: Files + AllocGlobal>(
+    rt: &R,
+    file: UnwrittenFile<'a>,
+    text: String,
+) -> Result<WrittenFile<'a>, Fault>
+    ensures written { IfOk result (HoldsAll file.entry text) }
+    ensures fault { IfErr result (λ fault. fault ≡ Fault.CannotWriteFile file.entry.escaped) }
+{
+    let UnwrittenFile { name, escaped } = file;
+    match write_text(rt, name, text.as_bytes()) {
+        Ok(()) => Ok(WrittenFile { name, text }),
+        Err(_) => Err(Fault::CannotWriteFile(escaped)),
+    }
+}
+
+/// Writes this text under the name, by what stands there.
+fn write_text<R: Files + AllocGlobal>(rt: &R, name: &str, text: &[u8]) -> io::Result<()> {
+    match fs::metadata(rt, name) {
+        Ok(stands) if stands.is_file() => {
+            let path = behind_links(rt, name)?;
+            replace(rt, path.as_path().as_str(), text)
+        }
+        Ok(stands) => write_special(rt, name, &stands, text),
+        Err(error) if error.kind() == ErrorKind::NotFound => replace(rt, name, text),
+        Err(error) => Err(error),
+    }
+}
+
+/// The path of the file to which a link of this name leads, or this name where no link stands there.
+fn behind_links<R: Files + AllocGlobal>(rt: &R, name: &str) -> io::Result<PathBuf> {
+    if fs::symlink_metadata(rt, name)?.is_symlink() {
+        fs::canonicalize(rt, name)
+    } else {
+        Ok(PathBuf::from_str(rt.alloc(), name)?)
+    }
+}
+
+/// Writes to what stands under the name and is no regular file. A folder can't be opened so.
+fn write_special<R: Files>(rt: &R, name: &str, stands: &Metadata, text: &[u8]) -> io::Result<()>
+    requires { IsFile (file_type stands.now) → ⊥ }
+{
+    let mut file = OpenOptions::new().write(true).open(rt, name)?;
+    put(&mut file, text)
+}
+
+/// Puts a file with this text in the place of that of the name: it is written beside it, and then has its name. Where
+/// one of these fails, it is removed, and the place is as it was.
+fn replace<R: Files + AllocGlobal>(rt: &R, name: &str, text: &[u8]) -> io::Result<()> {
+    let Beside { mut file, path } = new_beside(rt, name)?;
+    let placed = match fill(&mut file, text) {
+        Ok(()) => fs::rename(rt, path.as_path(), name),
+        Err(error) => Err(error),
+    };
+    if placed.is_err() {
+        let _ = fs::remove_file(rt, path.as_path());
+    }
+    placed
+}
+
+/// A new file, with its path.
+#[derive(Drop)]
+struct Beside<F> {
+    file: F,
+    path: PathBuf,
+}
+
+/// So many names are tried for a new file.
+const MOST_NAMES: u32 = 10_000;
+
+/// A new file in the folder of the file of this name, under a name that stood for nothing.
+fn new_beside<R: Files + AllocGlobal>(rt: &R, name: &str) -> io::Result<Beside<R::File>> {
+    for number in 0..MOST_NAMES {
+        let own = format!(in rt.alloc(); "ctxvet-{number}.tmp")?;
+        let path = Path::new(name).with_file_name(rt.alloc(), own.as_str())?;
+        match File::create_new(rt, path.as_path()) {
+            Ok(file) => return Ok(Beside { file, path }),
+            Err(error) if error.kind() == ErrorKind::AlreadyExists => {}
+            Err(error) => return Err(error),
+        }
+    }
+    Err(io::Error::from(ErrorKind::AlreadyExists))
+}
+
+/// Writes the text to the open file, up to the disk.
+fn fill<F: Write + OpenFile>(file: &mut F, text: &[u8]) -> io::Result<()>
+    ensures { OnOk result (Appends (F.contents file.old) (F.contents file.new) text.now) }
+{
+    put(file, text)?;
+    file.sync_all()
+}
+
+/// Writes the text to the open file.
+fn put<F: Write>(file: &mut F, text: &[u8]) -> io::Result<()>
+    ensures { OnOk result (Appends (F.contents file.old) (F.contents file.new) text.now) }
+{
+    file.write_all(text)?;
+    file.flush()
+}

@@ -1,0 +1,10 @@
+use Rattle.std.proofs.Common.{IfOk, subst}
+use Rattle.all_packages.specs.Reports.{TellsReportBy}
+use Rattle.verifier.specs.GivenViews.{given_of}
+use Rattle.verifier.specs.Rules.{GivenByPath, by_certificates}
+use Rattle.judge.proofs.verified.told_by.Goals as goal
+
+pub returns : goal.returns
+returns c =
+    subst (λ (given : GivenByPath). IfOk c.whole_report_by.result (TellsReportBy (by_certificates given) c.args.packages.now))
+    (λ i path. given_of (c.in_ok-rules.ensures path i)) c.whole_report_by.ensures

@@ -1,0 +1,110 @@
+//! The report of given packages by certificates.
+
+ghost use Rattle.std.specs.Prelude.{IfErr, IfOk, option_map};
+ghost use Rattle.all_packages.specs.Reports.{TellsReportBy};
+ghost use Rattle.judge.specs.Verified.{given_in, IsTooOldFor, IsVerifiedReport, IsVerifyFault, TellsVerified};
+ghost use Rattle.verifier.specs.Rules.{by_certificates};
+
+use all_packages::{Report, whole_report_by};
+use cause_mentions::first_with_causes;
+use certificate_json::Certificates;
+use load::{GivenPackage, LoadFault, load, release};
+use std::alloc::{AllocError, Global};
+use table_json::Version;
+use verifier::ByCertificates;
+use whole_packages::LoadedPackage;
+
+/// Why packages are not judged by certificates.
+#[derive(Debug, Drop)]
+pub enum VerifyFault {
+    /// They are not loaded.
+    NotLoaded(LoadFault),
+    /// The certificates have version 1, and the package of this path mentions a cancel function with a cause, of which
+    /// that version knows nothing. It is the first such package.
+    TooOld(String),
+}
+
+/// What comes of loaded packages.
+#[derive(Drop)]
+enum Verified {
+    Told(Report),
+    IsTooOld(String),
+}
+
+/// The path of the first package for which the certificates are too old.
+fn too_old<'a>(
+    alloc: Global,
+    packages: &'a [LoadedPackage],
+    certificates: &Certificates,
+) -> Result<Option<&'a str>, AllocError>
+    ensures { IfOk result (λ found. IsTooOldFor packages.now certificates.now (option_map (λ path. path.now) found)) }
+{
+    match certificates.version {
+        Version::Older => first_with_causes(alloc, packages),
+        Version::Newer => Ok(None),
+    }
+}
+
+/// The report of packages of different paths by certificates, whatever version these have.
+fn told_by(
+    alloc: Global,
+    packages: &[LoadedPackage],
+    certificates: &Certificates,
+) -> Result<Report, AllocError>
+    ensures { IfOk result (TellsReportBy (by_certificates (given_in certificates.now)) packages.now) }
+{
+    let rules = ByCertificates::new(alloc, certificates)?;
+    whole_report_by(alloc, packages, &rules)
+}
+
+/// The report of packages of different paths by certificates, unless these are too old for one of them.
+fn told_unless_old(
+    alloc: Global,
+    packages: &[LoadedPackage],
+    certificates: &Certificates,
+) -> Result<Verified, AllocError>
+    ensures { IfOk result (TellsVerified packages.now certificates.now) }
+{
+    match too_old(alloc, packages, certificates)? {
+        Some(path) => Ok(Verified::IsTooOld(String::from_str(alloc, path)?)),
+        None => Ok(Verified::Told(told_by(alloc, packages, certificates)?)),
+    }
+}
+
+/// The same of packages that are let go.
+fn verified_loaded(
+    alloc: Global,
+    packages: Vec<LoadedPackage>,
+    certificates: &Certificates,
+) -> Result<Verified, AllocError>
+    ensures { IfOk result (TellsVerified packages.items certificates.now) }
+{
+    let told = told_unless_old(alloc, &packages, certificates);
+    release(packages);
+    told
+}
+
+/// The report of these packages, in the order of their paths, by these certificates.
+///
+/// # Errors
+///
+/// The packages are not loaded, as for `report_of`; or the certificates are too old for one of them; or memory was
+/// refused.
+pub fn verified_report_of(
+    alloc: Global,
+    given: Vec<GivenPackage>,
+    certificates: &Certificates,
+) -> Result<Report, VerifyFault>
+    ensures report { IfOk result (IsVerifiedReport given.items certificates.now) }
+    ensures fault { IfErr result (IsVerifyFault given.items certificates.now) }
+{
+    let packages = match load(alloc, given) {
+        Ok(packages) => packages,
+        Err(fault) => return Err(VerifyFault::NotLoaded(fault)),
+    };
+    match verified_loaded(alloc, packages, certificates) {
+        Ok(Verified::Told(report)) => Ok(report),
+        Ok(Verified::IsTooOld(path)) => Err(VerifyFault::TooOld(path)),
+        Err(_) => Err(VerifyFault::NotLoaded(LoadFault::OutOfMemory)),
+    }
+}
