@@ -20,12 +20,11 @@ use Rattle.all_packages.specs.Tables.{is_none_of, entries_for, IsPlain}
 use Rattle.certificate_json.specs.Certificates.{PackageEntry}
 use Rattle.meaning.specs.FunctionFacts.{cancel, cancel_type, CancelType, FunctionFacts}
 use Rattle.meaning.specs.Uses.{Seen, facts_take, facts_take_type, has_kind_at, has_type_at}
-use Rattle.meaning_packages.specs.CallsFlags.{Flags, FileWithCredits, calls_by, AreMost}
-use Rattle.meaning_reports.proofs.OneAnswer.{one_list, one_most}
-use Rattle.meaning_reports.proofs.OneReport.{one_way}
-use Rattle.meaning_reports.specs.Loaded.{LoadedPackage, Tables, imported_flags, imported_tables, means_in, signatures_of, trees_of, seen_from, seen_files}
-use Rattle.meaning_reports.specs.OneReport.{AreDetermined}
-use Rattle.meaning_reports.specs.PackageTables.{AreCredited, IsTableBy, empty, full, IsJudged, AreFlagsByPaths, AreTables}
+use Rattle.meaning_packages.specs.CallsFlags.{Flags, FileWithCredits, calls_by}
+use Rattle.meaning_reports.proofs.OneAnswer.{one_list}
+use Rattle.meaning_reports.proofs.OneReport.{one_way, flags_by_paths}
+use Rattle.meaning_reports.specs.Loaded.{LoadedPackage, Tables, imported_flags, means_in, signatures_of, trees_of, seen_files}
+use Rattle.meaning_reports.specs.PackageTables.{IsTableBy, empty, full, IsJudged, AreFlagsByPaths, AreTables}
 use Rattle.meaning_runs.specs.BodyOffsets.{BodiesAreApart}
 use Rattle.meaning_runs.specs.Promise.{AreTreesOfTexts}
 use Rattle.path_faults.proofs.Places.{place_of}
@@ -60,28 +59,7 @@ package_found (q ∷ ps) (x ∷ xs) paths apart (suc i) p e is_p is_e =
         absurd (omega (arith, n))
     by false same rest = rest
 
--- By paths
-
--- what the files of a package are seen with, by the tables of what it imports
-abbrev seen_by : List LoadedPackage → LoadedPackage → Tables → List Seen
-seen_by ps p known =
-    seen_from (λ number. record {
-      means = means_in ps p number;
-      functions = signatures_of ps p;
-      imported = λ path. (known path).signatures;
-    }) 0 (trees_of p)
-
-flags_by_paths : AreDetermined AreFlagsByPaths
-flags_by_paths ps one other i p flags more is none same first second =
-    let h = first.is_judged in
-    let k = second.is_judged in
-    let seen : seen_by ps p (imported_tables p one) ≡ seen_by ps p (imported_tables p other) = ap (seen_by ps p) same in
-    let its = subst (λ (l : List Seen). AreCredited l first.files) seen h.are_files in
-    let list = one_list (seen_by ps p (imported_tables p other)) first.files second.files its k.are_files in
-    let most : AreMost second.files (λ path. (imported_tables p one path).calls) flags =
-    subst (λ (l : List FileWithCredits). AreMost l (λ path. (imported_tables p one path).calls) flags) list h.are_flags in
-    one_most second.files (λ path. (imported_tables p other path).calls) flags more
-    (subst (λ (known : Tables). AreMost second.files (λ path. (known path).calls) flags) same most) k.are_flags
+-- Tables by paths
 
 -- the table of a package that is judged
 pub record HasTable (ps : List LoadedPackage) (tables : Tables) (p : LoadedPackage) (flags : Flags) : Type 0 where

@@ -1,6 +1,6 @@
 -- The files of a package of texts: in their bodies no two nodes have one place, each group in which a literal is started
 -- is the body's own, no two bodies begin at one offset, and what is known of a function its body keeps.
-use Rattle.std.proofs.Common.{◌≡◌, ℕ, zero, suc, ◌+◌, inl, inr, Bool, true, false, ◌&&◌, List, [], ◌∷◌, ◌++◌, map, Option, Some, None, Contains, refl, sym, ap, ◌∙◌, subst, arith}
+use Rattle.std.proofs.Common.{◌≡◌, ℕ, zero, suc, ◌+◌, inl, inr, Bool, true, false, ◌&&◌, List, [], ◌∷◌, map, Option, Some, None, Contains, refl, sym, ap, ◌∙◌, subst, arith}
 use Rattle.std.specs.Prelude.{if◌then◌else◌, not, is_none, option_map, slice_get}
 use Rattle.std.specs.Str.{bytes_eq}
 use Rattle.std.proofs.lemmas.Bool.{and_from}
@@ -14,16 +14,14 @@ use Rattle.agreement.specs.AgreementLaws.{KeepsItsFlags}
 use Rattle.agreement.specs.OwnGroups.{HaveOwnGroups}
 use Rattle.calls_flags.specs.Claims.{called_name, function_name}
 use Rattle.checker.specs.Certificates.{is_claimed}
-use Rattle.flow.specs.GraphOfCode.{nodes}
 use Rattle.meaning.proofs.Membership.{contains_nil, contains_cases, contains_map}
-use Rattle.meaning.specs.BodyEvents.{Variable, VariableRole, own_parameter, own_receiver, declared_in_body, captured, opened_in, bodies_of, seen_file, sites_of, variables_of}
+use Rattle.meaning.specs.BodyEvents.{Variable, VariableRole, own_parameter, own_receiver, declared_in_body, captured, opened_in, bodies_of, seen_file, variables_of}
 use Rattle.meaning.specs.Classes.{entry_cancel, cancel_after}
-use Rattle.meaning.specs.Code.{Occurrence, Code, skip, does, leave, then_code, either, repeats, up_to}
+use Rattle.meaning.specs.Code.{Occurrence}
 use Rattle.meaning.specs.Mentions.{BodyPlace}
 use Rattle.meaning.specs.OuterBlocks.{is_init}
 use Rattle.meaning.specs.Scopes.{is_blank}
 use Rattle.meaning.specs.Tracked.{Known, locals_of}
-use Rattle.meaning.specs.TreeOfText.{IsTreeOf}
 use Rattle.meaning.specs.TwoFunctions.{function_names_from}
 use Rattle.meaning.specs.Uses.{Seen, Event}
 use Rattle.meaning_packages.specs.CallsFlags.{Flags, FileWithCredits, calls_by, has_name, is_function}
@@ -34,12 +32,11 @@ use Rattle.meaning_reports.specs.Loaded.{LoadedPackage, Tables, package_names, t
 use Rattle.meaning_reports.specs.PackageTables.{AreCredited, no_file, file_and, IsJudged}
 use Rattle.meaning_runs.proofs.KnownFlags.{no_second}
 use Rattle.meaning_runs.proofs.NamedBodies.{AreApart, apart, one_body}
-use Rattle.meaning_runs.proofs.OccurrencePlaces.{occurrences_have_places}
 use Rattle.meaning_runs.specs.BodyOffsets.{BodiesAreApart}
-use Rattle.meaning_runs.specs.OccurrencePlaces.{occurrences}
 use Rattle.meaning_runs.specs.Promise.{AreTreesOfTexts}
 use Rattle.path_faults.proofs.Places.{contains_at, place_of}
 use Rattle.tree.specs.Syntax.{Identifier, SourceFile}
+use Rattle.verifier.proofs.VerifiedYes.{places_of_text}
 use Rattle.verifier.specs.Verified.{flags_of_name, flags_of_body}
 use Rattle.verifier.specs.VerifierLaws.{BodiesHaveOwnPlaces}
 
@@ -51,23 +48,6 @@ pub record IsOfText (seen : Seen) : Type 0 where
   pub are_locals : seen.locals ≡ locals_of seen.known seen.marks
   pub one_each : (b c : BodyPlace) → Contains (opened_in seen.marks) b → Contains (opened_in seen.marks) c → b.at ≡ c.at
       → b ≡ c
-
-nodes_are : {E : Type 0} (c : Code E) → nodes c ≡ occurrences c
-nodes_are skip = refl
-nodes_are (does o) = refl
-nodes_are (leave w) = refl
-nodes_are (then_code a b) = λ i. nodes_are b i ++ nodes_are a i
-nodes_are (either a b) = λ i. nodes_are b i ++ nodes_are a i
-nodes_are (repeats a) = nodes_are a
-nodes_are (up_to w a) = nodes_are a
-
-own_places : (text : List ℕ) (tree : SourceFile) (known : Known) → IsTreeOf text tree
-    → BodiesHaveOwnPlaces (seen_file known tree)
-own_places text tree known is b promises there n m o p is_o is_p same same_order =
-    let code = (paths_of (seen_file known tree) promises b).code in
-    (occurrences_have_places Event text tree known b (sites_of (seen_file known tree) b.at) is there).one_each n m o p
-    (ap (λ os. slice_get os n) (sym (nodes_are code)) ∙ is_o) (ap (λ os. slice_get os m) (sym (nodes_are code)) ∙ is_p)
-    same same_order
 
 -- the tree of the file at that place, where the first one has the number n
 seen_at : (known : ℕ → Known) (n : ℕ) (trees : List SourceFile) (j : ℕ) (s : Seen)
@@ -95,7 +75,7 @@ module _ (bodies : BodiesAreApart) (ps : List LoadedPackage) (tables : Tables) (
       its tree is =
           let t = texts tree (contains_at (trees_of p) number tree is) in
           record {
-            have_own_places = own_places t.0 tree (known_in ps tables p number) t.1;
+            have_own_places = places_of_text t.0 tree (known_in ps tables p number) t.1;
             have_own_groups =
                 starts_have_own_groups (seen_file (known_in ps tables p number) tree)
                 (texts_start_no_outermost t.0 tree (trees_of p) (package_names ps) number (known_in ps tables p number)

@@ -8,7 +8,7 @@ use Rattle.std.proofs.lemmas.List.{nil_from_length}
 use Rattle.std.proofs.lemmas.Option.{none-some, same_Some}
 use Rattle.std.proofs.lemmas.Slice.Eq.{bytes_eq-Decides}
 use Rattle.tree.specs.Syntax.{Identifier}
-use Rattle.meaning.proofs.Membership.{contains_nil, contains_here, contains_there, contains_cases}
+use Rattle.meaning.proofs.Membership.{contains_nil, contains_here, contains_cases}
 use Rattle.meaning.specs.Scopes.{is_blank}
 use Rattle.meaning.specs.OuterBlocks.{is_init}
 use Rattle.meaning.specs.FunctionFacts.{FunctionFacts, VariableKind, cancel, group}

@@ -11,7 +11,7 @@ use Rattle.meaning_packages.specs.Credits.{Credits, promises_in, begun_after}
 use Rattle.meaning_packages.specs.CallsFlags.{Flags, flag_of, calls_by}
 
 -- where one list of events leaves the variable so, with more known it is left the same, or safe
-abbrev NoWorse : CancelClass → CancelClass → Type 0
+abbrev pub NoWorse : CancelClass → CancelClass → Type 0
 NoWorse k j = (j ≡ k) ⊎ (j ≡ safe)
 
 chosen : (t : Bool) (x k j : CancelClass) → NoWorse k j → NoWorse (if t then x else k) (if t then x else j)
@@ -36,10 +36,10 @@ credited false g k j h = h
 
 module _ (fewer more : Callee → ℕ → Bool) (grows : (f : Callee) (k : ℕ) → fewer f k ≡ true → more f k ≡ true)
     (credits : ℕ → ℕ → Bool) where
-  abbrev before : Promises
+  abbrev pub before : Promises
   before = record { calls = fewer; credits = credits }
 
-  abbrev after : Promises
+  abbrev pub after : Promises
   after = record { calls = more; credits = credits }
 
   started_no_worse : (v g : ℕ) (literal : Option ℕ) (k j : CancelClass) → NoWorse k j
@@ -65,7 +65,7 @@ module _ (fewer more : Callee → ℕ → Bool) (grows : (f : Callee) (k : ℕ) 
   change_no_worse v (defer_literal literal) k j h = chosen (credits literal v) safe k j h
   change_no_worse v (return_event handed) k j h = h
 
-  after_no_worse : (v : ℕ) (k j : CancelClass) (t : List (Occurrence Event)) → NoWorse k j
+  pub after_no_worse : (v : ℕ) (k j : CancelClass) (t : List (Occurrence Event)) → NoWorse k j
       → NoWorse (cancel_after before v k t) (cancel_after after v j t)
   after_no_worse v k j [] h = h
   after_no_worse v k j (o ∷ t) h =
@@ -89,7 +89,7 @@ module _ (fewer more : Callee → ℕ → Bool) (grows : (f : Callee) (k : ℕ) 
   same_change v (defer_literal literal) k = refl
   same_change v (return_event handed) k = refl
 
-  same_group : (v : ℕ) (k : GroupClass) (t : List (Occurrence Event))
+  pub same_group : (v : ℕ) (k : GroupClass) (t : List (Occurrence Event))
       → group_after before v k t ≡ group_after after v k t
   same_group v k [] = refl
   same_group v k (o ∷ t) =

@@ -1,5 +1,5 @@
 -- Packages in memory mention what the packages mention that they stand for.
-use Rattle.std.proofs.Common.{◌≡◌, ℕ, suc, Bool, true, false, List, [], ◌∷◌, length, Option, Some, None, refl, sym, ap, ◌∙◌, arith}
+use Rattle.std.proofs.Common.{◌≡◌, ℕ, suc, List, [], ◌∷◌, length, Option, Some, refl, sym, ap, ◌∙◌, arith}
 use Rattle.std.specs.Prelude.{if◌then◌else◌, slice_get, string_bytes}
 use Rattle.cause_mentions.specs.CauseMentions.{trees_mention, first_among, first_kept, kept_trees}
 use Rattle.meaning.specs.OuterBlocks.{PackageNames}

@@ -1,14 +1,13 @@
 -- Which packages mention cancel functions with a cause: their type, or one of the makers of `context` that came with
--- them. Version 1 of certificates knows of none, so that it can't be read for such packages. A package in which two
--- functions have one name is not looked at: nothing else is said of it, whatever its certificates are.
+-- them. Version 1 of certificates knows of none, so that it can't be read for such packages. Where two functions of a
+-- package have one name, the first of them is meant.
 -- (The documentation of `context`.)
-use Rattle.std.specs.Prelude.{ℕ, ◌+◌, Bool, false, ◌&&◌, ◌||◌, if◌then◌else◌, List, [], ◌∷◌, map, Option, Some, None, is_none, codes, string_bytes}
+use Rattle.std.specs.Prelude.{ℕ, ◌+◌, Bool, false, ◌||◌, if◌then◌else◌, List, [], ◌∷◌, map, Option, Some, None, codes, string_bytes}
 use Rattle.std.specs.List.{list_any}
 use Rattle.meaning.specs.Declarations.{declaration_of_use}
 use Rattle.meaning.specs.FunctionFacts.{Meanings, context_path, is_of}
 use Rattle.meaning.specs.Mentions.{Named, Mark, mentions, defers_literal, returns, opens, closes, file_marks}
 use Rattle.meaning.specs.OuterBlocks.{PackageNames}
-use Rattle.meaning.specs.TwoFunctions.{second_function}
 use Rattle.meaning_reports.specs.Loaded.{LoadedPackage, package_names, trees_of}
 use Rattle.tree.specs.Syntax.{SourceFile}
 use Rattle.tree.specs.View.{file_syntax}
@@ -37,8 +36,7 @@ files_mention means n [] = false
 files_mention means n (tree ∷ trees) = file_mentions (means n) tree || files_mention means (n + 1) trees
 
 abbrev pub trees_mention : PackageNames → List SourceFile → Bool
-trees_mention names trees =
-    is_none (second_function trees) && files_mention (declaration_of_use trees names) 0 trees
+trees_mention names trees = files_mention (declaration_of_use trees names) 0 trees
 
 -- the path of the first of these packages that does, where the given packages have these names
 abbrev pub first_among : PackageNames → List LoadedPackage → Option (List ℕ)

@@ -9,7 +9,7 @@ ghost use Rattle.tree.specs.View.{file_syntax};
 
 use facts::is_of;
 use mentions::{Mark, Named, file_marks};
-use names::{CONTEXT, NameFault, Names, PackageNames, resolve};
+use names::{CONTEXT, Names, PackageNames, names_of};
 use std::alloc::{AllocError, Global};
 use tree::File;
 
@@ -67,7 +67,7 @@ fn files_mention(alloc: Global, names: &Names<'_>, files: &[File]) -> Result<boo
     Ok(false)
 }
 
-/// Whether a package with these files mentions one, unless two of its functions have one name.
+/// Whether a package with these files mentions one.
 ///
 /// # Errors
 ///
@@ -79,9 +79,6 @@ pub fn trees_mention(
 ) -> Result<bool, AllocError>
     ensures { IfOk result (λ does. does ≡ trees_mention (names_by_path packages.now) (map file_syntax files.now)) }
 {
-    match resolve(alloc, files, packages) {
-        Ok(names) => files_mention(alloc, &names, files),
-        Err(NameFault::TwoFunctions(_, _)) => Ok(false),
-        Err(NameFault::Memory) => Err(AllocError),
-    }
+    let names = names_of(alloc, files, packages)?;
+    files_mention(alloc, &names, files)
 }

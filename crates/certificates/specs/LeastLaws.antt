@@ -16,8 +16,8 @@ use Rattle.meaning_packages.specs.PathFaults.{Paths, PathFault, IsPathFault, Kee
 use Rattle.states.specs.Bits.{group_class}
 use Rattle.states.specs.Masks.{MayBe}
 
--- Each group in which a node starts a literal is one of the body's group variables. In each body of a text it is so,
--- which is not proved: a class that is pending in another group has no bit.
+-- Each group in which a node starts a literal is one of the body's group variables, as in each body of a text: a class
+-- that is pending in another group has no bit.
 abbrev pub StartsInOwnGroups : CheckedBody → Type 0
 StartsInOwnGroups b = (n : ℕ) (o : Occurrence Event) (g : ℕ)
     → slice_get b.graph.nodes n ≡ Some o

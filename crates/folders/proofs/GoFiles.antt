@@ -1,5 +1,5 @@
 -- One more file joins those that were read, and names in their order.
-use Rattle.std.proofs.Common.{◌≡◌, ◌≢◌, ℕ, ◌≤◌, Bool, true, false, List, [], ◌∷◌, ◌++◌, map, drop, Some, None, Option, IfSome, if◌then◌else◌, codes, nat_eq, option_to_list, string_bytes, string_cmp, string_eq, IsPermutation, IsSorted, All, refl, ap, ◌∙◌, subst, sym, rules}
+use Rattle.std.proofs.Common.{◌≡◌, ◌≢◌, ℕ, ◌≤◌, Bool, true, false, List, [], ◌∷◌, ◌++◌, map, Some, None, Option, IfSome, if◌then◌else◌, codes, nat_eq, option_to_list, string_bytes, string_cmp, string_eq, IsPermutation, IsSorted, All, refl, ap, ◌∙◌, subst, sym, rules}
 use Rattle.std.proofs.lemmas.List.{append-nil, append_assoc, map-append}
 use Rattle.std.proofs.lemmas.List.Sorted.{All-permutation}
 use Rattle.std.proofs.lemmas.List.Filters.{All-dedup}

@@ -1,5 +1,5 @@
 -- Words that are split at their first `=`.
-use Rattle.std.proofs.Common.{◌≡◌, ◌≢◌, ◌↔◌, ℕ, ◌<◌, Bool, true, false, IsTrue, ◌==◌, List, map, Any, Contains, length, Some, None, Option, Bor, ◌∙◌, subst, sym, rules}
+use Rattle.std.proofs.Common.{◌≡◌, ◌≢◌, ◌↔◌, ℕ, ◌<◌, Bool, true, false, IsTrue, ◌==◌, List, length, Some, None, Option, Bor, ◌∙◌, subst, sym, rules}
 use Rattle.std.proofs.lemmas.List.Elements.{All-get_or, All-from_get_or}
 use Rattle.std.proofs.lemmas.Str.Pattern.{IsSplitOnceResult, split_after, split_parts}
 use Rattle.folders.specs.Names.{IsPrintable}

@@ -1,5 +1,5 @@
 -- What goes wrong where a folder or a file is read: something of it can't be, or memory is refused.
-use Rattle.std.specs.Prelude.{⊤, String}
+use Rattle.std.specs.Prelude.{⊤}
 use Rattle.folders.specs.declared.fault.Fault.{Fault}
 use Rattle.folders.specs.declared.fault.Fault.TheVariants.{CannotRead, OutOfMemory}
 

@@ -53,11 +53,11 @@ no_entry [] e = refl
 no_entry (d ∷ ds) e = let bad : false ≡ true = e in cc
 
 pub yes_are_quiet : (rules : Rules) → YesOfAPackageIsQuietBy rules → (ps : List LoadedPackage) (said : List Judged) (is_report : IsReportBy rules ps (map said_view said)) → ((i : ℕ) (p : LoadedPackage) → slice_get ps i ≡ Some p → AreTreesOfTexts p) → YesAreQuiet ps is_report.tables said
-yes_are_quiet rules are_quiet ps said is_report texts i told groups =
+yes_are_quiet rules are_quiet ps said is_report texts i told =
     are_quiet ps (map said_view said) i is_report record {
       loaded = told.loaded;
       said = said_view told.judged;
       is_package = told.is_package;
       is_said = slice_get-map said_view said i ∙ ap (option_map said_view) told.is_said;
       is_yes = no_entry told.judged.report.diagnostics.items told.is_yes;
-    } (λ j q below is. texts j q is) groups
+    } (λ j q below is. texts j q is)

@@ -1,11 +1,10 @@
--- What a yes says of runs: where nothing is said of a package, and neither it nor a given package below it imports
--- `errgroup`, each return of a frame of the package is quiet, in every run over the package and those below it.
--- `meaning_runs` has the runs.
+-- What a yes says of runs: where nothing is said of a package, each return of a frame of the package is quiet, in every
+-- run over the package and the given packages below it. `meaning_runs` has the runs.
 use Rattle.std.specs.Prelude.{ℕ, ◌≡◌, true, List, Some, slice_get}
 use Rattle.meaning_reports.specs.Loaded.{LoadedPackage, Tables}
 use Rattle.all_packages.specs.declared.judged.Judged.{Judged}
 use Rattle.all_packages.specs.Reports.{is_yes}
-use Rattle.meaning_runs.specs.PackageYes.{program_of, AreWithoutGroups}
+use Rattle.meaning_runs.specs.PackageYes.{program_of}
 use Rattle.meaning_runs.specs.Runs.{IsQuietProgram}
 
 -- the package at that place is told as a yes
@@ -19,5 +18,4 @@ pub record IsToldYes (ps : List LoadedPackage) (said : List Judged) (i : ℕ) : 
 abbrev pub YesAreQuiet : List LoadedPackage → Tables → List Judged → Type 0
 YesAreQuiet ps tables said = (i : ℕ)
     → IsToldYes ps said i
-    → AreWithoutGroups (program_of ps tables i)
     → IsQuietProgram (program_of ps tables i)

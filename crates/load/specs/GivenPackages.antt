@@ -1,6 +1,6 @@
 -- Packages as they are given, and what is loaded of them: each with its files as they are read, in the order of their
 -- names, and the packages in the order of their paths, no two of one path.
-use Rattle.std.specs.Prelude.{ℕ, ◌≡◌, Bool, false, true, ◌||◌, List, [], ◌∷◌, ◌++◌, ⊤, map, length, nat_lt, if◌then◌else◌, Option, Some, None, String, Vec, string_bytes, string_cmp, string_eq, IsPermutation, IsSorted}
+use Rattle.std.specs.Prelude.{◌≡◌, Bool, false, true, ◌||◌, List, [], ◌∷◌, ◌++◌, ⊤, map, length, nat_lt, if◌then◌else◌, Option, Some, None, String, Vec, string_bytes, string_cmp, string_eq, IsPermutation, IsSorted}
 use Rattle.std.specs.List.{list_any, AllZip}
 use Rattle.std.specs.declared.alloc.Global.{Global}
 use Rattle.lexer.specs.declared.source.Source.{Source}

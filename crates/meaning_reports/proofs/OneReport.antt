@@ -153,7 +153,7 @@ one_report_by rules determined ps one other h k = same_lists one other (h.is_as_
 -- By paths
 
 -- what the files of a package are seen with, by the tables of what it imports
-abbrev seen_by : List LoadedPackage → LoadedPackage → Tables → List Seen
+abbrev pub seen_by : List LoadedPackage → LoadedPackage → Tables → List Seen
 seen_by ps p known =
     seen_from (λ number. record {
       means = means_in ps p number;
@@ -161,7 +161,7 @@ seen_by ps p known =
       imported = λ path. (known path).signatures;
     }) 0 (trees_of p)
 
-flags_by_paths : AreDetermined AreFlagsByPaths
+pub flags_by_paths : AreDetermined AreFlagsByPaths
 flags_by_paths ps one other i p flags more is none same first second =
     let h = first.is_judged in
     let k = second.is_judged in

@@ -1,22 +1,40 @@
 -- An event that binds is that of a mention on a left side, of a local that the body declares in its block.
 use Rattle.std.proofs.Common.{◌≡◌, ℕ, Bool, true, false, inl, inr, List, [], ◌∷◌, Option, Some, None, Contains, refl, sym, ◌∙◌, subst}
 use Rattle.std.specs.Prelude.{if◌then◌else◌}
-use Rattle.meaning.specs.FunctionFacts.{VariableKind}
+use Rattle.meaning.specs.Code.{Occurrence}
+use Rattle.meaning.specs.Lists.{Reaches}
+use Rattle.meaning.specs.FunctionFacts.{VariableKind, cancel, group}
 use Rattle.meaning.specs.Mentions.{BodyPlace, Row, Role, elsewhere, called, called_in_brackets, argument, returned, left, names_type, new_literal, parameter_pointer, Mention, Mark, mentions, defers_literal, returns, opens, closes}
-use Rattle.meaning.specs.Tracked.{Known, variable_of, LocalRole, parameter, receiver, variadic, result, in_block, Local}
-use Rattle.meaning.specs.Uses.{Seen, found, kind_of, tracked_kind, VariableAt, Event, other, obtain, clear, call, defer_call, pass, defer_pass, lend, start, try, wait, defer_wait, make, defer_literal, return_event, Binding, obtained, cleared, made, binding_at, binding_event, variable_at, mention_outcome, binding_outcome, row_outcome, role_outcome, local_outcome, is_own, is_body, body_gives}
+use Rattle.meaning.specs.Tracked.{Known, variable_of, GroupState, LocalRole, parameter, receiver, variadic, result, in_block, Local}
+use Rattle.meaning.specs.Uses.{Seen, found, kind_of, tracked_kind, VariableAt, Callee, Event, other, obtain, clear, call, defer_call, pass, defer_pass, lend, start, try, wait, defer_wait, make, defer_literal, return_event, Binding, obtained, cleared, made, binding_at, binding_event, mention_outcome, binding_outcome, row_outcome, role_outcome, local_outcome, is_own, is_body, body_gives}
 use Rattle.meaning.specs.BodyEvents.{handed_on, mark_events}
 use Rattle.meaning.proofs.Membership.{contains_cases, contains_nil}
-use Rattle.meaning_packages.specs.PathFaults.{BindsCancel, obtains, clears}
-use Rattle.meaning_runs.specs.Bodies.{Body}
+use Rattle.meaning_packages.specs.PathFaults as faults
+use Rattle.meaning_packages.specs.PathFaults.{BindsCancel}
+use Rattle.meaning_runs.specs.Bodies.{Body, code_of}
 use Rattle.meaning_runs.specs.EventSources.{HasSource, says_nothing, falls_off, of_mark, IsBound, BindingsAreOfLocals}
 use Rattle.meaning_runs.proofs.Places.{eqb_is}
 use Rattle.meaning_runs.proofs.EventSources.{events_have_sources}
 use Rattle.meaning_runs.proofs.MentionEvents.{is_use, mention_fits}
 
+-- an event that binds a cancel variable or a group, and where
+pub data Binds : Event → VariableAt → Type 0 where
+  obtains : {u : VariableAt} {f : Callee} {k : ℕ} {is_declared : Bool} → Binds (obtain u f k is_declared) u
+  clears : {u : VariableAt} → Binds (clear u) u
+  makes : {u : VariableAt} {state : GroupState} → Binds (make u state) u
+
+pub binds_so : (e : Event) (u : VariableAt) → BindsCancel e u → Binds e u
+binds_so e u faults.obtains = obtains
+binds_so e u faults.clears = clears
+
+-- what it binds
+abbrev pub kind_bound : Event → VariableKind
+kind_bound (make u state) = group
+kind_bound e = cancel
+
 -- events that bind nothing
 abbrev pub Harmless : List Event → Type 0
-Harmless es = (e : Event) → Contains es e → (u : VariableAt) → BindsCancel e u → ⊥
+Harmless es = (e : Event) → Contains es e → (u : VariableAt) → Binds e u → ⊥
 
 abbrev pub is_binding : Event → Bool
 is_binding other = false
@@ -31,20 +49,21 @@ is_binding (start g literal) = false
 is_binding (try g literal) = false
 is_binding (wait g) = false
 is_binding (defer_wait g) = false
-is_binding (make u state) = false
+is_binding (make u state) = true
 is_binding (defer_literal at) = false
 is_binding (return_event handed) = false
 
-binds_so : (e : Event) (u : VariableAt) → BindsCancel e u → is_binding e ≡ true
-binds_so e u obtains = refl
-binds_so e u clears = refl
+is_binding_so : (e : Event) (u : VariableAt) → Binds e u → is_binding e ≡ true
+is_binding_so e u obtains = refl
+is_binding_so e u clears = refl
+is_binding_so e u makes = refl
 
-pub no_binding : (e : Event) (u : VariableAt) → is_binding e ≡ false → BindsCancel e u → ⊥
-no_binding e u q b = let bad : false ≡ true = sym q ∙ binds_so e u b in cc
+pub no_binding : (e : Event) (u : VariableAt) → is_binding e ≡ false → Binds e u → ⊥
+no_binding e u q b = let bad : false ≡ true = sym q ∙ is_binding_so e u b in cc
 
 pub single : (x : Event) → is_binding x ≡ false → Harmless (x ∷ [])
 single x q e h u b =
-    elim (contains_cases x e [] h) [ inl same ↦ no_binding x u q (subst (λ y. BindsCancel y u) (sym same) b) | inr n ↦ contains_nil e n ]
+    elim (contains_cases x e [] h) [ inl same ↦ no_binding x u q (subst (λ y. Binds y u) (sym same) b) | inr n ↦ contains_nil e n ]
 
 use_binds_nothing : (e : Event) → is_use e ≡ true → is_binding e ≡ false
 use_binds_nothing other h = refl
@@ -59,27 +78,27 @@ use_binds_nothing (start g literal) h = refl
 use_binds_nothing (try g literal) h = refl
 use_binds_nothing (wait g) h = refl
 use_binds_nothing (defer_wait g) h = refl
-use_binds_nothing (make u state) h = refl
+use_binds_nothing (make u state) h = let bad : false ≡ true = h in cc
 use_binds_nothing (defer_literal at) h = refl
 use_binds_nothing (return_event handed) h = refl
 
 pub mention_harmless : (seen : Seen) (l : Local) (kind : Option VariableKind) (bodies : List BodyPlace) (m : Mention) → Harmless (mention_outcome seen l kind bodies m).events
 mention_harmless seen l kind bodies m =
-    mention_fits (λ e. (u : VariableAt) → BindsCancel e u → ⊥) bodies l
+    mention_fits (λ e. (u : VariableAt) → Binds e u → ⊥) bodies l
     (λ e h own u b. no_binding e u (use_binds_nothing e h) b) seen kind m
 
 same_body : (bodies : List BodyPlace) (m n : ℕ) → is_body m bodies ≡ true → is_body n bodies ≡ true → m ≡ n
 same_body [] m n h k = let bad : false ≡ true = h in cc
 same_body (b ∷ bs) m n h k = sym (eqb_is b.at m h) ∙ eqb_is b.at n k
 
-bound_number : (known : Known) (l : Local) (m : Mention) (row : Row) (binding : Binding) (u : VariableAt) → BindsCancel (binding_event known l m row binding) u → l.number ≡ u.number
+pub bound_number : (known : Known) (l : Local) (m : Mention) (row : Row) (binding : Binding) (u : VariableAt) → Binds (binding_event known l m row binding) u → l.number ≡ u.number
 bound_number known l m row (obtained k) u obtains = refl
 bound_number known l m row cleared u clears = refl
-bound_number known l m row (made state) u b = absurd (no_binding (make (variable_at l m) state) u refl b)
+bound_number known l m row (made state) u makes = refl
 
-module _ (b : Body) (bodies : List BodyPlace) (here : is_body b.place.at bodies ≡ true) (m : Mention) (e : Event) (u : VariableAt) (binds : BindsCancel e u) where
+module _ (b : Body) (bodies : List BodyPlace) (here : is_body b.place.at bodies ≡ true) (m : Mention) (e : Event) (u : VariableAt) (binds : Binds e u) where
   module _ (l : Local) (is : found b.file (variable_of b.file.known m) ≡ Some l) where
-    by_place : (own : Bool) (x : Event) → is_own l bodies ≡ own → (BindsCancel x u → l.number ≡ u.number) → l.role ≡ in_block → Contains (if own then x ∷ [] else []) e → IsBound b u
+    by_place : (own : Bool) (x : Event) → is_own l bodies ≡ own → (Binds x u → l.number ≡ u.number) → l.role ≡ in_block → Contains (if own then x ∷ [] else []) e → IsBound b u
     by_place false x q number role h = absurd (contains_nil e h)
     by_place true x q number role h =
         let same : x ≡ e = elim (contains_cases x e [] h) [ inl k ↦ k | inr n ↦ absurd (contains_nil e n) ] in
@@ -87,7 +106,7 @@ module _ (b : Body) (bodies : List BodyPlace) (here : is_body b.place.at bodies 
           mention = m;
           local = l;
           is_found = is;
-          is_it = number (subst (λ y. BindsCancel y u) (sym same) binds);
+          is_it = number (subst (λ y. Binds y u) (sym same) binds);
           is_declared_here = same_body bodies l.body b.place.at q here;
           is_in_block = role;
         }
@@ -121,7 +140,7 @@ module _ (b : Body) (bodies : List BodyPlace) (here : is_body b.place.at bodies 
   by_found None q h = absurd (contains_nil e h)
   by_found (Some l) q h = by_role l q m.role h
 
-by_mark : (b : Body) (bodies : List BodyPlace) (mark : Mark) (e : Event) (u : VariableAt) → is_body b.place.at bodies ≡ true → Contains (mark_events b.file bodies mark) e → BindsCancel e u → IsBound b u
+by_mark : (b : Body) (bodies : List BodyPlace) (mark : Mark) (e : Event) (u : VariableAt) → is_body b.place.at bodies ≡ true → Contains (mark_events b.file bodies mark) e → Binds e u → IsBound b u
 by_mark b bodies (mentions m) e u here h binds =
     by_found b bodies here m e u binds (found b.file (variable_of b.file.known m)) refl h
 by_mark b bodies (defers_literal site at) e u here h binds = absurd (single (defer_literal at) refl e h u binds)
@@ -129,10 +148,16 @@ by_mark b bodies (returns at es) e u here h binds = absurd (single (return_event
 by_mark b bodies (opens x) e u here h binds = absurd (contains_nil e h)
 by_mark b bodies closes e u here h binds = absurd (contains_nil e h)
 
-by_source : (b : Body) (e : Event) (u : VariableAt) → HasSource b e → BindsCancel e u → IsBound b u
+by_source : (b : Body) (e : Event) (u : VariableAt) → HasSource b e → Binds e u → IsBound b u
 by_source b e u says_nothing binds = absurd (no_binding other u refl binds)
 by_source b e u falls_off binds = absurd (no_binding (return_event []) u refl binds)
 by_source b e u (of_mark mark among here h) binds = by_mark b mark.bodies mark.mark e u here h binds
 
+pub is_bound : (b : Body) (t : List (Occurrence Event)) (o : Occurrence Event) (u : VariableAt)
+    → Reaches (code_of b) t o
+    → Binds o.event u
+    → IsBound b u
+is_bound b t o u reached binds = by_source b o.event u (events_have_sources b t o reached) binds
+
 pub bindings_are_of_locals : BindingsAreOfLocals
-bindings_are_of_locals b t o u reached binds = by_source b o.event u (events_have_sources b t o reached) binds
+bindings_are_of_locals b t o u reached binds = is_bound b t o u reached (binds_so o.event u binds)

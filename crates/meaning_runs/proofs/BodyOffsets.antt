@@ -16,7 +16,6 @@ use Rattle.meaning_runs.proofs.BodyOffsetsWithin.{AllBefore, OpenOnce}
 use Rattle.meaning_runs.proofs.BodyOffsetsTokens.{tokens_ordered, tokens_under}
 use Rattle.meaning_runs.proofs.AskedSites.{CodeSite, unasked_at, asked_statements}
 use Rattle.meaning_runs.proofs.SitesWithin.{Sited, no_site, from_site}
-use Rattle.meaning_runs.proofs.SavedLiterals.{AreSaved}
 use Rattle.meaning_runs.proofs.BodyOffsetsRules.{Gives, both, behind, ending, given, spanned, loosely, gives_nothing, gives_never, gives_token, gives_chosen, gives_only_if, enclosed, gives_string, gives_semicolon, gives_identifier, gives_optional_identifier, gives_identifiers, moved, spanned_begun, unasked, foreign, past, simple, led, braced, bodied}
 use Rattle.meaning_runs.proofs.BodyOffsetsParts.{gives_perhaps, gives_expressions}
 use Rattle.meaning_runs.proofs.BodyOffsetsSpelled.{gives_keyword, no_expressions, last_gives, of_expression, of_each, of_optional, of_signature, of_items, of_statements}
@@ -166,12 +165,11 @@ bodies_begin_once text tree t =
     let g = whole_file text tree (first_place t.tokens) t.last 0 tt (tokens_ordered text t.tokens t.cut) t.spelled in
     begin_once [] (file_marks tree) g.within.once
 
--- the sites and the literals under `defer` of a file whose tree is the tree of a text
+-- the sites of a file whose tree is the tree of a text
 pub record AreSited (text : List ℕ) (tree : SourceFile) : Type 0 where
   pub end : ℕ
   pub in_text : end ≤ length text
   pub sited : Sited no_site 0 end [] (file_marks tree)
-  pub saved : AreSaved [] (file_marks tree)
   pub begun : (b : BodyPlace) → Contains (file_marks tree) (opens b) → b.at < end
 
 pub are_sited : (text : List ℕ) (tree : SourceFile) → IsTreeOf text tree → AreSited text tree
@@ -182,6 +180,5 @@ are_sited text tree t =
       end = g.hi;
       in_text = bounded.0;
       sited = g.sited;
-      saved = g.saved [];
       begun = λ b among. (g.within.inside b among).1;
     }

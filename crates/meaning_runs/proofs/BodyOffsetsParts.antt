@@ -15,7 +15,7 @@ use Rattle.meaning.specs.OperatorTokens.{assign_operator}
 use Rattle.meaning.specs.Grammar.{Position, as_type, as_expression, as_value, as_element, end_of_name, end_of_type, channel, arguments, perhaps, elements, third_bound, guard_name, initial, range_left, case_head, communication_head, optional_tag, before_item, after_items, qualifier, type_name, SpellsExpression, SpellsExpressions, SpellsMore}
 use Rattle.meaning_runs.proofs.AskedSites.{CodeSite, asked_at}
 use Rattle.meaning_runs.proofs.SitesWithin.{Around, no_site, from_site, behind_site}
-use Rattle.meaning_runs.proofs.SavedLiterals.{AreMentions}
+use Rattle.meaning_runs.proofs.SitesWithin.{AreMentions}
 use Rattle.meaning_runs.proofs.BodyOffsetsRules.{Gives, both, behind, ending, spanned, loosely, gives_nothing, gives_never, gives_not_before, gives_token, gives_optional, gives_only_if, gives_string, gives_semicolon, gives_identifier, moved, asked_so, replaced, beginning, unasked, foreign, past, led}
 
 pub named : (o : Option Named) (site : ℕ) (role : Role) {takes : Bool} {ms : List Mark} {rule : Rule}

@@ -15,7 +15,7 @@ use Rattle.meaning_runs.proofs.AskedSites.{CodeSite, asked_at, unasked_at, asked
 use Rattle.meaning_runs.proofs.BodyOffsetsWithin.{Within, IsPlain, no_marks, plain_and, wider, longer, both_within, turned_within, body_within}
 use Rattle.meaning_runs.proofs.BodyOffsetsTokens.{is_solid, Ordered, first_ordered, none_ordered, from_first, AreUnder}
 use Rattle.meaning_runs.proofs.SitesWithin.{Around, no_site, from_site, behind_site, Fits, still_fits, IsOwn, AreOwn, Sited, own_sited, wider_sited, longer_sited, both_sited, turned_sited, own_before, own_behind, foreign_sited, past_sited, unasked_sited, settled_sited, noted_sited, lone_sited, return_sited, body_sited}
-use Rattle.meaning_runs.proofs.SavedLiterals.{AreSaved, IsMention, AreMentions, mention_is_own, mentions_are_own, none_saved, both_saved, mentions_saved, return_saved, body_saved, literal_saved}
+use Rattle.meaning_runs.proofs.SitesWithin.{IsMention, AreMentions, mention_is_own, mentions_are_own}
 
 -- the next token stands where the tokens may begin that are left, or behind
 abbrev pub IsNextBehind : Cursor → Type 0
@@ -33,7 +33,6 @@ pub record Given (takes : Bool) (own : Around) (lo : ℕ) (from to : Cursor) (as
   pub left : Ordered hi to.left
   pub within : Within lo hi ms
   pub sited : Sited own lo hi asks ms
-  pub saved : (bodies : List BodyPlace) → AreSaved bodies ms
   pub has_bytes : takes ≡ true → IsNextBehind from × (start_at from < hi)
   pub bounded : IsBounded lo hi from to
 
@@ -58,7 +57,6 @@ module _ {takes more : Bool} {own : Around} where
         left = b.left;
         within = both_within a.within b.within;
         sited = both_sited a.within.goes_up b.within.goes_up a.sited b.sited;
-        saved = λ bodies. both_saved bodies ms ns (a.within.splits bodies) (a.saved bodies) (b.saved bodies);
         has_bytes = λ e. let x = a.has_bytes e in (x.0, omega (arith, x.1, b.within.goes_up));
         bounded = λ n l u. let x = a.bounded n l u in b.bounded n x.0 x.1;
       }
@@ -76,7 +74,6 @@ module _ {takes more : Bool} {own : Around} where
         left = b.left;
         within = turned_within a.within b.within;
         sited = turned_sited a.within.goes_up b.within.goes_up a.sited b.sited;
-        saved = λ bodies. both_saved bodies ns ms (b.within.splits bodies) (b.saved bodies) (a.saved bodies);
         has_bytes = λ e. let x = a.has_bytes e in (x.0, omega (arith, x.1, b.within.goes_up));
         bounded = λ n l u. let x = a.bounded n l u in b.bounded n x.0 x.1;
       }
@@ -94,7 +91,6 @@ module _ {takes more : Bool} {own : Around} where
         left = b.left;
         within = longer a.within.goes_up b.within;
         sited = longer_sited a.within.goes_up b.sited;
-        saved = b.saved;
         has_bytes = λ e. let x = a.has_bytes e in (x.0, omega (arith, x.1, b.within.goes_up));
         bounded = λ n l u. let x = a.bounded n l u in b.bounded n x.0 x.1;
       }
@@ -112,7 +108,6 @@ module _ {takes more : Bool} {own : Around} where
         left = b.left;
         within = wider b.within.goes_up a.within;
         sited = wider_sited b.within.goes_up a.sited;
-        saved = a.saved;
         has_bytes = λ e. let x = a.has_bytes e in (x.0, omega (arith, x.1, b.within.goes_up));
         bounded = λ n l u. let x = a.bounded n l u in b.bounded n x.0 x.1;
       }
@@ -138,7 +133,6 @@ loosely h from to lo f o s =
       left = a.left;
       within = a.within;
       sited = a.sited;
-      saved = a.saved;
       has_bytes = λ e. absurd (true≢false (sym e));
       bounded = a.bounded;
     }
@@ -166,7 +160,6 @@ gives_nothing {own} from to lo f o p =
       left = subst (λ (place : Cursor). Ordered lo place.left) p o;
       within = no_marks (omega arith);
       sited = own_sited own lo lo [] tt;
-      saved = none_saved;
       has_bytes = λ e. absurd (true≢false (sym e));
       bounded = λ n l u. (l, subst (λ (place : Cursor). AreUnder n place.left) p u);
     }
@@ -191,7 +184,6 @@ gives_token {own} kind from to lo f o t =
       left = h.1;
       within = no_marks (omega arith);
       sited = own_sited own lo to.end [] tt;
-      saved = none_saved;
       has_bytes = λ e. let c : t.start < to.end = h.0.takes e in
           (λ low k. omega (arith, here, (split low k).0.begins), omega (arith, here, c));
       bounded = λ n l u. first_under n first to.left (subst (AreUnder n) t.taken u);
@@ -243,7 +235,6 @@ gives_takes_semicolon {own = own} from to lo o t =
       left = h.1;
       within = no_marks (omega arith);
       sited = own_sited own lo t.stop [] tt;
-      saved = none_saved;
       has_bytes = λ e. absurd (true≢false (sym e));
       bounded = λ n l u. first_under n _ to.left (subst (AreUnder n) t.taken u);
     }
@@ -262,7 +253,6 @@ gives_semicolons {own} lo o no_semicolon =
       left = o;
       within = no_marks (omega arith);
       sited = own_sited own lo lo [] tt;
-      saved = none_saved;
       has_bytes = λ e. absurd (true≢false (sym e));
       bounded = λ n l u. (l, u);
     }
@@ -274,7 +264,6 @@ gives_semicolons {own} lo o (semicolon_and t more) =
       left = b.left;
       within = wider b.within.goes_up a.within;
       sited = own_sited own lo b.hi [] tt;
-      saved = none_saved;
       has_bytes = λ e. absurd (true≢false (sym e));
       bounded = λ n l u. let x = a.bounded n l u in b.bounded n x.0 x.1;
     }
@@ -347,7 +336,6 @@ replaced m {own = own} is h from to lo f o s =
       left = a.left;
       within = plain_and m (plain_own own m (mention_is_own own m is)) (no_marks a.within.goes_up);
       sited = own_sited own lo a.hi (m ∷ []) (mention_is_own own m is, tt);
-      saved = λ bodies. mentions_saved own bodies (m ∷ []) (is, tt);
       has_bytes = a.has_bytes;
       bounded = a.bounded;
     }
@@ -364,9 +352,6 @@ plain_before ns {own = own} {ms = ms} are h from to lo f o s =
       left = a.left;
       within = both_within (own_within own lo lo ns (mentions_are_own own ns are) (omega arith)) a.within;
       sited = own_before ns (mentions_are_own own ns are) a.within.goes_up a.sited;
-      saved = λ bodies. both_saved bodies ns ms
-          ((own_within own lo lo ns (mentions_are_own own ns are) (omega arith)).splits bodies)
-          (mentions_saved own bodies ns are) (a.saved bodies);
       has_bytes = a.has_bytes;
       bounded = a.bounded;
     }
@@ -382,8 +367,6 @@ plain_behind ns {own = own} {ms = ms} are h from to lo f o s =
       left = a.left;
       within = both_within a.within (own_within own a.hi a.hi ns (mentions_are_own own ns are) (omega arith));
       sited = own_behind ns (mentions_are_own own ns are) a.within.goes_up a.sited;
-      saved = λ bodies. both_saved bodies ms ns (a.within.splits bodies) (a.saved bodies)
-          (mentions_saved own bodies ns are);
       has_bytes = a.has_bytes;
       bounded = a.bounded;
     }
@@ -402,7 +385,6 @@ whole_literal b deferred_call site ms h = λ from to lo f o s.
       left = a.left;
       within = both_within a.within (plain_within last (tt, tt) (omega arith));
       sited = own_behind last (refl, tt) a.within.goes_up a.sited;
-      saved = λ bodies. literal_saved b bodies site ms (a.within.splits bodies) (a.saved bodies);
       has_bytes = a.has_bytes;
       bounded = a.bounded;
     }
@@ -439,7 +421,6 @@ module _ {takes : Bool} {own : Around} {asks : List CodeSite} {ms : List Mark} {
         left = a.left;
         within = a.within;
         sited = unasked_sited a.sited;
-        saved = a.saved;
         has_bytes = a.has_bytes;
         bounded = a.bounded;
       }
@@ -455,7 +436,6 @@ foreign h from to lo f o s =
       left = a.left;
       within = a.within;
       sited = foreign_sited f a.sited;
-      saved = a.saved;
       has_bytes = a.has_bytes;
       bounded = a.bounded;
     }
@@ -471,7 +451,6 @@ past h from to lo f o s =
       left = a.left;
       within = a.within;
       sited = past_sited a.sited;
-      saved = a.saved;
       has_bytes = a.has_bytes;
       bounded = a.bounded;
     }
@@ -492,7 +471,6 @@ simple {at} h from to lo f o s =
       within = longer b a.within;
       sited = settled_sited (λ y e. e) refl (omega (arith, here, b)) (omega (arith, here, x.1)) b
           (λ t none e. absurd (contains_nil t none)) a.sited;
-      saved = a.saved;
       has_bytes = λ e. x;
       bounded = λ n l u. a.bounded n (next_under from n lo o x.0 u) u;
     }
@@ -515,7 +493,6 @@ led {at} kind solid h from to lo f o s =
       sited = settled_sited (λ y e. e) refl (omega (arith, here, x.0 lo o))
           (omega (arith, here, x.1, up)) a.within.goes_up
           (λ t k e. let y = b.sited.stands t k in omega (arith, here, x.1, y.0, e)) b.sited;
-      saved = b.saved;
       has_bytes = λ e. (x.0, omega (arith, x.1, up));
       bounded = λ n l u. let x = a.bounded n l u in b.bounded n x.0 x.1;
     }
@@ -536,7 +513,6 @@ noted {at} kind {own = own} solid h from to lo f o s =
       left = b.left;
       within = longer a.within.goes_up b.within;
       sited = noted_sited (omega (arith, here, x.0 lo o)) (omega (arith, here, x.1)) (omega (arith, here, x.1, up)) b.sited;
-      saved = b.saved;
       has_bytes = λ e. (x.0, omega (arith, x.1, up));
       bounded = λ n l u. let x = a.bounded n l u in b.bounded n x.0 x.1;
     }
@@ -559,7 +535,6 @@ closed {last} kind solid from to lo f o s =
       left = h.1;
       within = no_marks (omega arith);
       sited = lone_sited (omega arith) (omega arith);
-      saved = none_saved;
       has_bytes = λ e. absurd (true≢false (sym e));
       bounded = λ n l u. first_under n first to.left (subst (AreUnder n) s.0.taken u);
     }
@@ -588,8 +563,6 @@ returned {at} es {ms = ms} h from to lo f o s =
       within = longer a.within.goes_up (both_within b.within
           (plain_within (returns at es ∷ []) (tt, tt) (omega arith)));
       sited = longer_sited (omega (arith, here, x.0 lo o)) (return_sited es (omega (arith, here, x.1)) up b.sited);
-      saved = λ bodies. both_saved bodies ms (returns at es ∷ []) (b.within.splits bodies) (b.saved bodies)
-          (return_saved bodies at es);
       has_bytes = λ e. (x.0, omega (arith, x.1, up));
       bounded = λ n l u. let x = a.bounded n l u in b.bounded n x.0 x.1;
     }
@@ -612,7 +585,6 @@ bodied b {span} {own = own} {ms = ms} same h from to lo f o s =
       left = a.left;
       within = longer least (body_within b (longer (omega (arith, before)) a.within));
       sited = body_sited b f least before up a.sited;
-      saved = λ bodies. body_saved b bodies ms (a.within.splits (b ∷ bodies)) (a.saved (b ∷ bodies));
       has_bytes = λ e. (x.0, omega (arith, x.1, up));
       bounded = λ n l u. let y = t.bounded n l u in a.bounded n y.0 y.1;
     }

@@ -122,7 +122,7 @@ longer {low} {lo} {hi} up w = record {
   once = w.once;
 }
 
-split_both : (bodies : List BodyPlace) (ms ns : List Mark) → Splits bodies ms → Splits bodies ns → Splits bodies (ms ++ ns)
+pub split_both : (bodies : List BodyPlace) (ms ns : List Mark) → Splits bodies ms → Splits bodies ns → Splits bodies (ms ++ ns)
 split_both bodies ms ns h k others =
     ap (placed bodies) (append_assoc ms ns others)
     ∙ (h (ns ++ others)
@@ -207,7 +207,7 @@ body_placed b bodies ms s =
     opened_placed b bodies (ms ++ closes ∷ [])
     ∙ ap (λ (l : List Placed). record { mark = opens b; bodies = b ∷ bodies } ∷ l) (alone_placed b bodies ms s)
 
-split_body : (b : BodyPlace) (bodies : List BodyPlace) (ms : List Mark) → Splits (b ∷ bodies) ms → Splits bodies (in_body b ms)
+pub split_body : (b : BodyPlace) (bodies : List BodyPlace) (ms : List Mark) → Splits (b ∷ bodies) ms → Splits bodies (in_body b ms)
 split_body b bodies ms s ns =
     opened_placed b bodies ((ms ++ closes ∷ []) ++ ns)
     ∙ (ap (λ (l : List Placed). record { mark = opens b; bodies = b ∷ bodies } ∷ l) (inner_placed b bodies ms ns s)

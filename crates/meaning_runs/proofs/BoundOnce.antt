@@ -4,6 +4,7 @@ use Rattle.std.proofs.Common.{◌≡◌, ℕ, zero, suc, Bool, true, false, inl,
 use Rattle.std.specs.Prelude.{◌&&◌, if◌then◌else◌, not, is_some, slice_get}
 use Rattle.std.proofs.lemmas.Bool.{and_parts, eq-eqb}
 use Rattle.std.proofs.lemmas.List.Elements.{Contains-append_left, Contains-append_right}
+use Rattle.std.proofs.lemmas.Option.{same_Some}
 use Rattle.tree.specs.Syntax.{Identifier, Expressions, no_expression, expression_and}
 use Rattle.meaning.specs.Code.{Occurrence}
 use Rattle.meaning.specs.Lists.{Reaches}
@@ -15,26 +16,20 @@ use Rattle.meaning.specs.Tracked.{Known, Giving, local_meant_or, variable_of, de
 use Rattle.meaning.specs.Uses.{Seen, found, kind_of, tracked_kind, VariableAt, Event, other, defer_literal, return_event, Binding, obtained, cleared, made, is_cancel, kind_at, row_binds, row_clears, made_binding, binding_at, binding_event, is_in_literal, fault_at, bound_again, UseFault, first_faults, type_faults, again_faults, binding_outcome, row_outcome, role_outcome, local_outcome, variable_outcome, is_own, is_body, body_gives}
 use Rattle.meaning.specs.BodyEvents.{handed_on, mark_events, mark_faults, faults_of, variables_of, too_many_faults, body_faults}
 use Rattle.meaning.proofs.Membership.{contains_here, contains_cases, contains_nil}
-use Rattle.meaning_packages.specs.PathFaults.{BindsCancel, obtains, clears}
-use Rattle.meaning.specs.BodyEvents.{bodies_of}
-use Rattle.meaning_reports.specs.Loaded.{known_in, trees_of}
-use Rattle.meaning_reports.specs.PackageReports.{of_use}
-use Rattle.meaning_runs.specs.Bodies.{Program, Body, IsOf, code_of}
+use Rattle.meaning_runs.specs.Bodies.{Body, code_of}
 use Rattle.meaning_runs.specs.World.{is_declaration}
 use Rattle.meaning_runs.specs.EventSources.{HasSource, says_nothing, falls_off, of_mark}
-use Rattle.meaning_runs.specs.Promise.{HasNoFinding}
 use Rattle.meaning_runs.proofs.EventSources.{events_have_sources}
-use Rattle.meaning_runs.proofs.Bindings.{no_binding, single, mention_harmless}
-use Rattle.meaning_runs.proofs.OwnVariables.{some-inj, find_is, found_is}
-use Rattle.meaning_runs.proofs.TrackedBindings.{each_of, of_tree}
-use Rattle.meaning_runs.proofs.LeftSides.{Fits, Stands, left_sides_fit}
-use Rattle.meaning_runs.proofs.Findings.{file_of}
+use Rattle.meaning_runs.proofs.Bindings.{Binds, obtains, clears, makes, no_binding, single, mention_harmless}
+use Rattle.meaning_runs.proofs.OwnVariables.{find_is, found_is}
+use Rattle.meaning_runs.proofs.TrackedBindings.{each_of}
+use Rattle.meaning_runs.proofs.LeftSides.{Fits, Stands}
 
 -- A left side that declares a local declares the one of its own offset
 
 at_names : (ns : List Identifier) (k : ℕ) (n : Named) (d : ℕ) → slice_get (map left_of_name ns) k ≡ Some (name_left n (Some d)) → n.at ≡ d
 at_names [] k n d e = let bad : None ≡ Some (name_left n (Some d)) = e in cc
-at_names (i ∷ is) zero n d e = by (is_blank i.text) (some-inj (left_of_name i) (name_left n (Some d)) e)
+at_names (i ∷ is) zero n d e = by (is_blank i.text) (same_Some (left_of_name i) (name_left n (Some d)) e)
   where
     by : (b : Bool) → (if b then blank_left else name_left (bare i.text i.span.start) (if b then None else Some i.span.start)) ≡ name_left n (Some d) → n.at ≡ d
     by true q = let bad : blank_left ≡ name_left n (Some d) = q in cc
@@ -56,7 +51,7 @@ named_declares_none (Some m) n d e = by (is_blank m.name) e
 expressions_declare_none : (ls : Expressions) (k : ℕ) (n : Named) (d : ℕ) → slice_get (lefts_of_expressions ls) k ≡ Some (name_left n (Some d)) → ⊥
 expressions_declare_none no_expression k n d e = let bad : None ≡ Some (name_left n (Some d)) = e in cc
 expressions_declare_none (expression_and x xs) zero n d e =
-    named_declares_none (as_bare x) n d (some-inj (left_of_named (as_bare x)) (name_left n (Some d)) e)
+    named_declares_none (as_bare x) n d (same_Some (left_of_named (as_bare x)) (name_left n (Some d)) e)
 expressions_declare_none (expression_and x xs) (suc k) n d e = expressions_declare_none xs k n d e
 
 at_left : (form : RowForm) (k : ℕ) (n : Named) (d : ℕ) → slice_get (lefts_of form) k ≡ Some (name_left n (Some d)) → n.at ≡ d
@@ -117,7 +112,7 @@ declares_its_offset seen m row k l fits is local declared_here =
 
 -- Without faults
 
-abbrev IsWithout : List UseFault → Type 0
+abbrev pub IsWithout : List UseFault → Type 0
 IsWithout xs = (x : UseFault) → Contains xs x → ⊥
 
 is_declared_again : (seen : Seen) (l : Local) (m : Mention) → IsWithout (again_faults seen l m) → is_in_literal seen l ≡ true → is_some (declared_by seen.known m) ≡ true
@@ -128,10 +123,10 @@ is_declared_again seen l m none e = by (is_in_literal seen l) (is_some (declared
     by true false q h = absurd (h _ (contains_here _ []))
     by false c q h = let bad : false ≡ true = q in cc
 
-bound_there : (known : Known) (l : Local) (m : Mention) (row : Row) (binding : Binding) (u : VariableAt) → BindsCancel (binding_event known l m row binding) u → (l.number ≡ u.number) × (m.named.at ≡ u.at)
+bound_there : (known : Known) (l : Local) (m : Mention) (row : Row) (binding : Binding) (u : VariableAt) → Binds (binding_event known l m row binding) u → (l.number ≡ u.number) × (m.named.at ≡ u.at)
 bound_there known l m row (obtained k) u obtains = (refl, refl)
 bound_there known l m row cleared u clears = (refl, refl)
-bound_there known l m row (made state) u b = absurd (no_binding _ u refl b)
+bound_there known l m row (made state) u makes = (refl, refl)
 
 -- the variable's local, and where it is bound if a literal mentions it
 abbrev IsOnce : Seen → VariableAt → Local → Type 0
@@ -140,13 +135,13 @@ IsOnce seen u l = (l.number ≡ u.number) × (is_in_literal seen l ≡ true → 
 abbrev HasLocal : Seen → VariableAt → Type 0
 HasLocal seen u = (l : Local) × (found seen (Some l.number) ≡ Some l) × IsOnce seen u l
 
-module _ (seen : Seen) (bodies : List BodyPlace) (m : Mention) (e : Event) (u : VariableAt) (binds : BindsCancel e u) where
+module _ (seen : Seen) (bodies : List BodyPlace) (m : Mention) (e : Event) (u : VariableAt) (binds : Binds e u) where
   module _ (l : Local) (is : found seen (variable_of seen.known m) ≡ Some l) where
-    by_place : (own : Bool) (x : Event) → (BindsCancel x u → IsOnce seen u l) → Contains (if own then x ∷ [] else []) e → IsOnce seen u l
+    by_place : (own : Bool) (x : Event) → (Binds x u → IsOnce seen u l) → Contains (if own then x ∷ [] else []) e → IsOnce seen u l
     by_place false x f h = absurd (contains_nil e h)
     by_place true x f h =
         let same : x ≡ e = elim (contains_cases x e [] h) [ inl k ↦ k | inr n ↦ absurd (contains_nil e n) ] in
-        f (subst (λ y. BindsCancel y u) (sym same) binds)
+        f (subst (λ y. Binds y u) (sym same) binds)
 
     -- the last of the faults of a binding
     none_again : (kind : VariableKind) (row : Row) (b : Binding) → IsWithout (first_faults row.standing kind l m ++ (type_faults seen l m row b ++ again_faults seen l m)) → IsWithout (again_faults seen l m)
@@ -154,7 +149,7 @@ module _ (seen : Seen) (bodies : List BodyPlace) (m : Mention) (e : Event) (u : 
         none y (Contains-append_right (first_faults row.standing kind l m) (type_faults seen l m row b ++ again_faults seen l m) y
         (Contains-append_right (type_faults seen l m row b) (again_faults seen l m) y k))
 
-    by_local_role : (kind : VariableKind) (row : Row) (b : Binding) (r : LocalRole) → (IsWithout (again_faults seen l m) → BindsCancel (binding_event seen.known l m row b) u → IsOnce seen u l) → IsWithout (binding_outcome seen l kind bodies m row b r).faults → Contains (binding_outcome seen l kind bodies m row b r).events e → IsOnce seen u l
+    by_local_role : (kind : VariableKind) (row : Row) (b : Binding) (r : LocalRole) → (IsWithout (again_faults seen l m) → Binds (binding_event seen.known l m row b) u → IsOnce seen u l) → IsWithout (binding_outcome seen l kind bodies m row b r).faults → Contains (binding_outcome seen l kind bodies m row b r).events e → IsOnce seen u l
     by_local_role kind row b (parameter k) f none h = absurd (contains_nil e h)
     by_local_role kind row b receiver f none h = absurd (contains_nil e h)
     by_local_role kind row b variadic f none h = absurd (contains_nil e h)
@@ -162,7 +157,7 @@ module _ (seen : Seen) (bodies : List BodyPlace) (m : Mention) (e : Event) (u : 
     by_local_role kind row b in_block f none h =
         by_place (is_own l bodies) (binding_event seen.known l m row b) (f (none_again kind row b none)) h
 
-    once : (row : Row) (k : ℕ) (binding : Binding) → Fits m.named m.declares (left k row) → binding_at seen row k ≡ Some binding → IsWithout (again_faults seen l m) → BindsCancel (binding_event seen.known l m row binding) u → IsOnce seen u l
+    once : (row : Row) (k : ℕ) (binding : Binding) → Fits m.named m.declares (left k row) → binding_at seen row k ≡ Some binding → IsWithout (again_faults seen l m) → Binds (binding_event seen.known l m row binding) u → IsOnce seen u l
     once row k binding fits q none b =
         let r = bound_there seen.known l m row binding u b in
         (r.0, λ inside. sym r.1 ∙ declares_its_offset seen m row k l fits is (bound_is_local seen row k binding q) (is_declared_again seen l m none inside) ∙ r.0)
@@ -190,7 +185,7 @@ module _ (seen : Seen) (bodies : List BodyPlace) (m : Mention) (e : Event) (u : 
   by_found (Some l) q fits none h =
       (l, (found_is seen (variable_of seen.known m) l q).0, by_role l q m.role fits none h)
 
-by_mark : (seen : Seen) (bodies : List BodyPlace) (mark : Mark) (e : Event) (u : VariableAt) → Stands mark → IsWithout (mark_faults seen bodies mark) → Contains (mark_events seen bodies mark) e → BindsCancel e u → HasLocal seen u
+by_mark : (seen : Seen) (bodies : List BodyPlace) (mark : Mark) (e : Event) (u : VariableAt) → Stands mark → IsWithout (mark_faults seen bodies mark) → Contains (mark_events seen bodies mark) e → Binds e u → HasLocal seen u
 by_mark seen bodies (mentions m) e u fits none h binds =
     by_found seen bodies m e u binds (found seen (variable_of seen.known m)) refl fits (λ x k. none x (Contains-append_left (variable_outcome seen bodies m).faults _ x k)) h
 by_mark seen bodies (defers_literal site at) e u fits none h binds = absurd (single (defer_literal at) refl e h u binds)
@@ -199,7 +194,7 @@ by_mark seen bodies (opens x) e u fits none h binds = absurd (contains_nil e h)
 by_mark seen bodies closes e u fits none h binds = absurd (contains_nil e h)
 
 -- the faults of a mark in a body are the body's
-of_its_mark : (seen : Seen) (body : ℕ) (marks : List Placed) (p : Placed) (x : UseFault) → Contains marks p → is_body body p.bodies ≡ true → Contains (mark_faults seen p.bodies p.mark) x → Contains (faults_of seen body marks) x
+pub of_its_mark : (seen : Seen) (body : ℕ) (marks : List Placed) (p : Placed) (x : UseFault) → Contains marks p → is_body body p.bodies ≡ true → Contains (mark_faults seen p.bodies p.mark) x → Contains (faults_of seen body marks) x
 of_its_mark seen body [] p x among here h = absurd (contains_nil p among)
 of_its_mark seen body (q ∷ qs) p x among here h =
     elim (contains_cases q p qs among) [
@@ -215,27 +210,26 @@ of_its_mark seen body (q ∷ qs) p x among here h =
     next true k = Contains-append_right (mark_faults seen q.bodies q.mark) (faults_of seen body qs) x k
     next false k = k
 
-by_source : (b : Body) (e : Event) (u : VariableAt) → ((mark : Placed) → Contains b.file.marks mark → Stands mark.mark) → IsWithout (faults_of b.file b.place.at b.file.marks) → HasSource b e → BindsCancel e u → HasLocal b.file u
+by_source : (b : Body) (e : Event) (u : VariableAt) → ((mark : Placed) → Contains b.file.marks mark → Stands mark.mark) → IsWithout (faults_of b.file b.place.at b.file.marks) → HasSource b e → Binds e u → HasLocal b.file u
 by_source b e u stand none says_nothing binds = absurd (no_binding other u refl binds)
 by_source b e u stand none falls_off binds = absurd (no_binding (return_event []) u refl binds)
 by_source b e u stand none (of_mark mark among here h) binds =
     by_mark b.file mark.bodies mark.mark e u (stand mark among) (λ x k. none x (of_its_mark b.file b.place.at b.file.marks mark x among here k)) h binds
 
--- nothing is found in a body of the package
-no_use_fault : (p : Program) → HasNoFinding p → (b : Body) → IsOf p b → b.home ≡ p.looked_at → IsWithout (body_faults b.file b.place.at)
-no_use_fault p said b of home =
-    let c = file_of p said b of home in
-    subst (λ s. Contains (bodies_of s) b.place → IsWithout (body_faults s b.place.at)) c.is_it (λ among x h. said.none c.number c.file _ c.is_there (of_use b.place x among h)) of.is_body
-
-pub is_bound_once : (p : Program) (said : HasNoFinding p) (b : Body) → IsOf p b → b.home ≡ p.looked_at
+-- a local that a literal mentions is bound in its declaration alone, where no use in the body is a fault
+pub is_declared_there : (b : Body)
+    → ((mark : Placed) → Contains b.file.marks mark → Stands mark.mark)
+    → IsWithout (body_faults b.file b.place.at)
     → (t : List (Occurrence Event)) (o : Occurrence Event) (u : VariableAt) (l : Local)
-    → Reaches (code_of b) t o → BindsCancel o.event u
-    → found b.file (Some u.number) ≡ Some l → is_in_literal b.file l ≡ true
+    → Reaches (code_of b) t o
+    → Binds o.event u
+    → found b.file (Some u.number) ≡ Some l
+    → is_in_literal b.file l ≡ true
     → is_declaration u ≡ true
-is_bound_once p said b of home t o u l reached binds is inside =
-    let r = of_tree (known_in p.packages p.tables of.loaded) 0 (trees_of of.loaded) b.file of.is_file in
-    let none : IsWithout (faults_of b.file b.place.at b.file.marks) = λ x h. no_use_fault p said b of home x (Contains-append_left (faults_of b.file b.place.at b.file.marks) (too_many_faults (variables_of b.file b.place.at)) x h) in
-    let w = by_source b o.event u (λ mark h. left_sides_fit r.1 mark (subst (λ (s : Seen). Contains s.marks mark) (sym r.2) h)) none (events_have_sources b t o reached) binds in
+is_declared_there b stand none t o u l reached binds is inside =
+    let faults = faults_of b.file b.place.at b.file.marks in
+    let of_uses : IsWithout faults = λ x h. none x (Contains-append_left faults (too_many_faults (variables_of b.file b.place.at)) x h) in
+    let w = by_source b o.event u stand of_uses (events_have_sources b t o reached) binds in
     let once = w.2 in
-    let same : l ≡ w.0 = some-inj l w.0 (sym is ∙ ap (λ n. found b.file (Some n)) (sym once.0) ∙ w.1) in
+    let same : l ≡ w.0 = same_Some l w.0 (sym is ∙ ap (λ n. found b.file (Some n)) (sym once.0) ∙ w.1) in
     eq-eqb u.at u.number (once.1 (ap (is_in_literal b.file) (sym same) ∙ inside))

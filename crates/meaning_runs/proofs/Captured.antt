@@ -4,6 +4,7 @@ use Rattle.std.proofs.Common.{◌≡◌, ℕ, ◌<◌, Bool, true, false, inl, i
 use Rattle.std.specs.Prelude.{◌==◌, ◌||◌, if◌then◌else◌, not, is_some}
 use Rattle.std.specs.List.{list_any}
 use Rattle.std.proofs.lemmas.Bool.{and_parts, and_from, or_left, or_right, not_from_false, ne_eqb}
+use Rattle.std.proofs.lemmas.Option.{same_Some}
 use Rattle.meaning.specs.FunctionFacts.{VariableKind}
 use Rattle.meaning.specs.Mentions.{BodyPlace, Mark, mentions, defers_literal, returns, opens, closes}
 use Rattle.meaning.specs.Tracked.{Known, variable_of, Placed, LocalRole, parameter, receiver, variadic, result, in_block, Local}
@@ -13,7 +14,7 @@ use Rattle.meaning.proofs.Membership.{contains_here, contains_there, contains_ca
 use Rattle.meaning_packages.specs.PathFaults.{is_declared}
 use Rattle.meaning_runs.specs.Bodies.{is_captured}
 use Rattle.meaning_runs.specs.BodyOffsets.{AreFalling}
-use Rattle.meaning_runs.proofs.OwnVariables.{some-inj, among_from, order_from, find_is}
+use Rattle.meaning_runs.proofs.OwnVariables.{among_from, order_from, find_is}
 use Rattle.meaning_runs.proofs.Places.{eqb_is}
 
 -- what is found of a local
@@ -48,12 +49,12 @@ of_variable seen body w h =
 same_local : (seen : Seen) (body : ℕ) (w : Variable) (l : Local) → Contains (variables_of seen body) w → found seen (Some w.number) ≡ Some l → (w.role ≡ role_in body l) × (is_variable_of seen body l ≡ true)
 same_local seen body w l h is =
     let v = of_variable seen body w h in
-    let same : v.0 ≡ l = some-inj v.0 l (sym v.1 ∙ is) in
+    let same : v.0 ≡ l = same_Some v.0 l (sym v.1 ∙ is) in
     (v.3 ∙ ap (role_in body) same, ap (is_variable_of seen body) (sym same) ∙ v.5)
 
 -- Roles
 
-own_role : (r : LocalRole) → is_captured (role_in_own r) ≡ false
+pub own_role : (r : LocalRole) → is_captured (role_in_own r) ≡ false
 own_role (parameter k) = refl
 own_role receiver = refl
 own_role variadic = refl
@@ -76,9 +77,6 @@ pub own_is_not_captured : (seen : Seen) (body : ℕ) (w : Variable) (l : Local) 
 own_is_not_captured seen body w l h role is =
     stands_there body l w.role (same_local seen body w l h is).0 ∙ ap not role
 
-pub parameter_is_not_captured : (r : VariableRole) (k : ℕ) → r ≡ own_parameter k → is_captured r ≡ false
-parameter_is_not_captured r k e = ap is_captured e
-
 pub declared_is_not_captured : (r : VariableRole) → is_declared r ≡ true → is_captured r ≡ false
 declared_is_not_captured (own_parameter k) e = refl
 declared_is_not_captured own_receiver e = refl
@@ -87,7 +85,7 @@ declared_is_not_captured captured e = let bad : false ≡ true = e in cc
 
 -- Literals
 
-any_there : {A : Type 0} (test : A → Bool) (xs : List A) → list_any test xs ≡ true → (x : A) × Contains xs x × (test x ≡ true)
+pub any_there : {A : Type 0} (test : A → Bool) (xs : List A) → list_any test xs ≡ true → (x : A) × Contains xs x × (test x ≡ true)
 any_there test [] e = let bad : false ≡ true = e in cc
 any_there test (x ∷ xs) e = by (test x) refl e (any_there test xs)
   where
@@ -95,7 +93,7 @@ any_there test (x ∷ xs) e = by (test x) refl e (any_there test xs)
     by true q r f = (x, contains_here x xs, q)
     by false q r f = let w = f r in (w.0, contains_there x w.0 xs w.1, w.2)
 
-any_true : {A : Type 0} (test : A → Bool) (xs : List A) (x : A) → Contains xs x → test x ≡ true → list_any test xs ≡ true
+pub any_true : {A : Type 0} (test : A → Bool) (xs : List A) (x : A) → Contains xs x → test x ≡ true → list_any test xs ≡ true
 any_true test [] x h e = absurd (contains_nil x h)
 any_true test (y ∷ ys) x h e =
     elim (contains_cases y x ys h) [
@@ -134,7 +132,7 @@ inside known literal l bodies (returns at es) falling e = e
 inside known literal l bodies (opens b) falling e = e
 inside known literal l bodies closes falling e = e
 
-or_second : (b c : Bool) → b ≡ false → (b || c) ≡ true → c ≡ true
+pub or_second : (b c : Bool) → b ≡ false → (b || c) ≡ true → c ≡ true
 or_second true c q e = let bad : true ≡ false = q in cc
 or_second false c q e = e
 

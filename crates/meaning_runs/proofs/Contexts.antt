@@ -1,11 +1,12 @@
 -- What holds of the contexts of every world of a run.
-use Rattle.std.proofs.Common.{◌≡◌, ℕ, ◌+◌, ◌<◌, ◌⊎◌, inl, inr, cond, List, ◌∷◌, Option, Some, None, Contains, refl, sym, ap, ◌∙◌, subst, arith}
+use Rattle.std.proofs.Common.{◌≡◌, ℕ, ◌+◌, ◌<◌, ◌⊎◌, inl, inr, cond, List, ◌∷◌, length, Option, Some, None, Contains, refl, sym, ap, ◌∙◌, subst, arith}
 use Rattle.std.proofs.lemmas.Bool.{eq-eqb, ne_eqb, cases_eq}
 use Rattle.meaning.proofs.Membership.{contains_here, contains_there, contains_cases, contains_nil}
+use Rattle.meaning.specs.Tracked.{GroupState}
 use Rattle.meaning.specs.Uses.{Callee}
 use Rattle.meaning_runs.specs.Bodies.{Program}
-use Rattle.meaning_runs.specs.World.{Value, nothing, cancel_function, Store, put_at, ComesFrom, itself, made_from, IsDone, with_new, calling, Frame, World, Passing}
-use Rattle.meaning_runs.specs.Steps.{Obtains, new_one, earlier_one, none_at_all, Begins, of_function, of_none, Acts, moves_on, does_other, obtains_one, clears_one, calls_one, saves_call, evaluates, evaluates_deferred, makes_call, saves_pass, saves_literal, comes_to_return, runs_call, runs_pass, runs_literal, returns_now, Surrounds, starts, evaluates_literal, starts_literal, makes_one, ends_one, calls_any, Step, of_goroutine, of_environment}
+use Rattle.meaning_runs.specs.World.{Value, nothing, cancel_function, Place, Store, put_at, ComesFrom, itself, made_from, IsDone, with_new, calling, ending, waiting_for, Frame, World, Passing}
+use Rattle.meaning_runs.specs.Steps.{Obtains, new_one, earlier_one, none_at_all, Makes, zero_group, with_context, Begins, of_function, of_none, Acts, moves_on, does_other, obtains_one, clears_one, calls_one, saves_call, makes_group, tries_nothing, ends_wait, saves_wait, evaluates, evaluates_deferred, lends, makes_call, calls_outside, saves_pass, saves_literal, comes_to_return, runs_call, runs_pass, runs_literal, runs_wait, returns_now, ChangesMembers, starts_member, starts_stranger, starts_outside, leaves_group, Surrounds, starts, evaluates_literal, starts_literal, makes_one, ends_one, calls_any, makes_outside, joins_outside, Step, of_goroutine, of_members, of_environment}
 use Rattle.meaning_runs.specs.Runs.{Run, no_step, step_more}
 use Rattle.meaning_runs.specs.Laws.{ContextsAreSound}
 
@@ -55,6 +56,19 @@ after_calling s (cancel_function x) h = record {
     by_name a (inl e) = subst (λ n. Contains (x ∷ s.ended) n) e (contains_here x s.ended)
     by_name a (inr c) = contains_there x a s.ended (h.called_is_ended a c)
 
+after_ending : (s : Store) (context : Option ℕ) → IsSound s → Follows s (ending s context)
+after_ending s None h = same_contexts s s h refl refl refl refl
+after_ending s (Some x) h = record {
+  same_parent = λ b parent e. e;
+  ended = λ a c. contains_there x a s.ended c;
+  called = λ a c. c;
+  is_sound = record { called_is_ended = λ a c. contains_there x a s.ended (h.called_is_ended a c); made_in = h.made_in };
+}
+
+after_waiting : (s : Store) (group : Option ℕ) → IsSound s → Follows s (waiting_for s group)
+after_waiting s None h = same_contexts s s h refl refl refl refl
+after_waiting s (Some a) h = after_ending s (s.group_context a) h
+
 after_new : (s : Store) (parent : Option ℕ) → IsSound s → Follows s (with_new s parent)
 after_new s parent h = record {
   same_parent = λ b q e. let older = h.made_in b q e in put_at-other s.parent s.context_count parent b (λ n. omega (arith, older, n)) ∙ e;
@@ -75,9 +89,13 @@ obtaining_follows s after c value (new_one parent earlier) h = after_new s paren
 obtaining_follows s after c value (earlier_one a m l) h = same_contexts s s h refl refl refl refl
 obtaining_follows s after c value (none_at_all m) h = same_contexts s s h refl refl refl refl
 
+making_follows : (s after : Store) (state : GroupState) (context : Option ℕ) → Makes s state context after → IsSound s → Follows s after
+making_follows s after state context zero_group h = same_contexts s s h refl refl refl refl
+making_follows s after state context (with_context parent earlier) h = after_new s parent h
+
 beginning_follows : (p : Program) (s after : Store) (f : Frame) (call : Passing) (new : List Frame) → Begins p s f call after new → IsSound s → Follows s after
-beginning_follows p s after f call new (of_function b values i fits) h = same_contexts s _ h refl refl refl refl
-beginning_follows p s after f call new (of_none n) h = same_contexts s s h refl refl refl refl
+beginning_follows p s after f call new (of_function b values groups i fits) h = same_contexts s _ h refl refl refl refl
+beginning_follows p s after f call new (of_none n holds) h = same_contexts s s h refl refl refl refl
 
 -- only the cells differ
 other_cells : (s t after : Store) → Follows s t → after.parent ≡ t.parent → after.context_count ≡ t.context_count → after.ended ≡ t.ended → after.called ≡ t.called → Follows s after
@@ -90,40 +108,52 @@ other_cells s t after k parents count ended called =
       is_sound = l.is_sound;
     }
 
-acting_follows : (p : Program) (s : Store) (f : Frame) (after : Store) (frames : List Frame) → Acts p s f after frames → IsSound s → Follows s after
-acting_follows p s f after frames (moves_on d) h = same_contexts s s h refl refl refl refl
-acting_follows p s f after frames (does_other d) h = same_contexts s s h refl refl refl refl
-acting_follows p s f after frames (obtains_one {c = c} {value = value} {made = made} d o) h =
+acting_follows : (p : Program) (s : Store) (place : Place) (f : Frame) (after : Store) (frames : List Frame) → Acts p s place f after frames → IsSound s → Follows s after
+acting_follows p s place f after frames (moves_on d) h = same_contexts s s h refl refl refl refl
+acting_follows p s place f after frames (does_other d) h = same_contexts s s h refl refl refl refl
+acting_follows p s place f after frames (obtains_one {c = c} {value = value} {made = made} d o) h =
     other_cells s made _ (obtaining_follows s made c value o h) refl refl refl refl
-acting_follows p s f after frames (clears_one d) h = same_contexts s _ h refl refl refl refl
-acting_follows p s f after frames (calls_one d) h = after_calling s _ h
-acting_follows p s f after frames (saves_call d) h = same_contexts s s h refl refl refl refl
-acting_follows p s f after frames (evaluates d m) h = same_contexts s s h refl refl refl refl
-acting_follows p s f after frames (evaluates_deferred d m) h = same_contexts s s h refl refl refl refl
-acting_follows p s f after frames (makes_call {passing = call} {new = new} u d b) h = beginning_follows p s after f call new b h
-acting_follows p s f after frames (saves_pass u d) h = same_contexts s s h refl refl refl refl
-acting_follows p s f after frames (saves_literal b d i e) h = same_contexts s s h refl refl refl refl
-acting_follows p s f after frames (comes_to_return d) h = same_contexts s s h refl refl refl refl
-acting_follows p s f after frames (runs_call r) h = after_calling s _ h
-acting_follows p s f after frames (runs_pass {passing = call} {new = new} r b) h = beginning_follows p s after f call new b h
-acting_follows p s f after frames (runs_literal values r any) h = same_contexts s _ h refl refl refl refl
-acting_follows p s f after frames (returns_now e) h = same_contexts s s h refl refl refl refl
+acting_follows p s place f after frames (clears_one d) h = same_contexts s _ h refl refl refl refl
+acting_follows p s place f after frames (calls_one d) h = after_calling s _ h
+acting_follows p s place f after frames (saves_call d) h = same_contexts s s h refl refl refl refl
+acting_follows p s place f after frames (makes_group {state = state} {context = context} {made = made} d m) h =
+    other_cells s made _ (making_follows s made state context m h) refl refl refl refl
+acting_follows p s place f after frames (tries_nothing d) h = same_contexts s s h refl refl refl refl
+acting_follows p s place f after frames (ends_wait d e) h = after_waiting s _ h
+acting_follows p s place f after frames (saves_wait d) h = same_contexts s s h refl refl refl refl
+acting_follows p s place f after frames (lends d m) h = same_contexts s s h refl refl refl refl
+acting_follows p s place f after frames (calls_outside c i) h = after_calling s _ h
+acting_follows p s place f after frames (evaluates d m) h = same_contexts s s h refl refl refl refl
+acting_follows p s place f after frames (evaluates_deferred d m) h = same_contexts s s h refl refl refl refl
+acting_follows p s place f after frames (makes_call {passing = call} {new = new} u d b) h = beginning_follows p s after f call new b h
+acting_follows p s place f after frames (saves_pass u d) h = same_contexts s s h refl refl refl refl
+acting_follows p s place f after frames (saves_literal b d i e) h = same_contexts s s h refl refl refl refl
+acting_follows p s place f after frames (comes_to_return d) h = same_contexts s s h refl refl refl refl
+acting_follows p s place f after frames (runs_call r) h = after_calling s _ h
+acting_follows p s place f after frames (runs_pass {passing = call} {new = new} r b) h = beginning_follows p s after f call new b h
+acting_follows p s place f after frames (runs_literal values groups r foreign) h = same_contexts s _ h refl refl refl refl
+acting_follows p s place f after frames (runs_wait r e) h = after_waiting s _ h
+acting_follows p s place f after frames (returns_now e) h = same_contexts s s h refl refl refl refl
 
 surrounding_follows : (p : Program) (w next : World) → Surrounds p w next → IsSound w.store → Follows w.store next.store
-surrounding_follows p w next (starts g b values e i d any) h = same_contexts w.store _ h refl refl refl refl
+surrounding_follows p w next (starts g b values groups e i d foreign) h = same_contexts w.store _ h refl refl refl refl
 surrounding_follows p w next (evaluates_literal g f b c i) h = same_contexts w.store w.store h refl refl refl refl
-surrounding_follows p w next (starts_literal g c values e i any) h = same_contexts w.store _ h refl refl refl refl
+surrounding_follows p w next (starts_literal g c values groups e i foreign) h = same_contexts w.store _ h refl refl refl refl
 surrounding_follows p w next (makes_one parent earlier) h = after_new w.store parent h
-surrounding_follows p w next (ends_one x within) h = record {
-  same_parent = λ b parent e. e;
-  ended = λ a c. contains_there x a w.store.ended c;
-  called = λ a c. c;
-  is_sound = record { called_is_ended = λ a c. contains_there x a w.store.ended (h.called_is_ended a c); made_in = h.made_in };
-}
+surrounding_follows p w next (ends_one x within) h = after_ending w.store (Some x) h
 surrounding_follows p w next (calls_any a within) h = after_calling w.store (cancel_function a) h
+surrounding_follows p w next (makes_outside context earlier) h = same_contexts w.store _ h refl refl refl refl
+surrounding_follows p w next (joins_outside g a free outside) h = same_contexts w.store _ h refl refl refl refl
+
+changing_follows : (p : Program) (w next : World) → ChangesMembers p w next → IsSound w.store → Follows w.store next.store
+changing_follows p w next (starts_member g k b values groups d free i at foreign) h = same_contexts w.store _ h refl refl refl refl
+changing_follows p w next (starts_stranger g k d free) h = same_contexts w.store _ h refl refl refl refl
+changing_follows p w next (starts_outside g k at c lent is free) h = same_contexts w.store _ h refl refl refl refl
+changing_follows p w next (leaves_group g member none) h = same_contexts w.store _ h refl refl refl refl
 
 pub step_follows : (p : Program) (w next : World) → Step p w next → IsSound w.store → Follows w.store next.store
-step_follows p w next (of_goroutine {f = f} {after = after} {frames = frames} g at a) h = acting_follows p w.store f after frames a h
+step_follows p w next (of_goroutine {f = f} {others = others} {after = after} {frames = frames} g at a) h = acting_follows p w.store (g, length others) f after frames a h
+step_follows p w next (of_members c) h = changing_follows p w next c h
 step_follows p w next (of_environment s) h = surrounding_follows p w next s h
 
 pub run_is_sound : (p : Program) (w : World) → Run p w → IsSound w.store

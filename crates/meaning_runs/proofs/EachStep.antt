@@ -1,45 +1,64 @@
--- Each running frame has a step.
-use Rattle.std.proofs.Common.{◌≡◌, ℕ, true, false, List, ◌∷◌, None}
+-- Each running frame goes on.
+use Rattle.std.proofs.Common.{◌≡◌, ℕ, Bool, true, false, List, [], ◌∷◌, ◌++◌, length, None, refl, sym, subst}
 use Rattle.meaning.specs.Code.{Code}
-use Rattle.meaning.specs.Uses.{Event, other, obtain, clear, call, defer_call, pass, defer_pass, lend, start, try, wait, defer_wait, make, defer_literal, return_event}
+use Rattle.meaning.specs.Tracked.{idle, live}
+use Rattle.meaning.specs.Uses.{Callee, Event, other, obtain, clear, call, defer_call, pass, defer_pass, lend, start, try, wait, defer_wait, make, defer_literal, return_event}
 use Rattle.meaning_runs.specs.Bodies.{Program}
-use Rattle.meaning_runs.specs.World.{nothing, any_nothing, Store, Frame, World}
-use Rattle.meaning_runs.specs.Steps.{DoesNext, new_one, MayJoin, is_first, Acts, moves_on, does_other, obtains_one, clears_one, calls_one, saves_call, evaluates, evaluates_deferred, saves_literal, comes_to_return, runs_call, runs_literal, returns_now, of_goroutine}
-use Rattle.meaning_runs.specs.Laws.{HasStep, IsReady, FramesGoOn, FramesHaveSteps}
-use Rattle.std.proofs.Common.{subst, sym}
-use Rattle.meaning.specs.Uses.{Callee}
-use Rattle.std.proofs.Common.{Bool}
+use Rattle.meaning_runs.specs.World.{nothing, Store, Stage, runs, Frame, World}
+use Rattle.meaning_runs.specs.Steps.{DoesNext, new_one, zero_group, with_context, MayJoin, is_first, Acts, moves_on, does_other, obtains_one, clears_one, calls_one, saves_call, makes_group, tries_nothing, ends_wait, saves_wait, evaluates, evaluates_deferred, lends, saves_literal, comes_to_return, runs_call, runs_literal, runs_wait, returns_now, by_start, of_goroutine}
+use Rattle.meaning_runs.specs.Laws.{GoesTo, StandsAt, stage_behind, IsReady, FramesGoOn, FramesHaveSteps}
+use Rattle.meaning_runs.proofs.Contexts.{put_at-same}
+use Rattle.meaning_runs.proofs.FreeGoroutines.{none_given, starts_one}
 
 module _ (p : Program) (w : World) (g : ℕ) (f : Frame) (others : List Frame) (at : w.stacks g ≡ f ∷ others) where
-  acts : (after : Store) (frames : List Frame) → Acts p w.store f after frames → HasStep p w
-  acts after frames a = (_, of_goroutine g at a)
+  -- what it does, its goroutine's frames are then
+  acts : (after : Store) (frames : List Frame) → Acts p w.store (g, length others) f after frames
+      → GoesTo p w g (λ fs. fs ≡ frames ++ others)
+  acts after frames a = (_, of_goroutine g at a, put_at-same w.stacks g (frames ++ others))
+
+  stands : (after : Store) (frame : Frame) (stage : Stage) → Acts p w.store (g, length others) f after (frame ∷ [])
+      → frame.body ≡ f.body
+      → frame.stage ≡ stage
+      → GoesTo p w g (StandsAt f stage others)
+  stands after frame stage a same is =
+      let n = acts after (frame ∷ []) a in
+      (n.0, n.1, record { frame = frame; is_running = n.2; same_body = same; is_at = is })
 
   first : (c : Callee) (is_deferred : Bool) (n : ℕ) → f.waiting ≡ None → MayJoin c is_deferred n f.waiting
   first c is_deferred n e = subst (λ o. MayJoin c is_deferred n o) (sym e) is_first
 
-  by_its_event : (e : Event) (rest : Code Event) → DoesNext f e rest → IsReady f e → HasStep p w
-  by_its_event other rest d h = acts _ _ (does_other d)
-  by_its_event (obtain u c n is_new) rest d h = acts _ _ (obtains_one d (new_one None tt))
-  by_its_event (clear u) rest d h = acts _ _ (clears_one d)
-  by_its_event (call v) rest d h = acts _ _ (calls_one d)
-  by_its_event (defer_call v) rest d h = acts _ _ (saves_call d)
-  by_its_event (pass u c n) rest d h = acts _ _ (evaluates d.comes_to (first c false n d.none_waits))
-  by_its_event (defer_pass u c n) rest d h = acts _ _ (evaluates_deferred d.comes_to (first c true n d.none_waits))
-  by_its_event (lend v c n) rest d h = absurd h
-  by_its_event (start v literal) rest d h = absurd h
-  by_its_event (try v literal) rest d h = absurd h
-  by_its_event (wait v) rest d h = absurd h
-  by_its_event (defer_wait v) rest d h = absurd h
-  by_its_event (make v state) rest d h = absurd h
-  by_its_event (defer_literal offset) rest d h = acts _ _ (saves_literal h.0 d h.1 h.2)
-  by_its_event (return_event handed) rest d h = acts _ _ (comes_to_return d)
+  by_its_event : (e : Event) (rest : Code Event) → DoesNext f e rest → IsReady w f e
+      → GoesTo p w g (StandsAt f (stage_behind e rest) others)
+  by_its_event other rest d h = stands _ _ _ (does_other d) refl refl
+  by_its_event (obtain u c n is_new) rest d h = stands _ _ _ (obtains_one d (new_one None tt)) refl refl
+  by_its_event (clear u) rest d h = stands _ _ _ (clears_one d) refl refl
+  by_its_event (call v) rest d h = stands _ _ _ (calls_one d) refl refl
+  by_its_event (defer_call v) rest d h = stands _ _ _ (saves_call d) refl refl
+  by_its_event (pass u c n) rest d h = stands _ _ _ (evaluates d.comes_to (first c false n d.none_waits)) refl refl
+  by_its_event (defer_pass u c n) rest d h =
+      stands _ _ _ (evaluates_deferred d.comes_to (first c true n d.none_waits)) refl refl
+  by_its_event (lend v c n) rest d h = stands _ _ _ (lends d.comes_to (first c false n d.none_waits)) refl refl
+  by_its_event (start v literal) rest d h =
+      let n = starts_one p w g f others (start v literal) rest v h.0.0 literal at d by_start h.0.1 h.1 h.2 in (
+        n.next,
+        n.step,
+        record { frame = record f { stage = runs rest }; is_running = n.goes_on; same_body = refl; is_at = refl },
+      )
+  by_its_event (try v literal) rest d h = stands _ _ _ (tries_nothing d) refl refl
+  by_its_event (wait v) rest d h = stands _ _ _ (ends_wait d h) refl refl
+  by_its_event (defer_wait v) rest d h = stands _ _ _ (saves_wait d) refl refl
+  by_its_event (make u idle) rest d h = stands _ _ _ (makes_group d zero_group) refl refl
+  by_its_event (make u live) rest d h = stands _ _ _ (makes_group d (with_context None tt)) refl refl
+  by_its_event (defer_literal offset) rest d h = stands _ _ _ (saves_literal h.0 d h.1 h.2) refl refl
+  by_its_event (return_event handed) rest d h = stands _ _ _ (comes_to_return d) refl refl
 
   frame_goes_on : FramesGoOn p w g f others
   frame_goes_on = record {
-    silently = λ d. acts _ _ (moves_on d);
+    silently = λ d. stands _ _ _ (moves_on d) refl refl;
     by_event = λ e d h. by_its_event e _ d h;
     by_saved_call = λ r. acts _ _ (runs_call r);
-    by_saved_literal = λ r. acts _ _ (runs_literal (λ v. nothing) r (λ v. any_nothing));
+    by_saved_literal = λ r. acts _ _ (runs_literal (λ v. nothing) (λ v. None) r (none_given w.store));
+    by_saved_wait = λ r e. acts _ _ (runs_wait r e);
     at_its_end = λ h. acts _ _ (returns_now h);
   }
 

@@ -10,7 +10,7 @@ use Rattle.meaning.specs.Tracked.{Placed}
 use Rattle.meaning.specs.Uses.{Seen, Event, is_body}
 use Rattle.meaning.specs.BodyEvents.{mark_events, is_site, events_at, sites_of}
 use Rattle.meaning.proofs.Membership.{contains_here, contains_there, contains_cases, contains_nil}
-use Rattle.meaning_runs.specs.Bodies.{code_of}
+use Rattle.meaning_runs.specs.Bodies.{Body, code_of}
 use Rattle.meaning_runs.specs.EventSources.{HasSource, says_nothing, falls_off, of_mark, EventsHaveSources}
 
 module _ {E : Type 0} (P : E → Type 0) where
@@ -180,9 +180,11 @@ marked seen body (p ∷ ps) at e among =
     by true false is h further = let r = further h in (r.0, contains_there p r.0 ps r.1, r.2, r.3)
     by false c is h further = let r = further h in (r.0, contains_there p r.0 ps r.1, r.2, r.3)
 
+pub has_source : (b : Body) (t : List (Occurrence Event)) (x : Exit) → Lists (code_of b) t x
+    → (o : Occurrence Event) → Contains t o
+    → HasSource b o.event
+has_source b t x lists =
+    list_has (HasSource b) (code_of b) t x lists (of_body (HasSource b) (sites_of b.file b.place.at) says_nothing falls_off (λ at e h. let r = marked b.file b.place.at b.file.marks at e h in of_mark r.0 r.1 r.2 r.3) record { statements = b.place.statements; braces = b.place.braces })
+
 pub events_have_sources : EventsHaveSources
-events_have_sources b t o reached =
-    list_has (HasSource b) (code_of b) (t ++ o ∷ []) stopped reached (of_body (HasSource b) (sites_of b.file b.place.at) says_nothing falls_off (λ at e h. let r = marked b.file b.place.at b.file.marks at e h in of_mark r.0 r.1 r.2 r.3) record { statements = b.place.statements; braces = b.place.braces }) o (at_the_end t o)
-  where
-    at_the_end : (u : List (Occurrence Event)) (x : Occurrence Event) → Contains (u ++ x ∷ []) x
-    at_the_end u x = Contains-append_right u (x ∷ []) x (contains_here x [])
+events_have_sources b t o reached = has_source b (t ++ o ∷ []) stopped reached o (Contains-append_right t (o ∷ []) o (contains_here o []))

@@ -1,21 +1,22 @@
 -- A run of each example, to a return.
-use Rattle.std.proofs.Common.{◌≡◌, ℕ, ◌<◌, cond, inl, inr, List, [], ◌∷◌, ◌++◌, Option, Some, None, Contains, refl, sym, ap, ◌∙◌, subst, arith}
+use Rattle.std.proofs.Common.{◌≡◌, ℕ, ◌<◌, cond, inl, inr, Bool, List, [], ◌∷◌, ◌++◌, length, Option, Some, None, Contains, refl, sym, ap, ◌∙◌, subst, arith}
 use Rattle.meaning.specs.Code.{Occurrence, Code, skip, does, then_code}
-use Rattle.meaning.specs.Uses.{Event, other, call, defer_call, defer_literal, return_event}
+use Rattle.meaning.specs.Uses.{Callee, Event, other, call, defer_call, defer_literal, return_event}
 use Rattle.meaning.proofs.Membership.{contains_here, contains_there, contains_cases, contains_nil}
 use Rattle.meaning_runs.specs.Bodies.{Program, Body, IsOf, IsOutermost, is_captured_by, code_of}
-use Rattle.meaning_runs.specs.World.{Value, nothing, cancel_function, Store, put_at, cell_or, with_new, calling, any_nothing, any_function, Given, runs, Frame, World, empty_world, with_stack, with_cells, in_cell, held, new_frame, nothing_around}
+use Rattle.meaning_runs.specs.World.{Value, nothing, cancel_function, Store, put_at, cell_or, with_new, calling, any_function, outside_none, Given, runs, Frame, World, empty_world, with_stack, with_cells, in_cell, held, new_frame, nothing_around}
 use Rattle.meaning_runs.specs.Moves.{Moves, happens, first_moves, first_is_done}
 use Rattle.meaning_runs.specs.Steps.{GoesOn, ComesTo, DoesNext, IsAtEnd, new_one, is_first, Fits, of_function, Acts, moves_on, does_other, obtains_one, calls_one, saves_call, evaluates, makes_call, saves_literal, comes_to_return, runs_call, runs_literal, returns_now, starts, of_goroutine, of_environment}
 use Rattle.meaning_runs.specs.Runs.{Run, no_step, step_more, Owes}
 use Rattle.meaning_runs.specs.Examples.{program_with, saving, forgetting, passing, taking, deferring, overwriting}
 use Rattle.meaning_runs.specs.Returns.{HasQuietReturn, HasLoudReturn, ReturnsExist}
 use Rattle.meaning_runs.proofs.Contexts.{put_at-same, put_at-other, called_done, run_is_sound}
+use Rattle.meaning_runs.proofs.FreeGoroutines.{none_given}
 use Rattle.meaning_runs.proofs.Places.{called_now}
 use Rattle.meaning_runs.proofs.ExampleBodies.{one, body_in, place_of, event_at, obtains, passed, both, literal, saving_is_of, saving_is_outermost, saving_is, forgetting_is_of, forgetting_is_outermost, forgetting_is, passing_is_of, passing_is_outermost, passing_is, deferring_is_of, deferring_is_outermost, deferring_is, taking_is_function, taking_is, has_parameter, literal_is_in, literal_is, has_no_parameter, captures_it, assigns, overwriting_is_of, overwriting_is_outermost, overwriting_is}
 
 -- the one goroutine acts
-pub act : (p : Program) (w : World) (f : Frame) (others : List Frame) (after : Store) (frames : List Frame) → Run p w → w.stacks 0 ≡ f ∷ others → Acts p w.store f after frames → Run p (with_stack w after 0 (frames ++ others))
+pub act : (p : Program) (w : World) (f : Frame) (others : List Frame) (after : Store) (frames : List Frame) → Run p w → w.stacks 0 ≡ f ∷ others → Acts p w.store (0, length others) f after frames → Run p (with_stack w after 0 (frames ++ others))
 act p w f others after frames r at a = step_more r (of_goroutine 0 at a)
 
 pub goes : (f : Frame) (o : Option (Occurrence Event)) (c d : Code Event) → f.stage ≡ runs c → Moves c o d → GoesOn f o d
@@ -29,10 +30,10 @@ next_at f at e c d s m n = record { comes_to = comes_at f at e c d s m; none_wai
 
 -- the world in which the environment has called a function
 abbrev pub begun : Body → World
-begun b = with_stack empty_world (with_cells empty_world.store (λ v. nothing)) 0 (new_frame empty_world.store b nothing_around ∷ [])
+begun b = with_stack empty_world (with_cells empty_world.store (λ v. nothing) (λ v. None)) 0 (new_frame empty_world.store b nothing_around ∷ [])
 
 pub begins : (p : Program) (b : Body) → IsOf p b → IsOutermost b → Run p (begun b)
-begins p b h out = step_more no_step (of_environment (starts 0 b (λ v. nothing) refl h out (λ v. any_nothing)))
+begins p b h out = step_more no_step (of_environment (starts 0 b (λ v. nothing) (λ v. None) record { has_no_frame = refl; is_no_member = refl } h out (none_given empty_world.store)))
 
 -- the one function that was obtained
 pub only_one : {A : Type 0} (x y : A) → Contains (x ∷ []) y → x ≡ y
@@ -42,10 +43,13 @@ owes_first : (f : Frame) → Contains f.obtained 0 → f.handed_on ≡ [] → Ow
 owes_first f h none = record { was_obtained = h; is_kept = λ x. contains_nil (cancel_function 0) (subst (λ l. Contains l (cancel_function 0)) none x) }
 
 -- the frame owes one function, which was called
-quiet_of : (p : Program) (w : World) (f : Frame) → Run p w → w.stacks 0 ≡ f ∷ [] → IsAtEnd f → f.body.home ≡ p.looked_at → f.obtained ≡ 0 ∷ [] → f.handed_on ≡ [] → Contains w.store.called 0 → HasQuietReturn p
-quiet_of p w f run at end home obtained none called =
-    (w, f, record { run = run; is_returning = record { goroutine = 0; others = []; is_running = at; is_at_end = end }; is_of_package = home; owed = 0; owes = owes_first f (subst (λ l. Contains l 0) (sym obtained) (contains_here 0 [])) none }, record { called = each; done = λ a b o h. called_done w.store a b (run_is_sound p w run) (each a o) h })
+pub quiet_of : (p : Program) (w : World) (f : Frame) → Run p w → w.stacks 0 ≡ f ∷ [] → IsAtEnd f → f.body.home ≡ p.looked_at → f.obtained ≡ 0 ∷ [] → f.handed_on ≡ [] → f.made ≡ [] → Contains w.store.called 0 → HasQuietReturn p
+quiet_of p w f run at end home obtained none unmade called =
+    (w, f, record { run = run; is_returning = record { goroutine = 0; others = []; is_running = at; is_at_end = end }; is_of_package = home; owed = 0; owes = owes_first f (subst (λ l. Contains l 0) (sym obtained) (contains_here 0 [])) none }, record { called = each; done = λ a b o h. called_done w.store a b (run_is_sound p w run) (each a o) h; ended = λ group m. absurd (no_group group m); groups_done = λ group a m is. absurd (no_group group m) })
   where
+    no_group : (group : ℕ) → Contains f.made group → ⊥
+    no_group group m = contains_nil group (subst (λ l. Contains l group) unmade m)
+
     each : (a : ℕ) → Owes f a → Contains w.store.called a
     each a o = subst (λ n. Contains w.store.called n) (only_one 0 a (subst (λ l. Contains l a) obtained o.was_obtained)) called
 
@@ -73,13 +77,15 @@ quiet =
     let r9 = act _ _ _ _ _ _ r8 refl (moves_on (goes _ _ _ _ refl first_is_done)) in
     let r10 = act _ _ _ _ _ _ r9 refl (comes_to_return (next_at _ 109 (return_event []) _ _ refl happens refl)) in
     let r11 = act _ _ _ _ _ _ r10 refl (runs_call {value = cancel_function 0} record { stage = refl; saved = refl }) in
-    quiet_of _ _ _ r11 refl record { stage = refl; saved = refl } refl refl refl (contains_here 0 [])
+    quiet_of _ _ _ r11 refl record { stage = refl; saved = refl } refl refl refl refl (contains_here 0 [])
 
 -- what the call of `g` gives, and a parameter that fits it
-fits_g : (s : Store) (value : Value) → 0 < s.context_count → value ≡ cancel_function 0 → Fits s (body_in both (place_of taking)) (record { position = 0; value = value } ∷ []) (λ v. cancel_function 0)
-fits_g s value more is = record {
+pub fits_g : (b : Body) (s : Store) (value : Value) (callee : Callee) (is_deferred : Bool) → 0 < s.context_count → value ≡ cancel_function 0 → Fits s b record { callee = callee; is_deferred = is_deferred; given = record { position = 0; value = value } ∷ []; lent = [] } (λ v. cancel_function 0) (λ v. None)
+fits_g b s value callee is_deferred more is = record {
   same = λ v x among h role. sym is ∙ ap (λ (y : Given). y.value) (only_one _ x h);
   any = λ v. any_function more;
+  same_group = λ v y among h role. absurd (contains_nil y h);
+  other_groups = λ v. inr outside_none;
 }
 
 -- what the parameter of `g` holds
@@ -95,6 +101,7 @@ standing b c newest = record {
   waiting = None;
   saved = [];
   obtained = 0 ∷ [];
+  made = [];
   handed_on = [];
 }
 
@@ -128,7 +135,7 @@ quiet_by_call = from_there (obtained_one _ _ _ _ passing_is_of passing_is_outerm
     from_there : Stands (program_with both) (body_in both (place_of passing)) (before 94 passed 104) → HasQuietReturn (program_with both)
     from_there h =
         let r6 = act _ h.world _ _ _ _ h.run h.is_running (evaluates (comes_at _ 94 passed _ _ refl (first_moves (first_moves (first_moves happens)))) is_first) in
-        let r7 = act _ _ _ _ _ _ r6 refl (makes_call record { stage = refl; waits = refl } refl (of_function (body_in both (place_of taking)) (λ v. cancel_function 0) taking_is_function (fits_g h.world.store _ h.has_context (ap (in_cell h.world.store 61) h.has_cell ∙ h.holds_it)))) in
+        let r7 = act _ _ _ _ _ _ r6 refl (makes_call record { stage = refl; waits = refl } refl (of_function (body_in both (place_of taking)) (λ v. cancel_function 0) (λ v. None) taking_is_function (fits_g _ h.world.store _ _ _ h.has_context (ap (in_cell h.world.store 61) h.has_cell ∙ h.holds_it)))) in
         let g1 = act _ _ _ _ _ _ r7 refl (does_other (next_at _ 136 other _ _ (ap runs taking_is) (first_moves happens) refl)) in
         let g2 = act _ _ _ _ _ _ g1 refl (moves_on (goes _ _ _ _ refl first_is_done)) in
         let g3 = act _ _ _ _ _ _ g2 refl (calls_one {v = 114} (next_at _ 139 (call 114) _ _ refl (first_moves (first_moves (first_moves happens))) refl)) in
@@ -141,7 +148,7 @@ quiet_by_call = from_there (obtained_one _ _ _ _ passing_is_of passing_is_outerm
         let r9 = act _ _ _ _ _ _ r8 refl (moves_on (goes _ _ _ _ refl (first_moves first_is_done))) in
         let r10 = act _ _ _ _ _ _ r9 refl (moves_on (goes _ _ _ _ refl first_is_done)) in
         let r11 = act _ _ _ _ _ _ r10 refl (comes_to_return (next_at _ 104 (return_event []) _ _ refl happens refl)) in
-        quiet_of _ _ _ r11 refl record { stage = refl; saved = refl } refl refl refl (called_now (with_cells h.world.store (λ v. cancel_function 0)) _ 0 (holds_parameter h.world.store (with_cells h.world.store (λ v. cancel_function 0)) (ap (λ (c : ℕ → Value). c 114) (put_at-same h.world.store.cells h.world.store.cell_count (λ v. cancel_function 0)))))
+        quiet_of _ _ _ r11 refl record { stage = refl; saved = refl } refl refl refl refl (called_now (with_cells h.world.store (λ v. cancel_function 0) (λ v. None)) _ 0 (holds_parameter h.world.store (with_cells h.world.store (λ v. cancel_function 0) (λ v. None)) (ap (λ (c : ℕ → Value). c 114) (put_at-same h.world.store.cells h.world.store.cell_count (λ v. cancel_function 0)))))
 
 -- what the literal's variable around it holds
 holds_around : (s : Store) (t : Store) (around : ℕ → Option ℕ) (k : ℕ) → around 61 ≡ Some k → t.cells k 61 ≡ cancel_function 0 → held t (new_frame s (body_in (deferring ∷ []) literal) around) 61 ≡ cancel_function 0
@@ -151,7 +158,7 @@ holds_around s t around k n e =
     ∙ ap (in_cell t 61) n
     ∙ e
 
-still_there : (h : Stands (program_with (deferring ∷ [])) (body_in (deferring ∷ []) (place_of deferring)) (before 94 (defer_literal 100) 122)) → (with_cells h.world.store (λ v. nothing)).cells 1 61 ≡ cancel_function 0
+still_there : (h : Stands (program_with (deferring ∷ [])) (body_in (deferring ∷ []) (place_of deferring)) (before 94 (defer_literal 100) 122)) → (with_cells h.world.store (λ v. nothing) (λ v. None)).cells 1 61 ≡ cancel_function 0
 still_there h = ap (λ (c : ℕ → Value). c 61) (put_at-other h.world.store.cells h.world.store.cell_count (λ v. nothing) 1 (λ q. let more = h.has_more in omega (arith, q, more))) ∙ h.holds_it
 
 quiet_by_literal : HasQuietReturn (program_with (deferring ∷ []))
@@ -164,7 +171,7 @@ quiet_by_literal = from_there (obtained_one _ _ _ _ deferring_is_of deferring_is
         let r8 = act _ _ _ _ _ _ r7 refl (moves_on (goes _ _ _ _ refl (first_moves first_is_done))) in
         let r9 = act _ _ _ _ _ _ r8 refl (moves_on (goes _ _ _ _ refl first_is_done)) in
         let r10 = act _ _ _ _ _ _ r9 refl (comes_to_return (next_at _ 122 (return_event []) _ _ refl happens refl)) in
-        let r11 = act _ _ _ _ _ _ r10 refl (runs_literal (λ v. nothing) record { stage = refl; saved = refl } (λ v. any_nothing)) in
+        let r11 = act _ _ _ _ _ _ r10 refl (runs_literal (λ v. nothing) (λ v. None) record { stage = refl; saved = refl } (none_given _)) in
         let g1 = act _ _ _ _ _ _ r11 refl (does_other (next_at _ 107 other _ _ (ap runs literal_is) (first_moves happens) refl)) in
         let g2 = act _ _ _ _ _ _ g1 refl (moves_on (goes _ _ _ _ refl first_is_done)) in
         let g3 = act _ _ _ _ _ _ g2 refl (calls_one {v = 61} (next_at _ 109 (call 61) _ _ refl (first_moves (first_moves (first_moves happens))) refl)) in
@@ -173,7 +180,7 @@ quiet_by_literal = from_there (obtained_one _ _ _ _ deferring_is_of deferring_is
         let g6 = act _ _ _ _ _ _ g5 refl (moves_on (goes _ _ _ _ refl first_is_done)) in
         let g7 = act _ _ _ _ _ _ g6 refl (comes_to_return (next_at _ 118 (return_event []) _ _ refl happens refl)) in
         let g8 = act _ _ _ _ _ _ g7 refl (returns_now record { stage = refl; saved = refl }) in
-        quiet_of _ _ _ g8 refl record { stage = refl; saved = refl } refl refl refl (called_now (with_cells h.world.store (λ v. nothing)) _ 0 (holds_around h.world.store (with_cells h.world.store (λ v. nothing)) h.newest 1 h.has_cell (still_there h)))
+        quiet_of _ _ _ g8 refl record { stage = refl; saved = refl } refl refl refl refl (called_now (with_cells h.world.store (λ v. nothing) (λ v. None)) _ 0 (holds_around h.world.store (with_cells h.world.store (λ v. nothing) (λ v. None)) h.newest 1 h.has_cell (still_there h)))
 
 -- a later function was called, and the first one not
 first_uncalled : (t : Store) (value : Value) (n : ℕ) → value ≡ cancel_function n → t.called ≡ [] → 0 < n → Contains (calling t value).called 0 → ⊥

@@ -1,5 +1,5 @@
 -- The file of a body, with its credits; and where nothing is found in it, nothing is found on the body's paths.
-use Rattle.std.proofs.Common.{◌≡◌, ℕ, suc, Bool, inl, inr, List, [], ◌∷◌, Some, Contains, refl, sym, ap, ◌∙◌, subst}
+use Rattle.std.proofs.Common.{◌≡◌, ℕ, suc, Bool, inl, inr, List, [], ◌∷◌, Some, Contains, refl, ◌∙◌}
 use Rattle.std.specs.Prelude.{slice_get}
 use Rattle.std.proofs.lemmas.List.Elements.{Contains-append_right}
 use Rattle.meaning.specs.Mentions.{BodyPlace}
@@ -11,13 +11,8 @@ use Rattle.meaning_packages.specs.Credits.{promises_in}
 use Rattle.meaning.specs.BodyEvents.{bodies_of}
 use Rattle.meaning_packages.specs.CallsFlags.{FileWithCredits}
 use Rattle.report.specs.Entries.{Entry}
-use Rattle.meaning_reports.specs.Loaded.{seen_files}
 use Rattle.meaning_reports.specs.PackageReports.{IsFileFinding, of_use, of_path}
-use Rattle.meaning_runs.specs.Bodies.{Program, Body, IsOf}
-use Rattle.meaning_runs.specs.Promise.{AreFairlyCredited, no_file, file_and, HasNoFinding}
-
-some_inj : {A : Type 0} (x y : A) → Some x ≡ Some y → x ≡ y
-some_inj x y e = cc
+use Rattle.meaning_runs.specs.Promise.{AreFairlyCredited, no_file, file_and}
 
 none_there : {A : Type 0} (xs : List A) → ((x : A) → Contains xs x → ⊥) → xs ≡ []
 none_there [] h = refl
@@ -49,10 +44,3 @@ module _ (calls : Callee → ℕ → Bool) (number : ℕ) (file : FileWithCredit
 
   pub no_path_fault : (x : PathFault) → IsPathFault (paths_of file.seen (promises_in calls file.credits b.at) b) x → ⊥
   no_path_fault x h = none _ (of_path b x among (of_a_path x are_few h))
-
-module _ (p : Program) (said : HasNoFinding p) where
-  -- the file of a body of the package
-  pub file_of : (b : Body) → IsOf p b → b.home ≡ p.looked_at → IsCredited said.is_known.files b.file
-  file_of b of home =
-      let same : of.loaded ≡ said.loaded = some_inj of.loaded said.loaded (sym of.is_package ∙ ap (λ n. slice_get p.packages n) home ∙ said.is_package) in
-      credited (seen_files p.packages p.tables said.loaded) said.is_known.files b.file said.is_known.are_files (subst (λ q. Contains (seen_files p.packages p.tables q) b.file) same of.is_file)

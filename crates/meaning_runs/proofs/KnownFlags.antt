@@ -3,7 +3,7 @@
 use Rattle.std.proofs.Common.{◌≡◌, ℕ, zero, suc, ◌+◌, ◌≤◌, Bool, true, false, ◌⊎◌, inl, inr, List, [], ◌∷◌, map, Option, Some, None, Contains, refl, sym, ap, ◌∙◌, subst, arith}
 use Rattle.std.specs.Prelude.{if◌then◌else◌, slice_get}
 use Rattle.std.specs.Str.{bytes_eq}
-use Rattle.std.proofs.lemmas.Option.{none-some}
+use Rattle.std.proofs.lemmas.Option.{none-some, same_Some}
 use Rattle.std.proofs.lemmas.Slice.Eq.{bytes_eq-Decides}
 use Rattle.std.proofs.lemmas.List.Elements.{Contains-append_cases}
 use Rattle.tree.specs.Syntax.{TopLevelDeclaration, function_declaration, general_declaration}
@@ -22,9 +22,6 @@ use Rattle.meaning_runs.specs.Bodies.{Program, Body, IsBelow, IsOf, IsNamed}
 use Rattle.meaning_runs.specs.Promise.{AreFairlyCredited, no_file, file_and, AreWellKnown}
 use Rattle.meaning_runs.specs.Duties.{IsFlagged, TakesUp, calls_in}
 use Rattle.meaning_runs.proofs.NamedBodies.{AreApart, apart, one_body}
-
-some_inj : {A : Type 0} (x y : A) → Some x ≡ Some y → x ≡ y
-some_inj x y e = cc
 
 not_both : {b : Bool} → b ≡ false → b ≡ true → ⊥
 not_both e g = let bad : false ≡ true = sym e ∙ g in cc
@@ -67,7 +64,7 @@ second_among earlier [] f e = absurd (none-some f e)
 second_among earlier (x ∷ xs) f e = by (is_called_before x earlier) e (second_among (x ∷ earlier) xs f)
   where
     by : (b : Bool) → (if b then Some x else second_after (x ∷ earlier) xs) ≡ Some f → (second_after (x ∷ earlier) xs ≡ Some f → Contains xs f) → Contains (x ∷ xs) f
-    by true q go = subst (λ y. Contains (x ∷ xs) y) (some_inj x f q) (contains_here x xs)
+    by true q go = subst (λ y. Contains (x ∷ xs) y) (same_Some x f q) (contains_here x xs)
     by false q go = contains_there x f xs (go q)
 
 pub no_second : (ps : List LoadedPackage) (i : ℕ) (q : LoadedPackage) → slice_get ps i ≡ Some q → HasNoWholeFault ps i → second_function (trees_of q) ≡ None
@@ -119,11 +116,11 @@ first_or_none path (p ∷ ps) = by (bytes_eq p.path path) refl (first_or_none pa
     other e q = not_both e ((bytes_eq-Decides p.path path).1 q)
 
     after : bytes_eq p.path path ≡ false → (f : First path ps) → (k : ℕ) (r : LoadedPackage) → slice_get (p ∷ ps) k ≡ Some r → r.path ≡ path → suc f.place ≤ k
-    after e f zero r is q = absurd (other e (ap (λ (x : LoadedPackage). x.path) (some_inj p r is) ∙ q))
+    after e f zero r is q = absurd (other e (ap (λ (x : LoadedPackage). x.path) (same_Some p r is) ∙ q))
     after e f (suc k) r is q = let l : f.place ≤ k = f.first k r is q in omega (arith, l)
 
     neither : bytes_eq p.path path ≡ false → IsNone path ps → IsNone path (p ∷ ps)
-    neither e n zero r is q = other e (ap (λ (x : LoadedPackage). x.path) (some_inj p r is) ∙ q)
+    neither e n zero r is q = other e (ap (λ (x : LoadedPackage). x.path) (same_Some p r is) ∙ q)
     neither e n (suc k) r is q = n k r is q
 
     by : (b : Bool) → bytes_eq p.path path ≡ b → First path ps ⊎ IsNone path ps → First path (p ∷ ps) ⊎ IsNone path (p ∷ ps)
@@ -192,7 +189,7 @@ module _ (p : Program) (known : AreWellKnown p) where
         home = refl;
         named = kept.is_claim.is_of_function;
         each = λ c of home named.
-            let same : of.loaded ≡ q = some_inj of.loaded q (sym of.is_package ∙ ap (λ n. slice_get p.packages n) home ∙ is) in
+            let same : of.loaded ≡ q = same_Some of.loaded q (sym of.is_package ∙ ap (λ n. slice_get p.packages n) home ∙ is) in
             let among = subst (λ x. Contains (seen_files p.packages p.tables x) c.file) same of.is_file in
             let one = one_body (known_in p.packages p.tables q) name 0 (trees_of q) parted kept.file.seen c.file kept.body c.place there among kept.is_claim.is_body of.is_body kept.is_claim.is_of_function named in
             let is_it : it ≡ c = λ j. record { home = sym home j; file = one.0 j; place = one.1 j } in

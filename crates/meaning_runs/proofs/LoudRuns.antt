@@ -4,15 +4,16 @@ use Rattle.meaning.specs.Code.{Code, returning, skip, does, leave, then_code}
 use Rattle.meaning.specs.Uses.{Event, other, defer_literal, return_event}
 use Rattle.meaning.proofs.Membership.{contains_here, contains_nil}
 use Rattle.meaning_runs.specs.Bodies.{Program, Body, IsOf, IsOutermost, code_of}
-use Rattle.meaning_runs.specs.World.{Value, nothing, cancel_function, Store, any_nothing, any_function, Given, runs, Frame, World, in_cell}
+use Rattle.meaning_runs.specs.World.{nothing, cancel_function, runs, Frame, World, in_cell}
 use Rattle.meaning_runs.specs.Moves.{happens, first_moves, first_is_done, picks_first, picks_second}
-use Rattle.meaning_runs.specs.Steps.{IsAtEnd, new_one, is_first, Fits, of_function, moves_on, does_other, obtains_one, evaluates, evaluates_deferred, makes_call, saves_pass, saves_literal, comes_to_return, runs_pass, runs_literal, returns_now}
+use Rattle.meaning_runs.specs.Steps.{IsAtEnd, new_one, is_first, of_function, moves_on, does_other, obtains_one, evaluates, evaluates_deferred, makes_call, saves_pass, saves_literal, comes_to_return, runs_pass, runs_literal, returns_now}
 use Rattle.meaning_runs.specs.Runs.{Run, Owes}
 use Rattle.meaning_runs.specs.Examples.{program_with, passing}
 use Rattle.meaning_runs.specs.Returns.{HasLoudReturn}
 use Rattle.meaning_runs.specs.LoudReturns.{ignoring, ignoring_at, deferring_pass, deferring_nothing, deferring_branch, using, branching, returning_early, LostFunctionsAreSeen}
 use Rattle.meaning_runs.proofs.ExampleBodies.{one, body_in, place_of, event_at, obtains, passed}
-use Rattle.meaning_runs.proofs.ExampleRuns.{act, goes, comes_at, next_at, begins, only_one}
+use Rattle.meaning_runs.proofs.ExampleRuns.{act, goes, comes_at, next_at, begins, fits_g}
+use Rattle.meaning_runs.proofs.FreeGoroutines.{none_given}
 use Rattle.meaning_runs.proofs.LoudBodies.{both, branch_at, calling_at, passing_is_of, passing_is_outermost, passing_is, ignoring_is_function, ignoring_is, using_is_of, using_is_outermost, using_is, branching_is_of, branching_is_outermost, branching_is, returning_early_is_of, returning_early_is_outermost, returning_early_is, deferring_nothing_is_of, deferring_nothing_is_outermost, deferring_nothing_is, deferring_branch_is_of, deferring_branch_is_outermost, deferring_branch_is, empty_literal, empty_literal_is_in, empty_literal_is, branching_literal, branching_literal_is_in, branching_literal_is, both_deferred, passed_later, deferring_pass_is_of, deferring_pass_is_outermost, deferring_pass_is, ignoring_later_is_function, ignoring_later_is}
 
 owes_first : (f : Frame) → f.obtained ≡ 0 ∷ [] → f.handed_on ≡ [] → Owes f 0
@@ -22,7 +23,7 @@ owes_first f e none = record {
 }
 
 -- The frame owes one function, and none was called.
-loud_of : (p : Program) (w : World) (f : Frame) → Run p w → w.stacks 0 ≡ f ∷ [] → IsAtEnd f → f.body.home ≡ p.looked_at → f.obtained ≡ 0 ∷ [] → f.handed_on ≡ [] → w.store.called ≡ [] → HasLoudReturn p
+pub loud_of : (p : Program) (w : World) (f : Frame) → Run p w → w.stacks 0 ≡ f ∷ [] → IsAtEnd f → f.body.home ≡ p.looked_at → f.obtained ≡ 0 ∷ [] → f.handed_on ≡ [] → w.store.called ≡ [] → HasLoudReturn p
 loud_of p w f run at end home obtained none uncalled =
     (w, f, record { run = run; is_returning = record { goroutine = 0; others = []; is_running = at; is_at_end = end }; is_of_package = home; owed = 0; owes = owes_first f obtained none }, λ q. contains_nil 0 (subst (λ l. Contains l 0) uncalled (q.called 0 (owes_first f obtained none))))
 
@@ -35,6 +36,7 @@ standing b c newest = record {
   waiting = None;
   saved = [];
   obtained = 0 ∷ [];
+  made = [];
   handed_on = [];
 }
 
@@ -97,20 +99,13 @@ loud_by_early_return = from_there (obtained_one _ _ _ _ returning_early_is_of re
         let r6 = act _ _ _ _ _ _ r5 refl (comes_to_return (next_at _ 110 (return_event []) _ _ refl (first_moves (first_moves (first_moves (first_moves (first_moves happens))))) refl)) in
         loud_of _ _ _ r6 refl record { stage = refl; saved = refl } refl refl refl h.none_called
 
--- what the call of `g` gives, and a parameter that fits it
-fits_g : (b : Body) (s : Store) (value : Value) → 0 < s.context_count → value ≡ cancel_function 0 → Fits s b (record { position = 0; value = value } ∷ []) (λ v. cancel_function 0)
-fits_g b s value more is = record {
-  same = λ v x among h role. sym is ∙ ap (λ (y : Given). y.value) (only_one _ x h);
-  any = λ v. any_function more;
-}
-
 loud_by_call : HasLoudReturn (program_with both)
 loud_by_call = from_there (obtained_one _ _ _ _ passing_is_of passing_is_outermost passing_is)
   where
     from_there : Stands (program_with both) (body_in both (place_of passing)) (then_code (then_code (one (event_at 94 passed)) skip) (does (event_at 104 (return_event [])))) → HasLoudReturn (program_with both)
     from_there h =
         let r1 = act _ h.world _ _ _ _ h.run h.is_running (evaluates (comes_at _ 94 passed _ _ refl (first_moves (first_moves (first_moves happens)))) is_first) in
-        let r2 = act _ _ _ _ _ _ r1 refl (makes_call record { stage = refl; waits = refl } refl (of_function (body_in both (place_of ignoring)) (λ v. cancel_function 0) ignoring_is_function (fits_g _ h.world.store _ h.has_context (ap (in_cell h.world.store 61) h.has_cell ∙ h.holds_it)))) in
+        let r2 = act _ _ _ _ _ _ r1 refl (makes_call record { stage = refl; waits = refl } refl (of_function (body_in both (place_of ignoring)) (λ v. cancel_function 0) (λ v. None) ignoring_is_function (fits_g _ h.world.store _ _ _ h.has_context (ap (in_cell h.world.store 61) h.has_cell ∙ h.holds_it)))) in
         let g1 = act _ _ _ _ _ _ r2 refl (does_other (next_at _ 136 other _ _ (ap runs ignoring_is) (first_moves happens) refl)) in
         let g2 = act _ _ _ _ _ _ g1 refl (moves_on (goes _ _ _ _ refl first_is_done)) in
         let g3 = act _ _ _ _ _ _ g2 refl (moves_on (goes _ _ _ _ refl first_is_done)) in
@@ -133,7 +128,7 @@ loud_by_saved_call = from_there (obtained_one _ _ _ _ deferring_pass_is_of defer
         let r4 = act _ _ _ _ _ _ r3 refl (moves_on (goes _ _ _ _ refl (first_moves first_is_done))) in
         let r5 = act _ _ _ _ _ _ r4 refl (moves_on (goes _ _ _ _ refl first_is_done)) in
         let r6 = act _ _ _ _ _ _ r5 refl (comes_to_return (next_at _ 110 (return_event []) _ _ refl happens refl)) in
-        let r7 = act _ _ _ _ _ _ r6 refl (runs_pass record { stage = refl; saved = refl } (of_function (body_in both_deferred (place_of (ignoring_at 113))) (λ v. cancel_function 0) ignoring_later_is_function (fits_g _ h.world.store _ h.has_context (ap (in_cell h.world.store 61) h.has_cell ∙ h.holds_it)))) in
+        let r7 = act _ _ _ _ _ _ r6 refl (runs_pass record { stage = refl; saved = refl } (of_function (body_in both_deferred (place_of (ignoring_at 113))) (λ v. cancel_function 0) (λ v. None) ignoring_later_is_function (fits_g _ h.world.store _ _ _ h.has_context (ap (in_cell h.world.store 61) h.has_cell ∙ h.holds_it)))) in
         let g1 = act _ _ _ _ _ _ r7 refl (does_other (next_at _ 142 other _ _ (ap runs ignoring_later_is) (first_moves happens) refl)) in
         let g2 = act _ _ _ _ _ _ g1 refl (moves_on (goes _ _ _ _ refl first_is_done)) in
         let g3 = act _ _ _ _ _ _ g2 refl (moves_on (goes _ _ _ _ refl first_is_done)) in
@@ -151,7 +146,7 @@ loud_by_empty_literal = from_there (obtained_one _ _ _ _ deferring_nothing_is_of
         let r3 = act _ _ _ _ _ _ r2 refl (moves_on (goes _ _ _ _ refl (first_moves first_is_done))) in
         let r4 = act _ _ _ _ _ _ r3 refl (moves_on (goes _ _ _ _ refl first_is_done)) in
         let r5 = act _ _ _ _ _ _ r4 refl (comes_to_return (next_at _ 112 (return_event []) _ _ refl happens refl)) in
-        let r6 = act _ _ _ _ _ _ r5 refl (runs_literal (λ v. nothing) record { stage = refl; saved = refl } (λ v. any_nothing)) in
+        let r6 = act _ _ _ _ _ _ r5 refl (runs_literal (λ v. nothing) (λ v. None) record { stage = refl; saved = refl } (none_given _)) in
         let g1 = act _ _ _ _ _ _ r6 refl (does_other (next_at _ 107 other _ _ (ap runs empty_literal_is) (first_moves happens) refl)) in
         let g2 = act _ _ _ _ _ _ g1 refl (moves_on (goes _ _ _ _ refl first_is_done)) in
         let g3 = act _ _ _ _ _ _ g2 refl (moves_on (goes _ _ _ _ refl first_is_done)) in
@@ -169,7 +164,7 @@ loud_by_branching_literal = from_there (obtained_one _ _ _ _ deferring_branch_is
         let r3 = act _ _ _ _ _ _ r2 refl (moves_on (goes _ _ _ _ refl (first_moves first_is_done))) in
         let r4 = act _ _ _ _ _ _ r3 refl (moves_on (goes _ _ _ _ refl first_is_done)) in
         let r5 = act _ _ _ _ _ _ r4 refl (comes_to_return (next_at _ 138 (return_event []) _ _ refl happens refl)) in
-        let r6 = act _ _ _ _ _ _ r5 refl (runs_literal (λ v. nothing) record { stage = refl; saved = refl } (λ v. any_nothing)) in
+        let r6 = act _ _ _ _ _ _ r5 refl (runs_literal (λ v. nothing) (λ v. None) record { stage = refl; saved = refl } (none_given _)) in
         let g1 = act _ _ _ _ _ _ r6 refl (does_other (next_at _ 107 other _ _ (ap runs branching_literal_is) (first_moves happens) refl)) in
         let g2 = act _ _ _ _ _ _ g1 refl (moves_on (goes _ _ _ _ refl first_is_done)) in
         let g3 = act _ _ _ _ _ _ g2 refl (moves_on (goes _ _ _ _ refl (first_moves (first_moves first_is_done)))) in

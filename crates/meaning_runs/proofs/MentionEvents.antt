@@ -12,7 +12,15 @@ use Rattle.meaning.specs.Uses.{Seen, found, kind_of, tracked_kind, Event, other,
 use Rattle.meaning.proofs.Membership.{contains_cases, contains_nil}
 use Rattle.meaning_runs.specs.RunLists.{is_return}
 
--- what a mention gives that binds nothing
+-- what a mention of a cancel variable gives that binds nothing
+abbrev pub is_cancel_use : Event → Bool
+is_cancel_use (call v) = true
+is_cancel_use (defer_call v) = true
+is_cancel_use (pass u c n) = true
+is_cancel_use (defer_pass u c n) = true
+is_cancel_use e = false
+
+-- what any mention gives that binds nothing
 abbrev pub is_use : Event → Bool
 is_use (call v) = true
 is_use (defer_call v) = true
@@ -24,6 +32,23 @@ is_use (try g literal) = true
 is_use (wait g) = true
 is_use (defer_wait g) = true
 is_use e = false
+
+cancel_use_is_use : (e : Event) → is_cancel_use e ≡ true → is_use e ≡ true
+cancel_use_is_use (call v) h = refl
+cancel_use_is_use (defer_call v) h = refl
+cancel_use_is_use (pass u c n) h = refl
+cancel_use_is_use (defer_pass u c n) h = refl
+cancel_use_is_use other h = h
+cancel_use_is_use (obtain u c n is_new) h = h
+cancel_use_is_use (clear u) h = h
+cancel_use_is_use (lend g c n) h = refl
+cancel_use_is_use (start g literal) h = refl
+cancel_use_is_use (try g literal) h = refl
+cancel_use_is_use (wait g) h = refl
+cancel_use_is_use (defer_wait g) h = refl
+cancel_use_is_use (make u state) h = h
+cancel_use_is_use (defer_literal at) h = h
+cancel_use_is_use (return_event handed) h = h
 
 -- what a mention gives
 abbrev pub is_told_of_mention : Event → Bool
@@ -97,13 +122,18 @@ module _ (P : Event → Type 0) where
   if_so true o k h m = h
   if_so false o k h m = m
 
-  module _ (bodies : List BodyPlace) (l : Local)
-      (fits : (e : Event) → is_use e ≡ true → PassesOwn bodies l e → P e) where
-    -- what passes nothing on
-    idle_fits : (e : Event) → is_use e ≡ true → passes e ≡ None → P e
-    idle_fits e h none = fits e h (passes_nothing bodies l e none)
+  use_outcome_fits : (kind : VariableKind) (l : Local) (m : Mention) (o : Option (List Event)) → AllFitIf o
+      → AllFit (use_outcome kind l m o).events
+  use_outcome_fits kind l m None h = none_given
+  use_outcome_fits kind l m (Some es) h = h
 
-    own_fits : (e : Event) → is_use e ≡ true → is_own l bodies ≡ true → passes e ≡ Some l.number → P e
+  module _ (bodies : List BodyPlace) (l : Local)
+      (fits : (e : Event) → is_cancel_use e ≡ true → PassesOwn bodies l e → P e) where
+    -- what passes nothing on
+    called_fits : (e : Event) → is_cancel_use e ≡ true → passes e ≡ None → P e
+    called_fits e h none = fits e h (passes_nothing bodies l e none)
+
+    own_fits : (e : Event) → is_cancel_use e ≡ true → is_own l bodies ≡ true → passes e ≡ Some l.number → P e
     own_fits e h own is_it = fits e h λ n is. let same : l.number ≡ n = cc (sym is_it ∙ is) in (own, same)
 
     cancel_called_fits : (t : CancelType) (selected : Option (List ℕ)) (c : Call)
@@ -112,7 +142,7 @@ module _ (P : Event → Type 0) where
     cancel_called_fits t None c =
         one_allowed (has_its_arguments t c && is_statement_place c.place)
         (has_its_arguments t c && is_deferred_place c.place) (call l.number) (defer_call l.number)
-        (idle_fits (call l.number) refl refl) (idle_fits (defer_call l.number) refl refl)
+        (called_fits (call l.number) refl refl) (called_fits (defer_call l.number) refl refl)
 
     cancel_passed_fits : is_own l bodies ≡ true → (known : Known) (t : CancelType) (m : Mention)
         (selected : Option (List ℕ)) (k : ℕ) (b : Bool) (c : Call)
@@ -143,6 +173,12 @@ module _ (P : Event → Type 0) where
     cancel_use_fits known t m (names_type row) = tt
     cancel_use_fits known t m (new_literal row) = tt
     cancel_use_fits known t m parameter_pointer = tt
+
+  module _ (bodies : List BodyPlace) (l : Local)
+      (fits : (e : Event) → is_use e ≡ true → PassesOwn bodies l e → P e) where
+    -- what passes nothing on
+    idle_fits : (e : Event) → is_use e ≡ true → passes e ≡ None → P e
+    idle_fits e h none = fits e h (passes_nothing bodies l e none)
 
     group_called_fits : (seen : Seen) (selected : Option (List ℕ)) (c : Call)
         → AllFitIf (group_called seen l bodies selected c)
@@ -189,18 +225,14 @@ module _ (P : Event → Type 0) where
     group_use_fits seen m parameter_pointer = tt
 
     kind_use_fits : (seen : Seen) (kind : VariableKind) (m : Mention) → AllFitIf (kind_use seen l kind bodies m)
-    kind_use_fits seen cancel m = cancel_use_fits seen.known (cancel_type_of seen l) m m.role
+    kind_use_fits seen cancel m =
+        cancel_use_fits bodies l (λ e h own. fits e (cancel_use_is_use e h) own) seen.known (cancel_type_of seen l) m m.role
     kind_use_fits seen group m = group_use_fits seen m m.role
-
-    use_outcome_fits : (kind : VariableKind) (m : Mention) (o : Option (List Event)) → AllFitIf o
-        → AllFit (use_outcome kind l m o).events
-    use_outcome_fits kind m None h = none_given
-    use_outcome_fits kind m (Some es) h = h
 
     pub mention_fits : (seen : Seen) (kind : Option VariableKind) (m : Mention)
         → AllFit (mention_outcome seen l kind bodies m).events
     mention_fits seen None m = none_given
-    mention_fits seen (Some kind) m = use_outcome_fits kind m (kind_use seen l kind bodies m) (kind_use_fits seen kind m)
+    mention_fits seen (Some kind) m = use_outcome_fits kind l m (kind_use seen l kind bodies m) (kind_use_fits seen kind m)
 
   module _ (bodies : List BodyPlace) (l : Local)
       (fits : (e : Event) → is_told_of_mention e ≡ true → PassesOwn bodies l e → P e) where

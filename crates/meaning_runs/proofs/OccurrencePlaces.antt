@@ -381,7 +381,7 @@ module _ {E : Type 0} (sites : Sites E) where
 
 -- Numbers
 
-in_list : {X : Type 0} (xs : List X) (i : ℕ) (x : X) → slice_get xs i ≡ Some x → Contains xs x
+pub in_list : {X : Type 0} (xs : List X) (i : ℕ) (x : X) → slice_get xs i ≡ Some x → Contains xs x
 in_list xs i x e = (i, slice_get_within xs i x e, get_or_from_slice_get xs i x x e)
 
 one_number : {E : Type 0} (os : List (Occurrence E)) → AreApart os → (i j : ℕ) (o p : Occurrence E)

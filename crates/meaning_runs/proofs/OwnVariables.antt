@@ -5,19 +5,17 @@ use Rattle.std.specs.Prelude.{◌==◌, ◌&&◌, ◌||◌, if◌then◌else◌,
 use Rattle.std.specs.List.{list_any, filter}
 use Rattle.std.proofs.lemmas.Bool.{eq-eqb, cases_eq}
 use Rattle.std.proofs.lemmas.List.Elements.{Contains-append_cases, Contains-append_left, Contains-append_right}
-use Rattle.meaning.specs.FunctionFacts.{VariableKind, cancel}
+use Rattle.std.proofs.lemmas.Option.{same_Some}
+use Rattle.meaning.specs.FunctionFacts.{VariableKind}
 use Rattle.meaning.specs.Tracked.{variable_of, Local, find_local}
 use Rattle.meaning.specs.Uses.{Seen, found, tracked_kind, VariableAt}
-use Rattle.meaning.specs.BodyEvents.{Variable, VariableRole, own_parameter, declared_in_body, captured, role_in, role_in_own, first_in, first_occurrence, is_captured_there, is_variable_of, variable_there, variable_found, variables_among, distinct, comes_before, put_in, in_their_order}
+use Rattle.meaning.specs.BodyEvents.{Variable, own_parameter, declared_in_body, captured, role_in, role_in_own, first_in, first_occurrence, is_captured_there, is_variable_of, variable_there, variable_found, variables_among, distinct, comes_before, put_in, in_their_order}
 use Rattle.meaning.proofs.Membership.{contains_here, contains_there, contains_cases, contains_nil, contains_map}
 use Rattle.meaning_packages.specs.PathFaults.{is_declared}
 use Rattle.meaning_runs.specs.Bodies.{Body, variables_in}
 use Rattle.meaning_runs.specs.EventSources.{IsBound}
-use Rattle.meaning_runs.proofs.OwnBindings.{BindsOwn}
+use Rattle.meaning_runs.proofs.OwnBindings.{BindsVariable}
 use Rattle.meaning_runs.proofs.Places.{eqb_is}
-
-pub some-inj : {A : Type 0} (x y : A) → Some x ≡ Some y → x ≡ y
-some-inj x y e = cc
 
 -- lists that are put in order
 put_has : (v : Variable) (vs : List Variable) (x : Variable) → Contains (v ∷ vs) x → Contains (put_in v vs) x
@@ -109,7 +107,7 @@ find_is (x ∷ xs) n l e = by (x.number == n) refl e (find_is xs n l)
   where
     by : (b : Bool) → (x.number == n) ≡ b → (if b then Some x else find_local xs n) ≡ Some l → (find_local xs n ≡ Some l → Contains xs l × (l.number ≡ n)) → Contains (x ∷ xs) l × (l.number ≡ n)
     by true q is f =
-        let same = some-inj x l is in
+        let same = same_Some x l is in
         (subst (λ y. Contains (x ∷ xs) y) same (contains_here x xs), ap (λ (y : Local). y.number) (sym same) ∙ eqb_is x.number n q)
     by false q is f = let r = f is in (contains_there x l xs r.0, r.1)
 
@@ -131,38 +129,47 @@ of_found seen body (Some l) x h = by (is_variable_of seen body l) (tracked_kind 
       | inr n ↦ absurd (contains_nil x n)
     ]
 
-module _ (b : Body) (u : VariableAt) (h : IsBound b u) (tracked : tracked_kind b.file (Some h.local) ≡ Some cancel) where
-  abbrev its_role : VariableRole
-  its_role = role_in b.place.at h.local
+-- a local that is tracked is among the variables of each body that declares it, or mentions it
+module _ (b : Body) (l : Local) (kind : VariableKind) (is : found b.file (Some l.number) ≡ Some l)
+    (tracked : tracked_kind b.file (Some l) ≡ Some kind) where
+  abbrev pub as_variable : Variable
+  as_variable = record {
+    number = l.number;
+    name = l.name;
+    kind = kind;
+    role = role_in b.place.at l;
+    first = first_in (role_in b.place.at l) l (first_occurrence b.file.known b.place.at l b.file.marks);
+  }
 
-  role_is : its_role ≡ declared_in_body
+  abbrev occurs : Bool
+  occurs = list_any (λ p. is_captured_there b.file.known b.place.at l p.bodies p.mark) b.file.marks
+
+  -- the body declares it, or a mention in the body or in a literal in it is one of it
+  pub is_its : ((l.body == b.place.at) || occurs) ≡ true → is_variable_of b.file b.place.at l ≡ true
+  is_its h = ap (λ k. is_some k && ((l.body == b.place.at) || occurs)) tracked ∙ h
+
+  found_there : is_variable_of b.file b.place.at l ≡ true
+      → Contains (variable_found b.file b.place.at (found b.file (Some l.number))) as_variable
+  found_there its =
+      subst (λ o. Contains (variable_found b.file b.place.at o) as_variable) (sym is)
+      (subst (λ x. Contains (if x then variable_there b.file b.place.at l (tracked_kind b.file (Some l)) else []) as_variable) (sym its)
+      (subst (λ k. Contains (variable_there b.file b.place.at l k) as_variable) (sym tracked) (contains_here as_variable [])))
+
+  pub is_listed : is_variable_of b.file b.place.at l ≡ true → Contains (variables_in b) as_variable
+  is_listed its =
+      let numbers = map (λ (x : Local). x.number) b.file.locals in
+      let among = contains_map (λ (x : Local). x.number) b.file.locals l (found_is b.file (Some l.number) l is).1 in
+      order_has _ as_variable (among_has b.file b.place.at (distinct numbers) l.number as_variable
+      (distinct_has numbers l.number among) (found_there its))
+
+module _ (b : Body) (u : VariableAt) (h : IsBound b u) where
+  is_found : found b.file (Some h.local.number) ≡ Some h.local
+  is_found = (found_is b.file (variable_of b.file.known h.mention) h.local h.is_found).0
+
+  role_is : role_in b.place.at h.local ≡ declared_in_body
   role_is =
       ap (λ x. cond x (role_in_own h.local.role) captured) (eq-eqb h.local.body b.place.at h.is_declared_here)
       ∙ ap role_in_own h.is_in_block
-
-  abbrev it : Variable
-  it = record {
-    number = h.local.number;
-    name = h.local.name;
-    kind = cancel;
-    role = its_role;
-    first = first_in its_role h.local (first_occurrence b.file.known b.place.at h.local b.file.marks);
-  }
-
-  is_its : is_variable_of b.file b.place.at h.local ≡ true
-  is_its =
-      ap (λ k. is_some k && ((h.local.body == b.place.at) || list_any (λ p. is_captured_there b.file.known b.place.at h.local p.bodies p.mark) b.file.marks)) tracked
-      ∙ ap (λ x. x || list_any (λ p. is_captured_there b.file.known b.place.at h.local p.bodies p.mark) b.file.marks) (eq-eqb h.local.body b.place.at h.is_declared_here)
-
-  there : Contains (variable_found b.file b.place.at (found b.file (Some h.local.number))) it
-  there =
-      subst (λ o. Contains (variable_found b.file b.place.at o) it) (sym (found_is b.file (variable_of b.file.known h.mention) h.local h.is_found).0)
-      (subst (λ x. Contains (if x then variable_there b.file b.place.at h.local (tracked_kind b.file (Some h.local)) else []) it) (sym is_its)
-      (subst (λ k. Contains (variable_there b.file b.place.at h.local k) it) (sym tracked) (contains_here it [])))
-
-  is_listed : Contains (variables_in b) it
-  is_listed =
-      order_has _ it (among_has b.file b.place.at (distinct (map (λ (l : Local). l.number) b.file.locals)) h.local.number it (distinct_has (map (λ (l : Local). l.number) b.file.locals) h.local.number (contains_map (λ (l : Local). l.number) b.file.locals h.local (found_is b.file (variable_of b.file.known h.mention) h.local h.is_found).1)) there)
 
   never : (v : Variable) (k : ℕ) → Contains (variables_in b) v → v.number ≡ u.number → v.role ≡ own_parameter k → ⊥
   never v k among same role =
@@ -170,16 +177,19 @@ module _ (b : Body) (u : VariableAt) (h : IsBound b u) (tracked : tracked_kind b
       let r = of_found b.file b.place.at (found b.file (Some m.0)) v m.1 in
       let f = found_is b.file (Some m.0) r.0 r.1 in
       let number : r.0.number ≡ h.local.number = sym r.2 ∙ same ∙ sym h.is_it in
-      let is : r.0 ≡ h.local = some-inj r.0 h.local (sym f.0 ∙ ap (λ n. found b.file (Some n)) number ∙ (found_is b.file (variable_of b.file.known h.mention) h.local h.is_found).0) in
-      let bad : own_parameter k ≡ declared_in_body = sym role ∙ r.3 ∙ ap (λ (l : Local). role_in b.place.at l) is ∙ role_is in
+      let one : r.0 ≡ h.local = same_Some r.0 h.local (sym f.0 ∙ ap (λ n. found b.file (Some n)) number ∙ is_found) in
+      let bad : own_parameter k ≡ declared_in_body = sym role ∙ r.3 ∙ ap (λ (l : Local). role_in b.place.at l) one ∙ role_is in
       cc
 
-  pub binds_own : BindsOwn b u
-  binds_own = record {
-    variable = it;
-    is_of_body = is_listed;
-    is_it = h.is_it;
-    is_cancel_variable = refl;
-    is_declared_here = ap is_declared role_is;
-    is_no_parameter = never;
-  }
+  pub binds_variable : (kind : VariableKind) → tracked_kind b.file (Some h.local) ≡ Some kind → BindsVariable kind b u
+  binds_variable kind tracked =
+      let occurring = occurs b h.local kind is_found tracked in
+      record {
+        variable = as_variable b h.local kind is_found tracked;
+        is_of_body = is_listed b h.local kind is_found tracked
+            (is_its b h.local kind is_found tracked (ap (λ x. x || occurring) (eq-eqb h.local.body b.place.at h.is_declared_here)));
+        is_it = h.is_it;
+        is_of_kind = refl;
+        is_declared_here = ap is_declared role_is;
+        is_no_parameter = never;
+      }

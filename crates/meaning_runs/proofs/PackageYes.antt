@@ -4,31 +4,23 @@ use Rattle.std.proofs.Common.{◌≡◌, ℕ, List, Some, Contains, sym, subst}
 use Rattle.std.specs.Prelude.{slice_get}
 use Rattle.meaning.specs.Uses.{Seen}
 use Rattle.meaning.proofs.Membership.{contains_nil}
-use Rattle.meaning_packages.specs.CallsFlags.{FileWithCredits, calls_by}
+use Rattle.meaning_packages.specs.CallsFlags.{FileWithCredits}
 use Rattle.imports.specs.Ranks.{Imports, Chain, ends, goes_on}
 use Rattle.report.specs.Entries.{Entry}
-use Rattle.meaning_reports.specs.Loaded.{LoadedPackage, Tables, imported_flags, import_list, seen_files, signatures_of}
+use Rattle.meaning_reports.specs.Loaded.{LoadedPackage, Tables, import_list, seen_files, signatures_of}
 use Rattle.meaning_reports.specs.WholeFaults.{HasNoWholeFault}
 use Rattle.meaning_reports.specs.PackageTables.{AreCredited, no_file, file_and, IsTableBy, empty, full, AreTablesBy}
-use Rattle.meaning_reports.specs.PackageReports.{Said, IsFileFinding, Rules, of_whole, of_import, of_files, IsYesBy, IsReportBy, by_paths}
+use Rattle.meaning_reports.specs.PackageReports.{Said, Rules, of_whole, of_import, of_files, IsYesBy, IsReportBy, by_paths}
 use Rattle.meaning_reports.proofs.ImportsOf.{given_in_lists, import_there, is_named}
 use Rattle.meaning_runs.specs.Promise as promise
-use Rattle.meaning_runs.specs.Promise.{AreFairlyCredited, AreTreesOfTexts, IsWellKnown, AreWellKnown, HasNoFinding}
-use Rattle.meaning_runs.specs.PackageYes.{IsYesIn, program_of, AreOfTexts, AreWithoutGroups, YesOfAPackageIsQuietBy, YesOfAPackageIsQuiet}
+use Rattle.meaning_runs.specs.Promise.{AreFairlyCredited, AreTreesOfTexts, AreWellKnown, IsWithoutFinding, HaveNoFindings}
+use Rattle.meaning_runs.specs.PackageYes.{IsYesIn, program_of, AreOfTexts, YesOfAPackageIsQuietBy, YesOfAPackageIsQuiet, YesIsOfAllBelowBy, YesIsOfAllBelow}
 use Rattle.meaning_runs.proofs.QuietPromise.{yes_is_quiet}
 
 -- By any rules
 
--- what is known of the package holds, and nothing is to be said of its files
-pub record IsKnown (ps : List LoadedPackage) (tables : Tables) (i : ℕ) (q : LoadedPackage) : Type 0 where
-  pub known : IsWellKnown ps tables i q
-  pub none : (number : ℕ) (file : FileWithCredits) (x : Entry)
-      → slice_get known.files number ≡ Some file
-      → IsFileFinding (calls_by (tables q.path).calls (imported_flags q tables)) number file x
-      → ⊥
-
--- so it is of each package of texts with such a table that has no fault of the whole package, and of whose files nothing
--- is said
+-- Of a package of texts with such a table that has no fault of the whole package, and of whose files nothing is said,
+-- what is known holds, and nothing is to be said of its files.
 abbrev pub AreKnownWell : Rules → Type 0
 AreKnownWell rules = (ps : List LoadedPackage) (tables : Tables) (i : ℕ) (q : LoadedPackage)
     → slice_get ps i ≡ Some q
@@ -37,7 +29,7 @@ AreKnownWell rules = (ps : List LoadedPackage) (tables : Tables) (i : ℕ) (q : 
     → ((name : List ℕ) → (tables q.path).signatures name ≡ signatures_of ps q name)
     → ((x : Entry) → rules.says ps tables i x → ⊥)
     → AreTreesOfTexts q
-    → IsKnown ps tables i q
+    → IsWithoutFinding ps tables i q
 
 module _ (rules : Rules) (each : AreKnownWell rules) where
   module _ (ps : List LoadedPackage) (tables : Tables) (are : AreTablesBy rules.are_flags ps tables) where
@@ -56,10 +48,10 @@ module _ (rules : Rules) (each : AreKnownWell rules) where
     yes_below i k (goes_on {j = j} first rest) said_none = yes_below j k rest (yes_of_import i j first said_none)
 
     is_known : (i : ℕ) (q : LoadedPackage) → slice_get ps i ≡ Some q → IsYesBy rules ps tables i → AreTreesOfTexts q
-        → IsKnown ps tables i q
+        → IsWithoutFinding ps tables i q
     is_known i q is said_none texts = by (are.of_package i q is)
       where
-        by : IsTableBy rules.are_flags ps tables i q (tables q.path) → IsKnown ps tables i q
+        by : IsTableBy rules.are_flags ps tables i q (tables q.path) → IsWithoutFinding ps tables i q
         by (empty x fault nothing) = absurd (said_none x (of_whole fault))
         by (full flags none its signatures calls) =
             let same : flags ≡ (tables q.path).calls = λ j name k. sym (calls name k) j in
@@ -67,19 +59,17 @@ module _ (rules : Rules) (each : AreKnownWell rules) where
             (λ x said. said_none x (of_files none said)) texts
 
     module _ (i : ℕ) (said_none : IsYesBy rules ps tables i) where
-      pub are_well_known : AreOfTexts (program_of ps tables i) → AreWithoutGroups (program_of ps tables i) → AreWellKnown (program_of ps tables i)
-      are_well_known texts groups = record {
+      pub are_well_known : AreOfTexts (program_of ps tables i) → AreWellKnown (program_of ps tables i)
+      are_well_known texts = record {
         of_package = λ j q below is. (is_known j q is (yes_below i j below said_none) (texts j q below is)).known;
         of_texts = texts;
-        without_groups = groups;
         of_others = are.of_others;
       }
 
-      pub has_no_finding : AreOfTexts (program_of ps tables i) → (q : LoadedPackage) → slice_get ps i ≡ Some q
-          → HasNoFinding (program_of ps tables i)
-      has_no_finding texts q is =
-          let h = is_known i q is said_none (texts i q ends is) in
-          record { loaded = q; is_package = is; is_known = h.known; none = h.none }
+      pub have_no_findings : AreOfTexts (program_of ps tables i) → HaveNoFindings (program_of ps tables i)
+      have_no_findings texts = record {
+        of_package = λ j q below is. is_known j q is (yes_below i j below said_none) (texts j q below is);
+      }
 
   is_yes : (ps : List LoadedPackage) (report : List Said) (i : ℕ) (is_report : IsReportBy rules ps report) → IsYesIn ps report i → IsYesBy rules ps is_report.tables i
   is_yes ps report i is_report said_none x h =
@@ -87,11 +77,15 @@ module _ (rules : Rules) (each : AreKnownWell rules) where
       contains_nil x (subst (λ xs. Contains xs x) said_none.is_yes ((w.1.each x).1 h))
 
   pub yes_of_a_package_is_quiet_by : YesOfAPackageIsQuietBy rules
-  yes_of_a_package_is_quiet_by ps report i is_report said_none texts groups =
+  yes_of_a_package_is_quiet_by ps report i is_report said_none texts =
       let h = is_yes ps report i is_report said_none in
       let tables = is_report.tables in
       let are = is_report.are_tables in
-      yes_is_quiet (program_of ps tables i) (are_well_known ps tables are i h texts groups) (has_no_finding ps tables are i h texts said_none.loaded said_none.is_package)
+      yes_is_quiet (program_of ps tables i) (are_well_known ps tables are i h texts) (have_no_findings ps tables are i h texts)
+
+  pub yes_is_of_all_below_by : YesIsOfAllBelowBy rules
+  yes_is_of_all_below_by ps report i is_report said_none texts =
+      have_no_findings ps is_report.tables is_report.are_tables i (is_yes ps report i is_report said_none) texts
 
 -- By paths
 
@@ -124,3 +118,6 @@ known_by_paths ps tables i q is none its signatures said_none texts =
 
 pub yes_of_a_package_is_quiet : YesOfAPackageIsQuiet
 yes_of_a_package_is_quiet = yes_of_a_package_is_quiet_by by_paths known_by_paths
+
+pub yes_is_of_all_below : YesIsOfAllBelow
+yes_is_of_all_below = yes_is_of_all_below_by by_paths known_by_paths

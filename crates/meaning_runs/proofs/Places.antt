@@ -1,5 +1,5 @@
--- Where frames stand, what a code that a frame has left goes on with, and what calls do to the store.
-use Rattle.std.proofs.Common.{◌≡◌, ℕ, ◌<◌, inl, inr, Bool, true, false, List, [], ◌∷◌, ◌++◌, Some, None, Contains, refl, sym, ap, ◌∙◌, subst, arith, append_assoc}
+-- What a code that a frame has left goes on with, and what calls do to the store.
+use Rattle.std.proofs.Common.{◌≡◌, ℕ, inl, inr, Bool, true, false, List, [], ◌∷◌, ◌++◌, Some, None, Contains, refl, sym, ◌∙◌, subst, append_assoc}
 use Rattle.std.specs.Prelude.{◌==◌, ◌||◌}
 use Rattle.std.proofs.lemmas.Bool.{ne_eqb, cases_eq}
 use Rattle.meaning.specs.Code.{Occurrence, Code}
@@ -11,12 +11,9 @@ use Rattle.meaning.proofs.Membership.{contains_here, contains_there}
 use Rattle.meaning_packages.specs.PathFaults.{is_handed}
 use Rattle.meaning_runs.specs.Bodies.{Body, code_of}
 use Rattle.meaning_runs.specs.World.{Value, nothing, cancel_function, Store, calling, runs, exits}
+use Rattle.meaning_runs.specs.Steps.{WasCalled}
 use Rattle.meaning_runs.specs.Moves.{Moves}
 use Rattle.meaning_runs.proofs.Simulation.{simulates}
-
--- where a frame stands: its goroutine, and how many frames are below it
-abbrev pub Place : Type 0
-Place = ℕ × ℕ
 
 abbrev pub class_of : Promises → Variable → List (Occurrence Event) → CancelClass
 class_of relies v t = cancel_after relies v.number (entry_cancel v.role) t
@@ -28,13 +25,6 @@ after_push relies v k (x ∷ t) o = after_push relies v (change_cancel relies v 
 -- the body's lists go on with those of what is left
 abbrev pub IsAt : Body → List (Occurrence Event) → Code Event → Type 0
 IsAt b t c = (u : List (Occurrence Event)) (x : Exit) → Lists c u x → Lists (code_of b) (t ++ u) x
-
--- The store grows by what the frame at a place does: cells that others made stay.
-pub record Grows (at : Place) (owner after_owner : ℕ → Place) (s after : Store) : Type 0 where
-  pub called : (a : ℕ) → Contains s.called a → Contains after.called a
-  pub counts : (k : ℕ) → k < s.cell_count → k < after.cell_count
-  pub same_owner : (k : ℕ) → k < s.cell_count → after_owner k ≡ owner k
-  pub same_cells : (k v : ℕ) → k < s.cell_count → (owner k ≡ at → ⊥) → after.cells k v ≡ s.cells k v
 
 -- a move of a code that a frame has left
 pub goes_there : (b : Body) (t : List (Occurrence Event)) (c d : Code Event) (o : Occurrence Event) → Moves c (Some o) d → IsAt b t c → IsAt b (t ++ o ∷ []) d
@@ -52,30 +42,20 @@ runs-inj c d e = cc
 pub exits≢runs : (c : Code Event) → exits ≡ runs c → ⊥
 exits≢runs c e = cc
 
-same_function : (a b : ℕ) → cancel_function a ≡ cancel_function b → a ≡ b
-same_function a b e = cc
-
-abbrev pub on : ℕ → ℕ → Event → Occurrence Event
-on at order e = record { at = at; order = order; event = e }
-
 -- the class after one more event
 pub class_next : (relies : Promises) (v : Variable) (t : List (Occurrence Event)) (o : Occurrence Event) → class_of relies v (t ++ o ∷ []) ≡ change_cancel relies v.number o.event (class_of relies v t)
 class_next relies v t o = after_push relies v.number (entry_cancel v.role) t o
 
 -- a call of a value
-pub called_more : (s : Store) (value : Value) (a : ℕ) → Contains s.called a → Contains (calling s value).called a
-called_more s nothing a h = h
-called_more s (cancel_function x) a h = contains_there x a s.called h
-
 pub called_now : (s : Store) (value : Value) (a : ℕ) → value ≡ cancel_function a → Contains (calling s value).called a
 called_now s nothing a e = let bad : nothing ≡ cancel_function a = e in cc
 called_now s (cancel_function x) a e =
     let same : x ≡ a = cc in
     subst (λ n. Contains (x ∷ s.called) n) same (contains_here x s.called)
 
-pub calling_cells : (s : Store) (value : Value) → (calling s value).cells ≡ s.cells
-calling_cells s nothing = refl
-calling_cells s (cancel_function x) = refl
+pub called_it : (s : Store) (value : Value) → WasCalled (calling s value) value
+called_it s nothing = tt
+called_it s (cancel_function x) = contains_here x s.called
 
 pub calling_count : (s : Store) (value : Value) → (calling s value).cell_count ≡ s.cell_count
 calling_count s nothing = refl
@@ -93,21 +73,3 @@ handed_there (h ∷ hs) v e = by (h.number == v) refl (handed_there hs v) e
         → (x : Handed) × Contains (h ∷ hs) x × (x.number ≡ v)
     by true q further all = (h, contains_here h hs, eqb_is h.number v q)
     by false q further all = let r = further all in (r.0, contains_there h r.0 hs r.1, r.2)
-
-abbrev pub place_at : ℕ → ℕ → Place
-place_at g n = (g, n)
-
-pub other_place : (g h n m : ℕ) → (g ≡ h → ⊥) → place_at g n ≡ place_at h m → ⊥
-other_place g h n m ne e = ne (ap (λ (x : ℕ × ℕ). x.0) e)
-
-pub lower_place : (g h n m : ℕ) → n < m → place_at g n ≡ place_at h m → ⊥
-lower_place g h n m l e = let same : n ≡ m = ap (λ (x : ℕ × ℕ). x.1) e in omega (arith, l, same)
-
--- the cells stay
-pub same_cells : (place : Place) (owner : ℕ → Place) (s after : Store) → after.cells ≡ s.cells → after.cell_count ≡ s.cell_count → ((a : ℕ) → Contains s.called a → Contains after.called a) → Grows place owner owner s after
-same_cells place owner s after cells count called = record {
-  called = called;
-  counts = λ k h. subst (λ m. k < m) (sym count) h;
-  same_owner = λ k h. refl;
-  same_cells = λ k v h n. ap (λ (c : ℕ → ℕ → Value). c k v) cells;
-}

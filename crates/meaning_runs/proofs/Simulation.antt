@@ -50,10 +50,6 @@ module _ {E : Type 0} where
   simulates c d o u x (gets_out {w}) (not_begun) = not_begun
   simulates c d o u x (gets_out {w}) (skipped) = passes skipped (falls≢leaves w)
 
-  -- the first of some events can come at once after a move, where the code goes on
-  pub stops_after_move : (c d : Code E) (o : Occurrence E) → Moves c (Some o) d → Lists c (o ∷ []) stopped
-  stops_after_move c d o m = simulates c d (Some o) [] stopped m not_begun
-
   pub does_list : (c d : Code E) (t u : List (Occurrence E)) (x : Exit) → Does c t d → Lists d u x → Lists c (t ++ u) x
   does_list c d t u x stays l = l
   does_list c d t u x (silently {d = e} m r) l = simulates c e None (t ++ u) x m (does_list e d t u x r l)

@@ -1,9 +1,10 @@
 -- Marks whose sites stand within a range of offsets, but for those of what stands around the part: each return is the
 -- last mark of its site, no other site for whose events the code asks is that of a return, and no two sites of a code are
 -- one.
-use Rattle.std.proofs.Common.{◌≡◌, ℕ, ◌<◌, ◌≤◌, ◌⊎◌, inl, inr, Bool, true, false, List, [], ◌∷◌, ◌++◌, Contains, refl, sym, ap, ◌∙◌, subst, arith, true≢false}
+use Rattle.std.proofs.Common.{◌≡◌, ℕ, ◌<◌, ◌≤◌, ◌⊎◌, inl, inr, true, false, List, [], ◌∷◌, ◌++◌, Contains, refl, sym, ap, ◌∙◌, subst, arith, true≢false}
 use Rattle.std.specs.Prelude.{◌==◌, ◌-◌}
 use Rattle.std.proofs.lemmas.List.Elements.{Contains-append_left, Contains-append_cases}
+use Rattle.std.proofs.lemmas.Bool.{false_from_ne_true}
 use Rattle.tree.specs.Syntax.{Expressions}
 use Rattle.meaning.specs.Mentions.{BodyPlace, Mark, mentions, defers_literal, returns, opens, closes, in_body}
 use Rattle.meaning.specs.BodyEvents.{is_site}
@@ -88,6 +89,27 @@ abbrev pub AreOwn : Around → List Mark → Type 0
 AreOwn own [] = Unit {0}
 AreOwn own (m ∷ ms) = IsOwn own m × AreOwn own ms
 
+-- the mark is that of a mention, at the site around
+abbrev pub IsMention : Around → Mark → Type 0
+IsMention own (mentions m) = IsAround own m.site
+IsMention own mark = ⊥
+
+-- each of them is
+abbrev pub AreMentions : Around → List Mark → Type 0
+AreMentions own [] = Unit {0}
+AreMentions own (m ∷ ms) = IsMention own m × AreMentions own ms
+
+pub mention_is_own : (own : Around) (m : Mark) → IsMention own m → IsOwn own m
+mention_is_own own (mentions m) h = h
+mention_is_own own (defers_literal site at) h = absurd h
+mention_is_own own (returns site es) h = absurd h
+mention_is_own own (opens b) h = absurd h
+mention_is_own own closes h = absurd h
+
+pub mentions_are_own : (own : Around) (ms : List Mark) → AreMentions own ms → AreOwn own ms
+mentions_are_own own [] h = tt
+mentions_are_own own (m ∷ ms) h = (mention_is_own own m h.0, mentions_are_own own ms h.1)
+
 own_among : (own : Around) (ms : List Mark) (m : Mark) → AreOwn own ms → Contains ms m → IsOwn own m
 own_among own [] m h among = absurd (contains_nil m among)
 own_among own (n ∷ ms) m h among = elim (contains_cases n m ms among) [
@@ -160,10 +182,6 @@ longer_sited up w = record {
 
 -- Two parts
 
-not_there : (b : Bool) → (b ≡ true → ⊥) → b ≡ false
-not_there true h = absurd (h refl)
-not_there false h = refl
-
 asked_of_both : (qs rs : List CodeSite) (ms ns : List Mark) (s : ℕ)
     → IsAsked (qs ++ rs) (ms ++ ns) s
     → IsAsked qs ms s ⊎ IsAsked rs ns s
@@ -209,7 +227,7 @@ module _ {own : Around} {lo hi low high : ℕ} {qs rs : List CodeSite} {ms ns : 
   across : (m n : Mark) → Contains ms m → Contains ns n → MayFollow m n
   across (mentions m) n x y = tt
   across (defers_literal site at) n x y = tt
-  across (returns s es) n x y = not_there (is_site n s) λ e.
+  across (returns s es) n x y = false_from_ne_true (is_site n s) λ e.
       let r = h.returning s es x in
       elim (k.sites n s y e) [ inl z ↦ r.0 z | inr z ↦ apart s s r.1 r.2 z.0 z.1 refl ]
   across (opens b) n x y = tt
@@ -467,7 +485,7 @@ one_or_return n s es fs ms among = elim (Contains-append_cases ms (returns n es 
 ]
 
 eqb_not : (n s : ℕ) → (n ≡ s → ⊥) → (n == s) ≡ false
-eqb_not n s h = not_there (n == s) λ e. h (eqb_is n s e)
+eqb_not n s h = false_from_ne_true (n == s) λ e. h (eqb_is n s e)
 
 returns_follow : (n : ℕ) (es : Expressions) (ms : List Mark)
     → ((s : ℕ) (fs : Expressions) → Contains ms (returns s fs) → n < s)

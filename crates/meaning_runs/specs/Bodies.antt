@@ -7,8 +7,8 @@ use Rattle.meaning.specs.Code.{Code}
 use Rattle.meaning.specs.StatementCode.{body_code}
 use Rattle.meaning.specs.Mentions.{BodyPlace, opens}
 use Rattle.meaning.specs.Tracked.{Placed, outer}
-use Rattle.meaning.specs.Uses.{Callee, Event, Seen, is_body}
-use Rattle.meaning.specs.BodyEvents.{Variable, VariableRole, own_parameter, own_receiver, declared_in_body, captured, is_cancel_variable, is_parameter, sites_of, variables_of}
+use Rattle.meaning.specs.Uses.{Callee, Event, start, try, Seen, is_body, is_deferred}
+use Rattle.meaning.specs.BodyEvents.{Variable, VariableRole, own_parameter, own_receiver, declared_in_body, captured, is_parameter, mark_events, sites_of, variables_of}
 use Rattle.meaning_packages.specs.PathFaults.{block_of}
 use Rattle.meaning.specs.BodyEvents.{bodies_of}
 use Rattle.meaning_packages.specs.CallsFlags.{is_function}
@@ -46,10 +46,9 @@ code_of b = body_code (sites_of b.file b.place.at) (block_of b.place)
 abbrev pub variables_in : Body → List Variable
 variables_in b = variables_of b.file b.place.at
 
--- a cancel variable of that number is a parameter of the body, or its receiver
+-- a tracked variable of that number is a parameter of the body, or its receiver
 abbrev pub is_parameter_of : Body → ℕ → Bool
-is_parameter_of b number =
-    list_any (λ v. (v.number == number) && (is_cancel_variable v && is_parameter v.role)) (variables_in b)
+is_parameter_of b number = list_any (λ v. (v.number == number) && is_parameter v.role) (variables_in b)
 
 abbrev pub is_captured : VariableRole → Bool
 is_captured (own_parameter k) = false
@@ -57,11 +56,10 @@ is_captured own_receiver = false
 is_captured declared_in_body = false
 is_captured captured = true
 
--- a cancel variable of that number is declared in a body around this one, and is mentioned in this one or in a literal
+-- a tracked variable of that number is declared in a body around this one, and is mentioned in this one or in a literal
 -- in it
 abbrev pub is_captured_by : Body → ℕ → Bool
-is_captured_by b number =
-    list_any (λ v. (v.number == number) && (is_cancel_variable v && is_captured v.role)) (variables_in b)
+is_captured_by b number = list_any (λ v. (v.number == number) && is_captured v.role) (variables_in b)
 
 -- the body stands in no other: that of a function, of a method, or of a literal outside all functions
 pub record IsOutermost (b : Body) : Type 0 where
@@ -78,6 +76,25 @@ pub record IsLiteralIn (b literal : Body) : Type 0 where
   pub stands_in_it : is_body b.place.at (outer mark.bodies) ≡ true
   pub same_file : literal.file ≡ b.file
   pub same_home : literal.home ≡ b.home
+
+-- the event starts the literal at that offset in a group, or tries to
+abbrev pub starts_it : ℕ → Event → Bool
+starts_it at (start v (Some literal)) = literal == at
+starts_it at (try v (Some literal)) = literal == at
+starts_it at e = false
+
+-- so does an event of the body, on a path or not
+abbrev pub is_started_in : Body → ℕ → Bool
+is_started_in b at =
+    list_any (λ p. is_body b.place.at p.bodies && list_any (starts_it at) (mark_events b.file p.bodies p.mark))
+    b.file.marks
+
+-- The literal in the body goes to whoever gets its value: it is not called under `defer`, and no group starts it. (One
+-- that is started by something else than a tracked group is among these.)
+pub record Escapes (b literal : Body) : Type 0 where
+  pub is_literal : IsLiteralIn b literal
+  pub is_not_deferred : is_deferred literal.place ≡ false
+  pub is_not_started : is_started_in b literal.place.at ≡ false
 
 -- The package that a path names in a file of the package at `home`; without a path it is that at `home` itself.
 abbrev pub IsNamed : Program → ℕ → Option (List ℕ) → ℕ → Type 0

@@ -1,48 +1,58 @@
--- What is proved of calls that get cancel functions: in every world of a run there are values that they can give, so
--- that they always begin. (The Go specification, "Calls", "Defer statements".)
-use Rattle.std.specs.Prelude.{◌≡◌, ℕ, true, false, List, ◌∷◌}
+-- What is proved of calls that get cancel functions or groups: in every world of a run there are contents that they can
+-- give, so that they always begin; and a function without a body may start work in its groups, and comes back.
+-- (The Go specification, "Calls", "Defer statements".)
+use Rattle.std.specs.Prelude.{◌≡◌, ℕ, true, false, List, [], ◌∷◌, Some, None, Contains}
 use Rattle.meaning.specs.Code.{Code}
 use Rattle.meaning.specs.Uses.{Event}
 use Rattle.meaning_runs.specs.Bodies.{Program, Body, IsFunction}
-use Rattle.meaning_runs.specs.World.{Passing, Saved, saved_pass, Frame, World}
-use Rattle.meaning_runs.specs.Steps.{IsUnderWay, RunsSaved}
+use Rattle.meaning_runs.specs.World.{Lent, Passing, Saved, saved_pass, Frame, World, new_frame, nothing_around}
+use Rattle.meaning_runs.specs.Steps.{IsUnderWay, RunsSaved, HasNoBody, IsOutsideCall}
 use Rattle.meaning_runs.specs.Runs.{Run}
-use Rattle.meaning_runs.specs.Laws.{HasStep}
+use Rattle.meaning_runs.specs.Laws.{GoesTo, LeadsTo, Joins}
 
 -- Whether the function that is called has a body no test decides here, so both cases are told.
-pub record CallsGoOn (p : Program) (w : World) (f : Frame) : Type 0 where
-  -- a call under way, of a function with a body
+pub record CallsGoOn (p : Program) (w : World) (g : ℕ) (f : Frame) (others : List Frame) : Type 0 where
+  -- a call under way, of a function with a body, begins above the frame
   pub under_way : {code : Code Event} {passing : Passing}
       → IsUnderWay f code passing
       → passing.is_deferred ≡ false
       → (b : Body)
       → IsFunction p f.body passing.callee b
-      → HasStep p w
-  -- and of one without
+      → GoesTo p w g
+      (λ frames. frames ≡ new_frame w.store b nothing_around ∷ (record f { waiting = None }) ∷ others)
+  -- and one without comes back
   pub under_way_of_none : {code : Code Event} {passing : Passing}
       → IsUnderWay f code passing
       → passing.is_deferred ≡ false
-      → ((b : Body) → IsFunction p f.body passing.callee b → ⊥)
-      → HasStep p w
+      → HasNoBody p f.body passing.callee
+      → LeadsTo p w g ((record f { waiting = None }) ∷ others)
   -- a deferred one is saved
   pub is_saved : {code : Code Event} {passing : Passing}
       → IsUnderWay f code passing
       → passing.is_deferred ≡ true
-      → HasStep p w
-  -- a saved one runs, of a function with a body
+      → GoesTo p w g
+      (λ frames. frames ≡ (record f { waiting = None; saved = saved_pass passing ∷ f.saved }) ∷ others)
+  -- a saved one, of a function with a body, begins above the frame
   pub by_saved_pass : {passing : Passing} {left : List Saved}
       → RunsSaved f (saved_pass passing) left
       → (b : Body)
       → IsFunction p f.body passing.callee b
-      → HasStep p w
-  -- and of one without
+      → GoesTo p w g
+      (λ frames. frames ≡ new_frame w.store b nothing_around ∷ (record f { saved = left }) ∷ others)
+  -- and one without comes back
   pub by_saved_pass_of_none : {passing : Passing} {left : List Saved}
       → RunsSaved f (saved_pass passing) left
-      → ((b : Body) → IsFunction p f.body passing.callee b → ⊥)
-      → HasStep p w
+      → HasNoBody p f.body passing.callee
+      → LeadsTo p w g ((record f { saved = left }) ∷ others)
+  -- a function without a body may start work in a group that it was lent, before it comes back
+  pub may_start : {passing : Passing} {y : Lent} {group : ℕ}
+      → IsOutsideCall p f passing
+      → Contains passing.lent y
+      → y.group ≡ Some group
+      → Joins p w group (λ frames. frames ≡ []) g (f ∷ others)
 
 abbrev pub CallsHaveSteps : Type 0
 CallsHaveSteps = (p : Program) (w : World) (g : ℕ) (f : Frame) (others : List Frame)
     → Run p w
     → w.stacks g ≡ f ∷ others
-    → CallsGoOn p w f
+    → CallsGoOn p w g f others

@@ -1,6 +1,6 @@
 -- What serves the proof of the promise: what the paths of a body rely on, and that functions and literals keep it.
 use Rattle.std.specs.Prelude.{◌≡◌, ℕ, Bool, true, List, Some, slice_get, Contains}
-use Rattle.meaning.specs.FunctionFacts.{cancel}
+use Rattle.meaning.specs.FunctionFacts.{cancel, group}
 use Rattle.meaning.specs.Uses.{Callee}
 use Rattle.meaning.specs.BodyEvents.{Variable, own_parameter, captured}
 use Rattle.meaning.specs.Classes.{Promises}
@@ -38,6 +38,16 @@ pub record IsCreditedWith (literal : Body) (v : Variable) : Type 0 where
   pub is_cancel_variable : v.kind ≡ cancel
   pub settles : Settles (paths_of literal.file (promises_in no_calls credits literal.place.at) literal.place) v
 
+-- the literal captures the group, and none of its lists that comes to a return leaves the group live, under some fair
+-- credits
+pub record IsWaitingFor (literal : Body) (g : Variable) : Type 0 where
+  pub credits : Credits
+  pub are_fair : AreFairCredits literal.file credits
+  pub is_of_body : Contains (variables_in literal) g
+  pub is_captured : g.role ≡ captured
+  pub is_group_variable : g.kind ≡ group
+  pub settles : Settles (paths_of literal.file (promises_in no_calls credits literal.place.at) literal.place) g
+
 -- the function that the body names has a body, and each that it has is known to call that parameter
 pub record TakesUp (p : Program) (b : Body) (f : Callee) (k : ℕ) : Type 0 where
   pub body : Body
@@ -53,3 +63,9 @@ pub record AreTakenUp (p : Program) (b : Body) (relies : Promises) : Type 0 wher
       → IsLiteralIn b literal
       → relies.credits literal.place.at v.number ≡ true
       → (w : Variable) × IsCreditedWith literal w × (w.number ≡ v.number)
+  pub waits : (g : Variable) (literal : Body)
+      → Contains (variables_in b) g
+      → g.kind ≡ group
+      → IsLiteralIn b literal
+      → relies.credits literal.place.at g.number ≡ true
+      → (w : Variable) × IsWaitingFor literal w × (w.number ≡ g.number)

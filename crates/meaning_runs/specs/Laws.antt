@@ -1,48 +1,179 @@
 -- What is proved of the machine, each by a public function of src/lib.rt.
-use Rattle.std.specs.Prelude.{◌≡◌, ℕ, List, ◌∷◌, Some, None, Contains}
+use Rattle.std.specs.Prelude.{◌≡◌, ℕ, ◌<◌, List, [], ◌∷◌, Option, Some, None, Contains}
 use Rattle.meaning.specs.Code.{Code}
 use Rattle.meaning.specs.Uses.{Event, other, obtain, clear, call, defer_call, pass, defer_pass, lend, start, try, wait, defer_wait, make, defer_literal, return_event}
-use Rattle.meaning_runs.specs.Bodies.{Program, Body, IsLiteralIn}
-use Rattle.meaning_runs.specs.World.{Value, ComesFrom, IsDone, with_new, Closure, Saved, saved_call, saved_literal, Frame, World}
-use Rattle.meaning_runs.specs.Steps.{GoesOn, DoesNext, RunsSaved, IsAtEnd, Step}
+use Rattle.meaning_runs.specs.Bodies.{Program, Body, IsOf, IsOutermost, IsLiteralIn, Escapes}
+use Rattle.meaning_runs.specs.World.{Value, outside, ComesFrom, IsDone, with_new, MayEndWait, AreForeign, Closure, Saved, saved_call, saved_literal, saved_wait, Store, Stage, runs, exits, Frame, held_group, World, new_frame, nothing_around}
+use Rattle.meaning_runs.specs.Steps.{GoesOn, DoesNext, RunsSaved, IsAtEnd, at_code, IsFree, Starts, Step}
 use Rattle.meaning_runs.specs.Runs.{Run}
 
--- The machine has a step
+-- Steps of one goroutine
 
-abbrev pub HasStep : Program → World → Type 0
-HasStep p w = (next : World) × Step p w next
+-- a step after which the goroutine's frames are so
+abbrev pub GoesTo : Program → World → ℕ → (List Frame → Type 0) → Type 0
+GoesTo p w g IsSo = (next : World) × Step p w next × IsSo (next.stacks g)
 
--- what an event asks for so that it has a step: that it is about no group, and that its literal is there
-abbrev pub IsReady : Frame → Event → Type 0
-IsReady f other = Unit {0}
-IsReady f (obtain u c n is_new) = Unit {0}
-IsReady f (clear u) = Unit {0}
-IsReady f (call v) = Unit {0}
-IsReady f (defer_call v) = Unit {0}
-IsReady f (pass u c n) = Unit {0}
-IsReady f (defer_pass u c n) = Unit {0}
-IsReady f (lend g c n) = ⊥
-IsReady f (start g literal) = ⊥
-IsReady f (try g literal) = ⊥
-IsReady f (wait g) = ⊥
-IsReady f (defer_wait g) = ⊥
-IsReady f (make g state) = ⊥
-IsReady f (defer_literal at) = (b : Body) × IsLiteralIn f.body b × (b.place.at ≡ at)
-IsReady f (return_event handed) = Unit {0}
+-- some steps, one after another
+pub data Leads (p : Program) : World → World → Type 0 where
+  stays : {w : World} → Leads p w w
+  one_more : {w next last : World} → Step p w next → Leads p next last → Leads p w last
 
--- A goroutine's running frame has a step where it goes on in its code, and at its return. Of one whose call is under
--- way, and of a pass that was saved, CallSteps tells.
+-- some steps after which the goroutine's frames are these
+abbrev pub LeadsTo : Program → World → ℕ → List Frame → Type 0
+LeadsTo p w g frames = (last : World) × Leads p w last × (last.stacks g ≡ frames)
+
+-- the running frame is at that stage, above the others
+pub record StandsAt (f : Frame) (stage : Stage) (others frames : List Frame) : Type 0 where
+  pub frame : Frame
+  pub is_running : frames ≡ frame ∷ others
+  pub same_body : frame.body ≡ f.body
+  pub is_at : frame.stage ≡ stage
+
+-- where a frame stands behind an event, with this left of its code
+abbrev pub stage_behind : Event → Code Event → Stage
+stage_behind (return_event handed) rest = exits
+stage_behind e rest = runs rest
+
+abbrev pub HoldsGroup : Store → Frame → ℕ → Type 0
+HoldsGroup s f v = (group : ℕ) × (held_group s f v ≡ Some group)
+
+-- the literal at that offset, if an event names one, stands in the body
+abbrev pub IsThere : Body → Option ℕ → Type 0
+IsThere b None = Unit {0}
+IsThere b (Some at) = (literal : Body) × IsLiteralIn b literal × (literal.place.at ≡ at)
+
+abbrev pub HasFreeGoroutine : World → Type 0
+HasFreeGoroutine w = (g : ℕ) × IsFree w g
+
+-- What an event asks for so that it has a step: that its literal is there, that a start has a group and a goroutine to
+-- start work in, and that a Wait may end.
+abbrev pub IsReady : World → Frame → Event → Type 0
+IsReady w f other = Unit {0}
+IsReady w f (obtain u c n is_new) = Unit {0}
+IsReady w f (clear u) = Unit {0}
+IsReady w f (call v) = Unit {0}
+IsReady w f (defer_call v) = Unit {0}
+IsReady w f (pass u c n) = Unit {0}
+IsReady w f (defer_pass u c n) = Unit {0}
+IsReady w f (lend v c n) = Unit {0}
+IsReady w f (start v literal) = HoldsGroup w.store f v × IsThere f.body literal × HasFreeGoroutine w
+IsReady w f (try v literal) = Unit {0}
+IsReady w f (wait v) = MayEndWait w.store (held_group w.store f v)
+IsReady w f (defer_wait v) = Unit {0}
+IsReady w f (make u state) = Unit {0}
+IsReady w f (defer_literal at) = IsThere f.body (Some at)
+IsReady w f (return_event handed) = Unit {0}
+
+-- A goroutine's running frame goes on in its code, and at its return runs what it saved, and then is gone. Of one whose
+-- call is under way, and of a pass that was saved, CallSteps tells.
 pub record FramesGoOn (p : Program) (w : World) (g : ℕ) (f : Frame) (others : List Frame) : Type 0 where
-  pub silently : {rest : Code Event} → GoesOn f None rest → HasStep p w
-  pub by_event : (e : Event) {rest : Code Event} → DoesNext f e rest → IsReady f e → HasStep p w
-  pub by_saved_call : {value : Value} {left : List Saved} → RunsSaved f (saved_call value) left → HasStep p w
-  pub by_saved_literal : {c : Closure} {left : List Saved} → RunsSaved f (saved_literal c) left → HasStep p w
-  pub at_its_end : IsAtEnd f → HasStep p w
+  pub silently : {rest : Code Event} → GoesOn f None rest → GoesTo p w g (StandsAt f (runs rest) others)
+  pub by_event : (e : Event) {rest : Code Event}
+      → DoesNext f e rest
+      → IsReady w f e
+      → GoesTo p w g (StandsAt f (stage_behind e rest) others)
+  pub by_saved_call : {value : Value} {left : List Saved}
+      → RunsSaved f (saved_call value) left
+      → GoesTo p w g (λ frames. frames ≡ (record f { saved = left }) ∷ others)
+  pub by_saved_literal : {c : Closure} {left : List Saved}
+      → RunsSaved f (saved_literal c) left
+      → GoesTo p w g
+      (λ frames. frames ≡ new_frame w.store c.literal c.newest ∷ (record f { saved = left }) ∷ others)
+  pub by_saved_wait : {group : Option ℕ} {left : List Saved}
+      → RunsSaved f (saved_wait group) left
+      → MayEndWait w.store group
+      → GoesTo p w g (λ frames. frames ≡ (record f { saved = left }) ∷ others)
+  pub at_its_end : IsAtEnd f → GoesTo p w g (λ frames. frames ≡ others)
 
 abbrev pub FramesHaveSteps : Type 0
 FramesHaveSteps = (p : Program) (w : World) (g : ℕ) (f : Frame) (others : List Frame)
     → w.stacks g ≡ f ∷ others
     → FramesGoOn p w g f others
+
+-- Members, in every world of a run
+
+-- some goroutine is free
+abbrev pub GoroutinesAreFree : Type 0
+GoroutinesAreFree = (p : Program) (w : World) → Run p w → HasFreeGoroutine w
+
+-- A step by which a goroutine becomes a member of the group. It begins so, and then the frames of the goroutine that
+-- started it are these.
+pub record Joins
+    (p : Program) (w : World) (group : ℕ) (BeginsSo : List Frame → Type 0) (g : ℕ) (frames : List Frame)
+    : Type 0 where
+  pub next : World
+  pub step : Step p w next
+  pub goroutine : ℕ
+  pub was_free : IsFree w goroutine
+  pub is_member : next.store.member goroutine ≡ Some group
+  pub begins : BeginsSo (next.stacks goroutine)
+  pub goes_on : next.stacks g ≡ frames
+
+-- a goroutine in which the frame has started the literal at that offset runs it; of another function nothing is shown
+abbrev pub RunsLiteral : World → Frame → Option ℕ → List Frame → Type 0
+RunsLiteral w f None frames = frames ≡ []
+RunsLiteral w f (Some at) frames =
+    (b : Body) × IsLiteralIn f.body b × (b.place.at ≡ at) × (frames ≡ new_frame w.store b f.newest ∷ [])
+
+-- where a frame comes to an event that starts work in a group, or tries to, there is such a step
+abbrev pub GroupsGetMembers : Type 0
+GroupsGetMembers = (p : Program) (w : World) (g : ℕ) (f : Frame) (others : List Frame)
+    (e : Event) (rest : Code Event) (v group : ℕ) (literal : Option ℕ)
+    → Run p w
+    → w.stacks g ≡ f ∷ others
+    → DoesNext f e rest
+    → Starts e v literal
+    → held_group w.store f v ≡ Some group
+    → IsThere f.body literal
+    → Joins p w group (RunsLiteral w f literal) g (at_code f rest ∷ others)
+
+-- a step by which a goroutine is no member any more, and all else is as it was
+pub record Leaves (p : Program) (w : World) (g : ℕ) : Type 0 where
+  pub next : World
+  pub step : Step p w next
+  pub is_no_member : next.store.member g ≡ None
+  pub others_stay : (h : ℕ) → (h ≡ g → ⊥) → next.store.member h ≡ w.store.member h
+  pub same_frames : next.stacks ≡ w.stacks
+
+-- a member that runs nothing any more may leave, so that a Wait may end
+abbrev pub MembersMayLeave : Type 0
+MembersMayLeave = (p : Program) (w : World) (g group : ℕ)
+    → w.store.member g ≡ Some group
+    → w.stacks g ≡ []
+    → Leaves p w g
+
+-- The environment, in every world
+
+-- What the environment may do at any moment: call any function, method or literal outside all functions, with any
+-- contents of its parameters that are not the program's; get any literal that escapes, and call it; end any context,
+-- call any cancel function, and start work in any group that was made outside.
+pub record EnvironmentMay (p : Program) (w : World) : Type 0 where
+  pub call_any : (g : ℕ) (b : Body) (values : ℕ → Value) (groups : ℕ → Option ℕ)
+      → IsFree w g
+      → IsOf p b
+      → IsOutermost b
+      → AreForeign w.store values groups
+      → GoesTo p w g (λ frames. frames ≡ new_frame w.store b nothing_around ∷ [])
+  pub get_any_literal : (g : ℕ) (f : Frame) (b : Body)
+      → Contains (w.stacks g) f
+      → Escapes f.body b
+      → (next : World) × Step p w next × Contains next.escaped record { literal = b; newest = f.newest }
+  pub call_any_literal : (g : ℕ) (c : Closure) (values : ℕ → Value) (groups : ℕ → Option ℕ)
+      → IsFree w g
+      → Contains w.escaped c
+      → AreForeign w.store values groups
+      → GoesTo p w g (λ frames. frames ≡ new_frame w.store c.literal c.newest ∷ [])
+  pub end_any : (a : ℕ) → a < w.store.context_count → (next : World) × Step p w next × IsDone next.store a
+  pub call_any_cancel : (a : ℕ)
+      → a < w.store.context_count
+      → (next : World) × Step p w next × Contains next.store.called a
+  pub start_in_any : (g group : ℕ)
+      → IsFree w g
+      → w.store.maker group ≡ outside
+      → (next : World) × Step p w next × (next.store.member g ≡ Some group)
+
+abbrev pub TheEnvironmentMay : Type 0
+TheEnvironmentMay = (p : Program) (w : World) → EnvironmentMay p w
 
 -- Contexts, in every world of a run
 

@@ -15,9 +15,12 @@ pub mod FilePlaces
 pub mod NamePlaces
 pub mod EntryPlaces
 pub mod RunLists
+pub mod Waits
 pub mod Examples
+pub mod GroupExamples
 pub mod Returns
 pub mod LoudReturns
+pub mod GroupReturns
 -- What serves the proofs.
 pub mod EventSources
 pub mod BodyOffsets

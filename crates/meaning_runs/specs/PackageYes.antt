@@ -1,12 +1,11 @@
 -- The promise, said of a report of packages: under the tables of the report, a package of which the report says nothing
--- is quiet, if neither it nor a given package below it imports `errgroup`.
-use Rattle.std.specs.Prelude.{◌≡◌, ℕ, false, List, [], Some, slice_get}
-use Rattle.meaning.specs.FunctionFacts.{errgroup_path}
-use Rattle.meaning_reports.specs.Loaded.{LoadedPackage, Tables, is_imported}
+-- is quiet.
+use Rattle.std.specs.Prelude.{◌≡◌, ℕ, List, [], Some, slice_get}
+use Rattle.meaning_reports.specs.Loaded.{LoadedPackage, Tables}
 use Rattle.meaning_reports.specs.PackageReports.{Rules, Said, IsReportBy, by_paths}
 use Rattle.meaning_runs.specs.Bodies.{Program, IsBelow}
 use Rattle.meaning_runs.specs.Runs.{IsQuietProgram}
-use Rattle.meaning_runs.specs.Promise.{AreTreesOfTexts}
+use Rattle.meaning_runs.specs.Promise.{AreTreesOfTexts, HaveNoFindings}
 
 -- the report has the package at that place, and nothing is said of it
 pub record IsYesIn (ps : List LoadedPackage) (report : List Said) (i : ℕ) : Type 0 where
@@ -24,18 +23,23 @@ program_of ps tables i = record { packages = ps; tables = tables; looked_at = i 
 abbrev pub AreOfTexts : Program → Type 0
 AreOfTexts p = (i : ℕ) (q : LoadedPackage) → IsBelow p i → slice_get p.packages i ≡ Some q → AreTreesOfTexts q
 
--- none of these packages imports `errgroup`
-abbrev pub AreWithoutGroups : Program → Type 0
-AreWithoutGroups p =
-    (i : ℕ) (q : LoadedPackage) → IsBelow p i → slice_get p.packages i ≡ Some q → is_imported q errgroup_path ≡ false
-
 abbrev pub YesOfAPackageIsQuietBy : Rules → Type 0
 YesOfAPackageIsQuietBy rules = (ps : List LoadedPackage) (report : List Said) (i : ℕ)
     → (is_report : IsReportBy rules ps report)
     → IsYesIn ps report i
     → AreOfTexts (program_of ps is_report.tables i)
-    → AreWithoutGroups (program_of ps is_report.tables i)
     → IsQuietProgram (program_of ps is_report.tables i)
 
 abbrev pub YesOfAPackageIsQuiet : Type 0
 YesOfAPackageIsQuiet = YesOfAPackageIsQuietBy by_paths
+
+-- A yes is one of each given package below too: an import that isn't yes would be said. So none of these has a finding.
+abbrev pub YesIsOfAllBelowBy : Rules → Type 0
+YesIsOfAllBelowBy rules = (ps : List LoadedPackage) (report : List Said) (i : ℕ)
+    → (is_report : IsReportBy rules ps report)
+    → IsYesIn ps report i
+    → AreOfTexts (program_of ps is_report.tables i)
+    → HaveNoFindings (program_of ps is_report.tables i)
+
+abbrev pub YesIsOfAllBelow : Type 0
+YesIsOfAllBelow = YesIsOfAllBelowBy by_paths

@@ -1,16 +1,14 @@
--- What a yes promises: where nothing is to be said of a package's files, each return of a frame of the package is
--- quiet, in every run. It is enough that tables are consistent and credits fair, of this package and of those below it:
--- they need not be the most consistent flags, or full credits. Nothing is promised where one of these packages imports
--- `errgroup`, for the steps leave groups out.
-use Rattle.std.specs.Prelude.{◌≡◌, ℕ, false, List, [], ◌∷◌, Some, slice_get, Contains}
+-- What a yes promises: where nothing is to be said of the files of a package, nor of any given package below it, each
+-- return of a frame of the package is quiet, in every run. It is enough that tables are consistent and credits fair, of
+-- this package and of those below it: they need not be the most consistent flags, or full credits.
+use Rattle.std.specs.Prelude.{◌≡◌, ℕ, List, [], ◌∷◌, Some, slice_get, Contains}
 use Rattle.tree.specs.Syntax.{SourceFile}
 use Rattle.meaning.specs.TreeOfText.{IsTreeOf}
-use Rattle.meaning.specs.FunctionFacts.{errgroup_path}
 use Rattle.meaning.specs.Uses.{Seen}
 use Rattle.meaning_packages.specs.Credits.{AreFairCredits}
 use Rattle.meaning_packages.specs.CallsFlags.{FileWithCredits, calls_by, AreConsistent}
 use Rattle.report.specs.Entries.{Entry}
-use Rattle.meaning_reports.specs.Loaded.{LoadedPackage, Tables, is_imported, imported_flags, signatures_of, trees_of, seen_files}
+use Rattle.meaning_reports.specs.Loaded.{LoadedPackage, Tables, imported_flags, signatures_of, trees_of, seen_files}
 use Rattle.meaning_reports.specs.WholeFaults.{HasNoWholeFault}
 use Rattle.meaning_reports.specs.PackageTables.{IsEmpty}
 use Rattle.meaning_reports.specs.PackageReports.{IsFileFinding}
@@ -39,32 +37,34 @@ pub record IsWellKnown (ps : List LoadedPackage) (tables : Tables) (i : ℕ) (p 
 abbrev pub AreTreesOfTexts : LoadedPackage → Type 0
 AreTreesOfTexts q = (tree : SourceFile) → Contains (trees_of q) tree → (text : List ℕ) × IsTreeOf text tree
 
--- so it is of each package that runs go through, of which none imports `errgroup`; of others nothing is known
+-- so it is of each package that runs go through; of others nothing is known
 pub record AreWellKnown (p : Program) : Type 0 where
   pub of_package : (i : ℕ) (q : LoadedPackage)
       → IsBelow p i
       → slice_get p.packages i ≡ Some q
       → IsWellKnown p.packages p.tables i q
   pub of_texts : (i : ℕ) (q : LoadedPackage) → IsBelow p i → slice_get p.packages i ≡ Some q → AreTreesOfTexts q
-  pub without_groups : (i : ℕ) (q : LoadedPackage)
-      → IsBelow p i
-      → slice_get p.packages i ≡ Some q
-      → is_imported q errgroup_path ≡ false
   pub of_others : (path : List ℕ)
       → ((i : ℕ) (q : LoadedPackage) → slice_get p.packages i ≡ Some q → q.path ≡ path → ⊥)
       → IsEmpty (p.tables path)
 
--- Nothing is to be said of the files of the package that is looked at, under some fair credits, perhaps others than
--- those by which its flags are known. Of what it imports nothing is asked here: where
--- that has a finding, as a use that the rules don't allow, its functions may do in Go what they do in no run.
-pub record HasNoFinding (p : Program) : Type 0 where
-  pub loaded : LoadedPackage
-  pub is_package : slice_get p.packages p.looked_at ≡ Some loaded
-  pub is_known : IsWellKnown p.packages p.tables p.looked_at loaded
+-- What is known of the package at that place holds, and nothing is to be said of its files, under some fair credits,
+-- perhaps others than those by which the flags of others are known.
+pub record IsWithoutFinding (ps : List LoadedPackage) (tables : Tables) (i : ℕ) (q : LoadedPackage) : Type 0 where
+  pub known : IsWellKnown ps tables i q
   pub none : (number : ℕ) (file : FileWithCredits) (x : Entry)
-      → slice_get is_known.files number ≡ Some file
-      → IsFileFinding (calls_by (p.tables loaded.path).calls (imported_flags loaded p.tables)) number file x
+      → slice_get known.files number ≡ Some file
+      → IsFileFinding (calls_by (tables q.path).calls (imported_flags q tables)) number file x
       → ⊥
 
+-- So it is of each package that runs go through, and not of the one alone that is looked at. This is what error groups
+-- ask for: a package below that makes a group again, while its work goes on, keeps a flag for a call that its member
+-- has yet to make.
+pub record HaveNoFindings (p : Program) : Type 0 where
+  pub of_package : (i : ℕ) (q : LoadedPackage)
+      → IsBelow p i
+      → slice_get p.packages i ≡ Some q
+      → IsWithoutFinding p.packages p.tables i q
+
 abbrev pub YesIsQuiet : Type 0
-YesIsQuiet = (p : Program) → AreWellKnown p → HasNoFinding p → IsQuietProgram p
+YesIsQuiet = (p : Program) → AreWellKnown p → HaveNoFindings p → IsQuietProgram p

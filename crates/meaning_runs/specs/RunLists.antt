@@ -1,7 +1,7 @@
 -- Each list of a body is the list of some run, so the lists that the analysis looks at are not more than what the
 -- machine does. The run begins with a call of the body from outside, and then only this one goroutine acts.
 -- (The Go specification, "Statements", "Calls", "Return statements".)
-use Rattle.std.specs.Prelude.{◌≡◌, ℕ, Bool, true, false, if◌then◌else◌, ◌++◌, List, [], ◌∷◌, None, Contains}
+use Rattle.std.specs.Prelude.{◌≡◌, ℕ, Bool, true, false, if◌then◌else◌, ◌++◌, List, [], ◌∷◌, Some, None, Contains}
 use Rattle.tree.specs.Syntax.{SourceFile}
 use Rattle.meaning.specs.TreeOfText.{IsTreeOf}
 use Rattle.meaning.specs.Tracked.{Known}
@@ -10,9 +10,10 @@ use Rattle.meaning.specs.Code.{Occurrence, Code}
 use Rattle.meaning.specs.Lists.{Exit, Lists}
 use Rattle.meaning.specs.Uses.{Event, other, obtain, clear, call, defer_call, pass, defer_pass, lend, start, try, wait, defer_wait, make, defer_literal, return_event}
 use Rattle.meaning.specs.BodyEvents.{bodies_of}
-use Rattle.meaning_runs.specs.Bodies.{Program, Body, IsOf, IsOutermost, IsLiteralIn, IsFunction, code_of}
-use Rattle.meaning_runs.specs.World.{Store, runs, exits, Frame, World}
-use Rattle.meaning_runs.specs.Steps.{ComesTo, Acts, moves_on, does_other, obtains_one, clears_one, calls_one, saves_call, evaluates, evaluates_deferred, makes_call, saves_pass, saves_literal, comes_to_return, runs_call, runs_pass, runs_literal, returns_now, Step, of_goroutine, of_environment}
+use Rattle.meaning_runs.specs.Bodies.{Program, Body, IsOf, IsOutermost, is_parameter_of, code_of}
+use Rattle.meaning_runs.specs.World.{Place, put_at, Store, runs, exits, Frame, World}
+use Rattle.meaning_runs.specs.Steps.{ComesTo, HasNoBody, Acts, moves_on, does_other, obtains_one, clears_one, calls_one, saves_call, makes_group, tries_nothing, ends_wait, saves_wait, evaluates, evaluates_deferred, lends, makes_call, calls_outside, saves_pass, saves_literal, comes_to_return, runs_call, runs_pass, runs_literal, runs_wait, returns_now, Starts, ChangesMembers, starts_member, starts_stranger, starts_outside, leaves_group, Step, of_goroutine, of_members, of_environment}
+use Rattle.meaning_runs.specs.Laws.{IsThere}
 use Rattle.meaning_runs.specs.Runs.{Run, no_step, step_more}
 use Rattle.meaning_runs.specs.Doings.{Does, IsLeft}
 use Rattle.meaning_runs.specs.Promise.{AreTreesOfTexts}
@@ -23,8 +24,8 @@ abbrev pub event_of : {f : Frame} {e : Event} {rest : Code Event} → ComesTo f 
 event_of {e = e} c = record { at = c.at; order = c.order; event = e }
 
 -- the event by which the code of the frame goes on, if it goes on by one
-abbrev pub events_of_act : {p : Program} {s : Store} {f : Frame} {after : Store} {frames : List Frame}
-    → Acts p s f after frames
+abbrev pub events_of_act : {p : Program} {s : Store} {place : Place} {f : Frame} {after : Store} {frames : List Frame}
+    → Acts p s place f after frames
     → List (Occurrence Event)
 events_of_act (moves_on g) = []
 events_of_act (does_other d) = event_of d.comes_to ∷ []
@@ -32,19 +33,33 @@ events_of_act (obtains_one d o) = event_of d.comes_to ∷ []
 events_of_act (clears_one d) = event_of d.comes_to ∷ []
 events_of_act (calls_one d) = event_of d.comes_to ∷ []
 events_of_act (saves_call d) = event_of d.comes_to ∷ []
+events_of_act (makes_group d m) = event_of d.comes_to ∷ []
+events_of_act (tries_nothing d) = event_of d.comes_to ∷ []
+events_of_act (ends_wait d ends) = event_of d.comes_to ∷ []
+events_of_act (saves_wait d) = event_of d.comes_to ∷ []
 events_of_act (evaluates c j) = event_of c ∷ []
 events_of_act (evaluates_deferred c j) = event_of c ∷ []
+events_of_act (lends c j) = event_of c ∷ []
 events_of_act (makes_call u n b) = []
+events_of_act (calls_outside c h) = []
 events_of_act (saves_pass u d) = []
 events_of_act (saves_literal b d i e) = event_of d.comes_to ∷ []
 events_of_act (comes_to_return d) = event_of d.comes_to ∷ []
 events_of_act (runs_call r) = []
 events_of_act (runs_pass r b) = []
-events_of_act (runs_literal values r any) = []
+events_of_act (runs_literal values groups r foreign) = []
+events_of_act (runs_wait r ends) = []
 events_of_act (returns_now e) = []
+
+abbrev pub events_of_change : {p : Program} {w next : World} → ChangesMembers p w next → List (Occurrence Event)
+events_of_change (starts_member g h b values groups d free is_in is_at foreign) = event_of d.does_next.comes_to ∷ []
+events_of_change (starts_stranger g h d free) = event_of d.does_next.comes_to ∷ []
+events_of_change (starts_outside g h at c lent is free) = []
+events_of_change (leaves_group g member done) = []
 
 abbrev pub events_of_step : {p : Program} {w next : World} → Step p w next → List (Occurrence Event)
 events_of_step (of_goroutine g at a) = events_of_act a
+events_of_step (of_members c) = events_of_change c
 events_of_step (of_environment s) = []
 
 -- of all goroutines, the first one first
@@ -54,24 +69,55 @@ events_of (step_more r s) = events_of r ++ events_of_step s
 
 -- Lists that can be run
 
--- What an event asks for so that the frame comes past it: that it is about no group, that its literal is there, and
--- that no body is known for the function that gets the argument, since such a body need not come to an end.
+-- What an event asks for so that the frame comes past it: that its literal is there, and that no body is known for the
+-- function that gets the argument, since such a body need not come to an end.
 abbrev pub IsRunnable : Program → Body → Event → Type 0
 IsRunnable p b other = Unit {0}
 IsRunnable p b (obtain u c n is_new) = Unit {0}
 IsRunnable p b (clear u) = Unit {0}
 IsRunnable p b (call v) = Unit {0}
 IsRunnable p b (defer_call v) = Unit {0}
-IsRunnable p b (pass u c n) = (d : Body) → IsFunction p b c d → ⊥
+IsRunnable p b (pass u c n) = HasNoBody p b c
 IsRunnable p b (defer_pass u c n) = Unit {0}
-IsRunnable p b (lend g c n) = ⊥
-IsRunnable p b (start g literal) = ⊥
-IsRunnable p b (try g literal) = ⊥
-IsRunnable p b (wait g) = ⊥
-IsRunnable p b (defer_wait g) = ⊥
-IsRunnable p b (make g state) = ⊥
-IsRunnable p b (defer_literal at) = (d : Body) × IsLiteralIn b d × (d.place.at ≡ at)
+IsRunnable p b (lend v c n) = HasNoBody p b c
+IsRunnable p b (start v literal) = IsThere b literal
+IsRunnable p b (try v literal) = Unit {0}
+IsRunnable p b (wait v) = Unit {0}
+IsRunnable p b (defer_wait v) = Unit {0}
+IsRunnable p b (make u state) = Unit {0}
+IsRunnable p b (defer_literal at) = IsThere b (Some at)
 IsRunnable p b (return_event handed) = Unit {0}
+
+-- which variables hold groups after an event, where these did before
+abbrev pub hold_after : (ℕ → Bool) → Event → ℕ → Bool
+hold_after hold (make u state) = put_at hold u.number true
+hold_after hold (obtain u c n is_new) = put_at hold u.number false
+hold_after hold (clear u) = put_at hold u.number false
+hold_after hold e = hold
+
+abbrev pub HasItsGroup : (ℕ → Bool) → Event → Type 0
+HasItsGroup hold (start v literal) = hold v ≡ true
+HasItsGroup hold e = Unit {0}
+
+-- each group is made before work is started in it, where these variables hold one
+abbrev pub GroupsComeFirst : (ℕ → Bool) → List (Occurrence Event) → Type 0
+GroupsComeFirst hold [] = Unit {0}
+GroupsComeFirst hold (o ∷ t) = HasItsGroup hold o.event × GroupsComeFirst (hold_after hold o.event) t
+
+abbrev pub is_wait : Event → Bool
+is_wait (wait v) = true
+is_wait e = false
+
+abbrev pub is_start_of_literal : Event → Bool
+is_start_of_literal (start v (Some at)) = true
+is_start_of_literal e = false
+
+-- No Wait comes after a literal was started in a group, since that need not come to an end.
+abbrev pub WaitsComeFirst : List (Occurrence Event) → Type 0
+WaitsComeFirst [] = Unit {0}
+WaitsComeFirst (o ∷ t) =
+    (is_start_of_literal o.event ≡ true → (q : Occurrence Event) → Contains t q → is_wait q.event ≡ false)
+    × WaitsComeFirst t
 
 -- the event of a `return`, or of the end of a body
 abbrev pub is_return : Event → Bool
@@ -115,6 +161,8 @@ ListsAreRun = (p : Program) (b : Body) (t : List (Occurrence Event)) (x : Exit)
     → IsOutermost b
     → Lists (code_of b) t x
     → ((o : Occurrence Event) → Contains t o → IsRunnable p b o.event)
+    → GroupsComeFirst (is_parameter_of b) t
+    → WaitsComeFirst t
     → ReturnsComeLast t
     → HasGoneThrough p b t x
 
@@ -148,15 +196,25 @@ DeferredLiteralsAreThere = (b : Body) (t : List (Occurrence Event)) (x : Exit) (
     → Lists (code_of b) t x
     → Contains t o
     → o.event ≡ defer_literal at
-    → (d : Body) × IsLiteralIn b d × (d.place.at ≡ at)
+    → IsThere b (Some at)
 
--- so an event that saves a literal asks for nothing there
+-- So does each that is started in a group, or that a try may start.
+abbrev pub StartedLiteralsAreThere : Type 0
+StartedLiteralsAreThere = (b : Body) (t : List (Occurrence Event)) (x : Exit) (o : Occurrence Event) (v at : ℕ)
+    → IsOfText b
+    → Lists (code_of b) t x
+    → Contains t o
+    → Starts o.event v (Some at)
+    → IsThere b (Some at)
+
+-- so an event that saves or starts a literal asks for nothing there
 abbrev pub IsRunnableOfText : Program → Body → Event → Type 0
 IsRunnableOfText p b (defer_literal at) = Unit {0}
+IsRunnableOfText p b (start v literal) = Unit {0}
 IsRunnableOfText p b e = IsRunnable p b e
 
--- So there each list is that of a run, as far as its events are about no group, and no body is known for a function
--- that gets a cancel function.
+-- So there each list is that of a run, as far as no body is known for a function that gets a cancel function or a
+-- group, groups come before what is started in them, and Waits before literals.
 abbrev pub ListsOfTextsAreRun : Type 0
 ListsOfTextsAreRun = (p : Program) (b : Body) (t : List (Occurrence Event)) (x : Exit)
     → IsOf p b
@@ -164,4 +222,6 @@ ListsOfTextsAreRun = (p : Program) (b : Body) (t : List (Occurrence Event)) (x :
     → IsOfText b
     → Lists (code_of b) t x
     → ((o : Occurrence Event) → Contains t o → IsRunnableOfText p b o.event)
+    → GroupsComeFirst (is_parameter_of b) t
+    → WaitsComeFirst t
     → HasGoneThrough p b t x

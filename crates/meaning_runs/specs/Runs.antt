@@ -1,9 +1,10 @@
 -- A run is a list of steps from the empty world. A frame owes the cancel functions that its variables obtained and that
 -- its return doesn't hand on. Its return is quiet if, at that moment, each of them was called, and its context is done
--- with all that come from it. (The documentation of `context`.)
-use Rattle.std.specs.Prelude.{◌≡◌, ℕ, List, ◌∷◌, Contains}
+-- with all that come from it; and if the work of each group that the frame made has ended, with the group's context.
+-- (The documentation of `context` and `golang.org/x/sync/errgroup`.)
+use Rattle.std.specs.Prelude.{◌≡◌, ℕ, List, ◌∷◌, Some, Contains}
 use Rattle.meaning_runs.specs.Bodies.{Program}
-use Rattle.meaning_runs.specs.World.{cancel_function, ComesFrom, IsDone, Frame, World, empty_world}
+use Rattle.meaning_runs.specs.World.{cancel_function, ComesFrom, IsDone, HasNoMember, Frame, World, empty_world}
 use Rattle.meaning_runs.specs.Steps.{IsAtEnd, Step}
 
 pub data Run (p : Program) : World → Type 0 where
@@ -25,6 +26,8 @@ pub record Owes (f : Frame) (a : ℕ) : Type 0 where
 pub record IsQuiet (w : World) (f : Frame) : Type 0 where
   pub called : (a : ℕ) → Owes f a → Contains w.store.called a
   pub done : (a b : ℕ) → Owes f a → ComesFrom w.store a b → IsDone w.store b
+  pub ended : (group : ℕ) → Contains f.made group → HasNoMember w.store group
+  pub groups_done : (group a : ℕ) → Contains f.made group → w.store.group_context group ≡ Some a → IsDone w.store a
 
 -- in every run each return of a frame of the package that is looked at is quiet
 abbrev pub IsQuietProgram : Program → Type 0

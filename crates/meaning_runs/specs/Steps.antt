@@ -1,18 +1,18 @@
--- One step of a program: of the running frame of a goroutine, or of the environment. Any goroutine may be the next, and
--- the environment may act between any two steps. Behind a call of `panic` nothing comes, and what is done to a group
--- has no step.
+-- One step of a program: of the running frame of a goroutine, of a group that gets or loses a member, or of the
+-- environment. Any goroutine may be the next, and the environment may act between any two steps. Behind a call of
+-- `panic` nothing comes.
 -- (The Go specification, "Calls", "Return statements", "Defer statements", "Go statements"; the documentation of
--- `context`.)
-use Rattle.std.specs.Prelude.{◌≡◌, ℕ, ◌<◌, ◌&&◌, ◌++◌, Bool, true, false, List, [], ◌∷◌, Option, Some, None, map, Contains}
+-- `context` and `golang.org/x/sync/errgroup`.)
+use Rattle.std.specs.Prelude.{◌≡◌, ℕ, ◌<◌, ◌⊎◌, ◌&&◌, ◌++◌, Bool, true, false, List, [], ◌∷◌, Option, Some, None, map, length, Contains}
 use Rattle.std.specs.List.{list_any}
 use Rattle.std.specs.Str.{bytes_eq}
 use Rattle.meaning.specs.Code.{Occurrence, Code}
 use Rattle.meaning.specs.FunctionFacts.{context_path}
-use Rattle.meaning.specs.Tracked.{plain_makers, cause_makers}
-use Rattle.meaning.specs.Uses.{Callee, VariableAt, Handed, Event, other, obtain, clear, call, defer_call, pass, defer_pass, defer_literal, return_event}
+use Rattle.meaning.specs.Tracked.{plain_makers, cause_makers, GroupState, idle, live}
+use Rattle.meaning.specs.Uses.{Callee, VariableAt, Handed, Event, other, obtain, clear, call, defer_call, pass, defer_pass, lend, start, try, wait, defer_wait, make, defer_literal, return_event}
 use Rattle.meaning.specs.BodyEvents.{Variable, own_parameter}
-use Rattle.meaning_runs.specs.Bodies.{Program, Body, IsOf, variables_in, IsOutermost, IsLiteralIn, IsFunction}
-use Rattle.meaning_runs.specs.World.{Value, nothing, cancel_function, Store, IsEarlier, with_new, calling, IsAny, Given, Passing, Closure, Saved, saved_call, saved_pass, saved_literal, runs, exits, Frame, World, with_stack, held, with_cells, binding, binds, new_frame, nothing_around}
+use Rattle.meaning_runs.specs.Bodies.{Program, Body, IsOf, variables_in, IsOutermost, IsLiteralIn, Escapes, IsFunction}
+use Rattle.meaning_runs.specs.World.{Value, nothing, cancel_function, Place, outside, frame_at, Store, IsEarlier, with_new, calling, IsAny, with_group, IsOutside, with_member, MayEndWait, waiting_for, Given, Lent, Passing, Closure, Saved, saved_call, saved_pass, saved_literal, saved_wait, runs, exits, Frame, World, with_stack, held, held_group, with_cells, AreForeign, binding, binding_group, binds, new_frame, nothing_around}
 use Rattle.meaning_runs.specs.Moves.{Moves}
 
 -- What a frame comes to
@@ -67,7 +67,17 @@ abbrev pub with_function : Value → List ℕ → List ℕ
 with_function nothing obtained = obtained
 with_function (cancel_function a) obtained = a ∷ obtained
 
--- Calls that get cancel functions
+-- Making groups
+
+-- What a making of a group gives: `WithContext` makes a context too, from any earlier one or from none that the world
+-- has, and a zero group has none.
+pub data Makes (s : Store) : GroupState → Option ℕ → Store → Type 0 where
+  zero_group : Makes s idle None s
+  with_context : (parent : Option ℕ)
+      → IsEarlier s parent
+      → Makes s live (Some s.context_count) (with_new s parent)
+
+-- Calls that get cancel functions or groups
 
 -- Each argument is evaluated by an event of its own, in the order of the positions, and the call is made before any
 -- other event. Which arguments are of one call the events don't tell: those of one function that follow each other, at
@@ -78,124 +88,276 @@ pub data MayJoin (f : Callee) (is_deferred : Bool) (position : ℕ) : Option Pas
       → passing.callee ≡ f
       → passing.is_deferred ≡ is_deferred
       → ((x : Given) → Contains passing.given x → x.position < position)
+      → ((y : Lent) → Contains passing.lent y → y.position < position)
       → MayJoin f is_deferred position (Some passing)
 
-abbrev pub joining : Option Passing → Callee → Bool → Given → Passing
-joining None f is_deferred x = record { callee = f; is_deferred = is_deferred; given = x ∷ [] }
-joining (Some passing) f is_deferred x = record passing { given = x ∷ passing.given }
+abbrev pub joining : Option Passing → Callee → Bool → List Given → List Lent → Passing
+joining None f is_deferred xs ys = record { callee = f; is_deferred = is_deferred; given = xs; lent = ys }
+joining (Some passing) f is_deferred xs ys =
+    record passing { given = xs ++ passing.given; lent = ys ++ passing.lent }
 
 abbrev pub evaluating : Store → Frame → ℕ → Callee → ℕ → Bool → Code Event → Frame
 evaluating s f v callee position is_deferred rest = record f {
   stage = runs rest;
-  waiting = Some (joining f.waiting callee is_deferred record { position = position; value = held s f v });
+  waiting = Some (joining f.waiting callee is_deferred (record { position = position; value = held s f v } ∷ []) []);
 }
 
--- the parameters' values: those that the call gives, any for others
-pub record Fits (s : Store) (b : Body) (given : List Given) (values : ℕ → Value) : Type 0 where
+abbrev pub lending : Store → Frame → ℕ → Callee → ℕ → Code Event → Frame
+lending s f v callee position rest = record f {
+  stage = runs rest;
+  waiting = Some (joining f.waiting callee false [] (record { position = position; group = held_group s f v } ∷ []));
+}
+
+-- the call lends a group to the parameter of that number
+pub record IsLentTo (b : Body) (lent : List Lent) (number : ℕ) : Type 0 where
+  pub parameter : Variable
+  pub argument : Lent
+  pub is_of_body : Contains (variables_in b) parameter
+  pub is_lent : Contains lent argument
+  pub is_its_number : parameter.number ≡ number
+  pub is_its_position : parameter.role ≡ own_parameter argument.position
+
+-- The parameters' contents: cancel functions that the call gives, any for others; groups that it lends, none or ones of
+-- the environment for others.
+pub record Fits
+    (s : Store) (b : Body) (passing : Passing) (values : ℕ → Value) (groups : ℕ → Option ℕ)
+    : Type 0 where
   pub same : (v : Variable) (x : Given)
       → Contains (variables_in b) v
-      → Contains given x
+      → Contains passing.given x
       → v.role ≡ own_parameter x.position
       → values v.number ≡ x.value
   pub any : (v : ℕ) → IsAny s (values v)
+  pub same_group : (v : Variable) (y : Lent)
+      → Contains (variables_in b) v
+      → Contains passing.lent y
+      → v.role ≡ own_parameter y.position
+      → groups v.number ≡ y.group
+  pub other_groups : (v : ℕ) → IsLentTo b passing.lent v ⊎ IsOutside s (groups v)
 
--- What the call does: a frame of the function begins, with values for its parameters; or there is no body for the
--- function, and nothing is done with the arguments.
+-- Functions without a body
+
+abbrev pub HasNoBody : Program → Body → Callee → Type 0
+HasNoBody p caller f = (b : Body) → IsFunction p caller f b → ⊥
+
+-- What is declared of a function of another package: that it has called its argument at that position when it returns.
+-- The table of its package says so; as long as nothing is declared, that of a package that was not given is empty.
+abbrev pub is_declared_to_call : Program → Callee → ℕ → Bool
+is_declared_to_call p f position = of_path f.path
+  where
+    of_path : Option (List ℕ) → Bool
+    of_path None = false
+    of_path (Some path) = (p.tables path).calls f.name position
+
+abbrev pub WasCalled : Store → Value → Type 0
+WasCalled s nothing = Unit {0}
+WasCalled s (cancel_function a) = Contains s.called a
+
+-- what is declared of the function that is called holds at its return
+abbrev pub HoldsOfCall : Program → Store → Passing → Type 0
+HoldsOfCall p s passing = (x : Given)
+    → Contains passing.given x
+    → is_declared_to_call p passing.callee x.position ≡ true
+    → WasCalled s x.value
+
+-- What the call does: a frame of the function begins, with contents for its parameters; or a function without a body
+-- returns.
 pub data Begins (p : Program) (s : Store) (f : Frame) (passing : Passing) : Store → List Frame → Type 0 where
-  of_function : (b : Body) (values : ℕ → Value)
+  of_function : (b : Body) (values : ℕ → Value) (groups : ℕ → Option ℕ)
       → IsFunction p f.body passing.callee b
-      → Fits s b passing.given values
-      → Begins p s f passing (with_cells s values) (new_frame s b nothing_around ∷ [])
-  of_none : ((b : Body) → IsFunction p f.body passing.callee b → ⊥) → Begins p s f passing s []
+      → Fits s b passing values groups
+      → Begins p s f passing (with_cells s values groups) (new_frame s b nothing_around ∷ [])
+  of_none : HasNoBody p f.body passing.callee → HoldsOfCall p s passing → Begins p s f passing s []
 
 -- the frame goes through its body, and its call is under way
 pub record IsUnderWay (f : Frame) (code : Code Event) (passing : Passing) : Type 0 where
   pub stage : f.stage ≡ runs code
   pub waits : f.waiting ≡ Some passing
 
--- What the running frame does: the store after it, and the frames that stand in its place.
-pub data Acts (p : Program) (s : Store) (f : Frame) : Store → List Frame → Type 0 where
+-- the frame's next step is the call, which is under way, or is the last that it saved
+pub data ComesToCall (f : Frame) (passing : Passing) : Type 0 where
+  at_once : {code : Code Event}
+      → IsUnderWay f code passing
+      → passing.is_deferred ≡ false
+      → ComesToCall f passing
+  saved_before : {left : List Saved} → RunsSaved f (saved_pass passing) left → ComesToCall f passing
+
+-- A function without a body has been called and has not returned yet. Till then it may call its arguments, and start
+-- work in groups that it was lent.
+pub record IsOutsideCall (p : Program) (f : Frame) (passing : Passing) : Type 0 where
+  pub comes_to_it : ComesToCall f passing
+  pub has_no_body : HasNoBody p f.body passing.callee
+
+-- What the running frame at a place does: the store after it, and the frames that stand in its place.
+pub data Acts (p : Program) (s : Store) (place : Place) (f : Frame) : Store → List Frame → Type 0 where
   -- a branch is taken, or the end of a statement is passed
-  moves_on : {rest : Code Event} → GoesOn f None rest → Acts p s f s (at_code f rest ∷ [])
-  does_other : {rest : Code Event} → DoesNext f other rest → Acts p s f s (at_code f rest ∷ [])
+  moves_on : {rest : Code Event} → GoesOn f None rest → Acts p s place f s (at_code f rest ∷ [])
+  does_other : {rest : Code Event} → DoesNext f other rest → Acts p s place f s (at_code f rest ∷ [])
   -- that it declares its variable is told by offsets (`is_declaration`), here and at `clears_one`
   obtains_one : {u : VariableAt} {c : Callee} {n : ℕ} {is_new : Bool} {rest : Code Event} {value : Value} {made : Store}
       → DoesNext f (obtain u c n is_new) rest
       → Obtains s c value made
-      → Acts p s f (binding made f u value)
+      → Acts p s place f (binding made f u value)
       ((record (binds made f u) { stage = runs rest; obtained = with_function value f.obtained }) ∷ [])
   clears_one : {u : VariableAt} {rest : Code Event}
       → DoesNext f (clear u) rest
-      → Acts p s f (binding s f u nothing) (at_code (binds s f u) rest ∷ [])
+      → Acts p s place f (binding s f u nothing) (at_code (binds s f u) rest ∷ [])
   calls_one : {v : ℕ} {rest : Code Event}
       → DoesNext f (call v) rest
-      → Acts p s f (calling s (held s f v)) (at_code f rest ∷ [])
+      → Acts p s place f (calling s (held s f v)) (at_code f rest ∷ [])
   saves_call : {v : ℕ} {rest : Code Event}
       → DoesNext f (defer_call v) rest
-      → Acts p s f s ((record f { stage = runs rest; saved = saved_call (held s f v) ∷ f.saved }) ∷ [])
+      → Acts p s place f s ((record f { stage = runs rest; saved = saved_call (held s f v) ∷ f.saved }) ∷ [])
+  makes_group : {u : VariableAt} {state : GroupState} {context : Option ℕ} {made : Store} {rest : Code Event}
+      → DoesNext f (make u state) rest
+      → Makes s state context made
+      → Acts p s place f (binding_group (with_group made (frame_at place) context) f u made.group_count)
+      ((record (binds made f u) { stage = runs rest; made = made.group_count ∷ f.made }) ∷ [])
+  -- `TryGo` may do nothing
+  tries_nothing : {v : ℕ} {literal : Option ℕ} {rest : Code Event}
+      → DoesNext f (try v literal) rest
+      → Acts p s place f s (at_code f rest ∷ [])
+  ends_wait : {v : ℕ} {rest : Code Event}
+      → DoesNext f (wait v) rest
+      → MayEndWait s (held_group s f v)
+      → Acts p s place f (waiting_for s (held_group s f v)) (at_code f rest ∷ [])
+  saves_wait : {v : ℕ} {rest : Code Event}
+      → DoesNext f (defer_wait v) rest
+      → Acts p s place f s ((record f { stage = runs rest; saved = saved_wait (held_group s f v) ∷ f.saved }) ∷ [])
   evaluates : {u : VariableAt} {c : Callee} {position : ℕ} {rest : Code Event}
       → ComesTo f (pass u c position) rest
       → MayJoin c false position f.waiting
-      → Acts p s f s (evaluating s f u.number c position false rest ∷ [])
+      → Acts p s place f s (evaluating s f u.number c position false rest ∷ [])
   evaluates_deferred : {u : VariableAt} {c : Callee} {position : ℕ} {rest : Code Event}
       → ComesTo f (defer_pass u c position) rest
       → MayJoin c true position f.waiting
-      → Acts p s f s (evaluating s f u.number c position true rest ∷ [])
+      → Acts p s place f s (evaluating s f u.number c position true rest ∷ [])
+  lends : {v : ℕ} {c : Callee} {position : ℕ} {rest : Code Event}
+      → ComesTo f (lend v c position) rest
+      → MayJoin c false position f.waiting
+      → Acts p s place f s (lending s f v c position rest ∷ [])
   makes_call : {code : Code Event} {passing : Passing} {after : Store} {new : List Frame}
       → IsUnderWay f code passing
       → passing.is_deferred ≡ false
       → Begins p s f passing after new
-      → Acts p s f after (new ++ (record f { waiting = None }) ∷ [])
+      → Acts p s place f after (new ++ (record f { waiting = None }) ∷ [])
+  -- a function without a body calls one of its arguments
+  calls_outside : {passing : Passing} {x : Given}
+      → IsOutsideCall p f passing
+      → Contains passing.given x
+      → Acts p s place f (calling s x.value) (f ∷ [])
   saves_pass : {code : Code Event} {passing : Passing}
       → IsUnderWay f code passing
       → passing.is_deferred ≡ true
-      → Acts p s f s ((record f { waiting = None; saved = saved_pass passing ∷ f.saved }) ∷ [])
+      → Acts p s place f s ((record f { waiting = None; saved = saved_pass passing ∷ f.saved }) ∷ [])
   saves_literal : {at : ℕ} {rest : Code Event} (b : Body)
       → DoesNext f (defer_literal at) rest
       → IsLiteralIn f.body b
       → b.place.at ≡ at
-      → Acts p s f s
+      → Acts p s place f s
       ((record f { stage = runs rest; saved = saved_literal record { literal = b; newest = f.newest } ∷ f.saved }) ∷ [])
   -- What is handed on is read. An item that is a call of a maker or giver is no variable, so it is not among this, and
   -- the environment makes what it gives.
   comes_to_return : {handed : List Handed} {rest : Code Event}
       → DoesNext f (return_event handed) rest
-      → Acts p s f s ((record f { stage = exits; handed_on = map (λ h. held s f h.number) handed }) ∷ [])
+      → Acts p s place f s ((record f { stage = exits; handed_on = map (λ h. held s f h.number) handed }) ∷ [])
   -- what was saved runs, the last one first
   runs_call : {value : Value} {left : List Saved}
       → RunsSaved f (saved_call value) left
-      → Acts p s f (calling s value) ((record f { saved = left }) ∷ [])
+      → Acts p s place f (calling s value) ((record f { saved = left }) ∷ [])
   runs_pass : {passing : Passing} {left : List Saved} {after : Store} {new : List Frame}
       → RunsSaved f (saved_pass passing) left
       → Begins p s f passing after new
-      → Acts p s f after (new ++ (record f { saved = left }) ∷ [])
-  runs_literal : {c : Closure} {left : List Saved} (values : ℕ → Value)
+      → Acts p s place f after (new ++ (record f { saved = left }) ∷ [])
+  runs_literal : {c : Closure} {left : List Saved} (values : ℕ → Value) (groups : ℕ → Option ℕ)
       → RunsSaved f (saved_literal c) left
-      → ((v : ℕ) → IsAny s (values v))
-      → Acts p s f (with_cells s values) (new_frame s c.literal c.newest ∷ (record f { saved = left }) ∷ [])
-  returns_now : IsAtEnd f → Acts p s f s []
+      → AreForeign s values groups
+      → Acts p s place f (with_cells s values groups)
+      (new_frame s c.literal c.newest ∷ (record f { saved = left }) ∷ [])
+  runs_wait : {group : Option ℕ} {left : List Saved}
+      → RunsSaved f (saved_wait group) left
+      → MayEndWait s group
+      → Acts p s place f (waiting_for s group) ((record f { saved = left }) ∷ [])
+  returns_now : IsAtEnd f → Acts p s place f s []
+
+-- Members
+
+-- a goroutine that does nothing, and is no member
+pub record IsFree (w : World) (g : ℕ) : Type 0 where
+  pub has_no_frame : w.stacks g ≡ []
+  pub is_no_member : w.store.member g ≡ None
+
+-- the event starts work in the group that the variable holds, or tries to
+pub data Starts : Event → ℕ → Option ℕ → Type 0 where
+  by_start : {v : ℕ} {literal : Option ℕ} → Starts (start v literal) v literal
+  by_try : {v : ℕ} {literal : Option ℕ} → Starts (try v literal) v literal
+
+-- A running frame starts work in a group. (Where the variable holds none Go panics.)
+pub record StartsWork
+    (w : World) (g : ℕ) (f : Frame) (others : List Frame) (rest : Code Event) (literal : Option ℕ) (group : ℕ)
+    : Type 0 where
+  pub event : Event
+  pub variable : ℕ
+  pub is_running : w.stacks g ≡ f ∷ others
+  pub does_next : DoesNext f event rest
+  pub is_start : Starts event variable literal
+  pub is_held : held_group w.store f variable ≡ Some group
+
+-- Work is started in a new goroutine, which is a member of the group from then on, and it ends.
+pub data ChangesMembers (p : Program) (w : World) : World → Type 0 where
+  -- a literal, which shares the cells of the frame around it
+  starts_member : {f : Frame} {others : List Frame} {rest : Code Event} {at group : ℕ} (g h : ℕ) (b : Body)
+      (values : ℕ → Value) (groups : ℕ → Option ℕ)
+      → StartsWork w g f others rest (Some at) group
+      → IsFree w h
+      → IsLiteralIn f.body b
+      → b.place.at ≡ at
+      → AreForeign w.store values groups
+      → ChangesMembers p w (with_stack
+      (with_stack w w.store g (at_code f rest ∷ others))
+      (with_cells (with_member w.store h (Some group)) values groups)
+      h (new_frame w.store b f.newest ∷ []))
+  -- a function of which nothing is known: this goroutine does nothing, and what it calls the environment does
+  starts_stranger : {f : Frame} {others : List Frame} {rest : Code Event} {group : ℕ} (g h : ℕ)
+      → StartsWork w g f others rest None group
+      → IsFree w h
+      → ChangesMembers p w (with_stack w (with_member w.store h (Some group)) g (at_code f rest ∷ others))
+  -- a function without a body starts one in a group that it was lent
+  starts_outside : {f : Frame} {others : List Frame} {passing : Passing} {y : Lent} {group : ℕ} (g h : ℕ)
+      → w.stacks g ≡ f ∷ others
+      → IsOutsideCall p f passing
+      → Contains passing.lent y
+      → y.group ≡ Some group
+      → IsFree w h
+      → ChangesMembers p w (record w { store = with_member w.store h (Some group) })
+  -- A member's function has returned; a stranger's may at any moment. Where it returns an error the group's context
+  -- ends: that is the environment's `ends_one`.
+  leaves_group : {group : ℕ} (g : ℕ)
+      → w.store.member g ≡ Some group
+      → w.stacks g ≡ []
+      → ChangesMembers p w (record w { store = with_member w.store g None })
 
 -- What is outside: callers and callbacks, `go` statements, timers, and all that the packages don't show.
 pub data Surrounds (p : Program) (w : World) : World → Type 0 where
   -- a function or method is called, or a literal outside all functions
-  starts : (g : ℕ) (b : Body) (values : ℕ → Value)
-      → w.stacks g ≡ []
+  starts : (g : ℕ) (b : Body) (values : ℕ → Value) (groups : ℕ → Option ℕ)
+      → IsFree w g
       → IsOf p b
       → IsOutermost b
-      → ((v : ℕ) → IsAny w.store (values v))
-      → Surrounds p w (with_stack w (with_cells w.store values) g (new_frame w.store b nothing_around ∷ []))
-  -- A literal is evaluated. No event tells where, so it may be at any moment. Literals that are deferred are meant too,
-  -- so there are more runs than Go has.
+      → AreForeign w.store values groups
+      → Surrounds p w (with_stack w (with_cells w.store values groups) g (new_frame w.store b nothing_around ∷ []))
+  -- A literal is evaluated that is neither deferred nor started in a group. No event tells where, so it may be at any
+  -- moment.
   evaluates_literal : (g : ℕ) (f : Frame) (b : Body)
       → Contains (w.stacks g) f
-      → IsLiteralIn f.body b
+      → Escapes f.body b
       → Surrounds p w (record w { escaped = record { literal = b; newest = f.newest } ∷ w.escaped })
   -- it is called, at that moment or later
-  starts_literal : (g : ℕ) (c : Closure) (values : ℕ → Value)
-      → w.stacks g ≡ []
+  starts_literal : (g : ℕ) (c : Closure) (values : ℕ → Value) (groups : ℕ → Option ℕ)
+      → IsFree w g
       → Contains w.escaped c
-      → ((v : ℕ) → IsAny w.store (values v))
-      → Surrounds p w (with_stack w (with_cells w.store values) g (new_frame w.store c.literal c.newest ∷ []))
+      → AreForeign w.store values groups
+      → Surrounds p w (with_stack w (with_cells w.store values groups) g (new_frame w.store c.literal c.newest ∷ []))
   -- a maker is called outside, or in an item of a return
   makes_one : (parent : Option ℕ)
       → IsEarlier w.store parent
@@ -206,10 +368,20 @@ pub data Surrounds (p : Program) (w : World) : World → Type 0 where
   calls_any : (a : ℕ)
       → a < w.store.context_count
       → Surrounds p w (record w { store = calling w.store (cancel_function a) })
+  -- a group is made outside, with a context or without one
+  makes_outside : (context : Option ℕ)
+      → IsEarlier w.store context
+      → Surrounds p w (record w { store = with_group w.store outside context })
+  -- work is started in such a group
+  joins_outside : (g a : ℕ)
+      → IsFree w g
+      → w.store.maker a ≡ outside
+      → Surrounds p w (record w { store = with_member w.store g (Some a) })
 
 pub data Step (p : Program) (w : World) : World → Type 0 where
   of_goroutine : {f : Frame} {others : List Frame} {after : Store} {frames : List Frame} (g : ℕ)
       → w.stacks g ≡ f ∷ others
-      → Acts p w.store f after frames
+      → Acts p w.store (g, length others) f after frames
       → Step p w (with_stack w after g (frames ++ others))
+  of_members : {next : World} → ChangesMembers p w next → Step p w next
   of_environment : {next : World} → Surrounds p w next → Step p w next

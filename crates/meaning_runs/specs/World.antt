@@ -1,17 +1,27 @@
--- The world of an analysed program: contexts, cancel functions, cells and goroutines, each told by a number. Values
--- outside tracked variables are not in it. A goroutine is a stack of frames, the running one first; a frame is one
--- activation of a function, method or literal.
--- (The documentation of `context`; the Go specification, "Variables", "Function literals", "Calls", "Defer statements",
--- "Go statements".)
+-- The world of an analysed program: contexts, cancel functions, error groups, cells and goroutines, each told by a
+-- number. Values outside tracked variables are not in it. A goroutine is a stack of frames, the running one first; a
+-- frame is one activation of a function, method or literal.
+-- (The documentation of `context` and `golang.org/x/sync/errgroup`; the Go specification, "Variables", "Function
+-- literals", "Calls", "Defer statements", "Go statements".)
 use Rattle.std.specs.Prelude.{◌≡◌, ℕ, ◌+◌, ◌<◌, ◌==◌, Bool, if◌then◌else◌, List, [], ◌∷◌, Option, Some, None, Contains}
 use Rattle.meaning.specs.Code.{Code}
 use Rattle.meaning.specs.Uses.{Callee, Event, VariableAt}
 use Rattle.meaning_runs.specs.Bodies.{Body, code_of, is_parameter_of, is_captured_by}
 
--- what a tracked variable holds: a cancel function, or nothing
+-- what a cancel variable holds: a cancel function, or nothing
 pub data Value : Type 0 where
   nothing : Value
   cancel_function : ℕ → Value
+
+-- where a frame stands: its goroutine, and how many frames are below it
+abbrev pub Place : Type 0
+Place = ℕ × ℕ
+
+-- who made a group: nobody, where no group has the number yet; something outside; or the frame at that place
+pub data Maker : Type 0 where
+  nobody : Maker
+  outside : Maker
+  frame_at : Place → Maker
 
 -- What all goroutines share. An execution of a declaration of a tracked variable makes a cell, and the start of a frame
 -- one for each of its parameters; a cell is told by the number of what made it and that of its variable.
@@ -24,7 +34,15 @@ pub record Store : Type 0 where
   -- the cancel functions that were called; each has the number of its context
   pub called : List ℕ
   pub cells : ℕ → ℕ → Value
+  -- what group variables hold, in the same cells: a group, or none
+  pub holds : ℕ → ℕ → Option ℕ
   pub cell_count : ℕ
+  pub maker : ℕ → Maker
+  -- the context that each group was made with, if any
+  pub group_context : ℕ → Option ℕ
+  pub group_count : ℕ
+  -- the group that each goroutine is a member of, if any
+  pub member : ℕ → Option ℕ
 
 -- one number gets a value
 abbrev pub put_at : {A : Type 0} → (ℕ → A) → ℕ → A → ℕ → A
@@ -60,23 +78,67 @@ abbrev pub calling : Store → Value → Store
 calling s nothing = s
 calling s (cancel_function a) = record s { called = a ∷ s.called; ended = a ∷ s.ended }
 
+-- a context ends, if there is one
+abbrev pub ending : Store → Option ℕ → Store
+ending s None = s
+ending s (Some a) = record s { ended = a ∷ s.ended }
+
 -- nothing, or a cancel function that the world has
 pub data IsAny (s : Store) : Value → Type 0 where
   any_nothing : IsAny s nothing
   any_function : {a : ℕ} → a < s.context_count → IsAny s (cancel_function a)
 
+-- Groups
+
+-- a new group, and the context that it is made with, if any
+abbrev pub with_group : Store → Maker → Option ℕ → Store
+with_group s maker context = record s {
+  maker = put_at s.maker s.group_count maker;
+  group_context = put_at s.group_context s.group_count context;
+  group_count = s.group_count + 1;
+}
+
+-- none, or a group that something outside made
+pub data IsOutside (s : Store) : Option ℕ → Type 0 where
+  outside_none : IsOutside s None
+  outside_group : {a : ℕ} → s.maker a ≡ outside → IsOutside s (Some a)
+
+-- the goroutine becomes a member of the group, or is no member any more
+abbrev pub with_member : Store → ℕ → Option ℕ → Store
+with_member s g group = record s { member = put_at s.member g group }
+
+abbrev pub HasNoMember : Store → ℕ → Type 0
+HasNoMember s a = (g : ℕ) → s.member g ≡ Some a → ⊥
+
+-- A Wait ends only where the group has no member. That of no group ends too; Go panics there, so there are more runs
+-- than Go has.
+abbrev pub MayEndWait : Store → Option ℕ → Type 0
+MayEndWait s None = Unit {0}
+MayEndWait s (Some a) = HasNoMember s a
+
+-- where a Wait ends, the group's context does
+abbrev pub waiting_for : Store → Option ℕ → Store
+waiting_for s None = s
+waiting_for s (Some a) = ending s (s.group_context a)
+
 -- Frames
 
--- an argument, and its position
+-- an argument that is a cancel function, and its position
 pub record Given : Type 0 where
   pub position : ℕ
   pub value : Value
 
--- a call of a function that gets cancel functions
+-- one that is a group, or none
+pub record Lent : Type 0 where
+  pub position : ℕ
+  pub group : Option ℕ
+
+-- a call of a function that gets cancel functions or groups
 pub record Passing : Type 0 where
   pub callee : Callee
   pub is_deferred : Bool
   pub given : List Given
+  pub lent : List Lent
 
 -- a literal, with the newest cells of the frame that evaluated it; both go on using them
 pub record Closure : Type 0 where
@@ -88,6 +150,8 @@ pub data Saved : Type 0 where
   saved_call : Value → Saved
   saved_pass : Passing → Saved
   saved_literal : Closure → Saved
+  -- a Wait for the group, or for none
+  saved_wait : Option ℕ → Saved
 
 -- a frame goes through what is left of its body, or it has come to a return
 pub data Stage : Type 0 where
@@ -105,6 +169,8 @@ pub record Frame : Type 0 where
   pub saved : List Saved
   -- the cancel functions that its variables obtained from makers and givers
   pub obtained : List ℕ
+  -- the groups that it made
+  pub made : List ℕ
   -- what its return hands on to its caller
   pub handed_on : List Value
 
@@ -122,7 +188,12 @@ empty_world = record {
     ended = [];
     called = [];
     cells = λ k v. nothing;
+    holds = λ k v. None;
     cell_count = 0;
+    maker = λ a. nobody;
+    group_context = λ a. None;
+    group_count = 0;
+    member = λ g. None;
   };
   stacks = λ g. [];
   escaped = [];
@@ -138,13 +209,29 @@ abbrev pub in_cell : Store → ℕ → Option ℕ → Value
 in_cell s v None = nothing
 in_cell s v (Some k) = s.cells k v
 
--- what a variable of the frame holds
+abbrev pub group_in_cell : Store → ℕ → Option ℕ → Option ℕ
+group_in_cell s v None = None
+group_in_cell s v (Some k) = s.holds k v
+
+-- what a variable of the frame holds: a cancel variable, and a group variable
 abbrev pub held : Store → Frame → ℕ → Value
 held s f v = in_cell s v (f.newest v)
 
--- the cells that something makes, with these values: of all numbers, of which only those of parameters are pointed to
-abbrev pub with_cells : Store → (ℕ → Value) → Store
-with_cells s values = record s { cells = put_at s.cells s.cell_count values; cell_count = s.cell_count + 1 }
+abbrev pub held_group : Store → Frame → ℕ → Option ℕ
+held_group s f v = group_in_cell s v (f.newest v)
+
+-- the cells that something makes, with these contents: of all numbers, of which only those of parameters are pointed to
+abbrev pub with_cells : Store → (ℕ → Value) → (ℕ → Option ℕ) → Store
+with_cells s values groups = record s {
+  cells = put_at s.cells s.cell_count values;
+  holds = put_at s.holds s.cell_count groups;
+  cell_count = s.cell_count + 1;
+}
+
+-- contents that nobody of the program gives: any cancel functions, and groups of the environment
+pub record AreForeign (s : Store) (values : ℕ → Value) (groups : ℕ → Option ℕ) : Type 0 where
+  pub any : (v : ℕ) → IsAny s (values v)
+  pub foreign : (v : ℕ) → IsOutside s (groups v)
 
 -- a variable's number is the offset of the name that declares it
 abbrev pub is_declaration : VariableAt → Bool
@@ -164,6 +251,11 @@ binding s f u value =
     let k = bound_cell s f u in
     record s { cells = put_at s.cells k (put_at (s.cells k) u.number value); cell_count = s.cell_count + 1 }
 
+abbrev pub binding_group : Store → Frame → VariableAt → ℕ → Store
+binding_group s f u group =
+    let k = bound_cell s f u in
+    record s { holds = put_at s.holds k (put_at (s.holds k) u.number (Some group)); cell_count = s.cell_count + 1 }
+
 abbrev pub binds : Store → Frame → VariableAt → Frame
 binds s f u = record f { newest = put_at f.newest u.number (Some (bound_cell s f u)) }
 
@@ -177,6 +269,7 @@ new_frame s b around = record {
   waiting = None;
   saved = [];
   obtained = [];
+  made = [];
   handed_on = [];
 }
 

@@ -4,17 +4,19 @@
 ghost use Rattle.meaning_runs.specs.BodyOffsets.{BodiesAreApart, BodiesBeginOnce};
 ghost use Rattle.meaning_runs.specs.CallSteps.{CallsHaveSteps};
 ghost use Rattle.meaning_runs.specs.Doings.{MovesAreLists};
-ghost use Rattle.meaning_runs.specs.Laws.{ContextsAreSound, FramesHaveSteps};
+ghost use Rattle.meaning_runs.specs.Laws.{ContextsAreSound, FramesHaveSteps, GoroutinesAreFree, GroupsGetMembers, MembersMayLeave, TheEnvironmentMay};
 ghost use Rattle.meaning_runs.specs.EntryPlaces.{EntriesLieInFiles};
 ghost use Rattle.meaning_runs.specs.EventSources.{BindingsAreOfLocals, BindingsAreTracked, EventsHaveSources};
 ghost use Rattle.meaning_runs.specs.FilePlaces.{WholePlacesLieInFiles};
 ghost use Rattle.meaning_runs.specs.NamePlaces.{NamesLieInTexts};
 ghost use Rattle.meaning_runs.specs.OccurrencePlaces.{OccurrencesHavePlaces, OccurrencesLieInTexts};
 ghost use Rattle.meaning_runs.specs.Promise.{YesIsQuiet};
-ghost use Rattle.meaning_runs.specs.PackageYes.{YesOfAPackageIsQuiet};
-ghost use Rattle.meaning_runs.specs.RunLists.{BodiesAreOfTexts, DeferredLiteralsAreThere, ListsAreRun, ListsOfTextsAreRun, ReturnsAreLast};
+ghost use Rattle.meaning_runs.specs.PackageYes.{YesIsOfAllBelow, YesOfAPackageIsQuiet};
+ghost use Rattle.meaning_runs.specs.RunLists.{BodiesAreOfTexts, DeferredLiteralsAreThere, ListsAreRun, ListsOfTextsAreRun, ReturnsAreLast, StartedLiteralsAreThere};
 ghost use Rattle.meaning_runs.specs.LoudReturns.{LostFunctionsAreSeen};
+ghost use Rattle.meaning_runs.specs.GroupReturns.{GroupReturnsExist};
 ghost use Rattle.meaning_runs.specs.Returns.{ReturnsExist};
+ghost use Rattle.meaning_runs.specs.Waits.{AllWaitsWait};
 
 /// The moves of a code are its lists of events: each list that the code may go through is done by its moves, one after
 /// another, and what moves do is a list.
@@ -49,16 +51,46 @@ pub fn bindings_are_tracked()
     ensures { BindingsAreTracked }
 {}
 
-/// A goroutine's running frame always has a step, but for what is done to a group, and for a call of a function that
-/// gets cancel functions, of which `calls_have_steps` tells.
+/// A goroutine's running frame always goes on, past its event or by what it saved, but for a Wait whose group has
+/// members, for a start in a variable that holds no group, and for a call that gets cancel functions or groups, of
+/// which `calls_have_steps` tells.
 pub fn frames_have_steps()
     ensures { FramesHaveSteps }
 {}
 
-/// A call of a function that gets cancel functions always begins, at once or when what was saved runs: in every world
-/// of a run there are values that it can give.
+/// A call of a function that gets cancel functions or groups always begins, at once or when what was saved runs: in
+/// every world of a run there are contents that it can give. What has no body may start work in the groups that it was
+/// lent, and it comes back.
 pub fn calls_have_steps()
     ensures { CallsHaveSteps }
+{}
+
+/// In every world of a run some goroutine does nothing and is no member of a group.
+pub fn goroutines_are_free()
+    ensures { GoroutinesAreFree }
+{}
+
+/// In every world of a run in which a frame comes to a start in a group, or to a try, there is a step by which a free
+/// goroutine becomes a member of the group. It runs the literal that was started, with the cells around it.
+pub fn groups_get_members()
+    ensures { GroupsGetMembers }
+{}
+
+/// A member that runs nothing any more may leave its group.
+pub fn members_may_leave()
+    ensures { MembersMayLeave }
+{}
+
+/// In every world the environment may call any function, method or literal that it can get, end any context, call any
+/// cancel function, and start work in any group that was made outside.
+pub fn the_environment_may()
+    ensures { TheEnvironmentMay }
+{}
+
+/// A Wait ends only where its group has no member, at once or when what was saved runs; then the context of the group
+/// is done. A frame whose last saved one is a Wait goes on by nothing else.
+pub fn waits_wait()
+    ensures { AllWaitsWait }
 {}
 
 /// In every world of a run: a cancel function that was called has ended its context and all that come from it; a
@@ -74,23 +106,29 @@ pub fn returns_exist()
     ensures { ReturnsExist }
 {}
 
-/// What a yes promises, of packages without groups: where nothing is to be said of the files of a package, under tables
-/// that are consistent, of it and of the given packages below it, each of its returns is quiet, in every run. Literals
-/// share the variables that they capture with the activation around them, be they deferred or called by anyone.
+/// What a yes promises: where nothing is to be said of the files of a package, nor of those of any given package below
+/// it, under tables that are consistent, each of its returns is quiet, in every run. Literals share the variables that
+/// they capture with the activation around them, be they deferred, called by anyone, or started in a group.
 pub fn yes_is_quiet()
     ensures { YesIsQuiet }
 {}
 
 /// So it is by a report of packages. Where it says nothing of a package, its tables know what holds of that package and
-/// of all given ones below it, and none of these has a finding; so if none of these packages imports `errgroup`, each
-/// return of the package is quiet, in every run.
+/// of all given ones below it, and none of these has a finding; so each return of the package is quiet, in every run.
 pub fn yes_of_a_package_is_quiet()
     ensures { YesOfAPackageIsQuiet }
 {}
 
-/// Each list of a body is the list of events of some run, as far as its events are runnable: they are about no group,
-/// and no body is known for a function that gets a cancel function. The run begins with a call of the body, and comes
-/// to what is left of it after the list, or to its return.
+/// A yes is one of each given package below too, since an import that isn't yes would be said: where a report says
+/// nothing of a package, nothing is to be said of the files of any package that its runs go through.
+pub fn yes_is_of_all_below()
+    ensures { YesIsOfAllBelow }
+{}
+
+/// Each list of a body is the list of events of some run, as far as its events are runnable: no body is known for a
+/// function that gets a cancel function or a group, a group is made before work is started in it, and no Wait comes
+/// after a literal was started. The run begins with a call of the body, and comes to what is left of it after the list,
+/// or to its return.
 pub fn lists_are_run()
     ensures { ListsAreRun }
 {}
@@ -140,8 +178,13 @@ pub fn deferred_literals_are_there()
     ensures { DeferredLiteralsAreThere }
 {}
 
+/// In the tree of a text each literal that an event of a body starts in a group, or may start, stands in the body.
+pub fn started_literals_are_there()
+    ensures { StartedLiteralsAreThere }
+{}
+
 /// So each list of an outermost body in the tree of a text is the list of events of some run, as far as its events are
-/// about no group, and no body is known for a function that gets a cancel function.
+/// runnable.
 pub fn lists_of_texts_are_run()
     ensures { ListsOfTextsAreRun }
 {}
@@ -151,4 +194,13 @@ pub fn lists_of_texts_are_run()
 /// branch, one uses the function in another way, one calls it in one branch, and one returns before the call.
 pub fn lost_functions_are_seen()
     ensures { LostFunctionsAreSeen }
+{}
+
+/// With groups, runs come to quiet returns: of a function that waits for the literal that calls its cancel function, be
+/// it started by Go or by TryGo, of one whose member starts work in the same group, of one with two groups, and of one
+/// that leaves the function to a group of its caller's. And they come to ones that are not quiet: where TryGo starts
+/// nothing, where one return does not wait, where the variable gets another group while work goes on, where another
+/// group is waited for, and where the caller's group is not waited for at all.
+pub fn group_returns_exist()
+    ensures { GroupReturnsExist }
 {}

@@ -18,4 +18,4 @@ pub use imports::{CONTEXT, ERRGROUP};
 pub use meanings::{NameFault, NameMeaning};
 pub use package_block::{INIT, can_be_meant};
 pub use package_names::PackageNames;
-pub use resolution::{Names, resolve};
+pub use resolution::{Names, names_of, resolve};

@@ -52,6 +52,25 @@ fn all_answers<'a>(
     Ok(answers)
 }
 
+/// Finds what each use in the files of a package means. Two of its functions may have one name: then the first of them
+/// is meant.
+///
+/// # Errors
+///
+/// Memory was refused.
+pub fn names_of<'a>(
+    alloc: Global,
+    files: &'a [File],
+    packages: &PackageNames<'a>,
+) -> Result<Names<'a>, AllocError>
+    ensures { IfOk result (λ names. (file at : ℕ) → declared_at names file at ≡ declaration_of_use
+        (map file_syntax files.now) (names_by_path packages.now) file at) }
+{
+    Ok(Names {
+        files: all_answers(alloc, files, packages)?,
+    })
+}
+
 /// Finds what each use in the files of a package means.
 ///
 /// # Errors
@@ -70,7 +89,5 @@ pub fn resolve<'a>(
     if let Some((file, name)) = second_function(alloc, files)? {
         return Err(NameFault::TwoFunctions(file, name));
     }
-    Ok(Names {
-        files: all_answers(alloc, files, packages)?,
-    })
+    Ok(names_of(alloc, files, packages)?)
 }

@@ -17,7 +17,7 @@ use Rattle.meaning_packages.specs.PathFaults.{PathCode, overwritten, not_called,
 use Rattle.meaning_packages.specs.Credits.{is_safe, is_live, is_settled, Settles}
 use Rattle.bodies.specs.Classified.{Classifies}
 use Rattle.path_faults.specs.FoundFaults as found
-use Rattle.path_faults.specs.FoundFaults.{each_from, any_from, fault_if, Cancels, Groups, is_live_group, may_be_lost, binding_faults, making_faults, is_same_place, is_live_at, is_live_there, is_left_to, owes_call, open_faults, left_faults, live_faults, return_faults, event_faults, faults_of_nodes, is_return, is_uncalled, breaks_call, is_unsettled, breaks_settling}
+use Rattle.path_faults.specs.FoundFaults.{each_from, fault_if, Cancels, Groups, is_live_group, may_be_lost, binding_faults, making_faults, is_same_place, is_live_at, is_live_there, is_left_to, owes_call, open_faults, left_faults, live_faults, return_faults, event_faults, faults_of_nodes, is_return, is_uncalled, breaks_call, is_unsettled, breaks_settling}
 use Rattle.path_faults.proofs.Places.{place_of, contains_at, any_witness, any_holds, passes_at, any_at, given_at, gives_at}
 
 -- Small facts

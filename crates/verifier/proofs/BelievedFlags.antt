@@ -1,18 +1,17 @@
 -- What the believed claims say of functions is what is claimed of a package and may be known.
 use Rattle.std.proofs.Common.{◌≡◌, ℕ, ◌⊎◌, inl, inr, Bool, true, false, if◌then◌else◌, List, [], ◌∷◌, Option, Some, None, Contains, refl, sym, ap, ◌∙◌, subst}
-use Rattle.std.specs.Prelude.{◌↔◌, ◌==◌, ◌&&◌, slice_get}
-use Rattle.std.specs.List.{list_any}
+use Rattle.std.specs.Prelude.{◌==◌, ◌&&◌}
 use Rattle.std.specs.Str.{bytes_eq}
 use Rattle.std.proofs.lemmas.Bool.{and_parts, and_from, false≢true}
 use Rattle.std.proofs.lemmas.Bool.Decides.{Decides-eqb}
 use Rattle.std.proofs.lemmas.Slice.Eq.{bytes_eq-Decides}
 use Rattle.calls_flags.proofs.ClaimsOf.{claim_of, claim_among}
-use Rattle.calls_flags.specs.Claims.{Claim, all_claims, flags_claimed, IsClaimOf, IsOneOf, HaveFacts}
+use Rattle.calls_flags.specs.Claims.{Claim, all_claims, flags_claimed, HaveFacts}
 use Rattle.meaning.proofs.Membership.{contains_nil, contains_here, contains_there, contains_cases}
 use Rattle.meaning.specs.BodyEvents.{bodies_of, variables_of}
 use Rattle.meaning.specs.FunctionFacts.{CancelType, cancel_type, FunctionFacts}
 use Rattle.meaning.specs.Uses.{facts_take_type}
-use Rattle.meaning_packages.specs.CallsFlags.{Flags, FileWithCredits, IsClaim}
+use Rattle.meaning_packages.specs.CallsFlags.{Flags, FileWithCredits}
 use Rattle.path_faults.proofs.Places.{place_of, contains_at, any_witness, any_holds}
 use Rattle.verifier.specs.BelievedClaims.{has_type, is_believed, believes}
 use Rattle.verifier.specs.Verified.{Given, IsClaimed, AreClaimed}

@@ -1,7 +1,7 @@
 -- Where nothing is said of a file, each of its bodies has a certificate that holds, if it has not too many variables. Who
 -- looks for certificates can only say that it is not so that there is none; but a fault is refuted, and whether a claim
 -- is kept is a matter of faults.
-use Rattle.std.proofs.Common.{◌≡◌, ℕ, Bool, true, List, [], Option, Some, Contains, refl, sym, ap, ◌∙◌}
+use Rattle.std.proofs.Common.{◌≡◌, ℕ, Bool, true, List, [], Some, Contains, refl, ap, ◌∙◌}
 use Rattle.std.specs.Prelude.{slice_get}
 use Rattle.calls_flags.proofs.ClaimsOf.{so_function}
 use Rattle.calls_flags.specs.Claims.{function_name}
@@ -12,14 +12,14 @@ use Rattle.meaning.specs.BodyEvents.{Variable, VariableRole, own_parameter, bodi
 use Rattle.meaning.specs.FunctionFacts.{cancel}
 use Rattle.meaning.specs.Mentions.{BodyPlace}
 use Rattle.meaning.specs.Uses.{Callee}
-use Rattle.meaning_packages.specs.CallsFlags.{Flags, FileWithCredits, calls_by, IsKept, AreConsistent}
+use Rattle.meaning_packages.specs.CallsFlags.{Flags, FileWithCredits, calls_by, IsKept}
 use Rattle.meaning_packages.specs.Credits.{promises_in}
 use Rattle.meaning_packages.specs.PathFaults.{Paths, PathFault, paths_of, IsPathFault, KeepsCall, IsFaultOf, of_a_pass, of_a_path}
 use Rattle.meaning_reports.specs.PackageReports.{IsFileFinding, outside_bodies, of_use, of_path}
 use Rattle.path_faults.proofs.Places.{place_of}
 use Rattle.report.specs.Entries.{Entry}
 use Rattle.verifier.specs.Verified as verified
-use Rattle.verifier.specs.Verified.{Given, flags_of_name, flags_of_body, checked, IsCertified, IsClaimed, AreClaimed}
+use Rattle.verifier.specs.Verified.{Given, flags_of_name, flags_of_body, checked, IsCertified, IsClaimed}
 use Rattle.verifier.specs.VerifierLaws.{BodiesHaveOwnPlaces, SaysNothing, ClaimsAreConsistent, NothingIsFound}
 
 -- the body that is checked is that of the paths

@@ -1,26 +1,24 @@
 -- What is found of a body's certificate, by way of its graph in memory.
-use Rattle.std.proofs.Common.{◌≡◌, ℕ, ◌+◌, Bool, true, false, List, [], ◌∷◌, map, Option, Some, None, option_map, refl, sym, ap, ◌∙◌, subst}
+use Rattle.std.proofs.Common.{◌≡◌, ℕ, ◌+◌, Bool, true, false, List, [], ◌∷◌, map, Option, Some, None, refl, sym, ap, ◌∙◌, subst}
 use Rattle.std.specs.Prelude.{◌↔◌, IsTrue}
 use Rattle.std.specs.List.Sorted.{IsPermutation}
 use Rattle.std.proofs.lemmas.Option.{same_Some}
-use Rattle.bodies.specs.Bodies.{IsOrderedGraph, code_in, has_too_many, TellsBody}
+use Rattle.bodies.specs.Bodies.{IsOrderedGraph, code_in, TellsBody}
 use Rattle.bodies.specs.NodeEvents.{node_event_view, changed, events_graph}
 use Rattle.bodies.specs.declared.body.Body.{Body as KeptBody}
 use Rattle.bodies.specs.declared.graph.BodyGraph.{BodyGraph as KeptGraph}
 use Rattle.bodies.specs.declared.node.NodeEvent.{NodeEvent}
 use Rattle.calls_flags.specs.Claims.{function_name}
 use Rattle.checker.specs.Certificates.{CheckedBody, Holds, SettlesIn}
-use Rattle.checker.specs.LaidOutViews.{IsLaidOut, LaysOut, HasWholeOrder, body_of}
+use Rattle.checker.specs.LaidOutViews.{IsLaidOut, LaysOut, body_of}
 use Rattle.checker.specs.declared.laid_out.LaidOut.{LaidOut}
 use Rattle.credits.specs.CreditViews.{is_among}
 use Rattle.events.specs.VariableViews.{variable_view}
 use Rattle.flow.specs.GraphOfCode.{nodes}
 use Rattle.flow.specs.GraphViews.{occurrences_of}
 use Rattle.flow.specs.NodeOrder.{places}
-use Rattle.flow.specs.Walks.{Graph, graph_of}
-use Rattle.flow.specs.declared.order.NodePlace.{NodePlace}
+use Rattle.flow.specs.Walks.{Graph}
 use Rattle.meaning.specs.BodyEvents.{variables_of, too_many_faults}
-use Rattle.meaning.specs.Classes.{Promises}
 use Rattle.meaning.specs.Code.{Occurrence}
 use Rattle.meaning.specs.Mentions.{BodyPlace}
 use Rattle.meaning.specs.Uses.{Callee, Event, Seen}
@@ -29,7 +27,7 @@ use Rattle.meaning_packages.specs.Credits.{Credits, promises_in}
 use Rattle.meaning_packages.specs.PathFaults.{Paths, paths_of}
 use Rattle.verifier.proofs.OneOrder.{one_order}
 use Rattle.verifier.specs.FoundBodies.{with_table, IsFound}
-use Rattle.verifier.specs.SettledPlaces.{SettlesPlace, SettlesSome}
+use Rattle.verifier.specs.SettledPlaces.{SettlesSome}
 use Rattle.verifier.specs.Verified.{Given, flags_of_name, flags_of_body, IsOrder, checked, IsCertified, SettlesBy}
 
 -- the places of nodes are the same for other events

@@ -1,12 +1,11 @@
 -- What is found of a package by its certificates is what the rules say of it.
-use Rattle.std.proofs.Common.{◌≡◌, ℕ, Bool, List, map, Contains, Some, Option, refl, sym, ap, ◌∙◌, subst}
+use Rattle.std.proofs.Common.{◌≡◌, ℕ, List, map, Contains, Some, Option, sym, ap, ◌∙◌, subst}
 use Rattle.std.specs.Prelude.{◌↔◌, slice_get}
 use Rattle.std.proofs.lemmas.Option.{same_Some}
 use Rattle.calls_flags.specs.Claims.{HaveFacts}
 use Rattle.meaning.proofs.Membership.{contains_map}
 use Rattle.meaning.specs.FunctionFacts.{FunctionFacts}
-use Rattle.meaning.specs.Tracked.{Known}
-use Rattle.meaning.specs.Uses.{Callee, Seen}
+use Rattle.meaning.specs.Uses.{Seen}
 use Rattle.meaning_packages.specs.CallsFlags.{Flags, FileWithCredits, calls_by}
 use Rattle.meaning_reports.specs.Loaded.{LoadedPackage, Tables, imported_flags, known_in, seen_files, signatures_of, trees_of}
 use Rattle.report.specs.Entries.{Entry, entry_of}
@@ -15,7 +14,7 @@ use Rattle.verifier.proofs.OneVerified.{seen_of, claimed_too, one_verified}
 use Rattle.verifier.proofs.VerifiedYes.{tree_of}
 use Rattle.verifier.specs.Rules.{GivenByPath, IsVerified, AreFlagsByCertificates, SaysByCertificates}
 use Rattle.verifier.specs.SaidEntries.{AreSaid, IsSaidIn}
-use Rattle.verifier.specs.Verified.{Given, IsSaid, AreClaimed, AreGivenCredits}
+use Rattle.verifier.specs.Verified.{Given, IsSaid, AreClaimed}
 
 -- the functions of the package have these facts in each of its files
 pub have_facts : (ps : List LoadedPackage) (tables : Tables) (p : LoadedPackage) (facts : List ℕ → Option FunctionFacts)

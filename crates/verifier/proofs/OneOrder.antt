@@ -1,6 +1,6 @@
 -- The nodes of a graph have one order in the text: no two have one number, so of two that differ one comes first.
-use Rattle.std.proofs.Common.{◌≡◌, ℕ, zero, suc, ◌+◌, ◌<◌, ◌≤◌, ◌⊎◌, inl, inr, Bool, true, false, List, [], ◌∷◌, cond, Contains, refl, sym, ap, ◌∙◌, subst, arith}
-use Rattle.std.specs.Prelude.{◌==◌, AllPairs}
+use Rattle.std.proofs.Common.{◌≡◌, ℕ, suc, ◌+◌, ◌<◌, ◌≤◌, ◌⊎◌, inl, inr, Bool, true, false, List, [], ◌∷◌, cond, Contains, refl, ap, ◌∙◌, subst, arith}
+use Rattle.std.specs.Prelude.{◌==◌}
 use Rattle.std.specs.List.{sum_by}
 use Rattle.std.specs.List.Sorted.{IsPermutation}
 use Rattle.std.proofs.lemmas.Bool.Decides.{Decides-eqb}
@@ -10,7 +10,6 @@ use Rattle.std.proofs.lemmas.List.Sorted.{IsPermutation-sym, IsPermutation-trans
 use Rattle.flow.specs.declared.order.NodePlace.{NodePlace}
 use Rattle.flow.specs.NodeOrder.{places, IsNotAfter}
 use Rattle.flow.specs.NodeOrder as order
-use Rattle.meaning.proofs.Membership.{contains_nil, contains_cases}
 use Rattle.meaning.specs.Code.{Occurrence}
 use Rattle.meaning_reports.proofs.EntryOrder.{AreInOrder, one_list}
 

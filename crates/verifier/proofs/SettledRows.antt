@@ -1,10 +1,8 @@
 -- Variables that a body captures and its certificate settles, by their places.
 use Rattle.std.proofs.Common.{◌≡◌, ℕ, ◌+◌, ◌<◌, ◌≤◌, ◌⊎◌, inl, inr, Bool, true, false, List, [], ◌∷◌, ◌++◌, Option, Some, None, option_map, map, length, get_or, refl, sym, ap, ◌∙◌, subst, arith}
-use Rattle.std.specs.Prelude.{◌↔◌, ◌==◌, ◌≢◌, IsTrue, slice_get}
-use Rattle.std.proofs.lemmas.Bool.{false≢true, or_cases, or_left, or_right}
+use Rattle.std.specs.Prelude.{◌↔◌, ◌==◌, ◌≢◌, slice_get}
+use Rattle.std.proofs.lemmas.Bool.{false≢true}
 use Rattle.std.proofs.lemmas.Bool.Decides.{Decides-eqb}
-use Rattle.std.proofs.lemmas.List.{length-map}
-use Rattle.std.proofs.lemmas.List.Folds.{list_any-append}
 use Rattle.std.proofs.lemmas.Option.{none-some, same_Some, slice_get-map, slice_get_past, slice_get_read, slice_get_within}
 use Rattle.checker.specs.Certificates.{CheckedBody, SettlesIn}
 use Rattle.credits.proofs.SettledPlaces.{is_role, among_pushed}
@@ -12,7 +10,7 @@ use Rattle.credits.specs.CreditViews.{is_among}
 use Rattle.credits.specs.SettledVariables.{is_captured}
 use Rattle.events.specs.declared.variable.Variable.{Variable as KeptVariable}
 use Rattle.events.specs.VariableViews.{variable_view}
-use Rattle.meaning.specs.BodyEvents.{Variable, captured}
+use Rattle.meaning.specs.BodyEvents.{Variable}
 use Rattle.verifier.specs.SettledPlaces.{SettlesPlace, SettlesBefore, SettlesSome}
 
 -- One place

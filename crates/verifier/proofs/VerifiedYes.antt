@@ -1,31 +1,29 @@
 -- Of a package of whose files nothing is said by certificates, what its table knows of functions holds, and no finding
 -- of `check` is to be said of it. So the promise is that of `yes_is_quiet`.
-use Rattle.std.proofs.Common.{◌≡◌, ℕ, ◌+◌, inl, inr, List, [], ◌∷◌, ◌++◌, map, Some, Contains, refl, sym, ap, ◌∙◌, subst}
+use Rattle.std.proofs.Common.{◌≡◌, ℕ, ◌+◌, inl, inr, List, [], ◌∷◌, ◌++◌, Some, Contains, refl, sym, ap, ◌∙◌, subst}
 use Rattle.std.specs.Prelude.{slice_get}
-use Rattle.checker.specs.CheckerLaws.{HaveOwnPlaces, LeavesNoFault, KeepsClaims, SettlesWhatItSays}
+use Rattle.checker.specs.CheckerLaws.{LeavesNoFault, KeepsClaims, SettlesWhatItSays}
 use Rattle.flow.specs.GraphOfCode.{nodes}
 use Rattle.meaning.proofs.Membership.{contains_here, contains_nil, contains_there, contains_cases, contains_map}
-use Rattle.meaning.specs.BodyEvents.{bodies_of, seen_file, sites_of}
-use Rattle.meaning.specs.Classes.{Promises}
-use Rattle.meaning.specs.Code.{Code, skip, does, leave, then_code, either, repeats, up_to, Occurrence}
-use Rattle.meaning.specs.Mentions.{BodyPlace}
+use Rattle.meaning.specs.BodyEvents.{seen_file, sites_of}
+use Rattle.meaning.specs.Code.{Code, skip, does, leave, then_code, either, repeats, up_to}
 use Rattle.meaning.specs.Tracked.{Known}
 use Rattle.meaning.specs.TreeOfText.{IsTreeOf}
 use Rattle.meaning.specs.Uses.{Seen, Event}
 use Rattle.meaning_packages.specs.CallsFlags.{FileWithCredits, calls_by}
 use Rattle.meaning_packages.specs.Credits.{AreFairCredits}
 use Rattle.meaning_packages.specs.PathFaults.{paths_of}
-use Rattle.meaning_reports.specs.Loaded.{LoadedPackage, Tables, imported_flags, seen_files, seen_from, trees_of, known_in}
+use Rattle.meaning_reports.specs.Loaded.{imported_flags, seen_from, trees_of, known_in}
 use Rattle.meaning_runs.proofs.OccurrencePlaces.{occurrences_have_places}
-use Rattle.meaning_runs.proofs.PackageYes.{IsKnown, AreKnownWell, yes_of_a_package_is_quiet_by}
+use Rattle.meaning_runs.proofs.PackageYes.{AreKnownWell, yes_of_a_package_is_quiet_by}
 use Rattle.meaning_runs.specs.OccurrencePlaces.{occurrences}
-use Rattle.meaning_runs.specs.Promise.{AreFairlyCredited, no_file, file_and, AreTreesOfTexts}
+use Rattle.meaning_runs.specs.Promise.{AreFairlyCredited, no_file, file_and}
 use Rattle.path_faults.proofs.Places.{contains_at, place_of}
 use Rattle.tree.specs.Syntax.{SourceFile}
 use Rattle.verifier.proofs.CertifiedBodies.{nothing_is_found, claims_are_consistent}
 use Rattle.verifier.proofs.FairCredits.{credits_are_fair}
 use Rattle.verifier.proofs.OneVerified.{seen_of}
-use Rattle.verifier.specs.Rules.{GivenByPath, IsVerified, by_certificates}
+use Rattle.verifier.specs.Rules.{GivenByPath, by_certificates}
 use Rattle.verifier.specs.VerifierLaws.{BodiesHaveOwnPlaces, SaysNothing, YesOfVerifiedIsQuiet}
 
 -- Places of nodes
@@ -39,7 +37,7 @@ nodes_are (either a b) = λ i. nodes_are b i ++ nodes_are a i
 nodes_are (repeats a) = nodes_are a
 nodes_are (up_to w a) = nodes_are a
 
-places_of_text : (text : List ℕ) (tree : SourceFile) (known : Known) → IsTreeOf text tree
+pub places_of_text : (text : List ℕ) (tree : SourceFile) (known : Known) → IsTreeOf text tree
     → BodiesHaveOwnPlaces (seen_file known tree)
 places_of_text text tree known is b promises there n m o p is_o is_p same same_order =
     let code = (paths_of (seen_file known tree) promises b).code in

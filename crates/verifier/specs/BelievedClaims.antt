@@ -1,5 +1,5 @@
 -- The claims that are believed, as the program goes over them.
-use Rattle.std.specs.Prelude.{ℕ, Bool, true, false, if◌then◌else◌, List, [], ◌∷◌, Option, Some, None}
+use Rattle.std.specs.Prelude.{ℕ, Bool, false, if◌then◌else◌, List, [], ◌∷◌, Option, Some, None}
 use Rattle.calls_flags.specs.Claims.{Claim}
 use Rattle.meaning.specs.FunctionFacts.{CancelType, cancel_type, FunctionFacts}
 use Rattle.meaning.specs.Uses.{facts_take_type}

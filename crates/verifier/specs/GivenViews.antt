@@ -1,6 +1,6 @@
 -- What certificates give for packages, wherever they are kept. Of several packages with one path, bodies at one place,
 -- functions with one name, and parameters at one position the first counts; certificates that were read have no such.
-use Rattle.std.specs.Prelude.{ℕ, ◌≡◌, ◌==◌, ◌&&◌, Bool, if◌then◌else◌, List, [], ◌∷◌, map, Option, Some, None, option_map}
+use Rattle.std.specs.Prelude.{ℕ, ◌≡◌, ◌==◌, ◌&&◌, if◌then◌else◌, List, [], ◌∷◌, map, Option, Some, None, option_map}
 use Rattle.std.specs.Str.{bytes_eq}
 use Rattle.indexmap.specs.IndexMap.{get_by}
 use Rattle.names.specs.Answers.{at_name}

@@ -37,8 +37,8 @@ pub fn flags_are_determined()
     ensures { FlagsAreDetermined }
 {}
 
-/// What a yes by certificates promises: where a report by them says nothing of a package, and neither it nor a given
-/// package below it imports `errgroup`, each of its returns is quiet, in every run.
+/// What a yes by certificates promises: where a report by them says nothing of a package, each of its returns is quiet,
+/// in every run.
 pub fn yes_of_verified_is_quiet()
     ensures { YesOfVerifiedIsQuiet }
 {}

@@ -1,5 +1,5 @@
 -- What is kept of packages against the packages.
-use Rattle.std.proofs.Common.{◌≡◌, ℕ, suc, List, [], ◌∷◌, map, length, Some, refl, ap, arith}
+use Rattle.std.proofs.Common.{◌≡◌, ℕ, suc, List, [], ◌∷◌, map, length, Some, refl, arith}
 use Rattle.std.specs.Prelude.{slice_get, flat_map}
 use Rattle.meaning_reports.specs.Loaded.{LoadedPackage, import_list, imported_paths, imports_of}
 use Rattle.whole_packages.specs.declared.loaded_package.LoadedPackage.{LoadedPackage as KeptPackage}

@@ -1,28 +1,25 @@
 -- The faults of a package as a whole: those that the program finds are those of the definitions.
-use Rattle.std.proofs.Common.{◌≡◌, ℕ, zero, suc, ◌+◌, ◌<◌, ◌≤◌, ◌⊎◌, inl, inr, Bool, true, false, if◌then◌else◌, List, [], ◌∷◌, ◌++◌, map, length, Contains, Option, Some, None, option_map, refl, sym, ap, ◌∙◌, subst, arith}
+use Rattle.std.proofs.Common.{◌≡◌, ℕ, zero, suc, ◌+◌, ◌≤◌, inl, inr, Bool, true, false, if◌then◌else◌, List, [], ◌∷◌, ◌++◌, length, Contains, Option, Some, None, refl, sym, ap, ◌∙◌, subst, arith}
 use Rattle.std.specs.Prelude.{◌↔◌, slice_get, flat_map, codes}
 use Rattle.std.proofs.lemmas.Bool.{false≢true}
 use Rattle.std.proofs.lemmas.List.Elements.{Contains-append_left, Contains-append_right, Contains-append_cases}
-use Rattle.std.proofs.lemmas.Option.{same_Some, none-some, slice_get-map, slice_get_within}
+use Rattle.std.proofs.lemmas.Option.{same_Some, none-some, slice_get_within}
 use Rattle.tree.specs.Syntax.{SourceFile, ImportSpec}
-use Rattle.tree.specs.View.{file_syntax}
-use Rattle.meaning.proofs.Membership.{contains_nil, contains_here, contains_there, contains_cases, contains_map, contains_unmap}
+use Rattle.meaning.proofs.Membership.{contains_nil, contains_here, contains_there}
 use Rattle.meaning.specs.TwoFunctions.{FunctionName, second_function}
-use Rattle.report.specs.declared.codes.DiagnosticCode.{DiagnosticCode}
-use Rattle.report.specs.declared.codes.DiagnosticCode.TheVariants.{Unreadable, LeftOut, TwoFunctions, ImportHasNoRank}
+use Rattle.report.specs.declared.codes.DiagnosticCode.TheVariants.{Unreadable, LeftOut, ImportHasNoRank}
 use Rattle.report.specs.declared.codes.TextFault.{TextFault}
 use Rattle.report.specs.declared.codes.TreeFault.{TreeFault}
 use Rattle.report.specs.Entries.{Entry}
-use Rattle.imports.specs.Ranks.{Package, Imports, HasRank, Chain, ends, goes_on}
-use Rattle.imports.specs.Settling.{place_from}
-use Rattle.imports.proofs.GivenImports.{FirstAt, first_there, there_first, imports_from}
-use Rattle.meaning_reports.specs.Loaded.{Reading, has_tree, has_text_fault, has_tree_fault, LoadedPackage, NumberedTree, numbered_trees, trees_from, trees_of, imports_of, imported_paths, import_list}
-use Rattle.meaning_reports.specs.WholeFaults.{ImportsAt, import_entry, IsWholeFault, has_no_tokens, has_no_tree, has_two_functions, has_no_rank}
+use Rattle.imports.specs.Ranks.{Package, HasRank}
+use Rattle.imports.proofs.GivenImports.{FirstAt, first_there, there_first}
+use Rattle.meaning_reports.specs.Loaded.{Reading, has_tree, has_text_fault, has_tree_fault, LoadedPackage, NumberedTree, numbered_trees, trees_of, imports_of, import_list}
+use Rattle.meaning_reports.specs.WholeFaults.{import_entry, IsWholeFault, has_no_tokens, has_no_tree, has_two_functions, has_no_rank}
 use Rattle.whole_packages.specs.declared.loaded_package.Reading.{Reading as KeptReading}
 use Rattle.whole_packages.specs.declared.loaded_package.Reading.TheVariants.{Tree, NoTokens, NoTree}
 use Rattle.whole_packages.specs.LoadedViews.{readings_of}
 use Rattle.meaning_reports.proofs.ImportsOf.{gives, given_by, only_one, import_there, first_import, no_rank_above}
-use Rattle.whole_packages.specs.WholeEntries.{failure, failure_entries, failures_from, second_at, second_entries, is_set, is_set_at, is_marked, spec_entries, tree_entries, TellsOrder}
+use Rattle.whole_packages.specs.WholeEntries.{failure, failures_from, second_at, second_entries, is_set_at, is_marked, spec_entries, tree_entries, TellsOrder}
 
 from_start : (k : ℕ) → 0 + k ≡ k
 from_start k = omega arith

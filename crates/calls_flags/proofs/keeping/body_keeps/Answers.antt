@@ -1,7 +1,5 @@
-use Rattle.std.proofs.Common.{map, sym, ap, ◌∙◌, subst}
+use Rattle.std.proofs.Common.{map, sym, ap, ◌∙◌}
 use Rattle.std.proofs.lemmas.Result.{IfOk-weaker}
-use Rattle.bodies.specs.Classified.{Classifies}
-use Rattle.calls_flags.proofs.BodiesKept.{no_graph}
 use Rattle.calls_flags.specs.KnownCalls.{known_calls}
 use Rattle.credits.specs.CreditViews.{has}
 use Rattle.events.specs.VariableViews.{variable_view}

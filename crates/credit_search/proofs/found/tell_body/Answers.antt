@@ -1,6 +1,4 @@
-use Rattle.std.proofs.Common.{◌≡◌, true, sym, ap, ◌∙◌, subst}
 use Rattle.std.proofs.lemmas.Result.{IfOk-weaker}
-use Rattle.credits.specs.CreditViews.{has}
 use Rattle.credit_search.proofs.SettledBodies.{settles_body}
 use Rattle.credit_search.proofs.found.tell_body.Goals as goal
 

@@ -1,7 +1,6 @@
 use Rattle.std.proofs.Common.{map, sym, ap, ◌∙◌, subst}
 use Rattle.facts.proofs.FactParts.{on_ok}
-use Rattle.bodies.specs.Classified.{Classifies}
-use Rattle.findings.proofs.FoundParts.{adds_faults, adds_so, adds_none, no_paths, few_paths}
+use Rattle.findings.proofs.FoundParts.{adds_faults, adds_so, few_paths}
 use Rattle.findings.specs.FoundEntries.{known_paths, IsPathEntry, IsFewPathEntry}
 use Rattle.calls_flags.specs.KnownCalls.{known_calls}
 use Rattle.credits.specs.BodyPaths.{TellsPaths}

@@ -1,6 +1,6 @@
-use Rattle.std.proofs.Common.{◌≡◌, ◌∷◌, ◌+◌, ◌∙◌, ap, sym, drop, refl, string_bytes, rules}
+use Rattle.std.proofs.Common.{◌∷◌, ◌+◌, ◌∙◌, ap, sym, drop, refl, string_bytes}
 use Rattle.std.proofs.lemmas.List.{drop_all, drop_more}
-use Rattle.load.proofs.FilesLoaded.{none_loaded, one_loaded, is_loaded}
+use Rattle.load.proofs.FilesLoaded.{one_loaded, is_loaded}
 use Rattle.load.proofs.package.load_package.Goals as goal
 
 pub loop-source-preserved : goal.loop-source-preserved

@@ -2,7 +2,6 @@ use Rattle.std.proofs.Common.{map, ap, ◌∙◌}
 use Rattle.std.proofs.lemmas.List.{map-append}
 use Rattle.report.specs.Entries.{entry_of}
 use Rattle.whole_packages.specs.WholeEntries.{second_view}
-use Rattle.whole_packages.specs.LoadedViews.{numbered_view}
 use Rattle.whole_packages.proofs.SecondPlaces.{entries_there, entries_past, no_more}
 use Rattle.whole_packages.proofs.whole.add_second_at.Goals as goal
 

@@ -1,4 +1,4 @@
-use Rattle.std.proofs.Common.{◌∙◌, ap, sym, map, ◌++◌, [], refl, option_map}
+use Rattle.std.proofs.Common.{◌∙◌, ap, map, ◌++◌, option_map}
 use Rattle.std.specs.Prelude.{flat_map}
 use Rattle.report.specs.declared.codes.DiagnosticCode.TheVariants.{ImportHasNoRank}
 use Rattle.imports.specs.Views.{at_path}
