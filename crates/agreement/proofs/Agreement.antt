@@ -2,7 +2,7 @@
 -- nothing of it, each body has a certificate that holds, so that none has a fault; and the credits are the same.
 use Rattle.std.proofs.Common.{◌≡◌, ℕ, Bool, true, [], Contains, refl, sym, subst}
 use Rattle.agreement.proofs.LowerLaws.{LowerLaws}
-use Rattle.agreement.proofs.OneTable.{with_credits, IsSound, is_certified, one_table}
+use Rattle.agreement.proofs.OneTable.{IsSound, is_certified, one_table}
 use Rattle.agreement.specs.AgreementLaws.{HasLeastCertificates, KeepsItsFlags, FindsNothing, LeastCertificatesAreBelieved, WhatIsBelievedHasNoFinding}
 use Rattle.agreement.specs.OwnGroups.{HaveOwnGroups}
 use Rattle.checker.specs.Certificates.{is_claimed}
@@ -16,6 +16,7 @@ use Rattle.meaning_packages.specs.PathFaults.{paths_of, KeepsCall, of_a_pass, of
 use Rattle.meaning_reports.specs.PackageReports.{outside_bodies, of_use, of_path}
 use Rattle.path_faults.proofs.Places.{place_of}
 use Rattle.report.specs.Entries.{Entry}
+use Rattle.verifier.specs.FoundBodies.{with_table}
 use Rattle.verifier.specs.Verified as verified
 use Rattle.verifier.specs.Verified.{Given, flags_of_body, checked, IsCertified, AreGivenCredits, IsSaid}
 use Rattle.verifier.specs.VerifierLaws.{BodiesHaveOwnPlaces, SaysNothing}
@@ -23,18 +24,18 @@ use Rattle.verifier.specs.VerifierLaws.{BodiesHaveOwnPlaces, SaysNothing}
 -- a property of a file is one of the file that has the same credits
 same_file : (P : FileWithCredits → Type 0) (seen : Seen) (one other : Credits)
     → ((literal variable : ℕ) → one literal variable ≡ other literal variable)
-    → P (with_credits seen one)
-    → P (with_credits seen other)
+    → P (with_table seen one)
+    → P (with_table seen other)
 same_file P seen one other same h =
     let credits : one ≡ other = λ i literal variable. same literal variable i in
-    subst (λ c. P (with_credits seen c)) credits h
+    subst (λ c. P (with_table seen c)) credits h
 
 module _ (laws : LowerLaws) (given : Given) (own : Flags) (calls : Callee → ℕ → Bool) (number : ℕ) (seen : Seen)
     (full other : Credits) (groups : HaveOwnGroups seen)
-    (least : HasLeastCertificates given calls number (with_credits seen full))
-    (are : AreGivenCredits given own calls number (with_credits seen other)) where
+    (least : HasLeastCertificates given calls number (with_table seen full))
+    (are : AreGivenCredits given own calls number (with_table seen other)) where
   abbrev file : FileWithCredits
-  file = with_credits seen full
+  file = with_table seen full
 
   -- Where nothing is found
 
@@ -57,7 +58,7 @@ module _ (laws : LowerLaws) (given : Given) (own : Flags) (calls : Callee → �
     nothing_said x (verified.not_certified b among few none) =
         none (is_certified given own calls number seen laws full groups least b few (least.each b among few) (sound b among few))
 
-    pub says_nothing : SaysNothing given own calls number (with_credits seen other)
+    pub says_nothing : SaysNothing given own calls number (with_table seen other)
     says_nothing =
         same_file (SaysNothing given own calls number) seen full other (λ literal variable. sym (same_credits literal variable))
         nothing_said
@@ -65,20 +66,20 @@ module _ (laws : LowerLaws) (given : Given) (own : Flags) (calls : Callee → �
   -- Where nothing is said
 
   module _ (places : BodiesHaveOwnPlaces seen)
-      (nothing : SaysNothing given own calls number (with_credits seen other)) where
-    none_found : FindsNothing calls number (with_credits seen other)
-    none_found = laws.nothing_is_found given own calls number (with_credits seen other) places nothing
+      (nothing : SaysNothing given own calls number (with_table seen other)) where
+    none_found : FindsNothing calls number (with_table seen other)
+    none_found = laws.nothing_is_found given own calls number (with_table seen other) places nothing
 
     -- what a certificate refutes is not so
     refuted : (b : BodyPlace) → Contains (bodies_of seen) b → too_many_faults (variables_of seen b.at) ≡ []
-        → (IsCertified given own calls number (with_credits seen other) b → ⊥)
+        → (IsCertified given own calls number (with_table seen other) b → ⊥)
         → ⊥
     refuted b among few none = nothing _ (verified.not_certified b among few none)
 
     kept : (b : BodyPlace) (v : Variable) → Contains (bodies_of seen) b → Contains (variables_of seen b.at) v
         → v.kind ≡ cancel
         → is_claimed (flags_of_body own b) v.role ≡ true
-        → IsCertified given own calls number (with_credits seen other) b
+        → IsCertified given own calls number (with_table seen other) b
         → KeepsCall (paths_of seen (promises_in calls other b.at) b) v
     kept b v among there kind claimed c =
         let w = place_of (variables_of seen b.at) v there in
@@ -110,23 +111,23 @@ module _ (laws : LowerLaws) (given : Given) (own : Flags) (calls : Callee → �
 -- the other file is seen as the first one
 pub least_certificates_are_believed : LowerLaws → LeastCertificatesAreBelieved
 least_certificates_are_believed laws given own calls number file other groups least keeps same are nothing =
-    let their : AreGivenCredits given own calls number (with_credits file.seen other.credits) =
-    subst (λ seen. AreGivenCredits given own calls number (with_credits seen other.credits)) same are in (
+    let their : AreGivenCredits given own calls number (with_table file.seen other.credits) =
+    subst (λ seen. AreGivenCredits given own calls number (with_table seen other.credits)) same are in (
       record {
         is_seen_so = same;
         has_its_credits =
             same_credits laws given own calls number file.seen file.credits other.credits groups least their keeps nothing;
       },
-      subst (λ seen. SaysNothing given own calls number (with_credits seen other.credits)) (sym same)
+      subst (λ seen. SaysNothing given own calls number (with_table seen other.credits)) (sym same)
           (says_nothing laws given own calls number file.seen file.credits other.credits groups least their keeps nothing),
     )
 
 pub what_is_believed_has_no_finding : LowerLaws → WhatIsBelievedHasNoFinding
 what_is_believed_has_no_finding laws given own calls number file other groups places least same are nothing =
-    let their : AreGivenCredits given own calls number (with_credits file.seen other.credits) =
-    subst (λ seen. AreGivenCredits given own calls number (with_credits seen other.credits)) same are in
-    let quiet : SaysNothing given own calls number (with_credits file.seen other.credits) =
-    subst (λ seen. SaysNothing given own calls number (with_credits seen other.credits)) same nothing in (
+    let their : AreGivenCredits given own calls number (with_table file.seen other.credits) =
+    subst (λ seen. AreGivenCredits given own calls number (with_table seen other.credits)) same are in
+    let quiet : SaysNothing given own calls number (with_table file.seen other.credits) =
+    subst (λ seen. SaysNothing given own calls number (with_table seen other.credits)) same nothing in (
       record {
         is_seen_so = same;
         has_its_credits =

@@ -11,7 +11,7 @@ use Rattle.agreement.proofs.GivenClaims.{told, told_is_known, known_is_told, in_
 use Rattle.agreement.proofs.GivenRowsFound.{gives_least}
 use Rattle.agreement.proofs.LowerLaws.{LowerLaws}
 use Rattle.agreement.proofs.PackageAgreement.{reports_agree}
-use Rattle.agreement.proofs.PackageFiles.{IsOfText, credited_seen, seen_there_at, file_seen_at, of_text}
+use Rattle.agreement.proofs.PackageFiles.{IsOfText, file_seen_at, of_text}
 use Rattle.agreement.specs.CertificateLaws.{given_in, CanBeWritten, CertificatesAgree}
 use Rattle.agreement.specs.PackageLaws.{IsGivenByPaths, AreGivenByPaths}
 use Rattle.all_certificates.specs.CertifiedBodies.{AreOfFiles}
@@ -25,6 +25,7 @@ use Rattle.meaning_reports.proofs.OneAnswer.{one_list}
 use Rattle.meaning_reports.proofs.OneReport.{one_way, flags_by_paths}
 use Rattle.meaning_reports.specs.Loaded.{LoadedPackage, Tables, imported_flags, means_in, signatures_of, trees_of, seen_files}
 use Rattle.meaning_reports.specs.PackageTables.{IsTableBy, empty, full, IsJudged, AreFlagsByPaths, AreTables}
+use Rattle.meaning_runs.proofs.EntryPlaces.{seen_there}
 use Rattle.meaning_runs.specs.BodyOffsets.{BodiesAreApart}
 use Rattle.meaning_runs.specs.Promise.{AreTreesOfTexts}
 use Rattle.path_faults.proofs.Places.{place_of}
@@ -194,7 +195,7 @@ module _ (bodies : BodiesAreApart) (ps : List LoadedPackage) (entries : List Pac
         text_at : (number : ℕ) (file : FileWithCredits) → slice_get files number ≡ Some file → IsOfText file.seen
         text_at number file there =
             of_text bodies ps tables p (texts i p judged.is_package) number file.seen
-            (ap (λ seens. slice_get seens number) (sym (credited_seen judged.are_files)) ∙ seen_there_at files number file there)
+            (seen_there (seen_files ps tables p) files judged.are_files number file there)
 
   pub given_by_paths : AreGivenByPaths (given_in entries) ps tables
   given_by_paths i p files flags judged = elim (slice_get_cases entries i).1 [

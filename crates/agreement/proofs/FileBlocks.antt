@@ -4,12 +4,13 @@ use Rattle.agreement.proofs.BlockRules.{Says, Keeps, says_nothing, keeps_nothing
 use Rattle.agreement.proofs.BlocksSpelled.{says_perhaps, empty_part, no_expressions, signature_in, parameters_in, named, of_expression, of_expressions, of_optional, of_signature, of_items, of_statements}
 use Rattle.agreement.proofs.ClearStarts.{Part, both_parts}
 use Rattle.agreement.proofs.EvenMarks as even
-use Rattle.agreement.proofs.OuterBodies.{Even, none_even, both_even, body_outers, body_even}
+use Rattle.agreement.proofs.OuterBodies.{Even, both_even, body_outers}
 use Rattle.meaning.proofs.Membership.{contains_nil, contains_cases}
 use Rattle.meaning.specs.Cursor.{◌⇒◌, nothing}
 use Rattle.meaning.specs.Grammar.{as_type, as_expression, IsLast, SpellsSpecs, SpellsDeclaration, SpellsImportSpec, SpellsImportSpecs, SpellsOneImport, SpellsImports, SpellsReceiver, SpellsFunction, SpellsTopLevel, SpellsTopLevels, SpellsFile}
-use Rattle.meaning.specs.Mentions.{LiteralUse, other_use, BodyPlace, Mark, in_body, part_of, expressions_marks, optional_marks, receiver_marks, function_body, function_types_marks, function_marks, outer_specs_marks, top_level_marks, top_levels_marks, file_marks}
+use Rattle.meaning.specs.Mentions.{LiteralUse, other_use, BodyPlace, Mark, in_body, part_of, expressions_marks, optional_marks, receiver_marks, function_body, function_marks, outer_specs_marks, top_level_marks, top_levels_marks, file_marks}
 use Rattle.meaning.specs.Scopes.{Naming, expressions_names, optional_names, signature_names, receiver_names, receiver_declared, function_names, outer_specs_names, top_level_names, top_levels_names, file_names}
+use Rattle.meaning_runs.proofs.MarkForms as forms
 use Rattle.tree.specs.declared.operator.DeclKeyword.{DeclKeyword}
 use Rattle.tree.specs.declared.span.Span.{Span}
 use Rattle.tree.specs.Syntax.{Parameters, Specs, no_spec, value_and, type_and, declaration_of, Block, Function, TopLevelDeclaration, function_declaration, general_declaration, ImportSpec, ImportDeclaration, SourceFile}
@@ -33,29 +34,6 @@ body_part b {ms} h names = record {
       ];
 }
 
--- Marks
-
-receiver_even : (site : ℕ) (ps : Option Parameters) → Even (receiver_marks site ps)
-receiver_even site None = none_even
-receiver_even site (Some ps) = even.of_parameters true site ps
-
-types_even : (f : Function) → Even (function_types_marks f)
-types_even f = both_even (receiver_even f.span.start f.receiver) (even.of_signature f.span.start f.signature)
-
-function_even : (f : Function) (b : Option Block) → Even (function_marks f b)
-function_even f None = types_even f
-function_even f (Some b) = body_even (function_body f b) (both_even (types_even f) (even.of_statements b.statements))
-
-specs_even : (specs : Specs) → Even (outer_specs_marks specs)
-specs_even no_spec = none_even
-specs_even (value_and ns t es span specs) =
-    both_even (even.of_optional span.start t) (both_even (even.of_expressions (part_of span.start) es) (specs_even specs))
-specs_even (type_and n is_alias t span specs) = both_even (even.of_expression (part_of span.start) t) (specs_even specs)
-
-top_level_even : (d : TopLevelDeclaration) → Even (top_level_marks d)
-top_level_even (function_declaration f) = function_even f f.body
-top_level_even (general_declaration (declaration_of keyword specs is_grouped span)) = specs_even specs
-
 -- Declarations
 
 receiver_in : {lo hi : ℕ} (block : Span) (ps : Option Parameters) → AllIn (Is block) (receiver_declared block ps) lo hi
@@ -78,12 +56,13 @@ module _ (text : List ℕ) where
       → Says (Part other_use (function_names record f { body = b }) (function_marks f b)) (SpellsFunction text record f { body = b })
   with_block f None =
       spanned (behind (keeps_token _)
-      (both_parts (receiver_even f.span.start f.receiver) (receiver f.span.start f.receiver)
+      (both_parts (even.of_made (forms.of_receiver true f.span.start f.receiver)) (receiver f.span.start f.receiver)
       (behind (keeps_identifier text f.name)
       (ending (so (λ lo hi w. part_so (sym (append-nil (signature_names f.signature))) refl w)
       (of_signature text f.span.start f.signature)) keeps_nothing))))
   with_block f (Some b) =
-      so (λ lo hi w. body_part (function_body f b) (both_even (types_even f) (even.of_statements b.statements)) w)
+      so (λ lo hi w. body_part (function_body f b)
+      (both_even (even.of_made (forms.of_types true f)) (even.of_statements b.statements)) w)
       (spanned (behind (keeps_token _)
       (both (named (receiver f.span.start f.receiver))
       (behind (keeps_identifier text f.name)
@@ -99,7 +78,7 @@ module _ (text : List ℕ) where
       given (so (λ lo hi w. part_so
       (append_assoc (optional_names t) (expressions_names es) (outer_specs_names specs))
       (append_assoc (optional_marks span.start t) (expressions_marks (part_of span.start) es) (outer_specs_marks specs)) w)
-      (both_parts (both_even (even.of_optional span.start t) (even.of_expressions (part_of span.start) es))
+      (both_parts (both_even (even.of_optional span.start t) (even.of_expressions span.start es))
       (spanned (behind (keeps_identifiers text names)
       (both_parts (even.of_optional span.start t) (of_optional text as_type span.start t)
       (says_perhaps es (λ e lo hi. no_expressions (part_of span.start) es e)
@@ -121,7 +100,7 @@ module _ (text : List ℕ) where
   top_levels : (ds : List TopLevelDeclaration)
       → Says (Part other_use (top_levels_names ds) (top_levels_marks ds)) (SpellsTopLevels text ds)
   top_levels [] = says_nothing (λ lo hi. empty_part)
-  top_levels (d ∷ ds) = both_parts (top_level_even d) (top_level d) (behind keeps_semicolon (top_levels ds))
+  top_levels (d ∷ ds) = both_parts (even.of_made (forms.of_top_level d)) (top_level d) (behind keeps_semicolon (top_levels ds))
 
   -- Imports
 

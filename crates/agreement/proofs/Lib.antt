@@ -1,4 +1,3 @@
-mod StartedGroups
 mod BodyVariables
 mod OwnGroups
 mod LowerLaws

@@ -17,15 +17,14 @@ use Rattle.meaning.specs.BodyEvents.{Variable, bodies_of, variables_of, too_many
 use Rattle.meaning.specs.FunctionFacts.{cancel}
 use Rattle.meaning.specs.Mentions.{BodyPlace}
 use Rattle.meaning.specs.Uses.{Callee, Seen}
-use Rattle.meaning_packages.specs.CallsFlags.{Flags, FileWithCredits}
+use Rattle.meaning_packages.specs.CallsFlags.{Flags}
 use Rattle.meaning_packages.specs.Credits.{body_at, Credits, begun_after, promises_in, no_calls, Settles, IsCredited}
 use Rattle.meaning_packages.specs.PathFaults.{Paths, paths_of, KeepsCall}
 use Rattle.meaning_reports.proofs.OneAnswer.{same_test, same_behind}
 use Rattle.path_faults.proofs.Places.{contains_at, place_of}
-use Rattle.verifier.specs.Verified.{Given, flags_of_body, checked, IsCertified, SettlesBy, IsCreditedBy, AreGivenCredits}
-
-abbrev pub with_credits : Seen → Credits → FileWithCredits
-with_credits seen credits = record { seen = seen; credits = credits }
+use Rattle.verifier.proofs.OneVerified.{credited_too as credited_by_too}
+use Rattle.verifier.specs.FoundBodies.{with_table}
+use Rattle.verifier.specs.Verified.{Given, flags_of_body, IsCertified, IsCreditedBy, AreGivenCredits}
 
 -- Bodies at an offset
 
@@ -90,54 +89,15 @@ pub record IsSound (own : Flags) (paths : Paths) (b : BodyPlace) : Type 0 where
       → KeepsCall paths v
 
 module _ (given : Given) (own : Flags) (calls : Callee → ℕ → Bool) (number : ℕ) (seen : Seen) where
-  certified_too : (one other : Credits) (b : BodyPlace) → begun_after b.at one ≡ begun_after b.at other
-      → IsCertified given own calls number (with_credits seen one) b
-      → IsCertified given own calls number (with_credits seen other) b
-  certified_too one other b same h = record {
-    rows = h.rows;
-    order = h.order;
-    are_few = h.are_few;
-    are_given = h.are_given;
-    is_order = record { same = h.is_order.same; ordered = h.is_order.ordered };
-    holds = subst (λ c. Holds (checked (relying seen b calls c) (flags_of_body own b) h.order) h.rows) same h.holds;
-  }
-
-  settled_too : (one other : Credits) (b : BodyPlace) (variable : ℕ) → begun_after b.at one ≡ begun_after b.at other
-      → SettlesBy given own calls number (with_credits seen one) b variable
-      → SettlesBy given own calls number (with_credits seen other) b variable
-  unfolding certified_too
-  settled_too one other b variable same h = record {
-    certified = certified_too one other b same h.certified;
-    place = h.place;
-    found = h.found;
-    is_of_body = h.is_of_body;
-    is_captured = h.is_captured;
-    is_it = h.is_it;
-    settles = h.settles;
-  }
-
-  credited_by_too : (one other : Credits) (literal variable : ℕ) → begun_after literal one ≡ begun_after literal other
-      → IsCreditedBy given own calls number (with_credits seen one) literal variable
-      → IsCreditedBy given own calls number (with_credits seen other) literal variable
-  credited_by_too one other literal variable same h = record {
-    body = h.body;
-    is_there = h.is_there;
-    settled =
-        settled_too one other h.body variable
-        (subst (λ n. begun_after n one ≡ begun_after n other)
-        (sym (first_there literal (bodies_of seen) h.body h.is_there).is_there) same)
-        h.settled;
-  }
-
   module _ (laws : LowerLaws) (full : Credits) (groups : HaveOwnGroups seen)
-      (least : HasLeastCertificates given calls number (with_credits seen full)) where
+      (least : HasLeastCertificates given calls number (with_table seen full)) where
     abbrev its_paths : BodyPlace → Paths
     its_paths b = paths_of seen (promises_in calls full b.at) b
 
     -- Least certificates
 
     module _ (b : BodyPlace) (few : too_many_faults (variables_of seen b.at) ≡ [])
-        (its : IsGivenLeast given calls number (with_credits seen full) b) where
+        (its : IsGivenLeast given calls number (with_table seen full) b) where
       abbrev its_body : CheckedBody
       its_body = body_with (its_paths b) its.are_least.order (flags_of_body own b)
 
@@ -157,7 +117,7 @@ module _ (given : Given) (own : Flags) (calls : Callee → ℕ → Bool) (number
             (its.are_least.is_least (flags_of_body own b))
 
         -- the least certificate holds
-        pub is_certified : IsCertified given own calls number (with_credits seen full) b
+        pub is_certified : IsCertified given own calls number (with_table seen full) b
         is_certified = record {
           rows = its.rows;
           order = its.are_least.order;
@@ -182,7 +142,7 @@ module _ (given : Given) (own : Flags) (calls : Callee → ℕ → Bool) (number
 
     credited_by : (literal variable : ℕ) → IsCredited seen full literal variable
         → ((b : BodyPlace) → Contains (bodies_of seen) b → b.at ≡ literal → IsSound own (its_paths b) b)
-        → IsCreditedBy given own calls number (with_credits seen full) literal variable
+        → IsCreditedBy given own calls number (with_table seen full) literal variable
     unfolding is_certified
     credited_by literal variable h sound =
         let b = h.body in
@@ -212,7 +172,7 @@ module _ (given : Given) (own : Flags) (calls : Callee → ℕ → Bool) (number
     -- One table
 
     module _ (other : Credits)
-        (are : AreGivenCredits given own calls number (with_credits seen other))
+        (are : AreGivenCredits given own calls number (with_table seen other))
         (sound : (b : BodyPlace)
         → Contains (bodies_of seen) b
         → too_many_faults (variables_of seen b.at) ≡ []
@@ -236,7 +196,7 @@ module _ (given : Given) (own : Flags) (calls : Callee → ℕ → Bool) (number
       fair_too literal variable same e =
           (least.are_full.each literal variable).1
           (credited_too seen other full literal variable same
-          ((laws.credits_are_fair given own calls number (with_credits seen other) are).each literal variable e))
+          ((laws.credits_are_fair given own calls number (with_table seen other) are).each literal variable e))
 
       full_too : (literal variable : ℕ) → begun_after literal other ≡ begun_after literal full
           → full literal variable ≡ true
@@ -244,7 +204,7 @@ module _ (given : Given) (own : Flags) (calls : Callee → ℕ → Bool) (number
       full_too literal variable same e =
           let h = (least.are_full.each literal variable).0 e in
           (are literal variable).1
-          (credited_by_too full other literal variable (sym same)
+          (credited_by_too given own calls number seen full other literal variable (sym same)
           (credited_by literal variable h λ b among is.
           sound b among (few_there h b among is) (subst (λ n. begun_after n other ≡ begun_after n full) (sym is) same)))
         where

@@ -6,9 +6,8 @@ use Rattle.std.specs.List.{list_any, list_all}
 use Rattle.std.proofs.lemmas.Bool.{and_parts, and_from, or_left, or_right, false≢true}
 use Rattle.std.proofs.lemmas.Bool.Decides.{Decides-eqb}
 use Rattle.std.proofs.lemmas.List.Elements.{Contains-append_cases}
-use Rattle.std.proofs.lemmas.Option.{none-some}
+use Rattle.std.proofs.lemmas.Option.{none-some, same_Some}
 use Rattle.agreement.proofs.BodyVariables.{group_listed}
-use Rattle.agreement.proofs.StartedGroups.{StartsIn, mark_so}
 use Rattle.agreement.specs.OwnGroups.{starting_local, StartsNoOutermost, StartsHaveOwnGroups}
 use Rattle.checker.specs.Certificates.{groups_of}
 use Rattle.flow.specs.GraphOfCode.{nodes}
@@ -16,11 +15,14 @@ use Rattle.maker.specs.Flags.{literal_group}
 use Rattle.meaning.proofs.Membership.{contains_nil, contains_cases}
 use Rattle.meaning.specs.BodyEvents.{is_declared_around, is_captured_there, sites_of, variables_of}
 use Rattle.meaning.specs.Code.{Occurrence, Code, skip, does, leave, then_code, either, repeats, up_to}
+use Rattle.meaning.specs.FunctionFacts.{group}
 use Rattle.meaning.specs.Mentions.{LiteralUse, other_use, deferred_call, started_by, BodyPlace, Mention, mentions}
 use Rattle.meaning.specs.Tracked.{Known, variable_of, Placed, Local}
-use Rattle.meaning.specs.Uses.{Seen, Event, found, tracked_kind, is_body, is_of_local, is_started_by_it, is_member_of, literals_between}
+use Rattle.meaning.specs.Uses.{Seen, Event, start, found, tracked_kind, is_body, is_of_local, is_started_by_it, is_member_of, literals_between}
 use Rattle.meaning_packages.specs.PathFaults.{paths_of}
 use Rattle.meaning_runs.proofs.EventSources.{EachIn, of_body, marked}
+use Rattle.meaning_runs.proofs.GroupUses.{is_about_group, AreMembers, UsesGroup, starts, tries, waits, waits_later, lends, group_use_there}
+use Rattle.meaning_runs.proofs.MarkForms.{literal_of}
 use Rattle.meaning_runs.proofs.OwnVariables.{find_is}
 use Rattle.meaning_runs.specs.Bodies.{Body}
 use Rattle.meaning_runs.specs.EventSources.{HasSource, says_nothing, falls_off, of_mark}
@@ -136,13 +138,14 @@ module _ (seen : Seen) (body : ℕ) (p : Placed) (m : Mention) (l : Local) (amon
           any_holds (λ (q : Placed). is_captured_there seen.known body l q.bodies q.mark) seen.marks p among
           (captured_here (around_if p.bodies here around e))
 
-  pub group_there : StartsNoOutermost seen → is_body body p.bodies ≡ true → StartsIn seen p.bodies l
+  pub group_there : StartsNoOutermost seen → is_body body p.bodies ≡ true → tracked_kind seen (Some l) ≡ Some group
+      → AreMembers seen p.bodies l
       → Contains (groups_of (variables_of seen body)) l.number
-  group_there free here starts =
-      group_listed seen body l (variable_of seen.known m) is starts.is_group
+  group_there free here is_group members =
+      group_listed seen body l (variable_of seen.known m) is is_group
       (and_from (is_some (tracked_kind seen (Some l)))
       ((l.body == body) || list_any (λ (q : Placed). is_captured_there seen.known body l q.bodies q.mark) seen.marks)
-      (ap is_some starts.is_group) (is_of_body here around))
+      (ap is_some is_group) (is_of_body here around))
     where
       all_members : (bodies : List BodyPlace) → p.bodies ≡ bodies → is_body body bodies ≡ true
           → list_all (is_member_of seen.known l) bodies ≡ true
@@ -156,32 +159,50 @@ module _ (seen : Seen) (body : ℕ) (p : Placed) (m : Mention) (l : Local) (amon
 
       around : list_any (λ (b : BodyPlace). b.at == l.body) p.bodies ≡ true
       around =
-          elim (declared_or seen.known l p.bodies starts.are_members) [
+          elim (declared_or seen.known l p.bodies members) [
             | inl found_so ↦ found_so
             | inr all ↦ absurd (all_members p.bodies refl here all)
           ]
 
 -- All nodes of a body
 
+is_about : (e : Event) (g : ℕ) → literal_group e ≡ Some g → is_about_group e ≡ true
+is_about (start v literal) g is = refl
+is_about e g is = absurd (none-some g is)
+
+its_number : (v : ℕ) (literal : Option ℕ) (g : ℕ) → literal_group (start v literal) ≡ Some g → v ≡ g
+its_number v None g is = absurd (none-some g is)
+its_number v (Some at) g is = same_Some v g is
+
+-- the group in which a mention starts a literal
+group_of : (seen : Seen) (bodies : List BodyPlace) (m : Mention) (l : Local) (e : Event) (g : ℕ) → UsesGroup seen bodies m l e
+    → literal_group e ≡ Some g
+    → (l.number ≡ g) × AreMembers seen bodies l
+group_of seen bodies m l e g (starts c s members) is = (its_number l.number (literal_of c) g is, members)
+group_of seen bodies m l e g (tries c s members) is = absurd (none-some g is)
+group_of seen bodies m l e g (waits saved) is = absurd (none-some g is)
+group_of seen bodies m l e g (waits_later saved) is = absurd (none-some g is)
+group_of seen bodies m l e g (lends f k own) is = absurd (none-some g is)
+
 by_source : (b : Body) → StartsNoOutermost b.file → (e : Event) → HasSource b e → (g : ℕ) → literal_group e ≡ Some g
     → Contains (groups_of (variables_of b.file b.place.at)) g
-by_source b free e says_nothing g is = absurd (none-some g is)
-by_source b free e falls_off g is = absurd (none-some g is)
-by_source b free e (of_mark p among here h) g is =
-    mark_so (Contains (groups_of (variables_of b.file b.place.at))) b.file p.bodies p.mark
-    (λ m l is_mention found_so starts.
-    group_there b.file b.place.at p m l among is_mention found_so free here starts)
-    e g h is
+by_source b free e source g is =
+    let u = group_use_there b e source (is_about e g is) in
+    let l = u.use_of.local in
+    let its = group_of b.file u.placed.bodies u.mention l e g u.use_of.uses is in
+    subst (Contains (groups_of (variables_of b.file b.place.at))) its.0
+    (group_there b.file b.place.at u.placed u.mention l u.is_of_file u.is_mention u.use_of.is_found free u.stands_here
+    u.use_of.is_group its.1)
 
 pub starts_have_own_groups : StartsHaveOwnGroups
-starts_have_own_groups seen free b promises order claims n o g is starts =
+starts_have_own_groups seen free b promises order claims n o g is there =
     by_source body free o.event
     (node_has (HasSource body) (paths_of seen promises b).code
     (of_body (HasSource body) (sites_of seen b.at) says_nothing falls_off
     (λ at e h. let r = marked seen b.at seen.marks at e h in of_mark r.0 r.1 r.2 r.3)
     record { statements = b.statements; braces = b.braces })
     o (contains_at (nodes (paths_of seen promises b).code) n o is))
-    g starts
+    g there
   where
     body : Body
     body = record { home = 0; file = seen; place = b }

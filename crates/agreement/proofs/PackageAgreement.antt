@@ -2,79 +2,41 @@
 -- the order of imports. Then nothing is to be said of a package by the one exactly where nothing is by the other: of its
 -- files by the laws of one file, and of its imports since these are yes too.
 use Rattle.std.proofs.Common.{◌≡◌, ℕ, zero, suc, ◌<◌, inl, inr, Bool, List, [], ◌∷◌, length, Some, Contains, refl, sym, ap, ◌∙◌, subst, arith}
-use Rattle.std.specs.Prelude.{◌↔◌, slice_get}
-use Rattle.std.proofs.lemmas.Option.{none-some, same_Some, slice_get_within, slice_get_cases}
+use Rattle.std.specs.Prelude.{◌↔◌, option_map, slice_get}
+use Rattle.std.proofs.lemmas.Option.{none-some, same_Some, slice_get-map, slice_get_within, slice_get_cases}
 use Rattle.agreement.proofs.Agreement.{least_certificates_are_believed, what_is_believed_has_no_finding}
 use Rattle.agreement.proofs.LowerLaws.{LowerLaws}
-use Rattle.agreement.proofs.PackageFiles.{IsOfText, seen_of, credited_seen, all_full, seen_there_at, of_text, keeps_flags}
+use Rattle.agreement.proofs.PackageFiles.{IsOfText, credited_seen, all_full, of_text, keeps_flags}
 use Rattle.agreement.specs.AgreementLaws.{HasLeastCertificates, FindsNothing}
 use Rattle.agreement.specs.PackageLaws.{AreGivenByPaths, ReportsAgree}
-use Rattle.meaning.proofs.Membership.{contains_nil, contains_here, contains_map, contains_unmap}
-use Rattle.meaning.specs.FunctionFacts.{cancel_type}
-use Rattle.meaning.specs.Uses.{Callee, Seen, facts_take_type}
-use Rattle.meaning_packages.specs.CallsFlags.{Flags, FileWithCredits, calls_by, IsClaim}
-use Rattle.meaning_reports.proofs.OneAnswer.{same_test}
+use Rattle.meaning.proofs.Membership.{contains_nil, contains_here}
+use Rattle.meaning.specs.Uses.{Callee, Seen}
+use Rattle.meaning_packages.specs.CallsFlags.{Flags, FileWithCredits, calls_by}
 use Rattle.meaning_reports.proofs.OneReport.{one_way}
-use Rattle.meaning_reports.specs.Loaded.{LoadedPackage, Tables, imported_flags, means_in, signatures_of, trees_of, seen_from, seen_files}
+use Rattle.meaning_reports.specs.Loaded.{LoadedPackage, Tables, imported_flags, seen_files}
 use Rattle.meaning_reports.specs.OneReport.{AreDetermined}
 use Rattle.meaning_reports.specs.PackageReports.{Rules, IsFindingBy, of_whole, of_import, of_files, IsYesBy, Said, IsReportBy, SaysByPaths, by_paths}
 use Rattle.meaning_reports.specs.PackageTables.{IsTableBy, empty, full, AreTablesBy, IsJudged, AreFlagsByPaths}
 use Rattle.meaning_reports.specs.WholeFaults.{HasNoWholeFault}
+use Rattle.meaning_runs.proofs.EntryPlaces.{seen_there}
 use Rattle.meaning_runs.specs.BodyOffsets.{BodiesAreApart}
 use Rattle.meaning_runs.specs.PackageYes.{IsYesIn}
 use Rattle.meaning_runs.specs.Promise.{AreTreesOfTexts}
 use Rattle.path_faults.proofs.Places.{contains_at}
 use Rattle.report.specs.Entries.{Entry}
+use Rattle.verifier.proofs.OneVerified.{seen_of, one_claimed, seen_by}
 use Rattle.verifier.specs.Rules.{GivenByPath, IsVerified, AreFlagsByCertificates, SaysByCertificates, by_certificates}
-use Rattle.verifier.specs.Verified.{Given, IsClaimed, AreClaimed, AreGivenCredits}
+use Rattle.verifier.specs.Verified.{AreClaimed, AreGivenCredits}
 use Rattle.verifier.specs.VerifierLaws.{SaysNothing}
 
 -- Flags
 
--- what is claimed is seen in the files, whatever their credits are
-claimed_too : (files others : List FileWithCredits) → seen_of files ≡ seen_of others → (given : Given)
-    → (name : List ℕ) (k : ℕ) → IsClaimed files given name k
-    → IsClaimed others given name k
-claimed_too files others same given name k h =
-    let among = contains_map (λ (f : FileWithCredits). f.seen) files h.file h.is_of_package in
-    let w = contains_unmap (λ (f : FileWithCredits). f.seen) others h.file.seen
-    (subst (λ xs. Contains xs h.file.seen) same among) in
-    record {
-      file = w.0;
-      body = h.body;
-      variable = h.variable;
-      type = h.type;
-      is_of_package = w.1;
-      is_claim = subst (λ seen. IsClaim seen h.body h.variable name k) (sym w.2) h.is_claim;
-      is_given = h.is_given;
-      has_its_type =
-          ap (λ (seen : Seen). facts_take_type (cancel_type h.type) k (seen.known.functions name)) w.2 ∙ h.has_its_type;
-    }
-
-one_claimed : (files others : List FileWithCredits) → seen_of files ≡ seen_of others → (given : Given)
-    → (flags more : Flags) → AreClaimed files given flags → AreClaimed others given more
-    → flags ≡ more
-one_claimed files others same given flags more are too = λ i name k.
-    same_test (flags name k) (more name k)
-    (λ e. (too name k).1 (claimed_too files others same given name k ((are name k).0 e)))
-    (λ e. (are name k).1 (claimed_too others files (sym same) given name k ((too name k).0 e))) i
-
--- By both rules the flags are those that are claimed
-
+-- by both rules they are those that are claimed
 record AreFlagsByClaims (given : GivenByPath) (ps : List LoadedPackage) (tables : Tables) (i : ℕ) (p : LoadedPackage)
     (flags : Flags) : Type 0 where
   files : List FileWithCredits
   are_seen : seen_of files ≡ seen_files ps tables p
   are_claimed : AreClaimed files (given p.path) flags
-
--- what the files of a package are seen with, by the tables of what it imports
-abbrev seen_by : List LoadedPackage → LoadedPackage → Tables → List Seen
-seen_by ps p known =
-    seen_from (λ number. record {
-      means = means_in ps p number;
-      functions = signatures_of ps p;
-      imported = λ path. (known path).signatures;
-    }) 0 (trees_of p)
 
 determined : (given : GivenByPath) → AreDetermined (AreFlagsByClaims given)
 determined given ps one other i p flags more is none same first second =
@@ -137,7 +99,9 @@ other_at : (files others : List FileWithCredits) (number : ℕ) (file : FileWith
     → slice_get files number ≡ Some file
     → IsFileAt others number file.seen
 other_at files others number file same e =
-    file_at others number file.seen (ap (λ seens. slice_get seens number) (sym same) ∙ seen_there_at files number file e)
+    file_at others number file.seen
+    (ap (λ seens. slice_get seens number) (sym same)
+    ∙ (slice_get-map (λ (f : FileWithCredits). f.seen) files number ∙ ap (option_map (λ (f : FileWithCredits). f.seen)) e))
 
 -- Packages
 
@@ -177,7 +141,7 @@ module _ (laws : LowerLaws) (bodies : BodiesAreApart) (given : GivenByPath) (ps 
       its_text : IsOfText file.seen
       its_text =
           of_text bodies ps tables p (texts i p judged.is_package) number file.seen
-          (ap (λ seens. slice_get seens number) (sym (credited_seen judged.are_files)) ∙ seen_there_at files number file is)
+          (seen_there (seen_files ps tables p) files judged.are_files number file is)
 
       says_nothing : FindsNothing calls number file → SaysNothing (given p.path) flags calls number other
       says_nothing nothing =

@@ -1,10 +1,9 @@
 -- The files of a package of texts: in their bodies no two nodes have one place, each group in which a literal is started
 -- is the body's own, no two bodies begin at one offset, and what is known of a function its body keeps.
-use Rattle.std.proofs.Common.{◌≡◌, ℕ, zero, suc, ◌+◌, inl, inr, Bool, true, false, ◌&&◌, List, [], ◌∷◌, map, Option, Some, None, Contains, refl, sym, ap, ◌∙◌, subst, arith}
-use Rattle.std.specs.Prelude.{if◌then◌else◌, not, is_none, option_map, slice_get}
+use Rattle.std.proofs.Common.{◌≡◌, ℕ, ◌+◌, inl, inr, Bool, true, false, ◌&&◌, List, [], ◌∷◌, Option, Some, None, Contains, refl, sym, ◌∙◌, subst, arith}
+use Rattle.std.specs.Prelude.{if◌then◌else◌, not, is_none, slice_get}
 use Rattle.std.specs.Str.{bytes_eq}
 use Rattle.std.proofs.lemmas.Bool.{and_from}
-use Rattle.std.proofs.lemmas.Option.{none-some, same_Some, slice_get-map}
 use Rattle.std.proofs.lemmas.Slice.Eq.{bytes_eq-Decides}
 use Rattle.agreement.proofs.OneParameter.{one_number}
 use Rattle.agreement.proofs.OneTable.{credited_too}
@@ -21,21 +20,23 @@ use Rattle.meaning.specs.Code.{Occurrence}
 use Rattle.meaning.specs.Mentions.{BodyPlace}
 use Rattle.meaning.specs.OuterBlocks.{is_init}
 use Rattle.meaning.specs.Scopes.{is_blank}
-use Rattle.meaning.specs.Tracked.{Known, locals_of}
+use Rattle.meaning.specs.Tracked.{locals_of}
 use Rattle.meaning.specs.TwoFunctions.{function_names_from}
 use Rattle.meaning.specs.Uses.{Seen, Event}
 use Rattle.meaning_packages.specs.CallsFlags.{Flags, FileWithCredits, calls_by, has_name, is_function}
 use Rattle.meaning_packages.specs.Credits.{promises_in, IsCredited, AreFullCredits}
 use Rattle.meaning_packages.specs.PathFaults.{Paths, paths_of, cancel_class, KeepsCall}
 use Rattle.meaning_reports.proofs.OneAnswer.{one_table_by}
-use Rattle.meaning_reports.specs.Loaded.{LoadedPackage, Tables, package_names, trees_of, imported_flags, known_in, seen_from, seen_files}
+use Rattle.meaning_reports.specs.Loaded.{LoadedPackage, Tables, package_names, trees_of, imported_flags, known_in, seen_files}
 use Rattle.meaning_reports.specs.PackageTables.{AreCredited, no_file, file_and, IsJudged}
+use Rattle.meaning_runs.proofs.EntryPlaces.{seen_there, tree_seen}
 use Rattle.meaning_runs.proofs.KnownFlags.{no_second}
 use Rattle.meaning_runs.proofs.NamedBodies.{AreApart, apart, one_body}
 use Rattle.meaning_runs.specs.BodyOffsets.{BodiesAreApart}
 use Rattle.meaning_runs.specs.Promise.{AreTreesOfTexts}
 use Rattle.path_faults.proofs.Places.{contains_at, place_of}
 use Rattle.tree.specs.Syntax.{Identifier, SourceFile}
+use Rattle.verifier.proofs.OneVerified.{seen_of}
 use Rattle.verifier.proofs.VerifiedYes.{places_of_text}
 use Rattle.verifier.specs.Verified.{flags_of_name, flags_of_body}
 use Rattle.verifier.specs.VerifierLaws.{BodiesHaveOwnPlaces}
@@ -49,24 +50,11 @@ pub record IsOfText (seen : Seen) : Type 0 where
   pub one_each : (b c : BodyPlace) → Contains (opened_in seen.marks) b → Contains (opened_in seen.marks) c → b.at ≡ c.at
       → b ≡ c
 
--- the tree of the file at that place, where the first one has the number n
-seen_at : (known : ℕ → Known) (n : ℕ) (trees : List SourceFile) (j : ℕ) (s : Seen)
-    → slice_get (seen_from known n trees) j ≡ Some s
-    → (tree : SourceFile) × (slice_get trees j ≡ Some tree) × (seen_file (known (n + j)) tree ≡ s)
-seen_at known n [] j s e = absurd (none-some s e)
-seen_at known n (tree ∷ trees) zero s e =
-    let same : n ≡ n + 0 = omega arith in
-    (tree, refl, subst (λ k. seen_file (known k) tree ≡ s) same (same_Some (seen_file (known n) tree) s e))
-seen_at known n (tree ∷ trees) (suc j) s e =
-    let w = seen_at known (n + 1) trees j s e in
-    let same : (n + 1) + j ≡ n + suc j = omega arith in
-    (w.0, w.1, subst (λ k. seen_file (known k) w.0 ≡ s) same w.2)
-
 module _ (bodies : BodiesAreApart) (ps : List LoadedPackage) (tables : Tables) (p : LoadedPackage)
     (texts : AreTreesOfTexts p) where
   pub of_text : (number : ℕ) (s : Seen) → slice_get (seen_files ps tables p) number ≡ Some s → IsOfText s
   of_text number s e =
-      let w = seen_at (known_in ps tables p) 0 (trees_of p) number s e in
+      let w = tree_seen (known_in ps tables p) 0 (trees_of p) number s e in
       let same : 0 + number ≡ number = omega arith in
       subst IsOfText w.2 (subst (λ k. IsOfText (seen_file (known_in ps tables p k) w.0)) (sym same) (its w.0 w.1))
     where
@@ -86,9 +74,6 @@ module _ (bodies : BodiesAreApart) (ps : List LoadedPackage) (tables : Tables) (
 
 -- Files with credits
 
-abbrev pub seen_of : List FileWithCredits → List Seen
-seen_of files = map (λ (f : FileWithCredits). f.seen) files
-
 pub credited_seen : {seens : List Seen} {files : List FileWithCredits} → AreCredited seens files → seen_of files ≡ seens
 credited_seen no_file = refl
 credited_seen (file_and same full more) = λ i. same i ∷ credited_seen more i
@@ -105,11 +90,6 @@ all_full (file_and {file = one} {files = files} same full more) file h =
       | inr later ↦ all_full more file later
     ]
 
-pub seen_there_at : (files : List FileWithCredits) (number : ℕ) (file : FileWithCredits) → slice_get files number ≡ Some file
-    → slice_get (seen_of files) number ≡ Some file.seen
-seen_there_at files number file e =
-    slice_get-map (λ (f : FileWithCredits). f.seen) files number ∙ ap (option_map (λ (f : FileWithCredits). f.seen)) e
-
 -- the tree of the file at that place
 pub file_seen_at : (ps : List LoadedPackage) (tables : Tables) (p : LoadedPackage) (files : List FileWithCredits)
     → AreCredited (seen_files ps tables p) files
@@ -118,8 +98,8 @@ pub file_seen_at : (ps : List LoadedPackage) (tables : Tables) (p : LoadedPackag
     × (slice_get (trees_of p) number ≡ Some tree)
     × (seen_file (known_in ps tables p (0 + number)) tree ≡ file.seen)
 file_seen_at ps tables p files are number file e =
-    seen_at (known_in ps tables p) 0 (trees_of p) number file.seen
-    (ap (λ seens. slice_get seens number) (sym (credited_seen are)) ∙ seen_there_at files number file e)
+    tree_seen (known_in ps tables p) 0 (trees_of p) number file.seen
+    (seen_there (seen_files ps tables p) files are number file e)
 
 -- Flags
 
@@ -190,8 +170,8 @@ keeps_too paths u v number role h = record {
 module _ (bodies : BodiesAreApart) (ps : List LoadedPackage) (tables : Tables) (i : ℕ) (p : LoadedPackage)
     (texts : AreTreesOfTexts p) (files : List FileWithCredits) (flags : Flags) (judged : IsJudged ps tables i p files flags)
   where
-    seen_there : (file : FileWithCredits) → Contains files file → Contains (seen_files ps tables p) file.seen
-    seen_there file h =
+    seen_of_file : (file : FileWithCredits) → Contains files file → Contains (seen_files ps tables p) file.seen
+    seen_of_file file h =
         subst (λ seens. Contains seens file.seen) (credited_seen judged.are_files)
         (contains_map (λ (f : FileWithCredits). f.seen) files file h)
 
@@ -203,7 +183,7 @@ module _ (bodies : BodiesAreApart) (ps : List LoadedPackage) (tables : Tables) (
         let parted : AreApart (function_names_from 0 (trees_of p)) =
         apart [] (function_names_from 0 (trees_of p)) (no_second ps i p judged.is_package judged.has_no_whole_fault) in
         let one = one_body (known_in ps tables p) known.name 0 (trees_of p) parted kept.file.seen file.seen kept.body b
-        (seen_there kept.file kept.is_of_package) (seen_there file among) kept.is_claim.is_body there
+        (seen_of_file kept.file kept.is_of_package) (seen_of_file file among) kept.is_claim.is_body there
         kept.is_claim.is_of_function (function_so b known.name known.is_named) in
         let credits : kept.file.credits ≡ file.credits =
         one_table_by (bodies_of file.seen) (IsCredited file.seen) (λ credits literal number h. (h.body, h.is_there))
@@ -220,7 +200,7 @@ module _ (bodies : BodiesAreApart) (ps : List LoadedPackage) (tables : Tables) (
         let is_variable : Contains (variables_of file.seen b.at) kept.variable =
         subst (λ (c : BodyPlace). Contains (variables_of file.seen c.at) kept.variable) one.1
         (subst (λ s. Contains (variables_of s kept.body.at) kept.variable) one.0 kept.is_claim.is_of_body) in
-        let place = place_of (seen_files ps tables p) file.seen (seen_there file among) in
+        let place = place_of (seen_files ps tables p) file.seen (seen_of_file file among) in
         let text = of_text bodies ps tables p texts place.0 file.seen place.1 in
         let number =
         one_number file.seen file.seen.known b text.are_locals text.one_each there kept.variable v known.position is_variable

@@ -14,7 +14,7 @@ ghost use Rattle.meaning.specs.Uses.{Seen};
 
 use bodies::Body;
 use calls_flags::KnownCalls;
-use certificate_json::Body as Entry;
+use certificate_json::{Body as Entry, Rows};
 use certificates::least_rows;
 use credits::Credits;
 use events::Told;
@@ -48,10 +48,10 @@ fn entry_of<'a>(
         return Ok(None);
     };
     match least_rows(alloc, grounds.told, body, &grounds.calls, grounds.credits)? {
-        Some(states) => Ok(Some(Entry {
+        Some(lists) => Ok(Some(Entry {
             file,
             at: body.place.at,
-            states,
+            states: Rows::of_lists(alloc, &lists)?,
         })),
         None => Ok(None),
     }

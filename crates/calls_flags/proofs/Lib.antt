@@ -6,5 +6,5 @@ pub mod CreditedFiles
 mod GreatestFlags
 pub mod KeptClaims
 pub mod KeptFiles
-mod MoreCalls
+pub mod MoreCalls
 mod ToldInOrder

@@ -3,10 +3,7 @@ use Rattle.std.proofs.Common.{◌≡◌, inl, inr, ℕ, List, [], ◌∷◌, Som
 use Rattle.std.specs.List.{AllByRecursion, AllZip}
 use Rattle.serde_json.specs.Data.{Data}
 use Rattle.serde_json.specs.Read.{read}
-use Rattle.table_json.specs.declared.fault.TableFault.{TableFault}
-use Rattle.table_json.specs.declared.fault.TableFault.TheVariants as table
 use Rattle.table_json.specs.declared.table.Version.{Version}
-use Rattle.table_json.specs.Parts.{IsTextFault, IsValueFault}
 use Rattle.table_json.proofs.Readings.{known, none_some}
 use Rattle.table_json.proofs.TableLaws.{list_in_order, not_none, not_wrong_version}
 use Rattle.table_json.proofs.ValueParts.{some_same}
@@ -15,7 +12,6 @@ use Rattle.certificate_json.specs.declared.fault.CertificateFault.TheVariants.{N
 use Rattle.certificate_json.specs.Certificates.{PackageEntry, AreInOrder, HasOrder}
 use Rattle.certificate_json.specs.CertificateTexts.{AreCertificatesOf, HasWrongShape, IsCertificateFault}
 use Rattle.certificate_json.specs.CertificateValues.{AreCertificatesIn, IsPackageIn}
-use Rattle.certificate_json.specs.Parts.{fault_of}
 use Rattle.certificate_json.proofs.PackageReadings.{one_meaning, version_there}
 
 -- What is read is in order
@@ -79,19 +75,3 @@ only_memory text WrongShape h version packages k =
     k.are_certificates in
     absurd (not_wrong_shape version h.0 packages is h.2)
 only_memory text OutOfMemory h version packages k = refl
-
--- a fault of a text or of its value is that of the certificates
-pub of_text_fault : (text : List ℕ) (fault : TableFault) → IsTextFault text fault
-    → IsCertificateFault text (fault_of fault)
-of_text_fault text table.NotJson h = h
-of_text_fault text table.WrongVersion h = absurd h
-of_text_fault text table.WrongShape h = absurd h
-of_text_fault text table.OutOfMemory h = tt
-
-pub of_value_fault : (text : List ℕ) (value : Data) (fault : TableFault) → read text ≡ Some value
-    → IsValueFault HasWrongShape value fault
-    → IsCertificateFault text (fault_of fault)
-of_value_fault text value table.NotJson e h = absurd h
-of_value_fault text value table.WrongVersion e h = (value, e, h)
-of_value_fault text value table.WrongShape e h = (value, e, h)
-of_value_fault text value table.OutOfMemory e h = tt

@@ -1,6 +1,10 @@
+mod BodiesRead
 mod BodyReadings
 mod CertificateLaws
-mod DistinctPaths
 mod PackageReadings
+mod PackagesRead
+mod RowsHeld
+mod StatesRead
+mod WholeRead
 mod WritingBack
 mod WrittenAsTheyStand

@@ -1,11 +1,10 @@
 -- The value of certificates has no floats and is not deep, and what is written reads back.
-use Rattle.std.proofs.Common.{◌≡◌, ℕ, ◌≤◌, List, [], ◌∷◌, ◌++◌, false, ◌||◌, Some, map, refl, sym, ap, subst, ◌∙◌, arith}
+use Rattle.std.proofs.Common.{◌≡◌, ℕ, ◌≤◌, List, [], ◌∷◌, false, ◌||◌, Some, map, refl, sym, ap, subst, ◌∙◌, arith}
 use Rattle.std.proofs.lemmas.List.Sorted.{IsPermutation-refl}
 use Rattle.std.specs.List.{AllByRecursion, AllZip}
-use Rattle.serde_json.specs.Data.{Data, depth, items_depth}
+use Rattle.serde_json.specs.Data.{Data, depth}
 use Rattle.serde_json.specs.Read.{read}
-use Rattle.serde_json.specs.View.{items_of}
-use Rattle.serde_json.specs.Written.{has_float, items_have_float, compact_text}
+use Rattle.serde_json.specs.Written.{has_float, compact_text}
 use Rattle.table_json.specs.declared.table.Version.TheVariants.{Newer}
 use Rattle.table_json.specs.Parts.{HasFits as HasFunctionFits}
 use Rattle.table_json.specs.Tables.{Entry}
@@ -14,7 +13,6 @@ use Rattle.table_json.specs.WrittenTables.{AreWritten, IsOrdered}
 use Rattle.table_json.proofs.TableLaws.{list_back}
 use Rattle.table_json.proofs.Writing.{none_float, not_deep, function-has_float, function-depth}
 use Rattle.certificate_json.specs.Certificates.{BodyEntry, PackageEntry, by_place, place_of, AreInOrder, HasOrder}
-use Rattle.certificate_json.specs.CertificateTexts.{AreCertificatesOf}
 use Rattle.certificate_json.specs.CertificateValues.{body_value, certificates_value, certificates_with, masks_value, package_value, package_with, AreCertificatesIn, AreMasks, IsBodyValue, IsMask, IsPackageIn}
 use Rattle.certificate_json.specs.Parts.{AllSmall, HasBodyFits, HasPackageFits, IsPackageText, IsWholeText}
 use Rattle.certificate_json.specs.WrittenCertificates.{IsWrittenAs, IsWrittenText}

@@ -1,5 +1,5 @@
 -- What certificates say, wherever their text is kept, and when they are in order.
-use Rattle.std.specs.Prelude.{ℕ, List, map, string_bytes}
+use Rattle.std.specs.Prelude.{ℕ, List, [], ◌∷◌, drop, map, string_bytes, take}
 use Rattle.std.specs.List.{AllByRecursion, IsDistinct}
 use Rattle.std.specs.declared.cmp.Ordering.{Ordering}
 use Rattle.std.specs.Ordering.{nat_cmp, eq_by_cmp, ordering_then}
@@ -7,6 +7,7 @@ use Rattle.table_json.specs.Tables.{Entry, by_bytes, entries_of, IsInOrder, Rise
 use Rattle.certificate_json.specs.declared.certificates.Body.{Body}
 use Rattle.certificate_json.specs.declared.certificates.Package.{Package}
 use Rattle.certificate_json.specs.declared.certificates.Certificates.{Certificates}
+use Rattle.certificate_json.specs.declared.rows.Rows.{Rows}
 
 -- what is said of one body: the number of its file, the offset of its `func`, and for each node one mask for each
 -- variable
@@ -15,8 +16,16 @@ pub record BodyEntry : Type 0 where
   pub at : ℕ
   pub states : List (List ℕ)
 
+-- the rows of masks that stand one after the other, so many in each
+abbrev pub rows_in : List ℕ → List ℕ → List (List ℕ)
+rows_in [] masks = []
+rows_in (width ∷ widths) masks = take width masks ∷ rows_in widths (drop width masks)
+
+abbrev pub rows_of : Rows → List (List ℕ)
+rows_of rows = rows_in rows.widths.items rows.masks.items
+
 abbrev pub body_of : Body → BodyEntry
-body_of b = record { file = b.file; at = b.at; states = map (λ masks. masks.items) b.states.items }
+body_of b = record { file = b.file; at = b.at; states = rows_of b.states }
 
 -- what is said of one package: `facts` is what a table says of its functions
 pub record PackageEntry : Type 0 where

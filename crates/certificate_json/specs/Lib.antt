@@ -4,4 +4,6 @@ pub mod CertificateValues
 pub mod CertificateTexts
 pub mod WrittenCertificates
 -- What serves the proofs.
+pub mod MembersRead
 pub mod Parts
+pub mod RowsHeld

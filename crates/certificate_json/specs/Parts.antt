@@ -3,6 +3,8 @@ use Rattle.std.specs.Prelude.{ℕ, ◌≡◌, ◌^◌, List, Option, Some, None,
 use Rattle.std.specs.List.{AllByRecursion, AllZip}
 use Rattle.serde_json.specs.Data.{Data, Items}
 use Rattle.serde_json.specs.Find.{as_number, as_u64, as_str, as_array}
+use Rattle.json_reading.specs.declared.stop.Stop.{Stop}
+use Rattle.json_reading.specs.declared.stop.Stop.TheVariants as stop
 use Rattle.table_json.specs.declared.fault.TableFault.{TableFault}
 use Rattle.table_json.specs.declared.fault.TableFault.TheVariants as table
 use Rattle.table_json.specs.Parts.{position_in, three_members, two_members, HasFits as HasFunctionFits}
@@ -81,3 +83,7 @@ fault_of table.NotJson = NotJson
 fault_of table.WrongVersion = WrongVersion
 fault_of table.WrongShape = WrongShape
 fault_of table.OutOfMemory = OutOfMemory
+
+abbrev pub fault_of_stop : Stop → CertificateFault
+fault_of_stop stop.NotJson = NotJson
+fault_of_stop stop.OutOfMemory = OutOfMemory

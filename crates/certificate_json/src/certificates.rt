@@ -1,5 +1,6 @@
 //! Certificates: of each package what is known of its functions, and of each body what may be so before its nodes.
 
+use crate::rows::Rows;
 use table_json::{Table, Version};
 
 /// What may be so in one body.
@@ -10,7 +11,7 @@ pub struct Body {
     /// The offset of its `func` in that file, in bytes from 0.
     pub at: u32,
     /// For each node of its graph one mask for each of its variables.
-    pub states: Vec<Vec<u16>>,
+    pub states: Rows,
 }
 
 impl Body {

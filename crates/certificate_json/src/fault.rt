@@ -1,5 +1,6 @@
 //! Why a text is not read.
 
+use json_reading::Stop;
 use table_json::TableFault;
 
 /// Why a text is not read as certificates. The first reason that holds is told, in this order.
@@ -29,6 +30,21 @@ impl From<TableFault> for CertificateFault {
             TableFault::WrongVersion => CertificateFault::WrongVersion,
             TableFault::WrongShape => CertificateFault::WrongShape,
             TableFault::OutOfMemory => CertificateFault::OutOfMemory,
+        }
+    }
+}
+
+/// The same fault, of certificates.
+impl From<Stop> for CertificateFault {
+    ghost use Rattle.std.specs.Prelude.{◌≡◌};
+    ghost use Rattle.certificate_json.specs.Parts.{fault_of_stop};
+
+    ghost from_gives = { λ stop fault. fault ≡ fault_of_stop stop };
+
+    fn from(stop: Stop) -> CertificateFault {
+        match stop {
+            Stop::NotJson => CertificateFault::NotJson,
+            Stop::OutOfMemory => CertificateFault::OutOfMemory,
         }
     }
 }

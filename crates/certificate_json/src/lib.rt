@@ -6,16 +6,20 @@
 
 ghost use Rattle.certificate_json.specs.WrittenCertificates.{CertificatesInOrderAreWritten};
 
+mod bodies;
 mod certificates;
 mod fault;
+mod masks;
 mod order;
-mod parts;
+mod packages;
 mod read;
+mod rows;
 mod written;
 
 pub use certificates::{Body, Certificates, Package};
 pub use fault::CertificateFault;
 pub use read::from_json;
+pub use rows::Rows;
 pub use written::to_json;
 
 /// Certificates that are in order, and tell something of each function among their facts, are written as they stand.

@@ -1,13 +1,12 @@
 //! Bodies in their order, and paths, of which nothing may come twice.
 
 ghost use Rattle.std.specs.Prelude.{Decides, List, map, IfNone, IfOk, IfSome, ◌≡◌};
-ghost use Rattle.std.specs.List.{IsDistinct};
-ghost use Rattle.std.specs.Ordering.{eq_by_cmp};
-ghost use Rattle.table_json.specs.Tables.{by_bytes, IsArranged};
+ghost use Rattle.table_json.specs.Tables.{IsArranged};
 ghost use Rattle.certificate_json.specs.Certificates.{body_of, by_place, package_of, path_of, place_of, AreApart, BodyEntry};
 
 use crate::certificates::{Body, Package};
 use std::alloc::{AllocError, Global};
+use table_json::are_distinct;
 
 /// Bodies by file and offset; `None` if one comes twice.
 pub(crate) fn bodies_in_order(bodies: Vec<Body>) -> Option<Vec<Body>>
@@ -35,15 +34,6 @@ fn paths_of(alloc: Global, packages: &[Package]) -> Result<Vec<&str>, AllocError
         paths.push(entry.path.as_str())?;
     }
     Ok(paths)
-}
-
-/// Whether no path comes twice.
-fn are_distinct(paths: Vec<&str>) -> bool
-    ensures { Decides result (IsDistinct (eq_by_cmp by_bytes) (map (λ path. path.now) paths.entry.items)) }
-{
-    let mut ordered = paths;
-    ordered.sort_unstable();
-    ordered.is_sorted_by(|first, second| first.cmp(second).is_lt())
 }
 
 /// Whether no two of the packages have one path.

@@ -1,192 +1,110 @@
 //! The certificates of a text.
 
-ghost use Rattle.std.specs.Prelude.{◌≡◌, List, Some, IfErr, IfOk, map};
-ghost use Rattle.std.specs.List.{AllZip};
-ghost use Rattle.serde_json.specs.View.{view};
+ghost use Rattle.std.specs.Prelude.{◌≡◌, List, IfErr, IfOk};
 ghost use Rattle.table_json.specs.declared.table.Version.{Version};
-ghost use Rattle.table_json.specs.Parts.{IsValueFault, Refuses};
-ghost use Rattle.table_json.specs.Tables.{entries_of};
-ghost use Rattle.table_json.specs.TableTexts.{version_of};
-ghost use Rattle.table_json.specs.TableValues.{number_of, AreFunctionsOf, IsFunctionIn};
 ghost use Rattle.certificate_json.specs.declared.fault.CertificateFault.TheVariants.{OutOfMemory};
-ghost use Rattle.certificate_json.specs.Certificates.{body_of, package_of, packages_of, AreInOrder, PackageEntry};
-ghost use Rattle.certificate_json.specs.CertificateTexts.{AreCertificatesOf, HasWrongShape, IsCertificateFault};
-ghost use Rattle.certificate_json.specs.CertificateValues.{AreBodiesOf, AreCertificatesIn, AreMasks, IsBodyValue, IsMask, IsPackageIn};
+ghost use Rattle.certificate_json.specs.Certificates.{packages_of, AreInOrder, PackageEntry};
+ghost use Rattle.certificate_json.specs.CertificateTexts.{AreCertificatesOf, IsCertificateFault};
 
-use crate::certificates::{Body, Certificates, Package};
+use crate::certificates::{Certificates, Package};
 use crate::fault::CertificateFault;
-use crate::order::{are_apart, bodies_in_order};
-use crate::parts::{body_in, mask_in, package_in, packages_in};
-use serde_json::Value;
+use crate::order::are_apart;
+use crate::packages::read_packages;
+use json::Reader;
+use json_reading::{ReadItem, ReadMember, Stop, pass_value, read_object, read_whole};
 use std::alloc::Global;
-use table_json::{Table, TableFault, Version, known_version, parse, read_functions};
+use table_json::{Version, known_version};
 
-// Bodies
-
-fn read_mask(value: &Value) -> Result<u16, TableFault>
-    ensures ok { IfOk result (IsMask (view value.now)) }
-    ensures err { IfErr result (Refuses (IsMask (view value.now))) }
-{
-    match mask_in(value) {
-        Some(mask) => Ok(mask),
-        None => Err(TableFault::WrongShape),
-    }
-}
-
-fn masks_as_given(alloc: Global, values: &[Value]) -> Result<Vec<u16>, TableFault>
-    ensures ok { IfOk result (λ masks. AllZip IsMask (map view values.now) masks.items) }
-    ensures err { IfErr result (Refuses (AllZip IsMask (map view values.now))) }
-{
-    let mut given = Vec::new(alloc);
-    for value in values {
-        given.push(read_mask(value)?)?;
-    }
-    Ok(given)
-}
-
-/// The masks of one node.
-fn read_masks(alloc: Global, value: &Value) -> Result<Vec<u16>, TableFault>
-    ensures ok { IfOk result (λ masks. AreMasks (view value.now) masks.items) }
-    ensures err { IfErr result (Refuses (AreMasks (view value.now))) }
-{
-    let Some(values) = value.as_array() else {
-        return Err(TableFault::WrongShape);
-    };
-    masks_as_given(alloc, values)
-}
-
-/// The masks of all nodes.
-fn read_states(alloc: Global, values: &[Value]) -> Result<Vec<Vec<u16>>, TableFault>
-    ensures ok { IfOk result
-        (λ states. AllZip AreMasks (map view values.now) (map (λ masks. masks.items) states.items)) }
-    ensures err { IfErr result (Refuses (AllZip AreMasks (map view values.now))) }
-{
-    let mut given = Vec::new(alloc);
-    for value in values {
-        given.push(read_masks(alloc, value)?)?;
-    }
-    Ok(given)
-}
-
-fn read_body(alloc: Global, value: &Value) -> Result<Body, TableFault>
-    ensures ok { IfOk result (λ body. IsBodyValue (view value.now) (body_of body)) }
-    ensures err { IfErr result (Refuses (IsBodyValue (view value.now))) }
-{
-    let Some(parts) = body_in(value) else {
-        return Err(TableFault::WrongShape);
-    };
-    let states = read_states(alloc, parts.states)?;
-    Ok(Body {
-        file: parts.file,
-        at: parts.at,
-        states,
-    })
-}
-
-/// Bodies as they stand.
-fn bodies_as_given(alloc: Global, values: &[Value]) -> Result<Vec<Body>, TableFault>
-    ensures ok { IfOk result (λ given. AllZip IsBodyValue (map view values.now) (map body_of given.items)) }
-    ensures err { IfErr result (Refuses (AllZip IsBodyValue (map view values.now))) }
-{
-    let mut given = Vec::new(alloc);
-    for value in values {
-        given.push(read_body(alloc, value)?)?;
-    }
-    Ok(given)
-}
-
-fn read_bodies(alloc: Global, values: &[Value]) -> Result<Vec<Body>, TableFault>
-    ensures ok { IfOk result (λ bodies. AreBodiesOf (map view values.now) (map body_of bodies.items)) }
-    ensures err { IfErr result (Refuses (AreBodiesOf (map view values.now))) }
-{
-    let given = bodies_as_given(alloc, values)?;
-    match bodies_in_order(given) {
-        Some(bodies) => Ok(bodies),
-        None => Err(TableFault::WrongShape),
-    }
-}
-
-// Facts
-
-fn read_facts(alloc: Global, version: Version, values: &[Value]) -> Result<Table, TableFault>
-    ensures ok { IfOk result
-        (λ facts. AreFunctionsOf (IsFunctionIn version) (map view values.now) (entries_of facts)) }
-    ensures err { IfErr result (Refuses (AreFunctionsOf (IsFunctionIn version) (map view values.now))) }
-{
-    let functions = read_functions(alloc, version, values)?;
-    Ok(Table { functions })
-}
-
-// Packages
-
-fn read_package(alloc: Global, version: Version, value: &Value) -> Result<Package, TableFault>
-    ensures ok { IfOk result (λ kept. IsPackageIn version (view value.now) (package_of kept)) }
-    ensures err { IfErr result (Refuses (IsPackageIn version (view value.now))) }
-{
-    let Some(parts) = package_in(value) else {
-        return Err(TableFault::WrongShape);
-    };
-    let bodies = read_bodies(alloc, parts.bodies)?;
-    let facts = read_facts(alloc, version, parts.facts)?;
-    Ok(Package {
-        path: String::from_str(alloc, parts.path)?,
-        bodies,
-        facts,
-    })
-}
-
-/// Packages as they stand.
-fn packages_as_given(
-    alloc: Global,
+/// What was read of the members of the whole object.
+#[derive(Drop)]
+struct WholeMembers {
     version: Version,
-    values: &[Value],
-) -> Result<Vec<Package>, TableFault>
-    ensures ok { IfOk result
-        (λ given. AllZip (IsPackageIn version) (map view values.now) (map package_of given.items)) }
-    ensures err { IfErr result (Refuses (AllZip (IsPackageIn version) (map view values.now))) }
-{
-    let mut given = Vec::new(alloc);
-    for value in values {
-        given.push(read_package(alloc, version, value)?)?;
+    packages: Option<Vec<Package>>,
+    has_other: bool,
+}
+
+impl ReadMember for WholeMembers {
+    ghost use Rattle.std.specs.Prelude.{◌≡◌, map, option_map};
+    ghost use Rattle.certificate_json.specs.Certificates.{package_of};
+    ghost use Rattle.certificate_json.specs.MembersRead.{HasCertificateMembers};
+
+    ghost holds = { λ begun read found. (read.version ≡ begun.version)
+        × HasCertificateMembers begun.version read.has_other
+        (option_map (λ packages. map package_of packages.items) read.packages) found };
+
+    fn read_member(
+        &mut self,
+        alloc: Global,
+        key: &str,
+        reader: &mut Reader<'_>,
+        depth: usize,
+    ) -> Result<(), Stop> {
+        if key == "packages" {
+            self.packages = read_packages(alloc, self.version, reader, depth)?;
+        } else if key == "version" {
+            pass_value(reader, depth)?;
+        } else {
+            pass_value(reader, depth)?;
+            self.has_other = true;
+        }
+        Ok(())
     }
-    Ok(given)
 }
 
-/// The packages of a value with this version.
-fn read_packages(alloc: Global, version: Version, value: &Value) -> Result<Vec<Package>, TableFault>
-    requires { version_of (view value.now) ≡ Some (number_of version) }
-    ensures ok { IfOk result
-        (λ packages. AreCertificatesIn version (view value.now) (map package_of packages.items)) }
-    ensures err { IfErr result (Refuses (AreCertificatesIn version (view value.now))) }
-{
-    let Some(values) = packages_in(value) else {
-        return Err(TableFault::WrongShape);
-    };
-    let packages = packages_as_given(alloc, version, values)?;
-    if are_apart(alloc, &packages)? {
-        Ok(packages)
-    } else {
-        Err(TableFault::WrongShape)
+/// The certificates of a text in this version.
+#[derive(Clone, Copy, Drop)]
+struct Whole {
+    version: Version,
+}
+
+impl ReadItem for Whole {
+    ghost use Rattle.std.specs.Prelude.{◌≡◌, Some, map};
+    ghost use Rattle.json_reading.specs.Standing.{Refutes};
+    ghost use Rattle.table_json.specs.TableTexts.{version_of};
+    ghost use Rattle.table_json.specs.TableValues.{number_of};
+    ghost use Rattle.certificate_json.specs.Certificates.{package_of};
+    ghost use Rattle.certificate_json.specs.CertificateValues.{AreCertificatesIn};
+
+    type Item = Vec<Package>;
+
+    ghost is_item = { λ whole value packages. version_of value ≡ Some (number_of whole.version)
+        → AreCertificatesIn whole.version value (map package_of packages.items) };
+
+    ghost is_none = { λ whole. Refutes (AreCertificatesIn whole.version) };
+
+    fn read_item(
+        &self,
+        alloc: Global,
+        reader: &mut Reader<'_>,
+        depth: usize,
+    ) -> Result<Option<Vec<Package>>, Stop> {
+        let mut members = WholeMembers {
+            version: self.version,
+            packages: None,
+            has_other: false,
+        };
+        if !read_object(alloc, &mut members, reader, depth)? {
+            return Ok(None);
+        }
+        if members.has_other {
+            return Ok(None);
+        }
+        let Some(packages) = members.packages else {
+            return Ok(None);
+        };
+        if are_apart(alloc, &packages)? {
+            Ok(Some(packages))
+        } else {
+            Ok(None)
+        }
     }
 }
-
-/// The certificates of a value; a wrong version is told before any other fault of its shape.
-fn read_value(alloc: Global, value: &Value) -> Result<Certificates, TableFault>
-    ensures ok { IfOk result (λ found. AreCertificatesIn found.version (view value.now) (packages_of found)) }
-    ensures err { IfErr result (IsValueFault HasWrongShape (view value.now)) }
-{
-    let version = known_version(value)?;
-    let packages = read_packages(alloc, version, value)?;
-    Ok(Certificates { version, packages })
-}
-
-// Texts
 
 /// The certificates of a text, and the version of the text. The packages stand as they do in the text, the bodies of
 /// each by file and offset, and its facts as those of a table: functions by the bytes of their names, and the positions
 /// of each as they rise. In the text the order of bodies, functions, positions and keys is free. There may be any
 /// number of nodes, and of masks at each. A text of version 1 is read by the rules of that version, whose facts have no
-/// causes.
+/// causes. The text is gone over twice, first for its version.
 ///
 /// # Errors
 ///
@@ -206,6 +124,9 @@ pub fn from_json(alloc: Global, text: &str) -> Result<Certificates, CertificateF
         → AreCertificatesOf text.now version packages
         → fault ≡ OutOfMemory) }
 {
-    let value = parse(alloc, text)?;
-    Ok(read_value(alloc, &value)?)
+    let version = known_version(alloc, text)?;
+    match read_whole(alloc, &Whole { version }, text)? {
+        Some(packages) => Ok(Certificates { version, packages }),
+        None => Err(CertificateFault::WrongShape),
+    }
 }

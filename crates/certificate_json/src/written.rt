@@ -72,7 +72,8 @@ fn body_value(alloc: Global, body: &Body) -> Result<Value, AllocError>
     ensures value { IfOk result (λ value. view value ≡ body_value (body_of body.now)) }
     ensures fits { IfOk result (λ value. HasBodyFits (body_of body.now)) }
 {
-    let states = Value::Array(state_values(alloc, &body.states)?);
+    let rows = body.states.to_lists(alloc)?;
+    let states = Value::Array(state_values(alloc, &rows)?);
     json!(in alloc; {"at": body.at, "file": body.file, "states": states})
 }
 

@@ -1,24 +1,21 @@
 -- Which classes have bits, and what the masks of a least certificate have of them.
-use Rattle.std.proofs.Common.{◌≡◌, ℕ, zero, suc, ◌+◌, ◌≤◌, List, [], ◌∷◌, length, Option, Some, None, option_map, Contains, refl, sym, ◌∙◌, subst}
-use Rattle.std.proofs.lemmas.Option.{none-some, same_Some}
+use Rattle.std.proofs.Common.{◌≡◌, ℕ, ◌+◌, ◌≤◌, List, [], ◌∷◌, length, Option, Some, Contains, refl, sym, ◌∙◌, subst}
+use Rattle.std.proofs.lemmas.Option.{same_Some}
 use Rattle.std.specs.Prelude.{slice_get}
 use Rattle.certificates.proofs.ListsToNodes.{only}
-use Rattle.certificates.proofs.NodesInRange.{contains_at}
 use Rattle.certificates.specs.Least.{HasJust}
+use Rattle.checker.proofs.SteppedClasses.{HasBit, class_has}
 use Rattle.flow.specs.Walks.{Graph}
 use Rattle.maker.proofs.Numbers.{change_has}
 use Rattle.maker.specs.Carried.{IsReached, starts, goes}
 use Rattle.maker.specs.Flags.{literal_group}
 use Rattle.meaning.specs.BodyEvents.{VariableRole, own_parameter, own_receiver, declared_in_body, captured}
-use Rattle.meaning.specs.Classes.{Promises, CancelClass, unset, opened, safe, pending, entry_cancel, change_cancel, entry_group, change_group}
+use Rattle.meaning.specs.Classes.{Promises, entry_cancel, change_cancel, entry_group, change_group}
 use Rattle.meaning.specs.Code.{Occurrence}
 use Rattle.meaning.specs.Uses.{Event}
-use Rattle.states.proofs.ClassNumbers.{cancel_inverse, group_inverse, pending_found}
+use Rattle.states.proofs.ClassNumbers.{cancel_inverse, group_inverse}
 use Rattle.states.specs.Bits.{most, cancel_bit, cancel_class, group_bit, group_class}
 use Rattle.states.specs.Masks.{bit_of_group, Has, MayBe}
-
-abbrev pub HasBit : {K : Type 0} → (K → Option ℕ) → K → Type 0
-HasBit bit_of k = (bit : ℕ) × (bit_of k ≡ Some bit)
 
 -- The bits of the classes that the events of a graph bring: each bit of a class stands for it, and each class that comes
 -- of one with a bit has one.
@@ -35,25 +32,6 @@ pub record AreBits {K : Type 0}
 
 -- Cancel functions
 
-pending_bit : (groups : List ℕ) (k : CancelClass) (i : ℕ) (o : Option ℕ)
-    → length groups + 3 ≤ most
-    → slice_get groups i ≡ o
-    → option_map pending o ≡ Some k
-    → HasBit (cancel_bit groups) k
-pending_bit groups k i None fits at e = absurd (none-some k e)
-pending_bit groups k i (Some g) fits at e =
-    subst (HasBit (cancel_bit groups)) (same_Some (pending g) k e)
-    (pending_found groups g (contains_at groups i g at) fits)
-
-class_has_bit : (groups : List ℕ) (k : CancelClass) (bit : ℕ)
-    → length groups + 3 ≤ most
-    → cancel_class groups bit ≡ Some k
-    → HasBit (cancel_bit groups) k
-class_has_bit groups k zero fits e = subst (HasBit (cancel_bit groups)) (same_Some unset k e) (0, refl)
-class_has_bit groups k (suc zero) fits e = subst (HasBit (cancel_bit groups)) (same_Some opened k e) (1, refl)
-class_has_bit groups k (suc (suc zero)) fits e = subst (HasBit (cancel_bit groups)) (same_Some safe k e) (2, refl)
-class_has_bit groups k (suc (suc (suc i))) fits e = pending_bit groups k i (slice_get groups i) fits refl e
-
 entry_has_bit : (groups : List ℕ) (role : VariableRole) → HasBit (cancel_bit groups) (entry_cancel role)
 entry_has_bit groups (own_parameter k) = (1, refl)
 entry_has_bit groups own_receiver = (1, refl)
@@ -68,7 +46,7 @@ pub cancel_bits : (g : Graph Event) (groups : List ℕ) (p : Promises) (v : ℕ)
     → AreBits g (cancel_class groups) (cancel_bit groups) (entry_cancel role) (change_cancel p v)
 cancel_bits g groups p v role fits among = record {
   there = (cancel_inverse groups).there;
-  of_class = λ k bit e. class_has_bit groups k bit fits e;
+  of_class = λ k bit e. class_has groups fits k bit e;
   at_entry = entry_has_bit groups role;
   keeps = λ n o k is h. change_has groups p v o.event k fits (λ h e. among n o h is e) h;
 }

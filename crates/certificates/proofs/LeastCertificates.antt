@@ -4,19 +4,20 @@ use Rattle.std.proofs.lemmas.List.Elements.{Contains-append_left}
 use Rattle.std.proofs.lemmas.Option.{slice_get_within, same_Some}
 use Rattle.std.specs.Prelude.{◌↔◌, slice_get, not}
 use Rattle.certificates.proofs.ClassBits.{AreBits, cancel_bits, group_bits, may_be, is_reached, has}
-use Rattle.certificates.proofs.FewGroups.{bits_fit}
 use Rattle.certificates.proofs.ListsToNodes.{only, LeadsTo, cancel_leads, cancel_comes, group_leads, group_comes}
 use Rattle.certificates.proofs.NodesInRange.{contains_at, start_in_range, next_in_range}
 use Rattle.certificates.specs.Least.{HasJust, HasReached, IsLeast, body_with}
 use Rattle.certificates.specs.LeastLaws.{StartsInOwnGroups, CanHaveCertificate, HasNoFault, KeepsEachClaim, LeastHolds, LeastSettles, LeastIsWithin, HasClassesOf}
-use Rattle.checker.specs.Certificates.{CheckedBody, groups_of, spare, groups_with_bits, class_of_bit, bit_of_class, mask_at, IsClosed, IsClosedFor, IsOwed, is_kept, has_claim, MayBeCancel, MayBeLive, MayBeUncalled, is_open, is_left, IsFault, loses_cancel, loses_group, returns_live, returns_uncalled, Holds, IsSettledBy, SettlesIn}
+use Rattle.checker.proofs.FewVariables.{bits_fit}
+use Rattle.checker.specs.Certificates.{CheckedBody, groups_of, spare, groups_with_bits, class_of_bit, bit_of_class, StartsWithBits, mask_at, IsClosed, IsClosedFor, IsOwed, is_kept, has_claim, MayBeCancel, MayBeLive, MayBeUncalled, is_open, is_left, IsFault, loses_cancel, loses_group, returns_live, returns_uncalled, Holds, IsSettledBy, SettlesIn}
 use Rattle.flow.specs.GraphOfCode.{nodes}
 use Rattle.flow.specs.Walks.{Graph, graph_of}
 use Rattle.flow.specs.declared.order.NodePlace.{NodePlace}
 use Rattle.maker.specs.AtNodes.{IsCancelAt, IsGroupAt}
 use Rattle.maker.specs.Carried.{IsReached, starts, goes}
+use Rattle.maker.specs.Flags.{literal_group}
 use Rattle.meaning.proofs.Membership.{contains_here}
-use Rattle.meaning.specs.BodyEvents.{Variable}
+use Rattle.meaning.specs.BodyEvents.{Variable, too_many_faults}
 use Rattle.meaning.specs.Classes.{CancelClass, opened, pending, entry_cancel, change_cancel, GroupClass, in_state, entry_group, change_group}
 use Rattle.meaning.specs.Code.{Occurrence}
 use Rattle.meaning.specs.Lists.{Reaches}
@@ -51,6 +52,12 @@ AreGroupBits b v =
 
 of_group : (b : CheckedBody) (v : Variable) → AreGroupBits b v
 of_group b v = group_bits b.graph b.promises v.number v.role
+
+-- a group of the body has a bit
+with_bits : (b : CheckedBody) → StartsInOwnGroups b → StartsWithBits b
+with_bits b own n g literal o is e =
+    Contains-append_left (groups_of b.variables) (spare (MOST_GROUPS - length (groups_of b.variables))) g
+    (own n o g is (ap literal_group e))
 
 -- Entry and edges
 
@@ -229,8 +236,10 @@ module _ (paths : Paths) (order : List NodePlace) (claims : ℕ → Bool) where
       no_fault n o is (returns_uncalled i v handed at kind returns owed may) =
           called i n v handed o at kind is returns owed may
 
-      holds : Holds body states
-      holds = record {
+      holds : too_many_faults paths.variables ≡ [] → Holds body states
+      holds few = record {
+        are_few = few;
+        starts_with_bits = with_bits body own;
         has_rows = least.has_rows;
         is_closed = λ i v at. closed_by_kind v v.kind (mask_at body states i) (λ n l. least.has_reached i v n at l);
         has_no_fault = no_fault;
@@ -322,7 +331,8 @@ pub least_holds : LeastHolds
 least_holds paths b states certified sound keeps =
     of_paths paths b certified (λ b. KeepsEachClaim paths b → IsLeast b states → Holds b states)
     (λ own keeps least.
-    holds paths b.order b.is_claimed (bits_fit paths.variables certified.are_few) own states least sound keeps) keeps
+    holds paths b.order b.is_claimed (bits_fit paths.variables certified.are_few) own states least sound keeps
+    certified.are_few) keeps
 
 pub least_settles : LeastSettles
 least_settles paths b states certified =

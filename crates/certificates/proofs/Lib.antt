@@ -1,5 +1,4 @@
 pub mod NodesInRange
-pub mod FewGroups
 pub mod ListsToNodes
 pub mod ClassBits
 pub mod LeastCertificates

@@ -8,9 +8,9 @@ use Rattle.std.proofs.lemmas.Option.{none-some, same_Some, slice_get_within}
 use Rattle.std.specs.Prelude.{◌==◌, ◌&&◌, if◌then◌else◌, nat_lt, slice_get, slice_index_or}
 use Rattle.std.specs.List.{AllZip, AllByRecursion}
 use Rattle.std.specs.List.Sorted.{IsPermutation}
-use Rattle.certificates.proofs.FewGroups.{few_groups, groups_with_bits-count}
 use Rattle.certificates.specs.Least.{HasJust, HasReached, IsLeast, body_with}
 use Rattle.certificates.specs.Rows.{Vec, rows_view, passes, HasBits, Arriving, arriving, IsMask, IsMaskIn, IsRowOf, IsRowIn, TellRows}
+use Rattle.checker.proofs.FewVariables.{with_bits}
 use Rattle.checker.specs.Certificates.{groups_with_bits, row_from, masks_in, mask_at, IsRow}
 use Rattle.flow.specs.GraphOfCode.{nodes}
 use Rattle.flow.specs.NodeOrder.{places}
@@ -247,7 +247,7 @@ module _ (paths : Paths) (order : List NodePlace) (claims : ℕ → Bool)
       → bit < CANCEL_CLASSES
   cancel_within k bit e =
       let l = class_within (groups_with_bits paths.variables) k bit e in
-      let all = groups_with_bits-count paths.variables (few_groups paths.variables few) in
+      let all = with_bits paths.variables few in
       omega (arith, l, all)
 
   has_reached : (v : Variable) (kind : VariableKind) (n i mask : ℕ)

@@ -1,5 +1,11 @@
+pub mod ChangedStates
 pub mod CheckedLists
+pub mod FewVariables
 pub mod Laid
+pub mod LoadedRows
+pub mod LoadingRows
 pub mod NodeRows
+pub mod SteppedClasses
+pub mod SteppedMasks
 pub mod Tested
 pub mod TestedLists

@@ -1,27 +1,33 @@
 -- What the program tests of a certificate is what is meant.
-use Rattle.std.proofs.Common.{◌≡◌, ◌↔◌, ◌==◌, ℕ, Bool, true, false, not, ◌&&◌, ◌||◌, IsTrue, List, length, Some, Contains, refl, sym, ap, ◌∙◌, true≢false, inl, inr}
-use Rattle.std.specs.Prelude.{slice_get}
-use Rattle.std.specs.List.{list_any, list_all}
-use Rattle.std.proofs.lemmas.Bool.{false≢true, and_parts, and_from, or_cases, or_left, or_right, not-true, not_from_false, false_from_ne_true, eqb-true, eq-eqb}
+use Rattle.std.proofs.Common.{◌≡◌, ◌↔◌, ◌==◌, ℕ, zero, suc, Bool, true, false, not, ◌&&◌, ◌||◌, IsTrue, List, [], ◌∷◌, length, Option, Some, None, nat_eq, Contains, refl, sym, ap, ◌∙◌, subst, true≢false, arith, inl, inr}
+use Rattle.std.specs.Prelude.{slice_get, slice_index_or}
+use Rattle.std.specs.List.{AllByRecursion, list_any, list_all}
+use Rattle.std.proofs.lemmas.Bool.{false≢true, and_parts, and_from, or_cases, or_left, or_right, not-true, not_from_false, false_from_ne_true, eqb-true, eq-eqb, lt-ltb}
 use Rattle.meaning.specs.Code.{Occurrence}
 use Rattle.meaning.specs.FunctionFacts.{VariableKind, cancel, group}
 use Rattle.meaning.specs.Tracked.{GroupState, idle, live}
 use Rattle.meaning.specs.Uses.{VariableAt, Handed, Event, other, obtain, clear, call, defer_call, pass, defer_pass, lend, start, try, wait, defer_wait, make, defer_literal, return_event, is_cancel, is_group}
-use Rattle.meaning.specs.BodyEvents.{Variable}
+use Rattle.meaning.specs.BodyEvents.{Variable, too_many_faults}
 use Rattle.meaning.specs.Classes.{CancelClass, unset, opened, safe, pending, entry_cancel, change_cancel, GroupClass, unmade, in_state, awaited, entry_group, change_group}
 use Rattle.meaning_packages.specs.Credits.{is_safe, is_live}
 use Rattle.meaning_packages.specs.PathFaults.{BindsCancel, obtains, clears, is_declared, is_handed, is_lost, makes_it}
 use Rattle.path_faults.specs.FoundFaults.{is_return}
 use Rattle.path_faults.proofs.Kept.{cancel_kind, group_kind, is_cancel_kind, is_group_kind, return_of}
-use Rattle.path_faults.proofs.Places.{any_witness, any_holds, passes_at, any_at}
+use Rattle.path_faults.proofs.Places.{place_of as place_of_element, contains_at, any_witness, any_holds, passes_at, any_at}
 use Rattle.states.specs.Bits.{group_class}
 use Rattle.states.specs.Masks.{HasKnownBits, Has, MayBe, GoesInto, bit_of_group}
 use Rattle.states.specs.MaskTests.{has_known_bits, may_be_cancel, may_be_group}
-use Rattle.states.proofs.MaskedClasses.{known_bits, has_is, may_be_is, pending_among, group_may_be_is, cancel_goes_is, group_goes_is}
+use Rattle.states.proofs.MaskedClasses.{known_bits, has_is, may_be_is, pending_among, group_may_be_is}
+use Rattle.states.specs.States.{has_place}
+use Rattle.checker.proofs.FewVariables.{few_cancels, few_own, few_is, with_bits, bits_fit}
+use Rattle.checker.proofs.LoadedRows.{place_below}
+use Rattle.checker.proofs.SteppedClasses.{StartsAmong, cancels_go, groups_go, bits_go, cancel_stands, group_stands}
+use Rattle.checker.proofs.SteppedMasks.{known_cancel, known_group, steps_told, steps_tested}
 use Rattle.checker.proofs.TestedLists.{members, all_members, by_recursion, at_each, each_at, zip_each, each_zip, at_edge, edge_each}
-use Rattle.checker.specs.Certificates.{CheckedBody, groups_with_bits, class_of_bit, bit_of_class, masks_at, mask_at, IsRow, HasRows, IsClosedFor, is_claimed, IsOwed, is_kept, has_claim, MayBeCancel, MayBeLive, MayBeUncalled, is_open, is_left, IsFault, loses_cancel, loses_group, returns_live, returns_uncalled, Holds, IsSettledBy, SettlesIn}
+use Rattle.checker.specs.Certificates.{CheckedBody, groups_with_bits, class_of_bit, bit_of_class, masks_in, row_from, masks_at, mask_at, StartsWithBits, IsRow, HasRows, IsClosedFor, is_claimed, IsOwed, is_kept, has_claim, MayBeCancel, MayBeLive, MayBeUncalled, is_open, is_left, IsFault, loses_cancel, loses_group, returns_live, returns_uncalled, Holds, IsSettledBy, SettlesIn}
 use Rattle.checker.specs.CertificateTests as tested
-use Rattle.checker.specs.CertificateTests.{all_from, mask_in, is_row, has_rows, has_entry, has_entries, goes_into, all_go_into, edges_from, is_left_outside, may_be_lost, may_be_live, may_be_uncalled, is_owed, breaks_return, return_breaks, starts_hold, edges_hold, has_fault, graph_holds, is_unsettled, breaks_settling}
+use Rattle.checker.specs.Loaded.{numbers_of, place_of, is_taken, step_of, steps_into}
+use Rattle.checker.specs.CertificateTests.{all_from, mask_in, is_row, has_rows, has_entry, has_entries, loads, all_step_into, edges_from, have_places, starts_among, all_start_among, is_left_outside, may_be_lost, may_be_live, may_be_uncalled, is_owed, breaks_return, return_breaks, starts_hold, edges_hold, has_fault, graph_holds, is_unsettled, breaks_settling}
 
 -- Rows
 
@@ -45,6 +51,67 @@ row_is vs row = (known, tested_so)
         let parts = zip_each Known 0 vs row h in
         and_from (length row == length vs) (all_from test 0 vs) (eq-eqb (length row) (length vs) parts.0)
         (each_at test vs (λ i v there. (known_bits v.kind (mask_in row i)).1 (parts.1 i v there)))
+
+-- Groups in which literals are started
+
+starts_so : (groups : List ℕ) (e : Event) → StartsAmong groups e → starts_among groups e ≡ true
+starts_so groups (start g (Some literal)) among =
+    any_holds (λ h. nat_eq h g) groups g (among g literal refl) (eq-eqb g g refl)
+starts_so groups (start g None) among = refl
+starts_so groups other among = refl
+starts_so groups (obtain u f k d) among = refl
+starts_so groups (clear u) among = refl
+starts_so groups (call u) among = refl
+starts_so groups (defer_call u) among = refl
+starts_so groups (pass u f k) among = refl
+starts_so groups (defer_pass u f k) among = refl
+starts_so groups (lend g f k) among = refl
+starts_so groups (try g literal) among = refl
+starts_so groups (wait g) among = refl
+starts_so groups (defer_wait g) among = refl
+starts_so groups (make u state) among = refl
+starts_so groups (defer_literal literal) among = refl
+starts_so groups (return_event handed) among = refl
+
+so_started : (groups : List ℕ) (e : Event) → starts_among groups e ≡ true → StartsAmong groups e
+so_started groups e h g literal is =
+    let w = any_witness (λ x. nat_eq x g) groups (sym (ap (starts_among groups) is) ∙ h) in
+    subst (Contains groups) (eqb-true w.0 g w.2) w.1
+
+-- The masks at a node
+
+no_known : (kind : VariableKind) → has_known_bits kind 0 ≡ true
+no_known cancel = refl
+no_known group = refl
+
+abbrev AreKnown : List Variable → List ℕ → Type 0
+AreKnown vs row = (i : ℕ) (v : Variable) → slice_get vs i ≡ Some v → has_known_bits v.kind (mask_in row i) ≡ true
+
+row_known : (vs : List Variable) (row : List ℕ) → IsRow vs row → AreKnown vs row
+row_known vs row h i v at =
+    (known_bits v.kind (mask_in row i)).1 ((zip_each (λ (v : Variable) mask. HasKnownBits v.kind mask) 0 vs row h).1 i v at)
+
+rows_known : (vs : List Variable) (states : List (List ℕ)) (row : ℕ) → AllByRecursion (IsRow vs) states
+    → AreKnown vs (slice_index_or states row [])
+rows_known vs [] row all = λ i v at. no_known v.kind
+rows_known vs (s ∷ ss) zero all = row_known vs s all.0
+rows_known vs (s ∷ ss) (suc row) all = rows_known vs ss row all.1
+
+masks_known : (vs : List Variable) (states : List (List ℕ)) (o : Option ℕ) → AllByRecursion (IsRow vs) states
+    → AreKnown vs (masks_in states o)
+masks_known vs states None all = λ i v at. no_known v.kind
+masks_known vs states (Some row) all = rows_known vs states row all
+
+has_places : (vs : List Variable) → too_many_faults vs ≡ [] → (i : ℕ) (v : Variable) (kind : VariableKind)
+    → slice_get vs i ≡ Some v → v.kind ≡ kind → has_place kind (place_of kind vs i) ≡ true
+has_places vs few i v cancel at is =
+    let l = place_below cancel vs i v at is in
+    let most = few_cancels vs few in
+    lt-ltb (place_of cancel vs i) 48 (omega (arith, l, most))
+has_places vs few i v group at is =
+    let l = place_below group vs i v at is in
+    let most = few_own vs few in
+    lt-ltb (place_of group vs i) 12 (omega (arith, l, most))
 
 module _ (b : CheckedBody) (states : List (List ℕ)) where
   abbrev vs : List Variable
@@ -85,10 +152,49 @@ module _ (b : CheckedBody) (states : List (List ℕ)) where
   Goes v e cancel before after = GoesInto (class_of_bit b) (bit_of_class b) (change_cancel b.promises v.number e) before after
   Goes v e group before after = GoesInto group_class bit_of_group (change_group b.promises v.number e) before after
 
-  goes_is : (v : Variable) (e : Event) (before after : ℕ) (kind : VariableKind)
-      → IsTrue (goes_into groups b.promises e v.number before after kind) ↔ Goes v e kind before after
-  goes_is v e before after cancel = cancel_goes_is before after groups (change_cancel b.promises v.number e)
-  goes_is v e before after group = group_goes_is before after (change_group b.promises v.number e)
+  -- what is tested of the groups in which literals are started
+
+  abbrev starting_part : Bool
+  starting_part = all_start_among groups b.graph.nodes
+
+  abbrev starting_test : Occurrence Event → Bool
+  starting_test o = starts_among groups o.event
+
+  all_started : starting_part ≡ true → StartsWithBits b
+  all_started e n g literal o here is =
+      so_started groups o.event (members starting_test b.graph.nodes e o (contains_at b.graph.nodes n o here)) g literal is
+
+  started_so : StartsWithBits b → starting_part ≡ true
+  started_so h =
+      all_members starting_test b.graph.nodes
+      (λ o inside.
+      let at = place_of_element b.graph.nodes o inside in
+      starts_so groups o.event (λ g literal is. h at.0 g literal o at.1 is))
+
+  module _ (few : too_many_faults vs ≡ []) where
+    abbrev Steps : Variable → Event → VariableKind → ℕ → ℕ → Bool
+    Steps v e kind before after = steps_into (step_of b.promises groups e v.number kind) before after
+
+    goes_is : (v : Variable) (e : Event) (before after : ℕ) (kind : VariableKind) → StartsAmong groups e
+        → has_known_bits kind before ≡ true
+        → IsTrue (Steps v e kind before after) ↔ Goes v e kind before after
+    goes_is v e before after cancel among known = (
+      λ t. cancels_go groups (bits_fit vs few) b.promises v.number e before after among
+          (steps_told (step_of b.promises groups e v.number cancel) cancel before after known t),
+      λ g. steps_tested (step_of b.promises groups e v.number cancel) cancel before after known
+          (bits_go (class_of_bit b) (bit_of_class b) (change_cancel b.promises v.number e) before after
+          (λ bit set.
+          let l = known_cancel before bit known set in
+          let all = with_bits vs few in
+          cancel_stands groups bit (omega (arith, l, all))) g),
+    )
+    goes_is v e before after group among known = (
+      λ t. groups_go b.promises v.number e before after
+          (steps_told (step_of b.promises groups e v.number group) group before after known t),
+      λ g. steps_tested (step_of b.promises groups e v.number group) group before after known
+          (bits_go group_class bit_of_group (change_group b.promises v.number e) before after
+          (λ bit set. group_stands bit (known_group before bit known set)) g),
+    )
 
   record ClosedParts (v : Variable) (kind : VariableKind) (mask : ℕ → ℕ) : Type 0 where
     at_starts : (n : ℕ) → Contains b.graph.starts n → Entered v kind (mask n)
@@ -108,8 +214,12 @@ module _ (b : CheckedBody) (states : List (List ℕ)) where
   abbrev entry_test : ℕ → ℕ → Variable → Bool
   entry_test n i v = has_entry groups v.role (mask_in (masks n) i) v.kind
 
-  abbrev edge_test : ℕ → Event → ℕ → ℕ → Variable → Bool
-  edge_test n e m i v = goes_into groups b.promises e v.number (mask_in (masks n) i) (mask_in (masks m) i) v.kind
+  abbrev step_test : ℕ → Event → ℕ → ℕ → Variable → Bool
+  step_test n e m i v =
+      steps_into (step_of b.promises groups e v.number v.kind) (mask_in (masks n) i) (mask_in (masks m) i)
+
+  abbrev edge_test : ℕ → Event → ℕ → Bool
+  edge_test n e m = all_step_into groups vs b.promises e (masks n) (masks m)
 
   abbrev starts_part : Bool
   starts_part = starts_hold groups vs masks b.graph.starts
@@ -120,19 +230,49 @@ module _ (b : CheckedBody) (states : List (List ℕ)) where
   abbrev AreClosed : Type 0
   AreClosed = (i : ℕ) (v : Variable) → slice_get vs i ≡ Some v → IsClosedFor b v v.kind (mask_at b states i)
 
-  are_closed : starts_part ≡ true → edges_part ≡ true → AreClosed
-  are_closed starts edges i v there =
-      closed_from v (mask_at b states i) v.kind record {
-        at_starts = λ n inside.
-            (entry_is v (mask_at b states i n) v.kind).0
-            (at_each (entry_test n) vs
-            (members (λ n. has_entries groups vs (masks n)) b.graph.starts starts n inside) i v there);
-        along_edges = λ n m o ms here linked inside.
-            (goes_is v o.event (mask_at b states i n) (mask_at b states i m) v.kind).0
-            (at_each (edge_test n o.event m) vs
-            (at_edge (λ n e m. all_go_into groups vs b.promises e (masks n) (masks m)) b.graph.nodes b.graph.next edges n m
-            o ms here linked inside) i v there);
-      }
+  module _ (few : too_many_faults vs ≡ []) (starts : StartsWithBits b) (rows : HasRows b states) where
+    known_at : (n : ℕ) → AreKnown vs (masks n)
+    known_at n = masks_known vs states (row_from 0 b.order n) rows.are_rows
+
+    loads_at : (n : ℕ) → loads vs (masks n) ≡ true
+    loads_at n =
+        each_at (λ i (v : Variable). is_taken v.kind (place_of v.kind vs i) (mask_in (masks n) i)) vs
+        (λ i v at. and_from (has_place v.kind (place_of v.kind vs i)) (has_known_bits v.kind (mask_in (masks n) i))
+        (has_places vs few i v v.kind at refl) (known_at n i v at))
+
+    abbrev steps_part : ℕ → Event → ℕ → Bool
+    steps_part n e m = all_from (step_test n e m) 0 vs
+
+    goes_here : (n : ℕ) (o : Occurrence Event) (m i : ℕ) (v : Variable) → slice_get b.graph.nodes n ≡ Some o
+        → slice_get vs i ≡ Some v
+        → IsTrue (step_test n o.event m i v) ↔ Goes v o.event v.kind (mask_at b states i n) (mask_at b states i m)
+    goes_here n o m i v here at =
+        goes_is few v o.event (mask_at b states i n) (mask_at b states i m) v.kind
+        (λ g literal is. starts n g literal o here is) (known_at n i v at)
+
+    are_closed : starts_part ≡ true → edges_part ≡ true → AreClosed
+    are_closed begins edges i v there =
+        closed_from v (mask_at b states i) v.kind record {
+          at_starts = λ n inside.
+              (entry_is v (mask_at b states i n) v.kind).0
+              (at_each (entry_test n) vs
+              (members (λ n. has_entries groups vs (masks n)) b.graph.starts begins n inside) i v there);
+          along_edges = λ n m o ms here linked inside.
+              let all = at_edge edge_test b.graph.nodes b.graph.next edges n m o ms here linked inside in
+              let rest = (and_parts (loads vs (masks n)) (loads vs (masks m) && steps_part n o.event m) all).1 in
+              let steps = (and_parts (loads vs (masks m)) (steps_part n o.event m) rest).1 in
+              (goes_here n o m i v here there).0 (at_each (step_test n o.event m) vs steps i v there);
+        }
+
+    edges_closed : AreClosed → edges_part ≡ true
+    edges_closed closed =
+        edge_each edge_test b.graph.nodes b.graph.next
+        (λ n m o ms here linked inside.
+        and_from (loads vs (masks n)) (loads vs (masks m) && steps_part n o.event m) (loads_at n)
+        (and_from (loads vs (masks m)) (steps_part n o.event m) (loads_at m)
+        (each_at (step_test n o.event m) vs
+        (λ i v there. (goes_here n o m i v here there).1
+        ((closed_parts v (mask_at b states i) v.kind (closed i v there)).along_edges n m o ms here linked inside)))))
 
   starts_closed : AreClosed → starts_part ≡ true
   starts_closed closed =
@@ -140,13 +280,6 @@ module _ (b : CheckedBody) (states : List (List ℕ)) where
       (λ n inside. each_at (entry_test n) vs
       (λ i v there. (entry_is v (mask_at b states i n) v.kind).1
       ((closed_parts v (mask_at b states i) v.kind (closed i v there)).at_starts n inside)))
-
-  edges_closed : AreClosed → edges_part ≡ true
-  edges_closed closed =
-      edge_each (λ n e m. all_go_into groups vs b.promises e (masks n) (masks m)) b.graph.nodes b.graph.next
-      (λ n m o ms here linked inside. each_at (edge_test n o.event m) vs
-      (λ i v there. (goes_is v o.event (mask_at b states i n) (mask_at b states i m) v.kind).1
-      ((closed_parts v (mask_at b states i) v.kind (closed i v there)).along_edges n m o ms here linked inside)))
 
   -- Faults
 
@@ -373,26 +506,42 @@ module _ (b : CheckedBody) (states : List (List ℕ)) where
   abbrev rows_part : Bool
   rows_part = has_rows vs (length b.order) states
 
-  pub holds_is : IsTrue (tested.holds groups masks b states) ↔ Holds b states
+  abbrev places_part : Bool
+  places_part = have_places (numbers_of cancel vs) (numbers_of group vs) groups
+
+  abbrev graph_part : Bool
+  graph_part = starts_part && (edges_part && not fault_part)
+
+  pub holds_is : IsTrue (tested.holds (numbers_of cancel vs) (numbers_of group vs) groups masks b states) ↔ Holds b states
   holds_is = (held, holding)
     where
-      held : tested.holds groups masks b states ≡ true → Holds b states
+      held : tested.holds (numbers_of cancel vs) (numbers_of group vs) groups masks b states ≡ true → Holds b states
       held e =
-          let first = and_parts rows_part (starts_part && (edges_part && not fault_part)) e in
-          let second = and_parts starts_part (edges_part && not fault_part) first.1 in
-          let third = and_parts edges_part (not fault_part) second.1 in
+          let first = and_parts places_part (starting_part && (rows_part && graph_part)) e in
+          let second = and_parts starting_part (rows_part && graph_part) first.1 in
+          let third = and_parts rows_part graph_part second.1 in
+          let fourth = and_parts starts_part (edges_part && not fault_part) third.1 in
+          let fifth = and_parts edges_part (not fault_part) fourth.1 in
+          let few = (few_is vs).0 first.0 in
+          let starting = all_started second.0 in
+          let rows = rows_are.0 third.0 in
           record {
-            has_rows = rows_are.0 first.0;
-            is_closed = are_closed second.0 third.0;
-            has_no_fault = none_there (not-true fault_part third.1);
+            are_few = few;
+            starts_with_bits = starting;
+            has_rows = rows;
+            is_closed = are_closed few starting rows fourth.0 fifth.0;
+            has_no_fault = none_there (not-true fault_part fifth.1);
           }
 
-      holding : Holds b states → tested.holds groups masks b states ≡ true
+      holding : Holds b states → tested.holds (numbers_of cancel vs) (numbers_of group vs) groups masks b states ≡ true
       holding h =
-          and_from rows_part (starts_part && (edges_part && not fault_part)) (rows_are.1 h.has_rows)
+          and_from places_part (starting_part && (rows_part && graph_part)) ((few_is vs).1 h.are_few)
+          (and_from starting_part (rows_part && graph_part) (started_so h.starts_with_bits)
+          (and_from rows_part graph_part (rows_are.1 h.has_rows)
           (and_from starts_part (edges_part && not fault_part) (starts_closed h.is_closed)
-          (and_from edges_part (not fault_part) (edges_closed h.is_closed)
-          (not_from_false fault_part (none_found h.has_no_fault))))
+          (and_from edges_part (not fault_part)
+          (edges_closed h.are_few h.starts_with_bits h.has_rows h.is_closed)
+          (not_from_false fault_part (none_found h.has_no_fault))))))
 
   -- Credit
 

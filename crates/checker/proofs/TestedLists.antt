@@ -1,8 +1,9 @@
 -- Tests of each element of a list, by its place, and of each edge of a graph.
-use Rattle.std.proofs.Common.{◌≡◌, ◌↔◌, ℕ, zero, suc, ◌+◌, Bool, true, IsTrue, List, [], ◌∷◌, length, Some, Contains, refl, sym, ap, subst, arith, inl, inr}
+use Rattle.std.proofs.Common.{◌≡◌, ◌↔◌, ℕ, zero, suc, ◌+◌, ◌<◌, ◌≤◌, Bool, true, false, ◌&&◌, IsTrue, List, [], ◌∷◌, length, get_or, drop, Some, Contains, refl, sym, ap, ◌∙◌, subst, arith, inl, inr}
 use Rattle.std.specs.Prelude.{slice_get, slice_index_or}
 use Rattle.std.specs.List.{AllZip, AllByRecursion, list_all}
-use Rattle.std.proofs.lemmas.Bool.{and_parts, and_from}
+use Rattle.std.proofs.lemmas.Bool.{and_parts, and_from, and_left}
+use Rattle.std.proofs.lemmas.List.{drop_more, drop_all}
 use Rattle.std.proofs.lemmas.Option.{none-some, same_Some}
 use Rattle.meaning.proofs.Membership.{contains_nil, contains_here, contains_there, contains_cases}
 use Rattle.meaning.specs.Code.{Occurrence}
@@ -33,6 +34,24 @@ module _ {A : Type 0} where
         λ e. let parts = and_parts (test x) (list_all test xs) e in ((is x).0 parts.0, rest.0 parts.1),
         λ h. and_from (test x) (list_all test xs) ((is x).1 h.0) (rest.1 h.1),
       )
+
+  -- one element after the other, where the test of those that are left is that of all
+  module _ (test : A → Bool) (xs : List A) (n : ℕ) (x d : A) (own whole : Bool) (within : n < length xs)
+      (is : x ≡ get_or xs n d) (tests : own ≡ test x) (left : list_all test (drop n xs) ≡ whole) where
+    split : list_all test (drop n xs) ≡ (own && list_all test (drop (n + 1) xs))
+    split =
+        ap (list_all test) (drop_more xs n d within)
+        ∙ ap (λ b. b && list_all test (drop (n + 1) xs)) (sym (tests ∙ ap test is))
+
+    pub next_tested : own ≡ true → list_all test (drop (n + 1) xs) ≡ whole
+    next_tested so = sym (split ∙ ap (λ b. b && list_all test (drop (n + 1) xs)) so) ∙ left
+
+    pub stop_tested : own ≡ false → false ≡ whole
+    stop_tested fails = sym (split ∙ and_left own (list_all test (drop (n + 1) xs)) fails) ∙ left
+
+  pub end_tested : (test : A → Bool) (xs : List A) (n : ℕ) (whole : Bool) → length xs ≤ n
+      → list_all test (drop n xs) ≡ whole → true ≡ whole
+  end_tested test xs n whole past left = sym (ap (list_all test) (drop_all n xs past)) ∙ left
 
   -- with their places
   at_each_from : (test : ℕ → A → Bool) (n : ℕ) (xs : List A) → all_from test n xs ≡ true → (i : ℕ) (x : A)

@@ -1,20 +1,22 @@
 -- How the program goes over a certificate, node by node and variable by variable. That these tests say what
 -- `Certificates.antt` says is proved. `groups` are the groups that have bits, `masks` the masks at a node, and
 -- `masks_of` gives those of each node.
-use Rattle.std.specs.Prelude.{ℕ, ◌+◌, ◌==◌, Bool, true, false, not, ◌&&◌, ◌||◌, List, [], ◌∷◌, length, Some, slice_index_or}
+use Rattle.std.specs.Prelude.{ℕ, ◌+◌, ◌==◌, Bool, true, false, not, ◌&&◌, ◌||◌, List, [], ◌∷◌, length, Some, nat_eq, nat_le, slice_index_or}
 use Rattle.std.specs.List.{list_any, list_all}
 use Rattle.meaning.specs.Code.{Occurrence}
 use Rattle.meaning.specs.FunctionFacts.{VariableKind, cancel, group}
 use Rattle.meaning.specs.Tracked.{live}
-use Rattle.meaning.specs.Uses.{Handed, Event, obtain, clear, make, return_event, is_cancel, is_group}
+use Rattle.meaning.specs.Uses.{Handed, Event, obtain, clear, start, make, return_event, is_cancel, is_group}
 use Rattle.meaning.specs.BodyEvents.{Variable, VariableRole}
-use Rattle.meaning.specs.Classes.{Promises, unset, opened, pending, entry_cancel, change_cancel, in_state, entry_group, change_group}
+use Rattle.meaning.specs.Classes.{Promises, unset, opened, pending, entry_cancel, in_state, entry_group}
 use Rattle.meaning_packages.specs.PathFaults.{is_declared, is_handed, makes_it}
+use Rattle.meaning.specs.declared.TheConstants.{MOST_CANCELS, MOST_GROUPS}
 use Rattle.flow.specs.Walks.{Graph}
 use Rattle.path_faults.specs.FoundFaults.{any_from, is_return}
 use Rattle.states.specs.Bits.{cancel_bit}
-use Rattle.states.specs.MaskTests.{has_known_bits, has, may_be_cancel, may_be_group, cancel_goes_into, group_goes_into}
+use Rattle.states.specs.MaskTests.{has_known_bits, has, may_be_cancel, may_be_group}
 use Rattle.checker.specs.Certificates.{CheckedBody, is_claimed}
+use Rattle.checker.specs.Loaded.{is_taken, place_of, step_of, steps_into}
 
 -- each element passes the test, with its place, where the first has the place n
 abbrev pub all_from : {A : Type 0} → (ℕ → A → Bool) → ℕ → List A → Bool
@@ -23,6 +25,22 @@ all_from test n (x ∷ xs) = test n x && all_from test (n + 1) xs
 
 abbrev pub mask_in : List ℕ → ℕ → ℕ
 mask_in masks i = slice_index_or masks i 0
+
+-- Variables and groups
+
+-- states have places for so many cancel variables and groups, and there are not too many groups with bits
+abbrev pub have_places : List ℕ → List ℕ → List ℕ → Bool
+have_places cancels own groups =
+    nat_le (length cancels) MOST_CANCELS
+    && (nat_le (length own) MOST_GROUPS && nat_le (length groups) MOST_GROUPS)
+
+-- if the event starts a literal, its group has a bit
+abbrev pub starts_among : List ℕ → Event → Bool
+starts_among groups (start g (Some literal)) = list_any (λ h. nat_eq h g) groups
+starts_among groups e = true
+
+abbrev pub all_start_among : List ℕ → List (Occurrence Event) → Bool
+all_start_among groups = list_all (λ o. starts_among groups o.event)
 
 -- Rows
 
@@ -46,14 +64,16 @@ has_entry groups role mask group = may_be_group mask (entry_group role)
 abbrev pub has_entries : List ℕ → List Variable → List ℕ → Bool
 has_entries groups vs masks = all_from (λ i v. has_entry groups v.role (mask_in masks i) v.kind) 0 vs
 
--- the variable of that number goes from mask to mask
-abbrev pub goes_into : List ℕ → Promises → Event → ℕ → ℕ → ℕ → VariableKind → Bool
-goes_into groups p e number before after cancel = cancel_goes_into groups (change_cancel p number e) before after
-goes_into groups p e number before after group = group_goes_into (change_group p number e) before after
+-- a state takes each of the masks
+abbrev pub loads : List Variable → List ℕ → Bool
+loads vs masks = all_from (λ i v. is_taken v.kind (place_of v.kind vs i) (mask_in masks i)) 0 vs
 
-abbrev pub all_go_into : List ℕ → List Variable → Promises → Event → List ℕ → List ℕ → Bool
-all_go_into groups vs p e before after =
-    all_from (λ i v. goes_into groups p e v.number (mask_in before i) (mask_in after i) v.kind) 0 vs
+-- states take the masks of both rows, and what the event makes of each bit of the one is in the other
+abbrev pub all_step_into : List ℕ → List Variable → Promises → Event → List ℕ → List ℕ → Bool
+all_step_into groups vs p e before after =
+    loads vs before
+    && (loads vs after
+    && all_from (λ i v. steps_into (step_of p groups e v.number v.kind) (mask_in before i) (mask_in after i)) 0 vs)
 
 -- each edge passes the test, with the number of its node, what that does, and the number of the node after it, where
 -- the first node has the number n
@@ -120,7 +140,7 @@ module _ (groups : List ℕ) (vs : List Variable) (masks_of : ℕ → List ℕ) 
   starts_hold = list_all (λ n. has_entries groups vs (masks_of n))
 
   abbrev pub edges_hold : Promises → List (Occurrence Event) → List (List ℕ) → Bool
-  edges_hold p = edges_from (λ n e m. all_go_into groups vs p e (masks_of n) (masks_of m)) 0
+  edges_hold p = edges_from (λ n e m. all_step_into groups vs p e (masks_of n) (masks_of m)) 0
 
   abbrev pub has_fault : (ℕ → Bool) → List (Occurrence Event) → Bool
   has_fault claims = any_from (λ n o. is_fault groups vs claims (masks_of n) o.event) 0
@@ -129,10 +149,13 @@ module _ (groups : List ℕ) (vs : List Variable) (masks_of : ℕ → List ℕ) 
   graph_holds p claims g =
       starts_hold g.starts && (edges_hold p g.nodes g.next && not (has_fault claims g.nodes))
 
-abbrev pub holds : List ℕ → (ℕ → List ℕ) → CheckedBody → List (List ℕ) → Bool
-holds groups masks_of b states =
-    has_rows b.variables (length b.order) states
-    && graph_holds groups b.variables masks_of b.promises b.is_claimed b.graph
+-- by the numbers of the body's cancel variables and of its groups, and the groups that have bits
+abbrev pub holds : List ℕ → List ℕ → List ℕ → (ℕ → List ℕ) → CheckedBody → List (List ℕ) → Bool
+holds cancels own groups masks_of b states =
+    have_places cancels own groups
+    && (all_start_among groups b.graph.nodes
+    && (has_rows b.variables (length b.order) states
+    && graph_holds groups b.variables masks_of b.promises b.is_claimed b.graph))
 
 -- Credit
 

@@ -2,7 +2,8 @@
 -- a row a mask for each of the body's variables, in their order: the classes that the variable may have where the node
 -- comes next. It holds if it has the classes of the entry where the body begins, if it has along each edge what the
 -- node's event makes of the classes before, and if at no node a class is a fault of what the node does. Nothing is
--- solved for that, and a certificate may say more than can happen.
+-- solved for that, and a certificate may say more than can happen. Only a body has one whose classes all have bits:
+-- it has not too many variables, and starts literals only in groups that have bits, as each body of a text does.
 --  - Bit 0 of a cancel function is unset, 1 open, 2 safe, and 3 + k pending in the k-th of the body's groups, counted
 --    from 0. Of a group bit 0 is unmade, 1 idle, 2 live, and 3 awaited.
 --  - There are such bits for twelve groups, also where the body has fewer. One of a group that the body has not stands
@@ -13,12 +14,12 @@ use Rattle.std.specs.List.{AllZip, AllByRecursion}
 use Rattle.flow.specs.Walks.{Graph}
 use Rattle.flow.specs.declared.order.NodePlace.{NodePlace}
 use Rattle.meaning.specs.declared.TheConstants.{MOST_GROUPS}
-use Rattle.meaning.specs.BodyEvents.{Variable, VariableRole, own_parameter, own_receiver, declared_in_body, captured}
+use Rattle.meaning.specs.BodyEvents.{Variable, VariableRole, own_parameter, own_receiver, declared_in_body, captured, too_many_faults}
 use Rattle.meaning.specs.Classes.{Promises, CancelClass, opened, pending, entry_cancel, change_cancel, GroupClass, in_state, entry_group, change_group}
 use Rattle.meaning.specs.Code.{Occurrence}
 use Rattle.meaning.specs.FunctionFacts.{VariableKind, cancel, group}
 use Rattle.meaning.specs.Tracked.{GroupState, live}
-use Rattle.meaning.specs.Uses.{VariableAt, Handed, Event, make, return_event}
+use Rattle.meaning.specs.Uses.{VariableAt, Handed, Event, start, make, return_event}
 use Rattle.meaning_packages.specs.Credits.{is_safe, is_live}
 use Rattle.meaning_packages.specs.PathFaults.{BindsCancel, is_declared, is_handed, is_lost}
 use Rattle.states.specs.Bits.{cancel_bit, cancel_class, group_class}
@@ -63,6 +64,13 @@ module _ (b : CheckedBody) where
 
   abbrev pub bit_of_class : CancelClass → Option ℕ
   bit_of_class = cancel_bit (groups_with_bits b.variables)
+
+-- each group in which a node starts a literal has a bit
+abbrev pub StartsWithBits : CheckedBody → Type 0
+StartsWithBits b = (n g literal : ℕ) (o : Occurrence Event)
+    → slice_get b.graph.nodes n ≡ Some o
+    → o.event ≡ start g (Some literal)
+    → Contains (groups_with_bits b.variables) g
 
 -- Rows and masks
 
@@ -177,6 +185,8 @@ module _ (b : CheckedBody) (states : List (List ℕ)) (node : ℕ) where
 -- The whole
 
 pub record Holds (b : CheckedBody) (states : List (List ℕ)) : Type 0 where
+  pub are_few : too_many_faults b.variables ≡ []
+  pub starts_with_bits : StartsWithBits b
   pub has_rows : HasRows b states
   pub is_closed : (i : ℕ) (v : Variable)
       → slice_get b.variables i ≡ Some v

@@ -1,5 +1,5 @@
 -- What the program keeps of a body that is laid out for its certificates, and what it stands for.
-use Rattle.std.specs.Prelude.{ℕ, ◌≡◌, ◌<◌, Bool, ◌&&◌, if◌then◌else◌, List, length, map, Option, Some, None, is_none, nat_lt, slice_index_or, slice_set}
+use Rattle.std.specs.Prelude.{ℕ, ◌≡◌, ◌<◌, ◌≤◌, Bool, ◌&&◌, if◌then◌else◌, List, length, map, Option, Some, None, is_none, nat_lt, slice_index_or, slice_set}
 use Rattle.std.specs.List.Sorted.{IsPermutation}
 use Rattle.std.specs.declared.alloc.Global.{Global}
 use Rattle.std.specs.declared.vec.Vec.{Vec as VecIn}
@@ -10,10 +10,12 @@ use Rattle.events.specs.VariableViews.{variable_view}
 use Rattle.flow.specs.declared.order.NodePlace.{NodePlace}
 use Rattle.flow.specs.GraphViews.{occurrences_of}
 use Rattle.flow.specs.NodeOrder.{places}
-use Rattle.meaning.specs.Classes.{Promises, change_cancel, change_group}
-use Rattle.meaning.specs.Uses.{Event}
+use Rattle.meaning.specs.Classes.{Promises}
+use Rattle.meaning.specs.FunctionFacts.{cancel, group}
+use Rattle.meaning.specs.declared.TheConstants.{MOST_CANCELS, MOST_GROUPS}
 use Rattle.checker.specs.declared.laid_out.LaidOut.{LaidOut}
 use Rattle.checker.specs.Certificates.{CheckedBody, groups_with_bits, row_from, masks_in}
+use Rattle.checker.specs.Loaded.{numbers_of}
 
 abbrev pub Vec : Type 0 → Type 0
 Vec T = VecIn T Global
@@ -53,10 +55,18 @@ body_of l promises claims = record {
   is_claimed = claims;
 }
 
--- its rows are looked up where they stand, and its groups have the bits
+-- its rows are looked up where they stand, its variables are listed by their kinds, and its groups have the bits
 pub record IsLaidOut (l : LaidOut) : Type 0 where
   pub rows : (n : ℕ) → row_of l.rows.items n ≡ row_from 0 l.kept.now.order.items n
+  pub cancels : l.numbers.cancels.items ≡ numbers_of cancel (map variable_view l.variables.now)
+  pub own_groups : l.numbers.groups.items ≡ numbers_of group (map variable_view l.variables.now)
   pub groups : l.groups.items ≡ groups_with_bits (map variable_view l.variables.now)
+
+-- states have places for its variables, and bits for the groups
+pub record HavePlaces (l : LaidOut) : Type 0 where
+  pub cancels : length l.numbers.cancels.items ≤ MOST_CANCELS
+  pub own_groups : length l.numbers.groups.items ≤ MOST_GROUPS
+  pub groups : length l.groups.items ≤ MOST_GROUPS
 
 -- the order has each node of the graph once
 abbrev pub HasWholeOrder : BodyGraph → Type 0
@@ -67,10 +77,3 @@ pub record LaysOut (variables : List KeptVariable) (kept : BodyGraph) (l : LaidO
   pub are_variables : l.variables.now ≡ variables
   pub is_kept : l.kept.now ≡ kept
   pub is_laid_out : HasWholeOrder kept → IsLaidOut l
-
--- Events
-
--- both make the same of each class
-pub record DoesSame (one other : Event) : Type 0 where
-  pub to_cancel : (p : Promises) (v : ℕ) → change_cancel p v one ≡ change_cancel p v other
-  pub to_group : (p : Promises) (v : ℕ) → change_group p v one ≡ change_group p v other

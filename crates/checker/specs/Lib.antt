@@ -4,5 +4,8 @@ pub mod Certificates
 pub mod CheckerLaws
 -- What the program keeps of a body, and what it stands for.
 pub mod LaidOutViews
--- How the program goes over a certificate.
+-- How the program goes over a certificate, and makes states of rows.
 pub mod CertificateTests
+pub mod Loaded
+pub mod LoadingSteps
+pub mod NodeStates

@@ -1,82 +1,138 @@
 //! Whether a certificate has along each edge what the node's event makes of the classes before.
 
-ghost use Rattle.std.specs.Prelude.{◌≡◌, map};
+ghost use Rattle.std.specs.Prelude.{◌≡◌, ℕ, List, map};
 ghost use Rattle.std.specs.List.{list_all};
 ghost use Rattle.bodies.specs.NodeEvents.{node_event_view, events_graph};
-ghost use Rattle.checker.specs.CertificateTests.{goes_into, all_go_into, edges_hold};
-ghost use Rattle.checker.specs.LaidOutViews.{DoesSame, masks_of};
+ghost use Rattle.checker.specs.CertificateTests.{starts_among, all_start_among, all_step_into, edges_hold};
+ghost use Rattle.checker.specs.LaidOutViews.{HavePlaces, IsLaidOut, masks_of};
+ghost use Rattle.checker.specs.NodeStates.{LeavesAll, IsChanged, IsImageIf};
 ghost use Rattle.events.specs.VariableViews.{variable_view};
-ghost use Rattle.facts.specs.FactViews.{kind_view};
-ghost use Rattle.states.specs.ClassViews.{done_view};
+ghost use Rattle.meaning.specs.Classes.{Promises as MeantPromises};
+ghost use Rattle.meaning.specs.Uses.{Event as MeantEvent};
+ghost use Rattle.states.specs.States.{Applies, Fit};
+ghost use Rattle.tracked_rows.specs.EventViews.{event_view};
 
-use crate::laid_out::{LaidOut, mask_in};
+use crate::laid_out::LaidOut;
+use crate::loaded::state_of;
 use bodies::NodeEvent;
-use events::Variable;
-use facts::VariableKind;
 use flow::Node;
-use states::{Change, Promises, cancel_goes_into, group_goes_into};
+use states::{Promises, State, StateVariables};
+use std::alloc::Global;
 use tracked_rows::Event;
 
-/// What a node of a body does, under what is promised.
-#[derive(Drop)]
-struct Step<'c, 'k, 'e, 'a, P> {
-    laid_out: &'c LaidOut<'k, 'e, 'a>,
-    promises: &'c P,
-    event: NodeEvent<'e, 'a>,
-}
-
-/// What the node does to variables; falling off the body's end does nothing to them.
-fn done<'e, 'a>(event: NodeEvent<'e, 'a>) -> Option<&'e Event<'a>>
-    ensures { DoesSame (done_view result) (node_event_view event.entry) }
+/// Whether the group has a bit in which the node starts a literal, if it does.
+fn starts_among(groups: &[u32], event: NodeEvent<'_, '_>) -> bool
+    ensures { result ≡ starts_among groups.now (node_event_view event.entry) }
 {
     match event {
-        NodeEvent::Does(event) => Some(event),
-        NodeEvent::Other | NodeEvent::FallsOff => None,
+        NodeEvent::Does(
+            Event::Start {
+                group,
+                literal: Some(_),
+            },
+        ) => groups.contains(group),
+        _ => true,
     }
 }
 
-/// Whether what the node does takes the variable from the one mask into the other.
-fn variable_goes<P: Promises>(
-    step: &Step<'_, '_, '_, '_, P>,
-    variable: Variable<'_>,
-    before: u16,
-    after: u16,
-) -> bool
-    ensures { result ≡ goes_into step.now.laid_out.now.groups.items (P.promises step.now.promises.now)
-        (node_event_view step.now.event) variable.entry.number before after (kind_view variable.entry.kind) }
+/// Whether each group has a bit in which a node starts a literal.
+pub fn all_start_among(laid_out: &LaidOut<'_, '_, '_>) -> bool
+    ensures { result ≡ all_start_among laid_out.now.groups.items (events_graph laid_out.now.kept.now.graph).nodes }
 {
-    let change = Change {
-        promises: &*step.promises,
-        variable: variable.number,
-        event: done(step.event),
-    };
-    match variable.kind {
-        VariableKind::Cancel => cancel_goes_into(&change, &step.laid_out.groups, before, after),
-        VariableKind::Group => group_goes_into(&change, before, after),
-    }
-}
-
-/// Whether what the node does takes each variable from the one row into the other.
-fn all_go_into<P: Promises>(step: &Step<'_, '_, '_, '_, P>, before: &[u16], after: &[u16]) -> bool
-    ensures { result ≡ all_go_into step.now.laid_out.now.groups.items
-        (map variable_view step.now.laid_out.now.variables.now) (P.promises step.now.promises.now)
-        (node_event_view step.now.event) before.now after.now }
-{
-    for (place, variable) in step.laid_out.variables.iter().enumerate() {
-        let goes = variable_goes(
-            step,
-            *variable,
-            mask_in(before, place),
-            mask_in(after, place),
-        );
-        if !goes {
+    for node in &laid_out.kept.graph.nodes {
+        if !starts_among(&laid_out.groups, node.occurrence.event) {
             return false;
         }
     }
     true
 }
 
-/// Whether it does so along each edge from the node of that number.
+/// What the event makes of the state.
+fn applied<P: Promises>(
+    state: State,
+    event: &Event<'_>,
+    promises: &P,
+    variables: &StateVariables<'_>,
+) -> State
+    requires fits { Fit variables.now }
+    ensures { Applies (P.promises promises.now) (event_view event.now) variables.now state.words result.words }
+{
+    let mut image = state;
+    image.apply(promises, event, variables);
+    image
+}
+
+/// What an event makes of the state that changes nothing.
+fn unchanged<P: Promises>(
+    alloc: Global,
+    state: State,
+    promises: &P,
+    variables: &StateVariables<'_>,
+) -> State
+    requires fits { Fit variables.now }
+    ensures { LeavesAll (P.promises promises.now) variables.now state.words result.words }
+{
+    let nothing = Event::Return {
+        handed: Vec::new(alloc),
+    };
+    applied(state, &nothing, promises, variables)
+}
+
+/// What the node makes of the state. Where it does nothing to variables, each class stays what it was.
+fn changed<P: Promises>(
+    alloc: Global,
+    state: State,
+    event: NodeEvent<'_, '_>,
+    promises: &P,
+    variables: &StateVariables<'_>,
+) -> State
+    requires fits { Fit variables.now }
+    ensures { IsChanged (P.promises promises.now) variables.now (node_event_view event.entry) state.words result.words }
+{
+    match event {
+        NodeEvent::Does(event) => applied(state, event, promises, variables),
+        NodeEvent::Other | NodeEvent::FallsOff => unchanged(alloc, state, promises, variables),
+    }
+}
+
+/// What the node makes of the state of these masks; none where these make no state.
+fn image_of<P: Promises>(
+    laid_out: &LaidOut<'_, '_, '_>,
+    promises: &P,
+    masks: &[u16],
+    event: NodeEvent<'_, '_>,
+) -> Option<State>
+    requires places { HavePlaces laid_out.now }
+    ensures { IsImageIf laid_out.now (P.promises promises.now) (node_event_view event.entry) masks.now result }
+{
+    let variables = StateVariables {
+        cancels: &laid_out.numbers.cancels,
+        groups: &laid_out.numbers.groups,
+        pending: &laid_out.groups,
+    };
+    match state_of(laid_out.variables, masks) {
+        Some(state) => Some(changed(laid_out.alloc, state, event, promises, &variables)),
+        None => None,
+    }
+}
+
+/// Whether what a node made of its state, if it has one, is within the state of these masks.
+fn goes_into(laid_out: &LaidOut<'_, '_, '_>, image: Option<State>, masks: &[u16]) -> bool
+    ensures { (p : MeantPromises) (e : MeantEvent) (before : List ℕ) → IsLaidOut laid_out.now
+        → IsImageIf laid_out.now p e before image
+        → result ≡ all_step_into laid_out.now.groups.items (map variable_view laid_out.now.variables.now) p e before
+        masks.now }
+{
+    let Some(image) = image else {
+        return false;
+    };
+    match state_of(laid_out.variables, masks) {
+        Some(state) => image.is_within(&state),
+        None => false,
+    }
+}
+
+/// Whether what the node of that number makes of its state is within the state of each node that can follow.
 fn node_holds<'e, 'a, P: Promises>(
     laid_out: &LaidOut<'_, 'e, 'a>,
     promises: &P,
@@ -84,33 +140,31 @@ fn node_holds<'e, 'a, P: Promises>(
     number: usize,
     node: &Node<NodeEvent<'e, 'a>>,
 ) -> bool
-    ensures { result ≡ list_all (λ after. all_go_into laid_out.now.groups.items
+    requires places { HavePlaces laid_out.now }
+    ensures { IsLaidOut laid_out.now → result ≡ list_all (λ after. all_step_into laid_out.now.groups.items
         (map variable_view laid_out.now.variables.now) (P.promises promises.now)
         (node_event_view node.now.occurrence.event) (masks_of laid_out.now states.now number)
         (masks_of laid_out.now states.now after)) node.now.next.items }
 {
-    let step = Step {
-        laid_out: &*laid_out,
-        promises: &*promises,
-        event: node.occurrence.event,
-    };
     let before = laid_out.masks_at(states, number);
+    let image = image_of(laid_out, promises, before, node.occurrence.event);
     for after in &node.next {
-        if !all_go_into(&step, before, laid_out.masks_at(states, *after)) {
+        if !goes_into(laid_out, image, laid_out.masks_at(states, *after)) {
             return false;
         }
     }
     true
 }
 
-/// Whether it does so along each edge of the body's graph.
+/// Whether it is so along each edge of the body's graph.
 pub fn edges_hold<P: Promises>(
     laid_out: &LaidOut<'_, '_, '_>,
     promises: &P,
     states: &[Vec<u16>],
 ) -> bool
-    ensures { result ≡ edges_hold laid_out.now.groups.items (map variable_view laid_out.now.variables.now)
-        (masks_of laid_out.now states.now) (P.promises promises.now)
+    requires places { HavePlaces laid_out.now }
+    ensures { IsLaidOut laid_out.now → result ≡ edges_hold laid_out.now.groups.items
+        (map variable_view laid_out.now.variables.now) (masks_of laid_out.now states.now) (P.promises promises.now)
         (events_graph laid_out.now.kept.now.graph).nodes (events_graph laid_out.now.kept.now.graph).next }
 {
     for (number, node) in laid_out.kept.graph.nodes.iter().enumerate() {

@@ -1,25 +1,37 @@
 //! Bodies as their certificates are read.
 
-ghost use Rattle.std.specs.Prelude.{◌≡◌, ◌++◌, IfOk, OnOk, map};
-ghost use Rattle.checker.specs.Certificates.{group_number, groups_of, groups_with_bits};
+ghost use Rattle.std.specs.Prelude.{◌≡◌, ◌++◌, ◌-◌, IfOk, OnOk, length, map};
+ghost use Rattle.checker.specs.Certificates.{spare};
+ghost use Rattle.checker.specs.CertificateTests.{have_places, mask_in};
 ghost use Rattle.checker.specs.LaidOutViews.{with_row, RowsOfNodes, LaysOut, masks_of};
-ghost use Rattle.checker.specs.CertificateTests.{mask_in};
+ghost use Rattle.checker.specs.Loaded.{number_if, numbers_of};
+ghost use Rattle.meaning.specs.FunctionFacts.{cancel, group};
+ghost use Rattle.meaning.specs.declared.TheConstants.{MOST_GROUPS};
 ghost use Rattle.events.specs.VariableViews.{variable_view};
 
 use bodies::BodyGraph;
 use events::Variable;
 use facts::VariableKind;
 use flow::NodePlace;
-use meaning::MOST_GROUPS;
+use meaning::{MOST_CANCELS, MOST_GROUPS};
 use std::alloc::{AllocError, Global};
+
+/// The numbers of the variables of a body, by their kinds, in their order.
+#[derive(Drop)]
+pub struct Numbers {
+    pub cancels: Vec<u32>,
+    pub groups: Vec<u32>,
+}
 
 /// A body, where the rows of its certificates stand, and for which groups these have bits.
 #[derive(Drop)]
 pub struct LaidOut<'k, 'e, 'a> {
+    pub alloc: Global,
     pub variables: &'k [Variable<'a>],
     pub kept: &'k BodyGraph<'e, 'a>,
     /// For each node of the graph its row, if it stands in the order.
     pub rows: Vec<Option<usize>>,
+    pub numbers: Numbers,
     /// The groups that have bits: the body's, and up to twelve that it has not.
     pub groups: Vec<u32>,
 }
@@ -48,35 +60,46 @@ fn rows_of_nodes(
     Ok(rows)
 }
 
-/// Adds the number of the variable, if it is a group.
-fn add_group(groups: &mut Vec<u32>, variable: Variable<'_>) -> Result<(), AllocError>
-    ensures { OnOk result (groups.new.items ≡ groups.old.items ++ group_number (variable_view variable.entry).kind
-        (variable_view variable.entry).number) }
+/// Adds the number of the variable to those of its kind.
+fn add_number(
+    cancels: &mut Vec<u32>,
+    groups: &mut Vec<u32>,
+    variable: Variable<'_>,
+) -> Result<(), AllocError>
+    ensures cancels { OnOk result (cancels.new.items ≡ cancels.old.items ++ number_if cancel
+        (variable_view variable.entry).kind (variable_view variable.entry).number) }
+    ensures groups { OnOk result (groups.new.items ≡ groups.old.items ++ number_if group
+        (variable_view variable.entry).kind (variable_view variable.entry).number) }
 {
     match variable.kind {
-        VariableKind::Cancel => {}
+        VariableKind::Cancel => cancels.push(variable.number)?,
         VariableKind::Group => groups.push(variable.number)?,
     }
     Ok(())
 }
 
-/// The numbers of the groups among the variables, in their order.
-fn groups_of(alloc: Global, variables: &[Variable<'_>]) -> Result<Vec<u32>, AllocError>
-    ensures { IfOk result (λ groups. groups.items ≡ groups_of (map variable_view variables.now)) }
+/// The numbers of the variables, by their kinds, in their order.
+fn numbers_of(alloc: Global, variables: &[Variable<'_>]) -> Result<Numbers, AllocError>
+    ensures cancels { IfOk result (λ numbers. numbers.cancels.items ≡ numbers_of cancel
+        (map variable_view variables.now)) }
+    ensures groups { IfOk result (λ numbers. numbers.groups.items ≡ numbers_of group
+        (map variable_view variables.now)) }
 {
+    let mut cancels = Vec::new(alloc);
     let mut groups = Vec::new(alloc);
     for variable in variables {
-        add_group(&mut groups, *variable)?;
+        add_number(&mut cancels, &mut groups, *variable)?;
     }
-    Ok(groups)
+    Ok(Numbers { cancels, groups })
 }
 
-/// The groups that have bits: the body's, and up to twelve that it has not.
-fn groups_with_bits(alloc: Global, variables: &[Variable<'_>]) -> Result<Vec<u32>, AllocError>
-    ensures { IfOk result (λ groups. groups.items ≡ groups_with_bits (map variable_view variables.now)) }
+/// The groups that have bits: these of the body, and up to twelve that it has not.
+fn groups_with_bits(alloc: Global, own: &[u32]) -> Result<Vec<u32>, AllocError>
+    ensures { IfOk result (λ groups. groups.items ≡ own.now ++ spare (MOST_GROUPS - length own.now)) }
 {
-    let mut groups = groups_of(alloc, variables)?;
-    let mut spare = MOST_GROUPS.saturating_sub(groups.len());
+    let mut groups = Vec::new(alloc);
+    groups.extend_from_slice(own)?;
+    let mut spare = MOST_GROUPS.saturating_sub(own.len());
     while spare > 0 {
         spare -= 1;
         groups.push(u32::MAX - spare as u32)?;
@@ -97,16 +120,29 @@ pub fn lay_out<'k, 'e, 'a>(
     ensures { IfOk result (λ laid_out. LaysOut variables.now kept.now laid_out) }
 {
     let rows = rows_of_nodes(alloc, kept.graph.nodes.len(), &kept.order)?;
-    let groups = groups_with_bits(alloc, variables)?;
+    let numbers = numbers_of(alloc, variables)?;
+    let groups = groups_with_bits(alloc, &numbers.groups)?;
     Ok(LaidOut {
+        alloc,
         variables,
         kept,
         rows,
+        numbers,
         groups,
     })
 }
 
 impl LaidOut<'_, '_, '_> {
+    /// Whether states have places for all variables, and bits for the groups.
+    pub fn has_places(&self) -> bool
+        ensures { result ≡ have_places self.now.numbers.cancels.items self.now.numbers.groups.items
+            self.now.groups.items }
+    {
+        self.numbers.cancels.len() <= MOST_CANCELS
+            && self.numbers.groups.len() <= MOST_GROUPS
+            && self.groups.len() <= MOST_GROUPS
+    }
+
     /// The masks at the node; none where it has no row.
     pub fn masks_at<'s>(&self, states: &'s [Vec<u16>], node: usize) -> &'s [u16]
         ensures { result.now ≡ masks_of self.now states.now node }

@@ -11,13 +11,14 @@ mod edges;
 mod entry;
 mod faults;
 mod laid_out;
+mod loaded;
 mod returns;
 mod rows;
 mod settled;
 
 pub use certificate::holds;
 pub use claims::{Claims, NoClaims};
-pub use laid_out::{LaidOut, lay_out};
+pub use laid_out::{LaidOut, Numbers, lay_out};
 pub use settled::settles;
 
 /// No list of a body with a certificate that holds comes to a fault of a path.

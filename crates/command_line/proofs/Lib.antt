@@ -1,1 +1,2 @@
+mod AskedBy
 mod Given

@@ -1,10 +1,15 @@
 -- What the words of the command line, those after the program's name, ask for.
 -- (The documentation of clap: `-h`, `--help`, `help`, `-V` and `--version` ask for help or the version; the value of an
 -- option is the word after it, or stands in its own word behind `=`; and behind `--` no word is an option.)
-use Rattle.std.specs.Prelude.{◌≡◌, ◌⊎◌, ⊤, ℕ, Bool, true, false, nat_eq, List, [], ◌∷◌, Option, Some, None, Contains, codes, map, drop, length, if◌then◌else◌}
+use Rattle.std.specs.Prelude.{◌≡◌, ◌⊎◌, ⊤, ℕ, if◌then◌else◌, nat_eq, List, [], ◌∷◌, Option, Some, None, Contains, codes, drop, length, map}
 use Rattle.std.specs.Borrow.{Bor}
 use Rattle.std.specs.List.{starts_with}
 use Rattle.std.specs.Str.{bytes_eq}
+use Rattle.std.specs.Str.Parse.{digits_value, without_leading_plus, IsNumeral}
+use Rattle.workers.specs.Counts.{count_of}
+use Rattle.workers.specs.declared.count.Workers.{Workers}
+use Rattle.command_line.specs.declared.words.Awaited.{Awaited}
+use Rattle.command_line.specs.declared.words.Awaited.TheVariants.{Nothing, File, Number}
 use Rattle.command_line.specs.declared.words.Asked.{Asked}
 use Rattle.command_line.specs.declared.words.Asked.TheVariants.{Check, Certify, Verify, Help, Wrong}
 
@@ -19,34 +24,51 @@ file_in word =
     if starts_with nat_eq word (codes "--cert=") then Some (drop (length (codes "--cert=")) word)
     else None
 
--- what words behind a command name: files by `--cert`, and packages
+-- the number that stands in a word behind `-j`, or behind `-j=`
+abbrev pub number_in : List ℕ → Option (List ℕ)
+number_in word =
+    if starts_with nat_eq word (codes "-j=") then Some (drop (length (codes "-j=")) word)
+    else if starts_with nat_eq word (codes "-j") then Some (drop (length (codes "-j")) word)
+    else None
+
+-- what words behind a command name: files by `--cert`, numbers by `-j`, and packages
 pub record Named : Type 0 where
   pub files : List (List ℕ)
+  pub numbers : List (List ℕ)
   pub packages : List (List ℕ)
 
+abbrev pub only_packages : List (List ℕ) → Named
+only_packages words = record { files = []; numbers = []; packages = words }
+
 abbrev pub with_file : List ℕ → Named → Named
-with_file file named = record { files = file ∷ named.files; packages = named.packages }
+with_file file named = record named { files = file ∷ named.files }
+
+abbrev pub with_number : List ℕ → Named → Named
+with_number number named = record named { numbers = number ∷ named.numbers }
 
 abbrev pub with_package : List ℕ → Named → Named
-with_package word named = record { files = named.files; packages = word ∷ named.packages }
+with_package word named = record named { packages = word ∷ named.packages }
 
--- a word that is neither `--` nor `--cert` names the file that stands in it, or else a package
-abbrev pub with_word : Option (List ℕ) → List ℕ → Named → Named
-with_word (Some file) word named = with_file file named
-with_word None word named = with_package word named
+-- a word that is no option without its value names the file or the number that stands in it, or else a package
+abbrev pub with_word : Option (List ℕ) → Option (List ℕ) → List ℕ → Named → Named
+with_word (Some file) number word named = with_file file named
+with_word None (Some number) word named = with_number number named
+with_word None None word named = with_package word named
 
--- What these words name, one after the other. The first of them is a file where `--cert` stands before it. Behind the
--- first `--` each is the word of a package.
-abbrev pub named_after : Bool → List (List ℕ) → Named
-named_after after_option [] = record { files = []; packages = [] }
-named_after true (w ∷ ws) = with_file w (named_after false ws)
-named_after false (w ∷ ws) =
-    if bytes_eq w (codes "--") then record { files = []; packages = ws }
-    else if bytes_eq w (codes "--cert") then named_after true ws
-    else with_word (file_in w) w (named_after false ws)
+-- What these words name, one after the other. The first of them may be the value of an option that stands before it.
+-- Behind the first `--` each is the word of a package.
+abbrev pub named_after : Awaited → List (List ℕ) → Named
+named_after awaited [] = only_packages []
+named_after File (w ∷ ws) = with_file w (named_after Nothing ws)
+named_after Number (w ∷ ws) = with_number w (named_after Nothing ws)
+named_after Nothing (w ∷ ws) =
+    if bytes_eq w (codes "--") then only_packages ws
+    else if bytes_eq w (codes "--cert") then named_after File ws
+    else if bytes_eq w (codes "-j") then named_after Number ws
+    else with_word (file_in w) (number_in w) w (named_after Nothing ws)
 
 abbrev pub named_by : List (List ℕ) → Named
-named_by = named_after false
+named_by = named_after Nothing
 
 -- the words are this command, and then name these files by `--cert`, and these packages
 pub record IsCommand (command : List ℕ) (words files packages : List (List ℕ)) : Type 0 where
@@ -55,14 +77,44 @@ pub record IsCommand (command : List ℕ) (words files packages : List (List ℕ
   pub are_files : files ≡ (named_by rest).files
   pub are_packages : packages ≡ (named_by rest).packages
 
+-- behind their command the words name these numbers by `-j`
+pub record NameNumbers (words numbers : List (List ℕ)) : Type 0 where
+  pub command : List ℕ
+  pub rest : List (List ℕ)
+  pub is_command : words ≡ command ∷ rest
+  pub are_numbers : numbers ≡ (named_by rest).numbers
+
+-- the text is the number as Rust reads one: decimal digits, before which a `+` may stand
+abbrev pub IsNumber : List ℕ → ℕ → Type 0
+IsNumber text n = IsNumeral 10 (without_leading_plus text) × (n ≡ digits_value 10 (without_leading_plus text))
+
+-- so many workers are asked for by these numbers: one where there is none, and two numbers ask for nothing
+abbrev pub AreWorkers : List (List ℕ) → ℕ → Type 0
+AreWorkers [] n = n ≡ 1
+AreWorkers (number ∷ []) n = IsNumber number n
+AreWorkers (number ∷ another ∷ more) n = ⊥
+
+-- the words ask for so many workers
+pub record AskForWorkers (words : List (List ℕ)) (workers : Workers) : Type 0 where
+  pub numbers : List (List ℕ)
+  pub named : NameNumbers words numbers
+  pub are_workers : AreWorkers numbers (count_of workers)
+
 abbrev pub texts_of : List (Bor (List ℕ)) → List (List ℕ)
 texts_of = map (λ t. t.now)
 
--- `check` names no file, or the one for its certificates; `verify` names the one that has them. Help is given where a
--- word asks for it. Words may be wrong for any reason.
+-- `check` names no file, or the one for its certificates, and may say how many workers there are. `verify` names the
+-- file that has certificates, and says nothing of workers. Help is given where a word asks for it. Words may be wrong
+-- for any reason.
 abbrev pub IsAsked : List (List ℕ) → Asked → Type 0
-IsAsked words (Check packages) = IsCommand (codes "check") words [] (texts_of packages.items)
-IsAsked words (Certify asked) = IsCommand (codes "check") words (asked.file.now ∷ []) (texts_of asked.packages.items)
-IsAsked words (Verify asked) = IsCommand (codes "verify") words (asked.file.now ∷ []) (texts_of asked.packages.items)
+IsAsked words (Check asked) =
+    IsCommand (codes "check") words [] (texts_of asked.packages.items)
+    × AskForWorkers words asked.workers
+IsAsked words (Certify asked) =
+    IsCommand (codes "check") words (asked.file.now ∷ []) (texts_of asked.packages.items)
+    × AskForWorkers words asked.workers
+IsAsked words (Verify asked) =
+    IsCommand (codes "verify") words (asked.file.now ∷ []) (texts_of asked.packages.items)
+    × NameNumbers words []
 IsAsked words (Help text) = AsksForHelp words
 IsAsked words (Wrong text) = ⊤

@@ -3,4 +3,4 @@
 
 mod words;
 
-pub use words::{Asked, FileWords, read_words};
+pub use words::{Asked, CertifyWords, CheckWords, VerifyWords, read_words};

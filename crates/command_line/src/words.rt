@@ -1,13 +1,16 @@
 //! What the words of the command line ask for.
 
 ghost use Rattle.std.specs.Prelude.{◌≡◌, ◌↔◌, ◌++◌, Bool, ℕ, List, [], ◌∷◌, Contains, IfOk, OnOk, IfSome, IsTrue, map, option_map};
-ghost use Rattle.command_line.specs.Words.{file_in, texts_of, AsksForHelp, IsAsked};
+ghost use Rattle.command_line.specs.Words.{file_in, number_in, texts_of, AreWorkers, AsksForHelp, IsAsked, IsNumber};
+ghost use Rattle.workers.specs.Counts.{count_of};
 ghost use Rattle.command_line.specs.KeptWords.{AreKept, IsAskedBy};
 
+use clap::builder::ValueParser;
 use clap::error::ErrorKind;
 use clap::{Arg, ArgAction, Command, Error};
 use std::alloc::{AllocError, Global};
 use std::convert::AsStr;
+use workers::{MOST_WORKERS, Workers};
 
 /// The commands of the program.
 const CHECK_WORD: &str = "check";
@@ -20,6 +23,11 @@ const OPTION: &str = "--cert";
 /// With this a word begins that has the option and its value.
 const FILE_AFTER: &str = "--cert=";
 
+/// The option whose value is the number of workers. It may stand in one word with its value, also with `=` between.
+const WORKERS_OPTION: &str = "-j";
+
+const WORKERS_AFTER: &str = "-j=";
+
 const ABOUT: &str = "Finds cancel functions of contexts that may not be called in Go packages";
 
 const AFTER: &str = "Exit status:
@@ -30,6 +38,7 @@ const AFTER: &str = "Exit status:
 Examples:
   ctxvet check example.org/pool=./pool
   ctxvet check $(go list -f '{{.ImportPath}}={{.Dir}}' ./...)
+  ctxvet check -j 4 $(go list -f '{{.ImportPath}}={{.Dir}}' ./...)
   ctxvet check --cert pool.json example.org/pool=./pool
   ctxvet verify --cert pool.json example.org/pool=./pool";
 
@@ -55,6 +64,10 @@ const OUT: &str =
 
 const IN: &str = "The file of certificates";
 
+const WORKERS: &str =
+    "How many threads read the files at most, from 1 to 64. The report is the same for each number \
+[default: 1]";
+
 const PACKAGE: &str = "A package's import path, `=`, and the folder of its files: \
 each file there is read that ends in .go and not in _test.go";
 
@@ -63,9 +76,24 @@ const ESCAPE: &str = "--";
 
 const VERSION: &str = "0.1.0";
 
-/// The words of packages, `PATH=DIR` each, and the file of certificates that goes with them.
+/// The words of packages, `PATH=DIR` each, and how many workers may check them.
 #[derive(Debug, Drop)]
-pub struct FileWords<'a> {
+pub struct CheckWords<'a> {
+    pub workers: Workers,
+    pub packages: Vec<&'a str>,
+}
+
+/// The same, and the file for their certificates.
+#[derive(Debug, Drop)]
+pub struct CertifyWords<'a> {
+    pub workers: Workers,
+    pub file: &'a str,
+    pub packages: Vec<&'a str>,
+}
+
+/// The words of packages, and the file that has their certificates.
+#[derive(Debug, Drop)]
+pub struct VerifyWords<'a> {
     pub file: &'a str,
     pub packages: Vec<&'a str>,
 }
@@ -73,12 +101,12 @@ pub struct FileWords<'a> {
 /// What the words ask for.
 #[derive(Debug, Drop)]
 pub enum Asked<'a> {
-    /// To check the packages of these words, `PATH=DIR` each.
-    Check(Vec<&'a str>),
+    /// To check packages.
+    Check(CheckWords<'a>),
     /// To check packages, and to write certificates to the file.
-    Certify(FileWords<'a>),
+    Certify(CertifyWords<'a>),
     /// To judge packages by the certificates in the file.
-    Verify(FileWords<'a>),
+    Verify(VerifyWords<'a>),
     /// Help or the version: this text, for standard output.
     Help(String),
     /// Nothing that the program understands: this text says why, for standard error.
@@ -116,38 +144,82 @@ fn asked_command<'a, S: AsStr>(alloc: Global, words: &'a [S]) -> Result<Asked<'a
 fn asked_of<'a>(alloc: Global, command: &str, kept: Kept<'a>) -> Asked<'a>
     ensures { IsAskedBy command.now kept.entry result }
 {
-    let Kept { files, packages } = kept;
-    if command == CHECK_WORD && files.is_empty() {
-        return Asked::Check(packages);
+    let Kept {
+        files,
+        numbers,
+        packages,
+    } = kept;
+    if command == CHECK_WORD {
+        let Some(workers) = workers_by(&numbers) else {
+            return Asked::Wrong(String::new(alloc));
+        };
+        if files.is_empty() {
+            return Asked::Check(CheckWords { workers, packages });
+        }
+        let Some(file) = only_one(&files) else {
+            return Asked::Wrong(String::new(alloc));
+        };
+        return Asked::Certify(CertifyWords {
+            workers,
+            file,
+            packages,
+        });
     }
     let Some(file) = only_one(&files) else {
         return Asked::Wrong(String::new(alloc));
     };
-    let asked = FileWords { file, packages };
-    if command == CHECK_WORD {
-        Asked::Certify(asked)
-    } else if command == VERIFY_WORD {
-        Asked::Verify(asked)
+    if command == VERIFY_WORD && numbers.is_empty() {
+        Asked::Verify(VerifyWords { file, packages })
     } else {
         Asked::Wrong(String::new(alloc))
     }
 }
 
-/// The file, where there is just one.
-fn only_one<'a>(files: &[&'a str]) -> Option<&'a str>
-    ensures { IfSome result (λ file. texts_of files.now ≡ file.now ∷ []) }
+/// The workers of these numbers: one worker where there is none, and otherwise just one number may be there.
+fn workers_by(numbers: &[&str]) -> Option<Workers>
+    ensures { IfSome result (λ workers. AreWorkers (texts_of numbers.now) (count_of workers)) }
 {
-    match files.split_first() {
-        Some((file, rest)) if rest.is_empty() => Some(*file),
+    if numbers.is_empty() {
+        return Some(Workers::one());
+    }
+    workers_of(only_one(numbers)?)
+}
+
+/// So many workers as the word says.
+fn workers_of(number: &str) -> Option<Workers>
+    ensures { IfSome result (λ workers. IsNumber number.now (count_of workers)) }
+{
+    match number.parse::<usize>() {
+        Ok(count) => Workers::new(count),
+        Err(_) => None,
+    }
+}
+
+/// The word, where there is just one.
+fn only_one<'a>(words: &[&'a str]) -> Option<&'a str>
+    ensures { IfSome result (λ word. texts_of words.now ≡ word.now ∷ []) }
+{
+    match words.split_first() {
+        Some((word, rest)) if rest.is_empty() => Some(*word),
         _ => None,
     }
 }
 
-/// What is kept of the words behind a command: the files that `--cert` names, and the words of packages.
+/// What is kept of the words behind a command: the files that `--cert` names, the numbers that `-j` names, and the
+/// words of packages.
 #[derive(Drop)]
 pub struct Kept<'a> {
     files: Vec<&'a str>,
+    numbers: Vec<&'a str>,
     packages: Vec<&'a str>,
+}
+
+/// The option whose value the next word is.
+#[derive(Clone, Copy)]
+pub enum Awaited {
+    Nothing,
+    File,
+    Number,
 }
 
 /// Adds all of these words.
@@ -167,30 +239,50 @@ fn file_in(word: &str) -> Option<&str>
     word.strip_prefix(FILE_AFTER)
 }
 
+/// The number that stands in a word behind `-j`.
+fn number_in(word: &str) -> Option<&str>
+    ensures { option_map (λ number. number.now) result ≡ number_in word.now }
+{
+    match word.strip_prefix(WORKERS_AFTER) {
+        Some(number) => Some(number),
+        None => word.strip_prefix(WORKERS_OPTION),
+    }
+}
+
 /// What these words, those behind a command, name.
 fn kept_words<'a, S: AsStr>(alloc: Global, words: &'a [S]) -> Result<Kept<'a>, AllocError>
     ensures { IfOk result (AreKept (map S.text words.now)) }
 {
     let mut kept = Kept {
         files: Vec::new(alloc),
+        numbers: Vec::new(alloc),
         packages: Vec::new(alloc),
     };
-    let mut after_option = false;
+    let mut awaited = Awaited::Nothing;
     for (place, word) in words.iter().enumerate() {
         let word = word.as_str();
-        if after_option {
-            kept.files.push(word)?;
-            after_option = false;
-        } else if word == ESCAPE {
-            let (_, rest) = words.split_at(place + 1);
-            add_all(rest, &mut kept.packages)?;
-            return Ok(kept);
-        } else if word == OPTION {
-            after_option = true;
-        } else if let Some(file) = file_in(word) {
-            kept.files.push(file)?;
-        } else {
-            kept.packages.push(word)?;
+        let value = awaited;
+        awaited = Awaited::Nothing;
+        match value {
+            Awaited::File => kept.files.push(word)?,
+            Awaited::Number => kept.numbers.push(word)?,
+            Awaited::Nothing => {
+                if word == ESCAPE {
+                    let (_, rest) = words.split_at(place + 1);
+                    add_all(rest, &mut kept.packages)?;
+                    return Ok(kept);
+                } else if word == OPTION {
+                    awaited = Awaited::File;
+                } else if word == WORKERS_OPTION {
+                    awaited = Awaited::Number;
+                } else if let Some(file) = file_in(word) {
+                    kept.files.push(file)?;
+                } else if let Some(number) = number_in(word) {
+                    kept.numbers.push(number)?;
+                } else {
+                    kept.packages.push(word)?;
+                }
+            }
         }
     }
     Ok(kept)
@@ -221,6 +313,7 @@ fn command<'a>(alloc: Global) -> Result<Command<'a>, AllocError> {
     let check = Command::new(alloc, CHECK_WORD)
         .about(CHECK)
         .after_help(AFTER_CHECK)
+        .arg(workers_option(alloc))?
         .arg(file(alloc).value_name("OUT").help(OUT))?
         .arg(package(alloc))?;
     let verify = Command::new(alloc, VERIFY_WORD)
@@ -238,6 +331,16 @@ fn command<'a>(alloc: Global) -> Result<Command<'a>, AllocError> {
         .arg_required_else_help(true)
         .subcommand(check)?
         .subcommand(verify)
+}
+
+/// The option that says how many workers there are.
+fn workers_option<'a>(alloc: Global) -> Arg<'a> {
+    Arg::new(alloc, "workers")
+        .short('j')
+        .value_name("N")
+        .help(WORKERS)
+        .value_parser(ValueParser::unsigned(1, MOST_WORKERS as u64))
+        .action(ArgAction::Set)
 }
 
 /// The option that names a file of certificates.

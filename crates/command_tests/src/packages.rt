@@ -1,8 +1,9 @@
 //! Several packages in one run.
 
-use crate::real_folders::{FolderEntry, folder_with};
+use crate::real_folders::{FolderEntry, folder_with, new_folder};
 use crate::runs::expect_transcript;
 use driver::{Fault, GivenPackage, report_of};
+use std::alloc::{AllocError, Global};
 use std::fs;
 use std::test::Fail;
 
@@ -36,6 +37,31 @@ $ check high=DIR/above other=DIR/good
 yes high
 yes other
 status 0
+# The report is the same for each number of workers, which may stand anywhere before `--`.
+$ check -j 1 high=DIR/above low=DIR/bad
+DIR/above/x.go:3:8: LC13 low import is not yes
+no high
+DIR/bad/x.go:4:6: LC15 f two functions of one name
+no low
+status 1
+$ check high=DIR/above low=DIR/bad -j 02
+DIR/above/x.go:3:8: LC13 low import is not yes
+no high
+DIR/bad/x.go:4:6: LC15 f two functions of one name
+no low
+status 1
+$ check -j64 high=DIR/above low=DIR/bad
+DIR/above/x.go:3:8: LC13 low import is not yes
+no high
+DIR/bad/x.go:4:6: LC15 f two functions of one name
+no low
+status 1
+$ check high=DIR/above -j=+3 -- low=DIR/bad
+DIR/above/x.go:3:8: LC13 low import is not yes
+no high
+DIR/bad/x.go:4:6: LC15 f two functions of one name
+no low
+status 1
 # Folders without a Go file are noted in the order of the words.
 $ check b=DIR/empty a=DIR/empty/
 yes a
@@ -60,6 +86,35 @@ fn packages_are_judged_together(rt: HostRuntime) -> Result<(), Fail> {
     let outer = folder_with(&rt, "packages", FOLDERS)?;
     expect_transcript(&rt, outer.as_str(), TRANSCRIPT)?;
     Ok(fs::remove_dir_all(&rt, outer.as_str())?)
+}
+
+/// So many composite literals in each other, with a number in the last, are a tree as deep as a file may have.
+const MOST_LITERALS: usize = 199;
+
+/// A file with the deepest tree, of a form that takes much of the stack.
+fn deepest(alloc: Global) -> Result<String, AllocError> {
+    let opening = "T{".repeat(alloc, MOST_LITERALS)?;
+    let closing = "}".repeat(alloc, MOST_LITERALS)?;
+    format!(in alloc; "package a\n\nvar _ = {opening}1{closing}\n")
+}
+
+#[test]
+fn threads_have_room_for_the_deepest_trees(rt: HostRuntime) -> Result<(), Fail> {
+    let folder = new_folder(&rt, "deepest")?;
+    let text = deepest(rt.alloc())?;
+    for name in ["a", "b", "c", "d"] {
+        fs::write(
+            &rt,
+            format!(in rt.alloc(); "{folder}/{name}.go")?,
+            text.as_str(),
+        )?;
+    }
+    expect_transcript(
+        &rt,
+        folder.as_str(),
+        "$ check -j 4 a=DIR\nyes a\nstatus 0\n",
+    )?;
+    Ok(fs::remove_dir_all(&rt, folder.as_str())?)
 }
 
 /// One package more than one run takes.

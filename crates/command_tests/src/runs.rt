@@ -6,6 +6,7 @@ use std::convert::AsStr;
 use std::process::Abort;
 use std::rt::Files;
 use std::test::Fail;
+use std::thread::Threads;
 
 /// What a run left: its status, and the texts on its two streams.
 #[derive(Drop)]
@@ -16,7 +17,10 @@ pub struct Ended {
 }
 
 /// Runs the program with these words.
-pub fn run_words<R: Files + AllocGlobal, S: AsStr>(rt: &R, words: &[S]) -> Result<Ended, Fail> {
+pub fn run_words<R: Files + AllocGlobal + Threads + Sync, S: AsStr>(
+    rt: &R,
+    words: &[S],
+) -> Result<Ended, Fail> {
     let mut out = Vec::new(rt.alloc());
     let mut err = Vec::new(rt.alloc());
     let status = run(rt, words, &mut out, &mut err);
@@ -38,7 +42,7 @@ pub fn words_of<'a>(alloc: Global, line: &'a str) -> Result<Vec<&'a str>, AllocE
 
 /// What a run with these words leaves: what stands on standard output, a line `status N`, and what stands on standard
 /// error. In the words and in this text a `DIR` stands for the folder.
-pub fn outcome<R: Files + AllocGlobal>(
+pub fn outcome<R: Files + AllocGlobal + Threads + Sync>(
     rt: &R,
     folder: &str,
     words: &[&str],
@@ -53,7 +57,7 @@ pub fn outcome<R: Files + AllocGlobal>(
 }
 
 /// Runs `check` on the package `a` in the folder, and compares the outcome.
-pub fn expect_check<R: Files + AllocGlobal + Abort>(
+pub fn expect_check<R: Files + AllocGlobal + Threads + Sync + Abort>(
     rt: &R,
     folder: &str,
     wanted: &str,
@@ -65,7 +69,7 @@ pub fn expect_check<R: Files + AllocGlobal + Abort>(
 
 /// Goes through a transcript, and compares it with what is found: after `$ ` stand the words of a run, and in the lines
 /// after that its outcome. A line that begins with `#` is a remark.
-pub fn expect_transcript<R: Files + AllocGlobal + Abort>(
+pub fn expect_transcript<R: Files + AllocGlobal + Threads + Sync + Abort>(
     rt: &R,
     folder: &str,
     transcript: &str,

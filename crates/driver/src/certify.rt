@@ -11,14 +11,15 @@ ghost use Rattle.folders.specs.WrittenFiles.{name_of, text_of};
 use crate::notes::note_empty;
 use crate::packages::{FoldersAsked, all_named, read_packages};
 use crate::printing::print;
-use crate::reports::certified_report_of;
+use crate::reports::certified_report_by;
 use crate::status::Status;
 use crate::writers::Refusals;
-use command_line::FileWords;
+use command_line::CertifyWords;
 use folders::{Fault, UnwrittenFile, WrittenFile, write_file};
 use judge::CertifiedReport;
 use std::io::Write;
 use std::rt::Files;
+use std::thread::Threads;
 
 /// How a check ended that wrote certificates, and the file that they were written to.
 #[derive(Debug, Drop)]
@@ -29,9 +30,9 @@ pub struct Certified<'a> {
 
 /// Checks the packages of these words, prints their report, and then writes their certificates to the file. Folders
 /// without a Go file are noted after the report.
-pub fn certify<'a, R: Files + AllocGlobal, W: Write, E: Write>(
+pub fn certify<'a, R: Files + AllocGlobal + Threads + Sync, W: Write, E: Write>(
     rt: &R,
-    asked: &FileWords<'a>,
+    asked: &CertifyWords<'a>,
     out: &mut W,
     err: &mut E,
     refusals: &mut Refusals,
@@ -54,7 +55,7 @@ pub fn certify<'a, R: Files + AllocGlobal, W: Write, E: Write>(
     let mut empty = Vec::new(rt.alloc());
     let given = read_packages(rt, &packages, &mut empty, &mut FoldersAsked::none())?;
     let file = UnwrittenFile::named(rt.alloc(), asked.file)?;
-    let told = certified_report_of(rt.alloc(), given)?;
+    let told = certified_report_by(rt, given, asked.workers)?;
     print(out, &told.report.text, refusals)?;
     note_empty(&empty, err);
     let status = Status::of_verdict(told.report.yes);

@@ -12,22 +12,23 @@ use crate::certify::certify;
 use crate::notes::{PROGRAM, note_empty};
 use crate::packages::{FoldersAsked, all_named, read_packages};
 use crate::printing::print;
-use crate::reports::report_of;
+use crate::reports::report_by;
 use crate::status::Status;
 use crate::verify::verify;
 use crate::writers::Refusals;
-use command_line::{Asked, read_words};
+use command_line::{Asked, CheckWords, read_words};
 use folders::{Fault, fail};
 use load::GivenPackage;
-use std::alloc::Global;
 use std::convert::AsStr;
 use std::io::Write;
 use std::rt::Files;
+use std::thread::Threads;
+use workers::Workers;
 
 /// Runs the program with the words after its name: prints its report or help on `out` and its fault on `err`, and
 /// returns its status. 0: each package is yes, or help or the version was asked for. 1: some package is no. 2: a fault,
 /// which is the first one.
-pub fn run<R: Files + AllocGlobal, S: AsStr, W: Write, E: Write>(
+pub fn run<R: Files + AllocGlobal + Threads + Sync, S: AsStr, W: Write, E: Write>(
     rt: &R,
     words: &[S],
     out: &mut W,
@@ -51,7 +52,7 @@ pub fn refuse<E: Write>(err: &mut E, fault: &Fault) -> u8
 }
 
 /// Does what the words ask for. A write on `out` was refused just where the fault is that of writing.
-fn answer<R: Files + AllocGlobal, S: AsStr, W: Write, E: Write>(
+fn answer<R: Files + AllocGlobal + Threads + Sync, S: AsStr, W: Write, E: Write>(
     rt: &R,
     words: &[S],
     out: &mut W,
@@ -69,7 +70,7 @@ fn answer<R: Files + AllocGlobal, S: AsStr, W: Write, E: Write>(
     ensures refused { refusals.new.any ≡ refused_by refusals.old.any result }
 {
     match read_words(rt.alloc(), words)? {
-        Asked::Check(packages) => check(rt, &packages, out, err, refusals),
+        Asked::Check(asked) => check(rt, &asked, out, err, refusals),
         Asked::Certify(asked) => {
             let done = certify(rt, &asked, out, err, refusals)?;
             Ok(done.status)
@@ -90,33 +91,34 @@ fn answer<R: Files + AllocGlobal, S: AsStr, W: Write, E: Write>(
 
 /// Checks the packages of these words, `PATH=DIR` each, and prints their report. Folders without a Go file are noted
 /// after it.
-fn check<R: Files + AllocGlobal, W: Write, E: Write>(
+fn check<R: Files + AllocGlobal + Threads + Sync, W: Write, E: Write>(
     rt: &R,
-    words: &[&str],
+    asked: &CheckWords<'_>,
     out: &mut W,
     err: &mut E,
     refusals: &mut Refusals,
 ) -> Result<Status, Fault>
     ensures written { IfOk result (λ status. (yes : Bool) × (status ≡ status_of yes)
-        × OfReport (texts_of words.now) (IsWritten (W.contents out.old) (W.contents out.new) yes)) }
-    ensures fault { IfErr result (IsCheckFault (texts_of words.now)) }
+        × OfReport (texts_of asked.now.packages.items) (IsWritten (W.contents out.old) (W.contents out.new) yes)) }
+    ensures fault { IfErr result (IsCheckFault (texts_of asked.now.packages.items)) }
     ensures unwritten { IfErr result (λ fault. LeavesUnwritten fault (W.contents out.old) (W.contents out.new)) }
     ensures begun { IfErr result (λ fault. fault ≡ Fault.CannotWrite
-        → OfReport (texts_of words.now) (IsBegun (W.contents out.old) (W.contents out.new))) }
+        → OfReport (texts_of asked.now.packages.items) (IsBegun (W.contents out.old) (W.contents out.new))) }
     ensures refused { refusals.new.any ≡ refused_by refusals.old.any result }
 {
-    let packages = all_named(rt.alloc(), words)?;
+    let packages = all_named(rt.alloc(), &asked.packages)?;
     let mut empty = Vec::new(rt.alloc());
     let given = read_packages(rt, &packages, &mut empty, &mut FoldersAsked::none())?;
-    let status = report(rt.alloc(), given, out, refusals)?;
+    let status = report(rt, given, asked.workers, out, refusals)?;
     note_empty(&empty, err);
     Ok(status)
 }
 
 /// Judges these packages, and prints their report.
-fn report<W: Write>(
-    alloc: Global,
+fn report<R: AllocGlobal + Threads + Sync, W: Write>(
+    rt: &R,
     given: Vec<GivenPackage>,
+    workers: Workers,
     out: &mut W,
     refusals: &mut Refusals,
 ) -> Result<Status, Fault>
@@ -129,7 +131,7 @@ fn report<W: Write>(
         → (report : Report) × IsReport given.items report × IsBegun (W.contents out.old) (W.contents out.new) report) }
     ensures refused { refusals.new.any ≡ refused_by refusals.old.any result }
 {
-    let report = report_of(alloc, given)?;
+    let report = report_by(rt, given, workers)?;
     print(out, &report.text, refusals)?;
     Ok(Status::of_verdict(report.yes))
 }

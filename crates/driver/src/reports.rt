@@ -11,6 +11,8 @@ use folders::Fault;
 use judge::{CertifiedReport, Report, VerifyFault};
 use load::{GivenPackage, LoadFault};
 use std::alloc::Global;
+use std::thread::Threads;
+use workers::Workers;
 
 /// Why packages are not loaded, as the program tells it.
 fn told_fault(fault: LoadFault) -> Fault
@@ -23,7 +25,7 @@ fn told_fault(fault: LoadFault) -> Fault
     }
 }
 
-/// The report of these packages, in the order of their paths.
+/// The report of these packages, in the order of their paths. No thread is started.
 ///
 /// # Errors
 ///
@@ -39,20 +41,41 @@ pub fn report_of(alloc: Global, given: Vec<GivenPackage>) -> Result<Report, Faul
     }
 }
 
-/// The report of these packages, in the order of their paths, and the certificates of their bodies.
+/// The same report, for any number of workers. So many threads read the files.
 ///
 /// # Errors
 ///
 /// As `report_of`.
-pub fn certified_report_of(
-    alloc: Global,
+pub fn report_by<R: AllocGlobal + Threads + Sync>(
+    rt: &R,
     given: Vec<GivenPackage>,
+    workers: Workers,
+) -> Result<Report, Fault>
+    ensures report { IfOk result (IsReport given.items) }
+    ensures fault { IfErr result (IsReportFault given.items) }
+{
+    match judge::report_by(rt, rt.alloc(), given, workers) {
+        Ok(report) => Ok(report),
+        Err(fault) => Err(told_fault(fault)),
+    }
+}
+
+/// The report of these packages, in the order of their paths, and the certificates of their bodies: both are the same
+/// for any number of workers. So many threads read the files.
+///
+/// # Errors
+///
+/// As `report_of`.
+pub fn certified_report_by<R: AllocGlobal + Threads + Sync>(
+    rt: &R,
+    given: Vec<GivenPackage>,
+    workers: Workers,
 ) -> Result<CertifiedReport, Fault>
     ensures report { IfOk result
         (λ told. IsCertifiedReport given.items told.report (string_bytes told.certificates)) }
     ensures fault { IfErr result (IsReportFault given.items) }
 {
-    match judge::certified_report_of(alloc, given) {
+    match judge::certified_report_by(rt, rt.alloc(), given, workers) {
         Ok(told) => Ok(told),
         Err(fault) => Err(told_fault(fault)),
     }

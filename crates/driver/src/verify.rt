@@ -17,7 +17,7 @@ use crate::reports::verified_report_of;
 use crate::status::Status;
 use crate::writers::Refusals;
 use certificate_json::Certificates;
-use command_line::FileWords;
+use command_line::VerifyWords;
 use folders::Fault;
 use load::GivenPackage;
 use std::io::Write;
@@ -34,7 +34,7 @@ struct Input<'a> {
 /// Reads the file of certificates, and after it the folders of the packages.
 fn read_input<'a, R: Files + AllocGlobal>(
     rt: &R,
-    asked: &FileWords<'a>,
+    asked: &VerifyWords<'a>,
     folders: &mut FoldersAsked,
 ) -> Result<Input<'a>, Fault>
     ensures certificates { IfOk result (λ input. StandIn input.certificates) }
@@ -57,7 +57,7 @@ fn read_input<'a, R: Files + AllocGlobal>(
 /// file are noted after it.
 pub fn verify<'a, R: Files + AllocGlobal, W: Write, E: Write>(
     rt: &R,
-    asked: &FileWords<'a>,
+    asked: &VerifyWords<'a>,
     out: &mut W,
     err: &mut E,
     refusals: &mut Refusals,

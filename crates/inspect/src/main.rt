@@ -25,7 +25,7 @@ use std::process::ExitCode;
 /// Runs the program and ends with its status.
 fn main(rt: HostRuntime) -> ExitCode {
     let status = match words(&rt) {
-        Ok(words) => run(&rt, &words),
+        Ok(words) => run(&rt, &rt, &words),
         Err(fault) => refuse(&rt, &fault),
     };
     ExitCode::from(status)

@@ -8,6 +8,8 @@ use crate::row_folders::show_folders;
 use folders::{Fault, fail};
 use inspect_packages::{Shown, read_packages, text_of_packages};
 use std::io::Write;
+use std::rt::Files;
+use std::thread::Threads;
 
 /// The program's name, with which the lines of its faults begin.
 pub const PROGRAM: &str = "inspect";
@@ -83,9 +85,14 @@ enum AskedFor<'a> {
 }
 
 /// Runs the program with the words after its name: prints what they ask for, and faults on standard error, and returns
-/// its status.
-pub fn run(rt: &HostRuntime, words: &[String]) -> u8 {
-    match answer(rt, words) {
+/// its status. `system` is the runtime once more, with what it may do as bounds: that it may start threads only `main`
+/// knows of a `HostRuntime`.
+pub fn run<R: Files + AllocGlobal + Threads + Sync>(
+    rt: &HostRuntime,
+    system: &R,
+    words: &[String],
+) -> u8 {
+    match answer(rt, system, words) {
         Ok(status) => status,
         Err(fault) => refuse(rt, &fault),
     }
@@ -97,7 +104,11 @@ pub fn refuse(rt: &HostRuntime, fault: &Fault) -> u8 {
 }
 
 /// Does what the words ask for, and gives the status to end with.
-fn answer(rt: &HostRuntime, words: &[String]) -> Result<u8, Fault> {
+fn answer<R: Files + AllocGlobal + Threads + Sync>(
+    rt: &HostRuntime,
+    system: &R,
+    words: &[String],
+) -> Result<u8, Fault> {
     match read_words(words) {
         Some(AskedFor::Help) => shown(rt, HELP),
         Some(AskedFor::Tokens(path)) => {
@@ -111,7 +122,7 @@ fn answer(rt: &HostRuntime, words: &[String]) -> Result<u8, Fault> {
             shown(rt, &text_of_packages(rt.alloc(), of, packages)?)
         }
         Some(AskedFor::Rows(folders)) => {
-            let is_well = show_folders(rt, folders)?;
+            let is_well = show_folders(rt, system, folders)?;
             Ok(if is_well { FINE } else { OTHERWISE })
         }
         Some(AskedFor::Count(counted, paths)) => shown(rt, &count(rt, counted, paths)?),

@@ -12,6 +12,8 @@ use crate::transcripts::{show_counts, show_examples, show_runs};
 use folders::Fault;
 use inspect_packages::Shown;
 use std::alloc::Global;
+use std::rt::Files;
+use std::thread::Threads;
 
 /// How the entries of a folder are read.
 #[derive(Clone, Copy)]
@@ -83,7 +85,11 @@ fn last_element(folder: &str) -> &str {
 ///
 /// A folder has a name for which no rows are known, and then none is gone through; a folder or a file can't be read;
 /// what is told can't be written; or memory was refused.
-pub fn show_folders(rt: &HostRuntime, folders: &[String]) -> Result<bool, Fault> {
+pub fn show_folders<R: Files + AllocGlobal + Threads + Sync>(
+    rt: &HostRuntime,
+    system: &R,
+    folders: &[String],
+) -> Result<bool, Fault> {
     let mut kinds = Vec::new(rt.alloc());
     for folder in folders {
         match cases_of(last_element(folder)) {
@@ -93,17 +99,22 @@ pub fn show_folders(rt: &HostRuntime, folders: &[String]) -> Result<bool, Fault>
     }
     let mut is_well = true;
     for (folder, rows) in folders.iter().zip(kinds.iter()) {
-        is_well = show_folder(rt, folder, *rows)? && is_well;
+        is_well = show_folder(rt, system, folder, *rows)? && is_well;
     }
     Ok(is_well)
 }
 
 /// Goes through a folder, and gives whether all of it that is compared is as it is to be.
-fn show_folder(rt: &HostRuntime, folder: &str, rows: Cases) -> Result<bool, Fault> {
+fn show_folder<R: Files + AllocGlobal + Threads + Sync>(
+    rt: &HostRuntime,
+    system: &R,
+    folder: &str,
+    rows: Cases,
+) -> Result<bool, Fault> {
     match rows {
         Cases::Compared(compared) => return compare_all(rt, folder, compared),
-        Cases::Packages => show_runs(rt, folder)?,
-        Cases::Examples => show_examples(rt, folder)?,
+        Cases::Packages => show_runs(rt, system, folder)?,
+        Cases::Examples => show_examples(rt, system, folder)?,
         Cases::Counts => show_counts(rt, folder)?,
     }
     Ok(true)

@@ -6,27 +6,38 @@ use crate::output::print;
 use driver::run;
 use folders::Fault;
 use std::alloc::{AllocError, Global};
+use std::rt::Files;
+use std::thread::Threads;
 
-/// Runs `ctxvet check` for each folder in this one, on all packages that lie there.
+/// Runs `ctxvet check` for each folder in this one, on all packages that lie there. `system` is the runtime once more,
+/// as it is of the program's `run`.
 ///
 /// # Errors
 ///
 /// A folder can't be listed, a transcript can't be written, or memory was refused.
-pub fn show_runs(rt: &HostRuntime, folder: &str) -> Result<(), Fault> {
+pub fn show_runs<R: Files + AllocGlobal + Threads + Sync>(
+    rt: &HostRuntime,
+    system: &R,
+    folder: &str,
+) -> Result<(), Fault> {
     for name in &entries(rt, folder)? {
         let packages = format!(in rt.alloc(); "{folder}/{name}")?;
-        show_packages(rt, &packages)?;
+        show_packages(rt, system, &packages)?;
     }
     Ok(())
 }
 
 /// Runs `ctxvet check` on all packages in this folder, each by the name of its own folder.
-fn show_packages(rt: &HostRuntime, folder: &str) -> Result<(), Fault> {
+fn show_packages<R: Files + AllocGlobal + Threads + Sync>(
+    rt: &HostRuntime,
+    system: &R,
+    folder: &str,
+) -> Result<(), Fault> {
     let mut words = Vec::new(rt.alloc());
     for package in &entries(rt, folder)? {
         words.push(format!(in rt.alloc(); "{package}={folder}/{package}")?)?;
     }
-    show_check(rt, &words)
+    show_check(rt, system, &words)
 }
 
 /// Runs `ctxvet check` on each package in this folder by itself.
@@ -34,17 +45,25 @@ fn show_packages(rt: &HostRuntime, folder: &str) -> Result<(), Fault> {
 /// # Errors
 ///
 /// The folder can't be listed, a transcript can't be written, or memory was refused.
-pub fn show_examples(rt: &HostRuntime, folder: &str) -> Result<(), Fault> {
+pub fn show_examples<R: Files + AllocGlobal + Threads + Sync>(
+    rt: &HostRuntime,
+    system: &R,
+    folder: &str,
+) -> Result<(), Fault> {
     for name in &entries(rt, folder)? {
         let mut words = Vec::new(rt.alloc());
         words.push(format!(in rt.alloc(); "{name}={folder}/{name}")?)?;
-        show_check(rt, &words)?;
+        show_check(rt, system, &words)?;
     }
     Ok(())
 }
 
 /// Runs `ctxvet check` on the packages that these words name, and shows the command, what it printed, and its status.
-fn show_check(rt: &HostRuntime, packages: &[String]) -> Result<(), Fault> {
+fn show_check<R: Files + AllocGlobal + Threads + Sync>(
+    rt: &HostRuntime,
+    system: &R,
+    packages: &[String],
+) -> Result<(), Fault> {
     let mut words = Vec::new(rt.alloc());
     words.push("check")?;
     for package in packages {
@@ -54,7 +73,7 @@ fn show_check(rt: &HostRuntime, packages: &[String]) -> Result<(), Fault> {
     print(rt, command.as_bytes())?;
     let mut shown = Vec::new(rt.alloc());
     let mut complaints = Vec::new(rt.alloc());
-    let status = run(rt, words.as_slice(), &mut shown, &mut complaints);
+    let status = run(system, words.as_slice(), &mut shown, &mut complaints);
     print(rt, &shown)?;
     print(rt, &complaints)?;
     let ending = format!(in rt.alloc(); "status {status}\n")?;

@@ -7,9 +7,11 @@ ghost use Rattle.load.specs.GivenPackages.{IsLoadFault};
 use all_certificates::{Certified, certified_report};
 use all_packages::Report;
 use certificate_json::to_json;
-use load::{GivenPackage, LoadFault, load, release};
+use load::{GivenPackage, LoadFault, load_by, release};
 use std::alloc::{AllocError, Global};
+use std::thread::Threads;
 use whole_packages::LoadedPackage;
+use workers::Workers;
 
 /// The report of packages, and the text of their certificates.
 #[derive(Debug, Drop)]
@@ -42,22 +44,22 @@ fn told_loaded(alloc: Global, packages: Vec<LoadedPackage>) -> Result<CertifiedR
     told
 }
 
-/// The report of these packages, in the order of their paths, and the text of their certificates.
+/// The report of these packages, in the order of their paths, and the text of their certificates: both are the same for
+/// any number of workers. So many threads read the files.
 ///
 /// # Errors
 ///
 /// As `report_of`.
-pub fn certified_report_of(
+pub fn certified_report_by<R: Threads + Sync>(
+    rt: &R,
     alloc: Global,
     given: Vec<GivenPackage>,
+    workers: Workers,
 ) -> Result<CertifiedReport, LoadFault>
     ensures report { IfOk result
         (λ told. IsCertifiedReport given.items told.report (string_bytes told.certificates)) }
     ensures fault { IfErr result (IsLoadFault given.items) }
 {
-    let packages = load(alloc, given)?;
-    match told_loaded(alloc, packages) {
-        Ok(told) => Ok(told),
-        Err(_) => Err(LoadFault::OutOfMemory),
-    }
+    let packages = load_by(rt, alloc, given, workers)?;
+    Ok(told_loaded(alloc, packages)?)
 }

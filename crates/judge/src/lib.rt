@@ -8,7 +8,7 @@ mod reports;
 mod verified;
 
 pub use all_packages::Report;
-pub use certified::{CertifiedReport, certified_report_of};
+pub use certified::{CertifiedReport, certified_report_by};
 pub use laws::given_packages_have_one_report;
-pub use reports::report_of;
+pub use reports::{report_by, report_of};
 pub use verified::{VerifyFault, verified_report_of};

@@ -6,9 +6,11 @@ ghost use Rattle.judge.specs.Reports.{IsReport};
 ghost use Rattle.load.specs.GivenPackages.{IsLoadFault};
 
 use all_packages::{Report, whole_report};
-use load::{GivenPackage, LoadFault, load, release};
+use load::{GivenPackage, LoadFault, load, load_by, release};
 use std::alloc::{AllocError, Global};
+use std::thread::Threads;
 use whole_packages::LoadedPackage;
+use workers::Workers;
 
 /// The report of packages of different paths, which are let go.
 fn report_loaded(alloc: Global, packages: Vec<LoadedPackage>) -> Result<Report, AllocError>
@@ -19,7 +21,7 @@ fn report_loaded(alloc: Global, packages: Vec<LoadedPackage>) -> Result<Report, 
     told
 }
 
-/// The report of these packages, in the order of their paths.
+/// The report of these packages, in the order of their paths. No thread is started.
 ///
 /// # Errors
 ///
@@ -30,8 +32,23 @@ pub fn report_of(alloc: Global, given: Vec<GivenPackage>) -> Result<Report, Load
     ensures fault { IfErr result (IsLoadFault given.items) }
 {
     let packages = load(alloc, given)?;
-    match report_loaded(alloc, packages) {
-        Ok(report) => Ok(report),
-        Err(_) => Err(LoadFault::OutOfMemory),
-    }
+    Ok(report_loaded(alloc, packages)?)
+}
+
+/// The same report, for any number of workers. So many threads read the files.
+///
+/// # Errors
+///
+/// As `report_of`.
+pub fn report_by<R: Threads + Sync>(
+    rt: &R,
+    alloc: Global,
+    given: Vec<GivenPackage>,
+    workers: Workers,
+) -> Result<Report, LoadFault>
+    ensures report { IfOk result (IsReport given.items) }
+    ensures fault { IfErr result (IsLoadFault given.items) }
+{
+    let packages = load_by(rt, alloc, given, workers)?;
+    Ok(report_loaded(alloc, packages)?)
 }

@@ -10,8 +10,9 @@ use Rattle.whole_packages.specs.declared.loaded_package.Reading.{Reading as Kept
 use Rattle.whole_packages.specs.LoadedViews.{readings_of}
 use Rattle.whole_packages.specs.declared.loaded_package.Reading.TheVariants.{Tree, NoTokens, NoTree}
 use Rattle.whole_packages.specs.declared.loaded_package.LoadedPackage.{LoadedPackage as KeptPackage}
-use Rattle.load.specs.FilesByName.{AreByName}
-use Rattle.load.specs.Readings.{IsReadingOf, AreReadingsOf, IsKeptWith, IsLoaded, Joins}
+use Rattle.load.specs.declared.packages.GivenPackage.{GivenPackage}
+use Rattle.load.specs.GivenPackages.{IsReadAs}
+use Rattle.load.specs.Readings.{reading_of, trees_of, AreReadingsOf, IsKeptWith, IsParsed, IsReadingOf, Parsed}
 
 abbrev trees_in : ℕ → List Reading → List SourceFile
 trees_in n files = map (λ (t : NumberedTree). t.tree) (trees_from n files)
@@ -76,21 +77,23 @@ trees_after n (has_text_fault at why ∷ fs) last trees are = trees_after (n + 1
 trees_after n (has_tree_fault at why ∷ fs) last trees are = trees_after (n + 1) fs last trees are
 
 pub one_loaded : (all left before : List Source) (source : Source) → before ≡ source ∷ left
-    → (reading : KeptReading) (readings next_readings : List KeptReading) (trees next_trees : List File)
-    → Joins source.bytes.items reading trees next_trees
-    → next_readings ≡ readings ++ reading ∷ []
+    → (parsed : Parsed) (readings next_readings : List KeptReading) (trees next_trees : List File)
+    → IsParsed source parsed
+    → next_readings ≡ readings ++ reading_of parsed ∷ []
+    → next_trees ≡ trees ++ trees_of parsed
     → LoadsSo all before readings trees
     → LoadsSo all left next_readings next_trees
-one_loaded all left before source is reading readings next_readings trees next_trees joins are_readings so =
-    let added = joins.added in
-    let one = is_one source.bytes.items reading added joins.is_kept in
+one_loaded all left before source is parsed readings next_readings trees next_trees is_parsed are_readings joined so =
+    let reading = reading_of parsed in
+    let added = trees_of parsed in
+    let one = is_one source.bytes.items reading added is_parsed in
     record {
       files = so.files ++ one.meant ∷ [];
       goes_on = λ more are.
           subst (AreReadingsOf all) (sym (append_assoc so.files (one.meant ∷ []) more))
           (so.goes_on (one.meant ∷ more) (subst (λ ss. AreReadingsOf ss (one.meant ∷ more)) (sym is) (one.is, are)));
       completes = λ more rest.
-          (λ i. readings_of (are_readings i ++ more) (map file_syntax (joins.joined i) ++ rest))
+          (λ i. readings_of (are_readings i ++ more) (map file_syntax (joined i) ++ rest))
           ∙ ((λ i. readings_of (append_assoc readings (reading ∷ []) more i)
           ((ap (λ ts. ts ++ rest) (map-append file_syntax trees added)
           ∙ append_assoc (map file_syntax trees) (map file_syntax added) rest) i))
@@ -100,7 +103,7 @@ one_loaded all left before source is reading readings next_readings trees next_t
       are_trees = λ n.
           trees_after n so.files one.meant (map file_syntax added) one.are_trees
           ∙ (ap (λ ts. ts ++ map file_syntax added) (so.are_trees n)
-          ∙ (sym (map-append file_syntax trees added) ∙ ap (map file_syntax) (sym joins.joined)));
+          ∙ (sym (map-append file_syntax trees added) ∙ ap (map file_syntax) (sym joined)));
       are_as_many =
           let so_far = so.are_as_many in
           let files = length-append so.files (one.meant ∷ []) in
@@ -124,26 +127,24 @@ are_files all left readings trees so =
     ∙ (sym (so.completes [] [])
     ∙ λ i. readings_of (append-nil readings i) (append-nil (map file_syntax trees) i))
 
--- so that is the package of that path
-pub is_loaded : (path : List ℕ) (given sources : List Source) (left : List Source) (kept : KeptPackage)
-    → AreByName given kept.sources.items
-    → sources ≡ kept.sources.items
-    → string_bytes kept.path ≡ path
+-- so that is kept of the package
+pub is_read : (given : GivenPackage) (kept : KeptPackage) (sources left : List Source)
+    → sources ≡ given.sources.items
+    → kept.sources.items ≡ given.sources.items
+    → kept.path ≡ given.path
     → left ≡ []
     → LoadsSo sources left kept.readings.items kept.trees.items
-    → IsLoaded path given kept
-is_loaded path given sources left kept by_name lent is_path none so = record {
-  meant = record { path = path; files = so.files };
-  loaded = record {
-    tells = record {
-      is_path = sym is_path;
-      are_files = are_files sources left kept.readings.items kept.trees.items so;
-      are_trees = so.are_trees 0;
-      are_readings = so.are_as_many;
-    };
-    is_path = refl;
-    by_name = by_name;
-    are_files =
-        subst (λ ss. AreReadingsOf ss so.files) lent (all_files sources left kept.readings.items kept.trees.items none so);
+    → IsReadAs given kept
+is_read given kept sources left lent same is_path none so = record {
+  meant = record { path = string_bytes given.path; files = so.files };
+  tells = record {
+    is_path = ap string_bytes (sym is_path);
+    are_files = are_files sources left kept.readings.items kept.trees.items so;
+    are_trees = so.are_trees 0;
+    are_readings = so.are_as_many;
   };
+  is_path = refl;
+  same_files = same;
+  are_files =
+      subst (λ ss. AreReadingsOf ss so.files) lent (all_files sources left kept.readings.items kept.trees.items none so);
 }

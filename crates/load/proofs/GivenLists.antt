@@ -1,15 +1,17 @@
 -- Packages that are given, one after another, and those that are read of them.
-use Rattle.std.proofs.Common.{◌≡◌, ◌≢◌, ℕ, zero, suc, Bool, true, false, cond, ◌||◌, if◌then◌else◌, List, [], ◌∷◌, ◌++◌, map, Option, Some, None, is_some, string_bytes, string_cmp, string_eq, IsPermutation, IsSorted, true≢false, refl, sym, ap, ◌∙◌}
+use Rattle.std.proofs.Common.{◌≡◌, ℕ, zero, suc, Bool, true, false, cond, ◌||◌, if◌then◌else◌, List, [], ◌∷◌, ◌++◌, map, Option, Some, None, is_some, string_bytes, string_eq, true≢false, refl, sym, ap, ◌∙◌, subst}
 use Rattle.std.proofs.lemmas.List.{append-nil, append_assoc, map-append}
 use Rattle.std.proofs.lemmas.Slice.Eq.{bytes_eq-Decides}
 use Rattle.std.specs.Prelude.{slice_get}
-use Rattle.std.specs.List.{list_any, AllByRecursion, IsDistinct}
+use Rattle.std.specs.List.{list_any, AllByRecursion, AllZip, IsDistinct}
 use Rattle.std.specs.Map.{keys_of, lookup}
 use Rattle.meaning_reports.specs.Loaded.{LoadedPackage}
 use Rattle.whole_packages.specs.declared.loaded_package.LoadedPackage.{LoadedPackage as KeptPackage}
 use Rattle.whole_packages.specs.LoadedViews.{HaveDistinctPaths}
 use Rattle.load.specs.declared.packages.GivenPackage.{GivenPackage}
-use Rattle.load.specs.GivenPackages.{Text, PathAndFiles, entry_of, path_of, first_repeated, AreLoaded, AreRead, IsLoadOf}
+use Rattle.load.specs.FilesByName.{AreByName}
+use Rattle.load.specs.Readings.{AreReadingsOf, IsLoadedAs}
+use Rattle.load.specs.GivenPackages.{Text, PathAndFiles, entry_of, path_of, first_repeated, AreInOrder, AreLoaded, IsByName, IsLoadOf, IsReadAs}
 
 -- Paths that come again
 
@@ -82,6 +84,38 @@ gives_all given left entries none so = (
 
 -- What is read
 
+-- this is kept of the package of that path with these files
+pub record IsRead (entry : PathAndFiles) (kept : KeptPackage) : Type 0 where
+  pub meant : LoadedPackage
+  pub loaded : IsLoadedAs (string_bytes entry.0) entry.1.items meant kept
+
+abbrev pub AreRead : List PathAndFiles → List KeptPackage → Type 0
+AreRead = AllZip IsRead
+
+is_read : (entry : PathAndFiles) (given : GivenPackage) (kept : KeptPackage) → IsByName entry given → IsReadAs given kept
+    → IsRead entry kept
+is_read entry given kept ordered read = record {
+  meant = read.meant;
+  loaded = record {
+    tells = read.tells;
+    is_path = read.is_path ∙ ap string_bytes ordered.is_path;
+    by_name = subst (AreByName entry.1.items) (sym read.same_files) ordered.by_name;
+    are_files = subst (λ ss. AreReadingsOf ss read.meant.files) (sym read.same_files) read.are_files;
+  };
+}
+
+-- packages in the order of their files' names, and what is read of them
+are_read : (entries : List PathAndFiles) (given : List GivenPackage) (kept : List KeptPackage)
+    → AllZip IsByName entries given
+    → AllZip IsReadAs given kept
+    → AreRead entries kept
+are_read [] [] [] ordered read = tt
+are_read [] [] (k ∷ ks) ordered read = absurd read
+are_read [] (g ∷ gs) ks ordered read = absurd ordered
+are_read (e ∷ es) [] ks ordered read = absurd ordered
+are_read (e ∷ es) (g ∷ gs) [] ordered read = absurd read
+are_read (e ∷ es) (g ∷ gs) (k ∷ ks) ordered read = (is_read e g k ordered.0 read.0, are_read es gs ks ordered.1 read.1)
+
 pub meant_of : (es : List PathAndFiles) (ks : List KeptPackage) → AreRead es ks → List LoadedPackage
 meant_of [] [] h = []
 meant_of [] (k ∷ ks) h = []
@@ -151,17 +185,17 @@ pub no_value : {X : Type 0} (b : Bool) (o : Option X) → b ≡ is_some o → b 
 no_value b None is none = refl
 no_value b (Some x) is none = absurd (true≢false (sym is ∙ none))
 
--- what was read of sorted packages is the load
-pub is_load : (entries in_order : List PathAndFiles) (ks : List KeptPackage) → IsPermutation entries in_order
-    → IsSorted string_cmp (keys_of in_order)
-    → IsDistinct string_eq (keys_of in_order)
-    → AreRead in_order ks
+-- what was read of packages in order is the load
+pub is_load : (entries : List PathAndFiles) (given : List GivenPackage) (ks : List KeptPackage) → AreInOrder entries given
+    → AllZip IsReadAs given ks
     → IsLoadOf entries ks
-is_load entries in_order ks same sorted differ read = record {
-  in_order = in_order;
-  same = same;
-  sorted = sorted;
-  meant = meant_of in_order ks read;
-  are_loaded = are_loaded in_order ks read;
-  distinct = distinct in_order ks read differ;
-}
+is_load entries given ks ordered kept =
+    let read = are_read ordered.in_order given ks ordered.by_name kept in
+    record {
+      in_order = ordered.in_order;
+      same = ordered.same;
+      sorted = ordered.sorted;
+      meant = meant_of ordered.in_order ks read;
+      are_loaded = are_loaded ordered.in_order ks read;
+      distinct = distinct ordered.in_order ks read ordered.distinct;
+    }

@@ -1,13 +1,12 @@
 -- A text without a tree, or without tokens.
-use Rattle.std.proofs.Common.{◌≡◌, ◌≢◌, ℕ, ◌≤◌, List, [], length, sym, ◌∙◌, subst}
-use Rattle.std.proofs.lemmas.List.{append-nil}
+use Rattle.std.proofs.Common.{◌≡◌, ◌≢◌, ℕ, ◌≤◌, List, [], length, Result, Ok, Err, IfOk, IsErrAnd, sym, ◌∙◌, subst}
+use Rattle.std.specs.declared.alloc.AllocError.{AllocError}
 use Rattle.lexer.specs.declared.fault.LexFault.{LexFault}
 use Rattle.lexer.specs.declared.fault.LexFault.TheVariants as lex_fault
 use Rattle.lexer.specs.declared.token.Token.{Token}
 use Rattle.lexer.specs.Faults.{IsFault}
 use Rattle.lexer.specs.Tokens.{IsTokens}
 use Rattle.tree.specs.Syntax.{SourceFile}
-use Rattle.tree.specs.declared.file.File.{File}
 use Rattle.meaning.specs.TreeOfText.{IsTreeOf}
 use Rattle.parser.specs.declared.fault.ParseFault.{ParseFault}
 use Rattle.parser.specs.declared.fault.ParseFault.TheVariants as parse_fault
@@ -20,25 +19,20 @@ use Rattle.report.specs.declared.codes.TreeFault.{TreeFault}
 use Rattle.report.specs.declared.codes.TreeFault.TheVariants.{UnexpectedToken, TooDeep, Recover}
 use Rattle.whole_packages.specs.declared.loaded_package.Reading.{Reading as KeptReading}
 use Rattle.whole_packages.specs.declared.loaded_package.Reading.TheVariants as kept
-use Rattle.load.specs.Readings.{fault_of_form, lex_fault_at, IsKeptWith, IsUnparsed, Joins, TellsLexFault, TellsParseFault}
-
--- no tree joins the others
-none_joins : (text : List ℕ) (reading : KeptReading) (trees : List File) → IsKeptWith text reading []
-    → Joins text reading trees trees
-none_joins text reading trees is = record { added = []; joined = sym (append-nil trees); is_kept = is }
+use Rattle.load.specs.Readings.{fault_of_form, lex_fault_at, reading_of, trees_of, IsKeptWith, IsUnparsed, Parsed, TellsLexFault, TellsParseFault}
 
 -- a text has no tree for a reason that is told as another one than the use of `recover`
-told : (text : List ℕ) (tokens : List Token) (at : ℕ) (why : TreeFault) (reading : KeptReading) (trees : List File)
+told : (text : List ℕ) (tokens : List Token) (at : ℕ) (why : TreeFault) (reading : KeptReading)
     → IsTokens text tokens
     → ((tree : SourceFile) → IsTreeOf text tree → ⊥)
     → at ≤ length text
     → reading ≡ kept.NoTree at why
     → why ≢ Recover
-    → Joins text reading trees trees
-told text tokens at why reading trees cut none within is other =
+    → IsKeptWith text reading []
+told text tokens at why reading cut none within is other =
     let unparsed : IsUnparsed text at why =
     record { tokens = tokens; cut = cut; no_tree = none; within = within; of_tree = other } in
-    none_joins text reading trees (subst (λ r. IsKeptWith text r []) (sym is) unparsed)
+    subst (λ r. IsKeptWith text r []) (sym is) unparsed
 
 of_form : (left : LeftOut) → fault_of_form left ≢ Recover
 of_form form.TypeParameters e = cc
@@ -46,19 +40,19 @@ of_form form.Goto e = cc
 of_form form.Fallthrough e = cc
 of_form form.DotImport e = cc
 
-pub unparsed : (text : List ℕ) (tokens : List Token) (fault : ParseFault) (reading : KeptReading) (trees : List File)
+pub unparsed : (text : List ℕ) (tokens : List Token) (fault : ParseFault) (reading : KeptReading)
     → IsTokens text tokens
     → (fault ≢ parse_fault.OutOfMemory → (tree : SourceFile) → IsTreeOf text tree → ⊥)
     → offset_of fault ≤ length text
     → TellsParseFault fault reading
-    → Joins text reading trees trees
-unparsed text tokens (parse_fault.Unexpected at) reading trees cut none within is =
-    told text tokens at UnexpectedToken reading trees cut (none (λ e. cc)) within is (λ e. cc)
-unparsed text tokens (parse_fault.LeftOut left at) reading trees cut none within is =
-    told text tokens at (fault_of_form left) reading trees cut (none (λ e. cc)) within is (of_form left)
-unparsed text tokens (parse_fault.TooDeep at) reading trees cut none within is =
-    told text tokens at TooDeep reading trees cut (none (λ e. cc)) within is (λ e. cc)
-unparsed text tokens parse_fault.OutOfMemory reading trees cut none within is = elim is [ ]
+    → IsKeptWith text reading []
+unparsed text tokens (parse_fault.Unexpected at) reading cut none within is =
+    told text tokens at UnexpectedToken reading cut (none (λ e. cc)) within is (λ e. cc)
+unparsed text tokens (parse_fault.LeftOut left at) reading cut none within is =
+    told text tokens at (fault_of_form left) reading cut (none (λ e. cc)) within is (of_form left)
+unparsed text tokens (parse_fault.TooDeep at) reading cut none within is =
+    told text tokens at TooDeep reading cut (none (λ e. cc)) within is (λ e. cc)
+unparsed text tokens parse_fault.OutOfMemory reading cut none within is = elim is [ ]
 
 has_memory : (at : ℕ) (why : TextFault) → lex_fault_at at why ≢ lex_fault.OutOfMemory
 has_memory at NotUtf8 e = cc
@@ -69,12 +63,20 @@ has_memory at UnclosedRune e = cc
 has_memory at UnknownCharacter e = cc
 has_memory at TooLong e = cc
 
-pub unreadable : (text : List ℕ) (fault : LexFault) (reading : KeptReading) (trees : List File)
+pub unreadable : (text : List ℕ) (fault : LexFault) (reading : KeptReading)
     → (fault ≢ lex_fault.OutOfMemory → IsFault text fault)
     → TellsLexFault fault reading
-    → Joins text reading trees trees
-unreadable text fault kept.Tree trees is told = absurd told
-unreadable text fault (kept.NoTokens at why) trees is told =
-    none_joins text (kept.NoTokens at why) trees
+    → IsKeptWith text reading []
+unreadable text fault kept.Tree is told = absurd told
+unreadable text fault (kept.NoTokens at why) is told =
     (fault, is (λ e. has_memory at why (sym told.fault_there ∙ e)), told)
-unreadable text fault (kept.NoTree at why) trees is told = absurd told
+unreadable text fault (kept.NoTree at why) is told = absurd told
+
+-- what became of a text without a tree is what became of its file
+pub treeless : (text : List ℕ) (read : Result KeptReading AllocError) (made : Result Parsed AllocError)
+    → IfOk read (λ reading. IsKeptWith text reading [])
+    → IfOk made (λ parsed. IsErrAnd parsed (λ reading. read ≡ Ok reading))
+    → IfOk made (λ parsed. IsKeptWith text (reading_of parsed) (trees_of parsed))
+treeless text read (Err e) is so = tt
+treeless text read (Ok (Ok tree)) is so = absurd so
+treeless text read (Ok (Err reading)) is so = subst (λ r. IfOk r (λ one. IsKeptWith text one [])) so is

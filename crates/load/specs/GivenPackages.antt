@@ -1,13 +1,15 @@
 -- Packages as they are given, and what is loaded of them: each with its files as they are read, in the order of their
 -- names, and the packages in the order of their paths, no two of one path.
 use Rattle.std.specs.Prelude.{◌≡◌, Bool, false, true, ◌||◌, List, [], ◌∷◌, ◌++◌, ⊤, map, length, nat_lt, if◌then◌else◌, Option, Some, None, String, Vec, string_bytes, string_cmp, string_eq, IsPermutation, IsSorted}
-use Rattle.std.specs.List.{list_any, AllZip}
+use Rattle.std.specs.List.{list_any, AllZip, IsDistinct}
+use Rattle.std.specs.Map.{keys_of}
 use Rattle.std.specs.declared.alloc.Global.{Global}
 use Rattle.lexer.specs.declared.source.Source.{Source}
 use Rattle.meaning_reports.specs.Loaded.{LoadedPackage}
 use Rattle.whole_packages.specs.declared.loaded_package.LoadedPackage.{LoadedPackage as KeptPackage}
-use Rattle.whole_packages.specs.LoadedViews.{HaveDistinctPaths}
-use Rattle.load.specs.Readings.{IsLoaded, IsLoadedAs}
+use Rattle.whole_packages.specs.LoadedViews.{HaveDistinctPaths, TellsPackage}
+use Rattle.load.specs.FilesByName.{AreByName}
+use Rattle.load.specs.Readings.{AreReadingsOf, IsLoadedAs}
 use Rattle.load.specs.declared.packages.GivenPackage.{GivenPackage}
 use Rattle.load.specs.declared.packages.LoadFault.{LoadFault}
 use Rattle.load.specs.declared.packages.LoadFault.TheVariants.{TooMany, TwoPackages, OutOfMemory}
@@ -74,9 +76,23 @@ IsRepeated given TooMany = ⊥
 IsRepeated given (TwoPackages path) = first_repeated [] (map path_of given) ≡ Some path
 IsRepeated given OutOfMemory = ⊤
 
--- this is kept of the package
-abbrev pub IsRead : PathAndFiles → KeptPackage → Type 0
-IsRead e kept = IsLoaded (string_bytes e.0) e.1.items kept
+-- the package has that path, and these files in the order of their names
+pub record IsByName (entry : PathAndFiles) (given : GivenPackage) : Type 0 where
+  pub is_path : given.path ≡ entry.0
+  pub by_name : AreByName entry.1.items given.sources.items
 
-abbrev pub AreRead : List PathAndFiles → List KeptPackage → Type 0
-AreRead = AllZip IsRead
+-- the packages of these paths and files, in the order of their paths, and their files in that of their names
+pub record AreInOrder (entries : List PathAndFiles) (given : List GivenPackage) : Type 0 where
+  pub in_order : List PathAndFiles
+  pub same : IsPermutation entries in_order
+  pub sorted : IsSorted string_cmp (keys_of in_order)
+  pub distinct : IsDistinct string_eq (keys_of in_order)
+  pub by_name : AllZip IsByName in_order given
+
+-- this is kept of the package, whose files stay in their order
+pub record IsReadAs (given : GivenPackage) (kept : KeptPackage) : Type 0 where
+  pub meant : LoadedPackage
+  pub tells : TellsPackage meant kept
+  pub is_path : meant.path ≡ string_bytes given.path
+  pub same_files : kept.sources.items ≡ given.sources.items
+  pub are_files : AreReadingsOf given.sources.items meant.files

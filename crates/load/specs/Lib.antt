@@ -3,3 +3,5 @@
 pub mod FilesByName
 pub mod Readings
 pub mod GivenPackages
+-- What serves the proofs
+pub mod Ahead

@@ -1,6 +1,6 @@
 -- What the bytes of a file are: a text with a tree, one with tokens and no tree, or one without tokens; and a package
 -- as its files are read, in the order of their names.
-use Rattle.std.specs.Prelude.{ℕ, ◌≡◌, ◌≢◌, ◌≤◌, List, [], ◌∷◌, ◌++◌, length}
+use Rattle.std.specs.Prelude.{ℕ, ◌≡◌, ◌≢◌, ◌≤◌, List, [], ◌∷◌, Result, Ok, Err, length}
 use Rattle.lexer.specs.declared.fault.LexFault.{LexFault}
 use Rattle.lexer.specs.declared.fault.LexFault.TheVariants as lex_fault
 use Rattle.lexer.specs.declared.source.Source.{Source}
@@ -73,11 +73,6 @@ pub record IsLoadedAs (path : List ℕ) (sources : List Source) (p : LoadedPacka
   pub by_name : AreByName sources kept.sources.items
   pub are_files : AreReadingsOf kept.sources.items p.files
 
--- that is kept of the package of that path with these files
-pub record IsLoaded (path : List ℕ) (sources : List Source) (kept : KeptPackage) : Type 0 where
-  pub meant : LoadedPackage
-  pub loaded : IsLoadedAs path sources meant kept
-
 -- What serves the proofs
 
 -- this became of the text, and these are its trees: one, or none
@@ -90,11 +85,24 @@ IsKeptWith text (kept.NoTokens at why) (tree ∷ trees) = ⊥
 IsKeptWith text (kept.NoTree at why) [] = IsUnparsed text at why
 IsKeptWith text (kept.NoTree at why) (tree ∷ trees) = ⊥
 
--- this became of the text, and its tree joined the others, if it has one
-pub record Joins (text : List ℕ) (reading : KeptReading) (old new : List File) : Type 0 where
-  pub added : List File
-  pub joined : new ≡ old ++ added
-  pub is_kept : IsKeptWith text reading added
+-- what became of a file: its tree, or what it has instead
+abbrev pub Parsed : Type 0
+Parsed = Result File KeptReading
+
+abbrev pub reading_of : Parsed → KeptReading
+reading_of (Ok tree) = kept.Tree
+reading_of (Err reading) = reading
+
+abbrev pub trees_of : Parsed → List File
+trees_of (Ok tree) = tree ∷ []
+trees_of (Err reading) = []
+
+abbrev pub IsParsed : Source → Parsed → Type 0
+IsParsed source parsed = IsKeptWith source.bytes.items (reading_of parsed) (trees_of parsed)
+
+-- this is the tree of the file
+abbrev pub HasTree : Source → File → Type 0
+HasTree source tree = IsTreeOf source.bytes.items (file_syntax tree)
 
 abbrev pub fault_of_form : LeftOut → TreeFault
 fault_of_form form.TypeParameters = TypeParameters

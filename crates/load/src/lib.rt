@@ -2,8 +2,9 @@
 //! of given packages in `specs/GivenPackages.antt`.
 #![tactic(auto)]
 
+mod ahead;
 mod package;
 mod packages;
 mod source;
 
-pub use packages::{GivenPackage, LoadFault, load, release};
+pub use packages::{GivenPackage, LoadFault, load, load_by, release};

@@ -1,16 +1,21 @@
 //! A package, by its files.
 
-ghost use Rattle.std.specs.Prelude.{IfOk, string_bytes};
+ghost use Rattle.std.specs.Prelude.{◌++◌, List, IfOk, OnOk};
+ghost use Rattle.std.specs.Vec.Iter.{into_iter_items};
+ghost use Rattle.lexer.specs.declared.source.Source.{Source};
+ghost use Rattle.load.specs.Ahead.{AreReadAhead};
 ghost use Rattle.load.specs.FilesByName.{AreByName};
-ghost use Rattle.load.specs.Readings.{IsLoaded};
+ghost use Rattle.load.specs.GivenPackages.{IsReadAs};
 
-use crate::source::read_source;
+use crate::ahead::{Ahead, next_parsed};
+use crate::packages::GivenPackage;
+use crate::source::keep;
 use lexer::Source;
 use std::alloc::{AllocError, Global};
 use whole_packages::LoadedPackage;
 
 /// The files in the order of their names, byte by byte. Those of one name keep their order.
-fn by_name(sources: Vec<Source>) -> Result<Vec<Source>, AllocError>
+pub fn by_name(sources: Vec<Source>) -> Result<Vec<Source>, AllocError>
     ensures { IfOk result (λ ordered. AreByName sources.items ordered.items) }
 {
     let mut ordered = sources;
@@ -18,23 +23,30 @@ fn by_name(sources: Vec<Source>) -> Result<Vec<Source>, AllocError>
     Ok(ordered)
 }
 
-/// The package of that path with these files, which are read and kept in the order of their names.
+/// The package with its files as they are read. Those that were read ahead are the next ones there.
 ///
 /// # Errors
 ///
 /// Memory was refused.
 pub fn load_package(
     alloc: Global,
-    path: String,
-    given: Vec<Source>,
+    given: GivenPackage,
+    ahead: &mut Ahead,
 ) -> Result<LoadedPackage, AllocError>
-    ensures { IfOk result (IsLoaded (string_bytes path) given.items) }
+    ensures read { (after : List Source) → AreReadAhead (given.sources.items ++ after) (into_iter_items ahead.old)
+        → IfOk result (IsReadAs given) }
+    ensures ahead { (after : List Source) → AreReadAhead (given.sources.items ++ after) (into_iter_items ahead.old)
+        → OnOk result (AreReadAhead after (into_iter_items ahead.new)) }
 {
-    let sources = by_name(given)?;
+    let GivenPackage { path, sources } = given;
     let mut readings = Vec::new(alloc);
     let mut trees = Vec::new(alloc);
     for source in &sources {
-        readings.push(read_source(alloc, source, &mut trees)?)?;
+        keep(
+            next_parsed(alloc, source, ahead)?,
+            &mut readings,
+            &mut trees,
+        )?;
     }
     Ok(LoadedPackage {
         path,

@@ -1,14 +1,19 @@
 //! All packages of a run.
 
 ghost use Rattle.std.specs.Prelude.{◌≡◌, [], IfOk, IfErr, None, map};
-ghost use Rattle.std.specs.List.{list_any};
-ghost use Rattle.load.specs.GivenPackages.{entry_of, first_repeated, has_many_files, has_too_many, path_of, AreRead, IsLoad, IsLoadFault, IsLoadOf, IsRepeated};
+ghost use Rattle.std.specs.List.{list_any, AllZip};
+ghost use Rattle.std.specs.Vec.Iter.{into_iter_items};
+ghost use Rattle.load.specs.Ahead.{files_of, AreReadAhead};
+ghost use Rattle.load.specs.GivenPackages.{entry_of, first_repeated, has_many_files, has_too_many, path_of, AreInOrder, IsByName, IsLoad, IsLoadFault, IsReadAs, IsRepeated};
 
-use crate::package::load_package;
+use crate::ahead::{Ahead, nothing_ahead, read_ahead};
+use crate::package::{by_name, load_package};
 use indexmap::IndexMap;
 use lexer::Source;
 use std::alloc::{AllocError, Global};
+use std::thread::Threads;
 use whole_packages::LoadedPackage;
+use workers::Workers;
 
 /// The most packages of one run.
 pub const MOST_PACKAGES: usize = 10_000;
@@ -32,6 +37,16 @@ pub enum LoadFault {
     TwoPackages(String),
     /// Memory was refused.
     OutOfMemory,
+}
+
+impl From<AllocError> for LoadFault {
+    ghost use Rattle.load.specs.declared.packages.LoadFault.TheVariants.{OutOfMemory};
+
+    ghost from_gives = { λ _ fault. fault ≡ OutOfMemory };
+
+    fn from(_error: AllocError) -> LoadFault {
+        LoadFault::OutOfMemory
+    }
 }
 
 fn has_many_files(given: &GivenPackage) -> bool
@@ -79,36 +94,65 @@ fn by_path(
     Ok(packages)
 }
 
-/// Lets packages go. In the crates above they are only borrowed and handed on, so that how a tree is let go need not be
-/// proved there.
-pub fn release(packages: Vec<LoadedPackage>) {
-    drop(packages);
+/// Each of these packages, with its files in the order of their names.
+fn order_files(
+    alloc: Global,
+    packages: IndexMap<String, Vec<Source>>,
+) -> Result<Vec<GivenPackage>, AllocError>
+    ensures { IfOk result (λ ordered. AllZip IsByName packages.entries ordered.items) }
+{
+    let mut ordered = Vec::new(alloc);
+    for (path, sources) in packages {
+        let sources = by_name(sources)?;
+        ordered.push(GivenPackage { path, sources })?;
+    }
+    Ok(ordered)
 }
 
-/// Each of these packages, as its files are read.
+/// The packages in the order of their paths, and their files in that of their names.
+fn in_order(
+    alloc: Global,
+    packages: IndexMap<String, Vec<Source>>,
+) -> Result<Vec<GivenPackage>, AllocError>
+    ensures { IfOk result (λ ordered. AreInOrder packages.entries ordered.items) }
+{
+    let mut by_path = packages;
+    by_path.sort_keys()?;
+    order_files(alloc, by_path)
+}
+
+/// The same, unless there are too many or two of one path.
+fn ordered(alloc: Global, given: Vec<GivenPackage>) -> Result<Vec<GivenPackage>, LoadFault>
+    ensures ordered { IfOk result (λ ordered. AreInOrder (map entry_of given.items) ordered.items) }
+    ensures fault { IfErr result (IsLoadFault given.items) }
+{
+    if has_too_many(&given) {
+        return Err(LoadFault::TooMany);
+    }
+    match by_path(alloc, given) {
+        Ok(packages) => match in_order(alloc, packages) {
+            Ok(ordered) => Ok(ordered),
+            Err(_) => Err(LoadFault::OutOfMemory),
+        },
+        Err(fault) => Err(fault),
+    }
+}
+
+/// Each of these packages, as its files are read. What is not there of those that were read ahead is read here.
 fn load_all(
     alloc: Global,
-    packages: IndexMap<String, Vec<Source>>,
+    packages: Vec<GivenPackage>,
+    ahead: Ahead,
 ) -> Result<Vec<LoadedPackage>, AllocError>
-    ensures { IfOk result (λ loaded. AreRead packages.entries loaded.items) }
+    requires { AreReadAhead (files_of packages.items) (into_iter_items ahead) }
+    ensures { IfOk result (λ loaded. AllZip IsReadAs packages.items loaded.items) }
 {
+    let mut ahead = ahead;
     let mut loaded = Vec::new(alloc);
-    for (path, sources) in packages {
-        loaded.push(load_package(alloc, path, sources)?)?;
+    for one in packages {
+        loaded.push(load_package(alloc, one, &mut ahead)?)?;
     }
     Ok(loaded)
-}
-
-/// The packages in the order of their paths, as their files are read.
-fn load_in_order(
-    alloc: Global,
-    packages: IndexMap<String, Vec<Source>>,
-) -> Result<Vec<LoadedPackage>, AllocError>
-    ensures { IfOk result (λ loaded. IsLoadOf packages.entries loaded.items) }
-{
-    let mut ordered = packages;
-    ordered.sort_keys()?;
-    load_all(alloc, ordered)
 }
 
 /// The packages in the order of their paths, byte by byte, as their files are read. A file without a tree refuses
@@ -122,14 +166,33 @@ pub fn load(alloc: Global, given: Vec<GivenPackage>) -> Result<Vec<LoadedPackage
     ensures loaded { IfOk result (λ loaded. IsLoad given.items loaded.items) }
     ensures fault { IfErr result (IsLoadFault given.items) }
 {
-    if has_too_many(&given) {
-        return Err(LoadFault::TooMany);
-    }
-    match by_path(alloc, given) {
-        Ok(packages) => match load_in_order(alloc, packages) {
-            Ok(loaded) => Ok(loaded),
-            Err(_) => Err(LoadFault::OutOfMemory),
-        },
-        Err(fault) => Err(fault),
-    }
+    let packages = ordered(alloc, given)?;
+    let ahead = nothing_ahead(alloc, &packages);
+    Ok(load_all(alloc, packages, ahead)?)
+}
+
+/// As `load`, where so many threads read the files of all packages, the one that calls among them. With one worker no
+/// thread is started. Where a thread can't be started, the others do its work.
+///
+/// # Errors
+///
+/// As `load`.
+pub fn load_by<R: Threads + Sync>(
+    rt: &R,
+    alloc: Global,
+    given: Vec<GivenPackage>,
+    workers: Workers,
+) -> Result<Vec<LoadedPackage>, LoadFault>
+    ensures loaded { IfOk result (λ loaded. IsLoad given.items loaded.items) }
+    ensures fault { IfErr result (IsLoadFault given.items) }
+{
+    let packages = ordered(alloc, given)?;
+    let ahead = read_ahead(rt, alloc, &packages, workers)?;
+    Ok(load_all(alloc, packages, ahead)?)
+}
+
+/// Lets packages go. In the crates above they are only borrowed and handed on, so that how a tree is let go need not be
+/// proved there.
+pub fn release(packages: Vec<LoadedPackage>) {
+    drop(packages);
 }

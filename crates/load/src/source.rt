@@ -1,8 +1,8 @@
 //! What becomes of a file's bytes.
 
-ghost use Rattle.std.specs.Prelude.{◌≡◌, IfOk, IsErr};
+ghost use Rattle.std.specs.Prelude.{◌≡◌, ◌++◌, ◌∷◌, [], IfOk, IsErr, IsErrAnd, Ok, OnOk};
 ghost use Rattle.lexer.specs.declared.fault.LexFault.TheVariants.{OutOfMemory};
-ghost use Rattle.load.specs.Readings.{fault_of_form, Joins, TellsLexFault, TellsParseFault};
+ghost use Rattle.load.specs.Readings.{fault_of_form, reading_of, trees_of, IsParsed, TellsLexFault, TellsParseFault};
 ghost use Rattle.parser.specs.declared.fault.ParseFault.TheVariants.{OutOfMemory as NoMemory};
 
 use lexer::{LexFault, Source, lex};
@@ -11,6 +11,9 @@ use report::{TextFault, TreeFault};
 use std::alloc::{AllocError, Global};
 use tree::File;
 use whole_packages::Reading;
+
+/// What became of a file: its tree, or what it has instead.
+pub type Parsed = Result<File, Reading>;
 
 /// That a form of Go is left out.
 fn left_out_form(form: LeftOut) -> TreeFault
@@ -54,26 +57,52 @@ fn without_tokens(fault: LexFault) -> Result<Reading, AllocError>
     }
 }
 
-/// What becomes of a source. Its tree joins the others, if it has one.
+/// What became of a file without a tree.
+fn treeless(read: Result<Reading, AllocError>) -> Result<Parsed, AllocError>
+    ensures { IfOk result (λ parsed. IsErrAnd parsed (λ reading. read ≡ Ok reading)) }
+{
+    match read {
+        Ok(reading) => Ok(Err(reading)),
+        Err(error) => Err(error),
+    }
+}
+
+/// What becomes of a source.
 ///
 /// # Errors
 ///
 /// Memory was refused.
-pub fn read_source(
-    alloc: Global,
-    source: &Source,
-    trees: &mut Vec<File>,
-) -> Result<Reading, AllocError>
-    ensures { IfOk result (λ reading. Joins source.now.bytes.items reading trees.old.items trees.new.items) }
+pub fn read_source(alloc: Global, source: &Source) -> Result<Parsed, AllocError>
+    ensures { IfOk result (IsParsed source.now) }
 {
     match lex(alloc, source) {
         Ok(tokens) => match parse(alloc, &source.bytes, &tokens) {
-            Ok(tree) => {
-                trees.push(tree)?;
-                Ok(Reading::Tree)
-            }
-            Err(fault) => without_tree(fault),
+            Ok(tree) => Ok(Ok(tree)),
+            Err(fault) => treeless(without_tree(fault)),
         },
-        Err(fault) => without_tokens(fault),
+        Err(fault) => treeless(without_tokens(fault)),
     }
+}
+
+/// Adds what became of a file, and its tree, if it has one.
+///
+/// # Errors
+///
+/// Memory was refused.
+pub fn keep(
+    parsed: Parsed,
+    readings: &mut Vec<Reading>,
+    trees: &mut Vec<File>,
+) -> Result<(), AllocError>
+    ensures reading { OnOk result (readings.new.items ≡ readings.old.items ++ reading_of parsed ∷ []) }
+    ensures trees { OnOk result (trees.new.items ≡ trees.old.items ++ trees_of parsed) }
+{
+    match parsed {
+        Ok(tree) => {
+            trees.push(tree)?;
+            readings.push(Reading::Tree)?;
+        }
+        Err(reading) => readings.push(reading)?,
+    }
+    Ok(())
 }

@@ -11,8 +11,8 @@ use Rattle.flow.specs.Walks.{Graph, graph_of}
 use Rattle.maker.proofs.ClassesTold.{tells_classes, tells_at_nodes}
 use Rattle.maker.proofs.Numbers.{entry_has, cancels_numbered, groups_numbered}
 use Rattle.maker.specs.AtNodes.{IsCancelAt, IsGroupAt, TellsAtNodes, ClassifiesNodes}
-use Rattle.maker.specs.Flags.{with_groups, is_marked_flag, cancel_step, cancel_width, cancel_entry, group_flag, group_step, group_width, group_entry}
-use Rattle.maker.specs.Solutions.{found_for, FindsCancel, FindsGroup, FindsKind, Finds}
+use Rattle.maker.specs.Flags.{with_groups, is_marked_flag, cancel_width, cancel_entry, group_width, group_entry}
+use Rattle.maker.specs.Solutions.{found_for, FindsCancel, FindsGroup, FindsKind, Finds, FindsEach}
 use Rattle.meaning.specs.BodyEvents.{Variable}
 use Rattle.meaning.specs.Classes.{Promises, CancelClass, entry_cancel, change_cancel, cancel_after, GroupClass, entry_group, change_group, group_after}
 use Rattle.meaning.specs.Code.{Code}
@@ -21,6 +21,8 @@ use Rattle.meaning.specs.Uses.{Event}
 use Rattle.maker.specs.Carried.{TellsReached}
 use Rattle.maker.specs.MarkViews.{has}
 use Rattle.maker.specs.declared.reached.Reached.{Reached}
+use Rattle.states.specs.BitSteps.{cancel_step, group_step}
+use Rattle.states.specs.Masks.{bit_of_group}
 use Rattle.states.specs.Bits.{most, cancel_bit, cancel_class, group_bit, group_class, AreInverseBits, AreInverseGroupBits}
 
 -- What was found for the variable of a place, if there is one
@@ -35,6 +37,19 @@ pub record FindsFirst
     : Type 0 where
   pub counted : length rs ≡ count
   pub each : (i : ℕ) (v : Variable) → i < count → slice_get vs i ≡ Some v → FindsAt p groups g v (slice_get rs i)
+
+found_if : (p : Promises) (groups : List ℕ) (g : KeptGraph NodeEvent) (v : Variable) (o : Option Reached)
+    → FindsAt p groups g v o
+    → FindsKind v.kind p groups g v (found_for o)
+found_if p groups g v None h = absurd h
+found_if p groups g v (Some r) h = h
+
+-- all of them
+pub finds_all : (p : Promises) (groups : List ℕ) (g : KeptGraph NodeEvent) (vs : List Variable) (rs : List Reached)
+    → FindsFirst p groups g vs rs (length vs)
+    → FindsEach p groups g vs (λ i. found_for (slice_get rs i))
+finds_all p groups g vs rs all i v e =
+    found_if p groups g v (slice_get rs i) (all.each i v (slice_get_within vs i v e) e)
 
 -- What it says of classes
 
@@ -82,44 +97,37 @@ module _ (p : Promises) (groups : List ℕ) (g : KeptGraph NodeEvent) (c : Code 
       → FindsGroup p g v found
       → GroupTold v (λ n k. found n (group_bit k))
   group_told v found told = (
-    tells_classes c group_class group_flag (change_group p v.number) (group_after p v.number)
+    tells_classes c group_class bit_of_group (change_group p v.number) (group_after p v.number)
         group_width (groups_numbered c p v.number group_inverse)
         (entry_group v.role) (group_entry v.role) refl found (group_reached v found told),
-    tells_at_nodes c group_class group_flag (change_group p v.number) (group_after p v.number)
+    tells_at_nodes c group_class bit_of_group (change_group p v.number) (group_after p v.number)
         group_width (groups_numbered c p v.number group_inverse)
         (entry_group v.role) (group_entry v.role) refl found (group_reached v found told),
   )
 
-  cancel_at : (v : Variable) (o : Option Reached)
-      → v.kind ≡ cancel
-      → FindsAt p groups g v o
-      → CancelTold v (λ n k. is_marked_flag (found_for o n) (cancel_bit groups k))
-  cancel_at v None is h = absurd h
-  cancel_at v (Some r) is h = cancel_told v (has r) (subst (λ k. FindsKind k p groups g v (has r)) is h)
+  module _ (vs : List Variable) (found : ℕ → ℕ → ℕ → Bool) (all : FindsEach p groups g vs found) where
+    cancel_at : (i : ℕ) (v : Variable)
+        → slice_get vs i ≡ Some v
+        → v.kind ≡ cancel
+        → CancelTold v (λ n k. is_marked_flag (found i n) (cancel_bit groups k))
+    cancel_at i v e is = cancel_told v (found i) (subst (λ k. FindsKind k p groups g v (found i)) is (all i v e))
 
-  group_at : (v : Variable) (o : Option Reached)
-      → v.kind ≡ group
-      → FindsAt p groups g v o
-      → GroupTold v (λ n k. found_for o n (group_bit k))
-  group_at v None is h = absurd h
-  group_at v (Some r) is h = group_told v (has r) (subst (λ k. FindsKind k p groups g v (has r)) is h)
-
-  module _ (vs : List Variable) (rs : List Reached) (all : FindsFirst p groups g vs rs (length vs)) where
-    found_at : (i : ℕ) (v : Variable) → slice_get vs i ≡ Some v → FindsAt p groups g v (slice_get rs i)
-    found_at i v e = all.each i v (slice_get_within vs i v e) e
+    group_at : (i : ℕ) (v : Variable)
+        → slice_get vs i ≡ Some v
+        → v.kind ≡ group
+        → GroupTold v (λ n k. found i n (group_bit k))
+    group_at i v e is = group_told v (found i) (subst (λ k. FindsKind k p groups g v (found i)) is (all i v e))
 
     pub classified : Classifies c p vs
-        (λ i n k. is_marked_flag (found_for (slice_get rs i) n) (cancel_bit groups k))
-        (λ i n k. found_for (slice_get rs i) n (group_bit k))
+        (λ i n k. is_marked_flag (found i n) (cancel_bit groups k)) (λ i n k. found i n (group_bit k))
     classified = record {
-      of_cancel = λ i v e is. (cancel_at v (slice_get rs i) is (found_at i v e)).0;
-      of_group = λ i v e is. (group_at v (slice_get rs i) is (found_at i v e)).0;
+      of_cancel = λ i v e is. (cancel_at i v e is).0;
+      of_group = λ i v e is. (group_at i v e is).0;
     }
 
     pub classified_nodes : ClassifiesNodes c p vs
-        (λ i n k. is_marked_flag (found_for (slice_get rs i) n) (cancel_bit groups k))
-        (λ i n k. found_for (slice_get rs i) n (group_bit k))
+        (λ i n k. is_marked_flag (found i n) (cancel_bit groups k)) (λ i n k. found i n (group_bit k))
     classified_nodes = record {
-      of_cancel = λ i v e is. (cancel_at v (slice_get rs i) is (found_at i v e)).1;
-      of_group = λ i v e is. (group_at v (slice_get rs i) is (found_at i v e)).1;
+      of_cancel = λ i v e is. (cancel_at i v e is).1;
+      of_group = λ i v e is. (group_at i v e is).1;
     }

@@ -13,7 +13,8 @@ use Rattle.maker.specs.AtNodes.{TellsAtNodes}
 use Rattle.maker.specs.Carried.{IsReached, starts, goes, TellsReached, carried, ReachesByLists}
 use Rattle.maker.proofs.CarriedFlags.{reached_by_lists}
 use Rattle.bodies.specs.Classified.{TellsClasses, ArrivesAs, IsMarkedAt}
-use Rattle.maker.specs.Flags.{flag_after, is_marked_flag}
+use Rattle.maker.specs.Flags.{is_marked_flag}
+use Rattle.states.specs.BitSteps.{bit_after}
 
 -- What stands in a list of a code is one of its nodes.
 module _ (c : Code Event) where
@@ -54,7 +55,7 @@ module _ {K : Type 0}
         → after k (o ∷ t) ≡ after (change o.event k) t
 
   abbrev pub step : Event → ℕ → ℕ
-  step e = flag_after class_of flag_of (change e)
+  step e = bit_after class_of flag_of (change e)
 
   stepped : (e : Event) (k : K) (i j : ℕ)
       → class_of i ≡ Some k

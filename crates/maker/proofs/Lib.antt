@@ -7,3 +7,8 @@ pub mod Answered
 pub mod ChangedGraphs
 pub mod ClassesTold
 pub mod Numbers
+pub mod JoinedStates
+pub mod Sweeps
+pub mod SweptColumns
+pub mod PlacedVariables
+pub mod Columns

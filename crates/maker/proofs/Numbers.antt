@@ -14,7 +14,8 @@ use Rattle.meaning.specs.Classes.{Promises, CancelClass, entry_cancel, cancel_af
 use Rattle.flow.specs.GraphOfCode.{nodes}
 use Rattle.states.specs.Bits.{most, cancel_bit, cancel_class, group_bit, group_class, AreInverseBits, AreInverseGroupBits}
 use Rattle.states.proofs.ClassNumbers.{cancel_within, pending_found, group_within}
-use Rattle.maker.specs.Flags.{literal_group, with_group, with_groups, group_flag, group_width, cancel_width, cancel_entry}
+use Rattle.states.specs.Masks.{bit_of_group}
+use Rattle.maker.specs.Flags.{literal_group, with_group, with_groups, group_width, cancel_width, cancel_entry}
 use Rattle.maker.proofs.ClassesTold.{IsNumbered}
 
 -- The groups
@@ -146,7 +147,7 @@ cancels_numbered c p v groups first inverse are fits = record {
 
 pub groups_numbered : (c : Code Event) (p : Promises) (v : ℕ)
     → AreInverseGroupBits
-    → IsNumbered c group_class group_flag (change_group p v) (group_after p v) group_width
+    → IsNumbered c group_class bit_of_group (change_group p v) (group_after p v) group_width
 groups_numbered c p v inverse = record {
   told = λ k i e. subst (λ j. group_class j ≡ Some k) (same_Some (group_bit k) i e) (inverse.there k);
   within = λ k i e. subst (λ j. j < 4) (same_Some (group_bit k) i e) (group_within k);

@@ -7,4 +7,6 @@ pub mod Solutions
 -- What the program keeps of a search, and what the traits ask of flags.
 pub mod Marks
 pub mod MarkViews
+pub mod JoinedStates
+pub mod Places
 pub mod FlagLaws

@@ -9,10 +9,12 @@ mod flag_search;
 pub mod flag_steps;
 mod groups;
 mod marked_rows;
+mod places;
 pub mod reached;
 mod search;
 mod solution;
 mod steps;
+mod sweep;
 
 pub use flag_steps::Steps;
 pub use reached::{Reached, reach};

@@ -16,7 +16,7 @@ use states::{Promises, cancel_bit, entry_cancel, entry_group, group_bit};
 use std::alloc::{AllocError, Global};
 
 /// The flag of a cancel variable at the body's entry.
-fn cancel_entry(groups: &[u32], role: VariableRole) -> usize
+pub fn cancel_entry(groups: &[u32], role: VariableRole) -> usize
     ensures { result ≡ cancel_entry groups.now (variable_role_view role) }
 {
     cancel_bit(entry_cancel(role), groups).unwrap_or(0)

@@ -2,9 +2,10 @@
 
 ghost use Rattle.std.specs.Prelude.{◌≡◌, ◌<◌};
 ghost use Rattle.bodies.specs.NodeEvents.{node_event_view};
-ghost use Rattle.maker.specs.Flags.{cancel_step, cancel_width, group_step, group_width};
+ghost use Rattle.maker.specs.Flags.{cancel_width, group_width};
 ghost use Rattle.maker.specs.FlagLaws.{cancel_step-within, group_step-within};
 ghost use Rattle.meaning.specs.Classes.{change_cancel, change_group};
+ghost use Rattle.states.specs.BitSteps.{cancel_step, group_step};
 ghost use Rattle.states.specs.ClassViews.{cancel_class_view, group_class_view};
 
 use crate::flag_steps::Steps;

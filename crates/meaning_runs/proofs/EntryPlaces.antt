@@ -3,7 +3,7 @@
 use Rattle.std.proofs.Common.{◌≡◌, ℕ, zero, suc, ◌+◌, ◌≤◌, Bool, inl, inr, List, [], ◌∷◌, ◌++◌, map, length, Some, Contains, refl, sym, ap, ◌∙◌, subst, arith}
 use Rattle.std.specs.Prelude.{slice_get}
 use Rattle.std.proofs.lemmas.Bool.{eq-eqb}
-use Rattle.std.proofs.lemmas.Option.{same_Some}
+use Rattle.std.proofs.lemmas.Option.{none-some, same_Some}
 use Rattle.std.proofs.lemmas.List.Elements.{Contains-append_cases, Contains-append_left, Contains-append_right}
 use Rattle.tree.specs.Syntax.{SourceFile}
 use Rattle.meaning.specs.Code.{Occurrence, Code, repeats}
@@ -124,7 +124,7 @@ finding_in n calls number file x h (of_path b f is fault) = (
 
 -- The files of a package
 
-seen_there : (seens : List Seen) (files : List FileWithCredits) → AreCredited seens files
+pub seen_there : (seens : List Seen) (files : List FileWithCredits) → AreCredited seens files
     → (i : ℕ) (file : FileWithCredits)
     → slice_get files i ≡ Some file
     → slice_get seens i ≡ Some file.seen
@@ -135,27 +135,18 @@ seen_there seens files (file_and {seen} {rest} {file = first} {files = others} s
 seen_there seens files (file_and {seen} {rest} {file = first} {files = others} same full credited) (suc i) file is =
     seen_there rest others credited i file is
 
--- the tree that was seen
-record IsSeenOf (trees : List SourceFile) (i : ℕ) (seen : Seen) : Type 0 where
-  tree : SourceFile
-  known : Known
-  is_tree : slice_get trees i ≡ Some tree
-  same : seen ≡ seen_file known tree
-
-tree_seen : (known : ℕ → Known) (k : ℕ) (trees : List SourceFile) (i : ℕ) (seen : Seen)
-    → slice_get (seen_from known k trees) i ≡ Some seen
-    → IsSeenOf trees i seen
-tree_seen known k [] zero seen is = let bad : _ ≡ Some seen = is in cc
-tree_seen known k [] (suc i) seen is = let bad : _ ≡ Some seen = is in cc
-tree_seen known k (tree ∷ trees) zero seen is = record {
-  tree = tree;
-  known = known k;
-  is_tree = refl;
-  same = sym (same_Some (seen_file (known k) tree) seen is);
-}
-tree_seen known k (tree ∷ trees) (suc i) seen is =
-    let w = tree_seen known (k + 1) trees i seen is in
-    record { tree = w.tree; known = w.known; is_tree = w.is_tree; same = w.same }
+-- the tree of the file at that place, where the first one has the number n
+pub tree_seen : (known : ℕ → Known) (n : ℕ) (trees : List SourceFile) (i : ℕ) (seen : Seen)
+    → slice_get (seen_from known n trees) i ≡ Some seen
+    → (tree : SourceFile) × (slice_get trees i ≡ Some tree) × (seen_file (known (n + i)) tree ≡ seen)
+tree_seen known n [] i seen is = absurd (none-some seen is)
+tree_seen known n (tree ∷ trees) zero seen is =
+    let same : n ≡ n + 0 = omega arith in
+    (tree, refl, subst (λ k. seen_file (known k) tree ≡ seen) same (same_Some (seen_file (known n) tree) seen is))
+tree_seen known n (tree ∷ trees) (suc i) seen is =
+    let w = tree_seen known (n + 1) trees i seen is in
+    let same : (n + 1) + i ≡ n + suc i = omega arith in
+    (w.0, w.1, subst (λ k. seen_file (known k) w.0 ≡ seen) same w.2)
 
 abbrev HasTree : Reading → Type 0
 HasTree (has_tree tree) = Unit {0}
@@ -192,8 +183,8 @@ pub seen_stands : (ps : List LoadedPackage) (tables : Tables) (i : ℕ) (p : Loa
     → (text : List ℕ) × (slice_get texts number ≡ Some text) × Stands (length text) seen
 seen_stands ps tables i p texts is are none number seen there =
     let of = tree_seen (known_in ps tables p) 0 (trees_of p) number seen there in
-    let text = are.each number (has_tree of.tree) (tree_there 0 p.files (all_trees ps i p is none) number of.tree of.is_tree) in
-    (text.0, text.1, subst (Stands (length text.0)) (sym of.same) (file_stands text.0 of.tree of.known text.2))
+    let text = are.each number (has_tree of.0) (tree_there 0 p.files (all_trees ps i p is none) number of.0 of.1) in
+    (text.0, text.1, subst (Stands (length text.0)) of.2 (file_stands text.0 of.0 (known_in ps tables p (0 + number)) text.2))
 
 -- Entries by any rules
 

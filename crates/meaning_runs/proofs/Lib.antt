@@ -42,9 +42,9 @@ mod LeavingLists
 mod LastReturns
 pub mod OccurrencePlaces
 mod DeferredLiterals
-mod MarkForms
+pub mod MarkForms
 mod MarksBeside
-mod GroupUses
+pub mod GroupUses
 mod StartedLiterals
 mod GroupHomes
 mod GroupVariables

@@ -121,20 +121,20 @@ guarded site (Some n) clause = chosen (is_blank n.text) no_mark (a_mention _ ref
 
 -- How expressions stand
 
-abbrev is_literal : Expression → Bool
+abbrev pub is_literal : Expression → Bool
 is_literal e = is_some (literal_at e)
 
-abbrev has_literal : Expressions → Bool
+abbrev pub has_literal : Expressions → Bool
 has_literal no_expression = false
 has_literal (expression_and e es) = is_literal e || has_literal es
 
 -- outside all bodies the spot is no place, and it is that of the only argument for no literal
-record Fits (i : Bool) (spot : Spot) (is_one_literal : Bool) : Type 0 where
-  place : i ≡ false → spot.place ≡ nowhere
-  no_deferral : i ≡ false → is_deferred_use spot.literal ≡ false
-  alone : (is_started spot.literal && is_one_literal) ≡ false
+pub record Fits (i : Bool) (spot : Spot) (is_one_literal : Bool) : Type 0 where
+  pub place : i ≡ false → spot.place ≡ nowhere
+  pub no_deferral : i ≡ false → is_deferred_use spot.literal ≡ false
+  pub alone : (is_started spot.literal && is_one_literal) ≡ false
 
-free : (i : Bool) (site : ℕ) (b : Bool) → Fits i (part_of site) b
+pub free : (i : Bool) (site : ℕ) (b : Bool) → Fits i (part_of site) b
 free i site b = record { place = λ o. refl; no_deferral = λ o. refl; alone = refl }
 
 inside : (place : CallPlace) (site : ℕ) (b : Bool) → Fits true (whole place site) b
@@ -303,12 +303,12 @@ call_made i place site none (Some n) e (expression_and a (expression_and b es)) 
 mutual
   unfolding expression_marks form_marks expressions_marks optional_marks arguments_marks items_marks lefts_marks names_type_marks signature_marks parameters_marks fields_marks statement_marks statement_form_marks statements_marks optional_statement_marks cases_marks communications_marks declaration_marks specs_marks
 
-  of_expression : (i : Bool) (spot : Spot) (e : Expression)
+  pub of_expression : (i : Bool) (spot : Spot) (e : Expression)
       → Fits i spot (is_literal e)
       → AreMade i (expression_marks spot e)
   of_expression i spot (expression_node form span) fits = of_form i spot span form fits
 
-  of_form : (i : Bool) (spot : Spot) (span : Span) (form : ExpressionForm)
+  pub of_form : (i : Bool) (spot : Spot) (span : Span) (form : ExpressionForm)
       → Fits i spot (is_literal (expression_node form span))
       → AreMade i (form_marks spot span form)
   of_form i spot span (name_expression text) fits = a_mention _ (name_is_no_call spot.place)
@@ -378,14 +378,14 @@ mutual
   of_only (expression_and e no_expression) = of_literal e
   of_only (expression_and e (expression_and f es)) = tt
 
-  of_expressions : (i : Bool) (spot : Spot) (es : Expressions)
+  pub of_expressions : (i : Bool) (spot : Spot) (es : Expressions)
       → Fits i spot (has_literal es)
       → AreMade i (expressions_marks spot es)
   of_expressions i spot no_expression fits = no_mark
   of_expressions i spot (expression_and e es) fits =
       both (of_expression i spot e (first_of (is_literal e) (has_literal es) fits)) (of_expressions i spot es (rest_of (is_literal e) (has_literal es) fits))
 
-  of_optional : (i : Bool) (site : ℕ) (e : OptionalExpression) → AreMade i (optional_marks site e)
+  pub of_optional : (i : Bool) (site : ℕ) (e : OptionalExpression) → AreMade i (optional_marks site e)
   of_optional i site missing_expression = no_mark
   of_optional i site (present_expression e) = of_expression i (part_of site) e (free i site (is_literal e))
 
@@ -416,10 +416,10 @@ mutual
   of_names_type row site (present_expression t) =
       named (as_named t) site (names_type row) refl (of_expression true (part_of site) t (free true site (is_literal t)))
 
-  of_signature : (i : Bool) (site : ℕ) (s : Signature) → AreMade i (signature_marks site s)
+  pub of_signature : (i : Bool) (site : ℕ) (s : Signature) → AreMade i (signature_marks site s)
   of_signature i site (signature_of ps rs brackets) = both (of_parameters i true site ps) (of_parameters i false site rs)
 
-  of_parameters : (i : Bool) (are_parameters : Bool) (site : ℕ) (ps : Parameters)
+  pub of_parameters : (i : Bool) (are_parameters : Bool) (site : ℕ) (ps : Parameters)
       → AreMade i (parameters_marks are_parameters site ps)
   of_parameters i are_parameters site no_parameter = no_mark
   of_parameters i are_parameters site (named_and n ellipsis t ps) =
@@ -495,7 +495,7 @@ mutual
       let place = if is_one row.values then place_in row.standing (only_value row) else nowhere in
       both (of_expression true (whole place site) e (inside place site (is_literal e))) (of_values row site es)
 
-  of_statements : (ss : Statements) → AreMade true (statements_marks ss)
+  pub of_statements : (ss : Statements) → AreMade true (statements_marks ss)
   of_statements no_statement = no_mark
   of_statements (statement_and s ss) = both (of_statement ordinary s) (of_statements ss)
 
@@ -531,11 +531,11 @@ mutual
 
 -- A file
 
-of_receiver : (i : Bool) (site : ℕ) (ps : Option Parameters) → AreMade i (receiver_marks site ps)
+pub of_receiver : (i : Bool) (site : ℕ) (ps : Option Parameters) → AreMade i (receiver_marks site ps)
 of_receiver i site None = no_mark
 of_receiver i site (Some ps) = of_parameters i true site ps
 
-of_types : (i : Bool) (f : Function) → AreMade i (function_types_marks f)
+pub of_types : (i : Bool) (f : Function) → AreMade i (function_types_marks f)
 of_types i f = both (of_receiver i f.span.start f.receiver) (of_signature i f.span.start f.signature)
 
 of_function : (f : Function) (b : Option Block) → AreMade false (function_marks f b)
@@ -550,7 +550,7 @@ of_outer_specs (value_and ns t es span specs) =
 of_outer_specs (type_and n is_alias t span specs) =
     both (of_expression false (part_of span.start) t (free false span.start (is_literal t))) (of_outer_specs specs)
 
-of_top_level : (d : TopLevelDeclaration) → AreMade false (top_level_marks d)
+pub of_top_level : (d : TopLevelDeclaration) → AreMade false (top_level_marks d)
 of_top_level (function_declaration f) = of_function f f.body
 of_top_level (general_declaration (declaration_of keyword specs is_grouped span)) = of_outer_specs specs
 

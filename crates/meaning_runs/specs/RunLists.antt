@@ -1,5 +1,6 @@
 -- Each list of a body is the list of some run, so the lists that the analysis looks at are not more than what the
--- machine does. The run begins with a call of the body from outside, and then only this one goroutine acts.
+-- machine does. The run begins with a call of the body from outside. Then only this goroutine acts: what it starts in a
+-- group stands still, or leaves if it is no literal.
 -- (The Go specification, "Statements", "Calls", "Return statements".)
 use Rattle.std.specs.Prelude.{◌≡◌, ℕ, Bool, true, false, if◌then◌else◌, ◌++◌, List, [], ◌∷◌, Some, None, Contains}
 use Rattle.tree.specs.Syntax.{SourceFile}
@@ -112,7 +113,8 @@ abbrev pub is_start_of_literal : Event → Bool
 is_start_of_literal (start v (Some at)) = true
 is_start_of_literal e = false
 
--- No Wait comes after a literal was started in a group, since that need not come to an end.
+-- No Wait comes after a literal was started in a group, since that need not come to an end. That there are runs of such
+-- lists too, examples alone show (`GroupReturns`).
 abbrev pub WaitsComeFirst : List (Occurrence Event) → Type 0
 WaitsComeFirst [] = Unit {0}
 WaitsComeFirst (o ∷ t) =
@@ -138,8 +140,8 @@ ends_in_return (o ∷ q ∷ t) = ends_in_return (q ∷ t)
 
 -- What the run comes to
 
--- A run whose events are these; then its one goroutine is in the body alone, and what is left of that fits the exit. A
--- return's event takes the frame to its return, whatever is left.
+-- A run whose events are these; then the goroutine that acts is in the body alone, and what is left of that fits the
+-- exit. A return's event takes the frame to its return, whatever is left.
 pub record HasGoneThrough (p : Program) (b : Body) (t : List (Occurrence Event)) (x : Exit) : Type 0 where
   pub world : World
   pub run : Run p world

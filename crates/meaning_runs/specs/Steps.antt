@@ -182,8 +182,9 @@ pub data ComesToCall (f : Frame) (passing : Passing) : Type 0 where
       → ComesToCall f passing
   saved_before : {left : List Saved} → RunsSaved f (saved_pass passing) left → ComesToCall f passing
 
--- A function without a body has been called and has not returned yet. Till then it may call its arguments, and start
--- work in groups that it was lent.
+-- The frame comes to a call of a function without a body, which has not returned yet. Till then this may call its
+-- arguments, and start work in groups that it was lent. No event tells which argument is the last, so it may do that
+-- before some were evaluated, which gives more runs.
 pub record IsOutsideCall (p : Program) (f : Frame) (passing : Passing) : Type 0 where
   pub comes_to_it : ComesToCall f passing
   pub has_no_body : HasNoBody p f.body passing.callee
@@ -193,7 +194,7 @@ pub data Acts (p : Program) (s : Store) (place : Place) (f : Frame) : Store → 
   -- a branch is taken, or the end of a statement is passed
   moves_on : {rest : Code Event} → GoesOn f None rest → Acts p s place f s (at_code f rest ∷ [])
   does_other : {rest : Code Event} → DoesNext f other rest → Acts p s place f s (at_code f rest ∷ [])
-  -- that it declares its variable is told by offsets (`is_declaration`), here and at `clears_one`
+  -- that it declares its variable is told by offsets (`is_declaration`), here, at `clears_one` and at `makes_group`
   obtains_one : {u : VariableAt} {c : Callee} {n : ℕ} {is_new : Bool} {rest : Code Event} {value : Value} {made : Store}
       → DoesNext f (obtain u c n is_new) rest
       → Obtains s c value made
@@ -241,7 +242,8 @@ pub data Acts (p : Program) (s : Store) (place : Place) (f : Frame) : Store → 
       → passing.is_deferred ≡ false
       → Begins p s f passing after new
       → Acts p s place f after (new ++ (record f { waiting = None }) ∷ [])
-  -- a function without a body calls one of its arguments
+  -- A function without a body calls one of its arguments. (The environment may do the same by `calls_any`, so this adds
+  -- no run.)
   calls_outside : {passing : Passing} {x : Given}
       → IsOutsideCall p f passing
       → Contains passing.given x

@@ -123,12 +123,12 @@ waiting_for s (Some a) = ending s (s.group_context a)
 
 -- Frames
 
--- an argument that is a cancel function, and its position
+-- an argument for a cancel function, and its position
 pub record Given : Type 0 where
   pub position : ℕ
   pub value : Value
 
--- one that is a group, or none
+-- one for a group: a group, or none
 pub record Lent : Type 0 where
   pub position : ℕ
   pub group : Option ℕ
@@ -163,7 +163,8 @@ pub record Frame : Type 0 where
   pub stage : Stage
   -- what made the newest cell of each variable
   pub newest : ℕ → Option ℕ
-  -- a call of which some arguments were evaluated, and which was neither made nor saved yet
+  -- a call of which some arguments were evaluated, and which was neither made nor saved yet; one of a function without
+  -- a body stays here until that returns
   pub waiting : Option Passing
   -- the last one first
   pub saved : List Saved

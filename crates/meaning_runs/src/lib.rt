@@ -197,10 +197,11 @@ pub fn lost_functions_are_seen()
 {}
 
 /// With groups, runs come to quiet returns: of a function that waits for the literal that calls its cancel function, be
-/// it started by Go or by TryGo, of one whose member starts work in the same group, of one with two groups, and of one
-/// that leaves the function to a group of its caller's. And they come to ones that are not quiet: where TryGo starts
-/// nothing, where one return does not wait, where the variable gets another group while work goes on, where another
-/// group is waited for, and where the caller's group is not waited for at all.
+/// it started by Go or by TryGo, of one whose member starts work in the same group, of one with two groups, of one that
+/// saves its Wait, and of one that leaves the function to a group of its caller's. And they come to ones that are not
+/// quiet: where TryGo starts nothing, where one return does not wait, where the variable gets another group while work
+/// goes on, where another group is waited for, where the caller's group is not waited for at all, where a function to
+/// which the group was lent starts work in it, and where a literal that something else gets forgets its function.
 pub fn group_returns_exist()
     ensures { GroupReturnsExist }
 {}

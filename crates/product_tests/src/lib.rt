@@ -1,7 +1,9 @@
 //! Tests of the program's outside by what stands in for the system: what it refuses, and writers. And of tables as
-//! texts.
+//! texts, and of work that threads share.
 #![tactic(auto)]
 
+#[cfg(test)]
+mod meeting;
 #[cfg(test)]
 mod refusals;
 #[cfg(test)]

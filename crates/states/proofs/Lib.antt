@@ -1,2 +1,5 @@
 pub mod ClassNumbers
 pub mod MaskedClasses
+pub mod StateBits
+pub mod MaskImages
+pub mod ChangedMasks

@@ -1,6 +1,6 @@
 //! Sets of classes of one variable, as masks: a class is in a mask where the bit of its number is set.
 
-ghost use Rattle.std.specs.Prelude.{◌≡◌, ◌↔◌, IsTrue};
+ghost use Rattle.std.specs.Prelude.{◌≡◌, ◌<◌, ◌^◌, ◌↔◌, ◌||◌, ℕ, IsTrue, nat_eq};
 ghost use Rattle.facts.specs.FactViews.{kind_view};
 ghost use Rattle.meaning.specs.Classes.{change_cancel, change_group};
 ghost use Rattle.states.specs.declared.bits.TheConstants.{FIRST_PENDING};
@@ -10,26 +10,27 @@ ghost use Rattle.states.specs.Masks.{is_set, HasKnownBits, bit_of_group, Has, Ma
 ghost use Rattle.states.specs.MaskTests.{has_known_bits, has, may_be_pending, may_be_cancel, may_be_group, goes_if_set, pending_go, cancel_goes_into, group_goes_into};
 
 use crate::bits::{CANCEL_CLASSES, FIRST_PENDING, GROUP_CLASSES, cancel_bit, group_bit};
-use crate::cancels::{CancelClass, change_cancel};
-use crate::groups::{GroupClass, change_group};
+use crate::cancels::CancelClass;
+use crate::changes::Change;
+use crate::groups::GroupClass;
 use crate::promises::Promises;
 use facts::VariableKind;
-use tracked_rows::{Event, GroupState};
-
-/// What an event makes of the variable of that number.
-#[derive(Drop)]
-pub struct Change<'c, 'e, 'a, P> {
-    pub promises: &'c P,
-    pub variable: u32,
-    /// None where nothing is done: the class stays.
-    pub event: Option<&'e Event<'a>>,
-}
+use tracked_rows::GroupState;
 
 /// Whether the bit of that number is set.
-fn is_set(mask: u16, bit: usize) -> bool
+pub fn is_set(mask: u16, bit: usize) -> bool
     ensures { result ≡ is_set mask bit }
 {
     bit < 16 && (mask >> bit) & 1 == 1
+}
+
+/// Sets the bit of that number.
+pub fn with_bit(mask: u16, bit: usize) -> u16
+    requires within { bit < 16 }
+    ensures below { (count : ℕ) → bit < count → mask < 2 ^ count → result < 2 ^ count }
+    ensures bits { (other : ℕ) → is_set result other ≡ (is_set mask other || nat_eq other bit) }
+{
+    mask | 1 << bit
 }
 
 /// Whether no bit is set that stands for no class of a variable of that kind.
@@ -86,30 +87,6 @@ pub fn may_be_group(mask: u16, class: GroupClass) -> bool
     ensures test { result ≡ may_be_group mask (group_class_view class) }
 {
     is_set(mask, group_bit(class))
-}
-
-impl<P: Promises> Change<'_, '_, '_, P> {
-    /// What the class of a cancel variable comes to be.
-    fn cancel(&self, class: CancelClass) -> CancelClass
-        ensures { cancel_class_view result ≡ change_cancel (P.promises self.now.promises.now) self.now.variable
-            (done_view self.now.event) (cancel_class_view class) }
-    {
-        match self.event {
-            Some(event) => change_cancel(self.promises, self.variable, event, class),
-            None => class,
-        }
-    }
-
-    /// What the class of a group comes to be.
-    fn group(&self, class: GroupClass) -> GroupClass
-        ensures { group_class_view result ≡ change_group (P.promises self.now.promises.now) self.now.variable
-            (done_view self.now.event) (group_class_view class) }
-    {
-        match self.event {
-            Some(event) => change_group(self.promises, self.variable, event, class),
-            None => class,
-        }
-    }
 }
 
 /// Whether the mask has what the change makes of the class.

@@ -1,6 +1,12 @@
 pub mod Arranged
+pub mod DistinctTexts
+pub mod FunctionsRead
+pub mod ListsSeen
+pub mod ParametersRead
 pub mod Readings
 pub mod TableLaws
+pub mod TablesRead
 pub mod ValueParts
+pub mod ValuesRead
 pub mod WrittenInOrder
 pub mod Writing

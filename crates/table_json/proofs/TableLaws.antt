@@ -10,7 +10,7 @@ use Rattle.table_json.specs.declared.fault.TableFault.{TableFault}
 use Rattle.table_json.specs.declared.fault.TableFault.TheVariants.{NotJson, WrongVersion, WrongShape, OutOfMemory}
 use Rattle.table_json.specs.declared.table.Version.{Version}
 use Rattle.table_json.specs.declared.table.Version.TheVariants.{Older, Newer}
-use Rattle.table_json.specs.Parts.{HasFits, IsTextFault, IsValueFault}
+use Rattle.table_json.specs.Parts.{HasFits}
 use Rattle.table_json.specs.Tables.{Entry, are_apart, itself, HasOrder, IsInOrder, Rise}
 use Rattle.table_json.specs.TableTexts.{version_of, HasKnownVersion, HasWrongShape, HasWrongVersion, IsTableFault, IsTableText}
 use Rattle.table_json.specs.TableValues.{whole, parameter_value, function_value, table_value, AreFunctionsOf, IsFunctionIn, IsFunctionValue, IsOlderFunctionValue, IsTableValue}
@@ -79,7 +79,7 @@ text_back value table text is fits reads order = record {
 
 -- What is read is in order
 
-newer_in_order : (value : Data) (f : Entry) → IsFunctionValue value f → HasOrder f
+pub newer_in_order : (value : Data) (f : Entry) → IsFunctionValue value f → HasOrder f
 newer_in_order value f h = record {
   gives_rise = h.are_gives.arranged.rise;
   causes_rise = h.are_causes.arranged.rise;
@@ -166,17 +166,3 @@ only_memory text WrongShape h table k =
     let is = subst (λ v. IsTableValue v table) (some_same k.value h.0 (sym k.is_json ∙ h.1)) k.is_table in
     absurd (not_wrong_shape h.0 table is h.2)
 only_memory text OutOfMemory h table k = refl
-
-pub of_text_fault : (text : List ℕ) (fault : TableFault) → IsTextFault text fault → IsTableFault text fault
-of_text_fault text NotJson h = h
-of_text_fault text WrongVersion h = absurd h
-of_text_fault text WrongShape h = absurd h
-of_text_fault text OutOfMemory h = tt
-
-pub of_value_fault : (text : List ℕ) (value : Data) (fault : TableFault) → read text ≡ Some value
-    → IsValueFault HasWrongShape value fault
-    → IsTableFault text fault
-of_value_fault text value NotJson e h = absurd h
-of_value_fault text value WrongVersion e h = (value, e, h)
-of_value_fault text value WrongShape e h = (value, e, h)
-of_value_fault text value OutOfMemory e h = tt

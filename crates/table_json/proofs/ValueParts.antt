@@ -5,7 +5,7 @@ use Rattle.std.proofs.lemmas.Slice.Eq.{bytes_eq-Decides}
 use Rattle.std.specs.List.{AllByRecursion}
 use Rattle.std.specs.Str.{bytes_eq}
 use Rattle.serde_json.specs.Data.{Num, unsigned, negative, float, Data, null, boolean, number, string, array, object, Items, no_items, item, Members, no_members, member}
-use Rattle.serde_json.specs.Find.{as_number, as_u64, as_bool, as_str, as_array, as_object}
+use Rattle.serde_json.specs.Find.{as_number, as_u64, as_bool, as_str, as_object, get_member}
 use Rattle.serde_json.specs.View.{items_of}
 use Rattle.table_json.specs.declared.table.Parameter.{Parameter}
 use Rattle.table_json.specs.declared.table.Parameter.TheVariants.{Cancel, Cause, Group}
@@ -14,7 +14,7 @@ use Rattle.table_json.specs.declared.table.Version.TheVariants.{Older, Newer}
 use Rattle.table_json.specs.Parts.{first_member, only_if_last, two_members, three_members, four_members, position_in, if_text, called_in, group_in, first_found, parameter_in, function_in, older_function_in, functions_in, all_of}
 use Rattle.table_json.specs.Tables.{itself, position_of}
 use Rattle.table_json.specs.TableTexts.{version_of}
-use Rattle.table_json.specs.TableValues.{whole, list, called_with, parameter_value, function_with, older_function_with, table_with, if_fits, number_of, Fits}
+use Rattle.table_json.specs.TableValues.{whole, called_with, parameter_value, function_with, older_function_with, table_with, if_fits, number_of, Fits}
 
 -- One step of what may be missing
 
@@ -44,14 +44,6 @@ of_object (number n) ms e = absurd (cc)
 of_object (string s) ms e = absurd (cc)
 of_object (array ds) ms e = absurd (cc)
 of_object (object ns) ms e = let same : ns ≡ ms = cc in ap object same
-
-pub of_array : (value : Data) (ds : Items) → as_array value ≡ Some ds → value ≡ array ds
-of_array null ds e = absurd (cc)
-of_array (boolean b) ds e = absurd (cc)
-of_array (number n) ds e = absurd (cc)
-of_array (string s) ds e = absurd (cc)
-of_array (array cs) ds e = let same : cs ≡ ds = cc in ap array same
-of_array (object ns) ds e = absurd (cc)
 
 pub of_string : (value : Data) (s : List ℕ) → as_str value ≡ Some s → value ≡ string s
 of_string null s e = absurd (cc)
@@ -127,26 +119,6 @@ of_three first second third value found e =
     ∙ ap (member third c.0.0) last.1)))
     ∙ (λ i. object (member first (last.0 i).0 (member second (last.0 i).1 (member third (last.0 i).2 no_members))))
 
-of_four : (first second third fourth : List ℕ) (value : Data) (found : Data × Data × Data × Data)
-    → four_members first second third fourth value ≡ Some found
-    → value ≡ object (member first found.0 (member second found.1 (member third found.2 (member fourth found.3 no_members))))
-unfolding four_members
-of_four first second third fourth value found e =
-    let ms = and_then _ (as_object value) found e in
-    let a = and_then _ (first_member first ms.0) found ms.2 in
-    let b = and_then _ (first_member second a.0.1) found a.2 in
-    let c = and_then _ (first_member third b.0.1) found b.2 in
-    let d = and_then _ (first_member fourth c.0.1) found c.2 in
-    let last = of_last (a.0.0, b.0.0, c.0.0, d.0.0) found d.0.1 d.2 in
-    of_object value ms.0 ms.1
-    ∙ ap object (of_first first ms.0 a.0.0 a.0.1 a.1
-    ∙ ap (member first a.0.0) (of_first second a.0.1 b.0.0 b.0.1 b.1
-    ∙ ap (member second b.0.0) (of_first third b.0.1 c.0.0 c.0.1 c.1
-    ∙ ap (member third c.0.0) (of_first fourth c.0.1 d.0.0 d.0.1 d.1
-    ∙ ap (member fourth d.0.0) last.1))))
-    ∙ (λ i. object (member first (last.0 i).0 (member second (last.0 i).1 (member third (last.0 i).2
-    (member fourth (last.0 i).3 no_members)))))
-
 -- Numbers that fit
 
 pub of_fitting : (value : Data) (n : ℕ) → option_and_then if_fits (option_and_then as_u64 (as_number value)) ≡ Some n
@@ -161,6 +133,17 @@ of_fitting value n e =
 pub version_fits : (version : Version) → if_fits (number_of version) ≡ Some (number_of version)
 version_fits Older = refl
 version_fits Newer = refl
+
+under_version : (o : Option Data) (n : ℕ)
+    → option_and_then if_fits (option_and_then as_u64 (option_and_then as_number o)) ≡ Some n
+    → o ≡ Some (whole n)
+under_version None n e = absurd (cc)
+under_version (Some value) n e = ap Some (of_fitting value n e).0
+
+-- a version that fits is the number that stands as such
+pub of_version : (ms : Members) (n : ℕ) → version_of (object ms) ≡ Some n
+    → get_member (codes "version") ms ≡ Some (whole n)
+of_version ms n e = under_version (get_member (codes "version") ms) n e
 
 -- Positions
 
@@ -257,48 +240,11 @@ parameter_there (Group at) small = ap (λ o. option_map (λ n. Group n) o) (posi
 
 -- Functions
 
-pub of_function : (value : Data) (name : List ℕ) (gives causes params : List Data)
-    → function_in value ≡ Some (name, items_of gives, items_of causes, items_of params)
-    → value ≡ function_with name gives causes params
-unfolding function_in
-of_function value name gives causes params e =
-    let found : List ℕ × Items × Items × Items = (name, items_of gives, items_of causes, items_of params) in
-    let ms =
-    and_then _ (four_members (codes "causes") (codes "gives") (codes "name") (codes "params") value) found e in
-    let cs = and_then _ (as_array ms.0.0) found ms.2 in
-    let gs = and_then _ (as_array ms.0.1) found cs.2 in
-    let text = and_then _ (as_str ms.0.2) found gs.2 in
-    let ps = mapped _ (as_array ms.0.3) found text.2 in
-    of_four _ _ _ _ value ms.0 ms.1
-    ∙ (λ i. object (member (codes "causes") (of_array ms.0.0 cs.0 cs.1 i)
-    (member (codes "gives") (of_array ms.0.1 gs.0 gs.1 i)
-    (member (codes "name") (of_string ms.0.2 text.0 text.1 i)
-    (member (codes "params") (of_array ms.0.3 ps.0 ps.1 i) no_members)))))
-    ∙ (λ i. object (member (codes "causes") (array (ps.2 i).2) (member (codes "gives") (array (ps.2 i).1)
-    (member (codes "name") (string (ps.2 i).0) (member (codes "params") (array (ps.2 i).3) no_members)))))
-
 pub function_there : (name : List ℕ) (gives causes params : List Data)
     → function_in (function_with name gives causes params)
     ≡ Some (name, items_of gives, items_of causes, items_of params)
 unfolding function_in four_members
 function_there name gives causes params = refl
-
-pub of_older_function : (value : Data) (name : List ℕ) (gives params : List Data)
-    → older_function_in value ≡ Some (name, items_of gives, items_of params)
-    → value ≡ older_function_with name gives params
-unfolding older_function_in
-of_older_function value name gives params e =
-    let found : List ℕ × Items × Items = (name, items_of gives, items_of params) in
-    let ms = and_then _ (three_members (codes "gives") (codes "name") (codes "params") value) found e in
-    let gs = and_then _ (as_array ms.0.0) found ms.2 in
-    let text = and_then _ (as_str ms.0.1) found gs.2 in
-    let ps = mapped _ (as_array ms.0.2) found text.2 in
-    of_three _ _ _ value ms.0 ms.1
-    ∙ (λ i. object (member (codes "gives") (of_array ms.0.0 gs.0 gs.1 i)
-    (member (codes "name") (of_string ms.0.1 text.0 text.1 i)
-    (member (codes "params") (of_array ms.0.2 ps.0 ps.1 i) no_members))))
-    ∙ (λ i. object (member (codes "gives") (array (ps.2 i).1) (member (codes "name") (string (ps.2 i).0)
-    (member (codes "params") (array (ps.2 i).2) no_members))))
 
 pub older_function_there : (name : List ℕ) (gives params : List Data)
     → older_function_in (older_function_with name gives params) ≡ Some (name, items_of gives, items_of params)
@@ -306,29 +252,6 @@ unfolding older_function_in three_members
 older_function_there name gives params = refl
 
 -- Tables
-
--- a list under a key before that of the version
-pub of_list : (key : List ℕ)
-    → ((first second : Data) → version_of (object (member key first (member (codes "version") second no_members)))
-    ≡ option_and_then if_fits (option_and_then as_u64 (as_number second)))
-    → (version : ℕ) (value : Data) (values : List Data)
-    → option_and_then (λ ms. as_array ms.0) (two_members key (codes "version") value) ≡ Some (items_of values)
-    → version_of value ≡ Some version
-    → value ≡ object (member key (list values) (member (codes "version") (whole version) no_members))
-of_list key found_behind version value values e at_version =
-    let ms = and_then _ (two_members key (codes "version") value) (items_of values) e in
-    let is = of_two _ _ value ms.0 ms.1 in
-    let number = (of_fitting ms.0.1 version
-    (sym (found_behind ms.0.0 ms.0.1) ∙ (ap version_of (sym is) ∙ at_version))).0 in
-    is
-    ∙ (λ i. object (member key (of_array ms.0.0 (items_of values) ms.2 i) (member (codes "version") (number i) no_members)))
-
-pub of_functions : (version : ℕ) (value : Data) (functions : List Data)
-    → functions_in value ≡ Some (items_of functions)
-    → version_of value ≡ Some version
-    → value ≡ table_with version functions
-unfolding functions_in
-of_functions = of_list (codes "functions") λ first second. refl
 
 pub functions_there : (version : ℕ) (functions : List Data)
     → functions_in (table_with version functions) ≡ Some (items_of functions)
@@ -355,18 +278,6 @@ module _ {A : Type 0} (value_of : A → Data) (position : A → ℕ) (find : Dat
     pub there : (a : A) → Fits (position a) → find (value_of a) ≡ Some a
 
   module _ (finds : Finds) where
-    pub of_all : (values : List Data) (given : List A) → all_of find values ≡ Some given
-        → (values ≡ map value_of given) × AllByRecursion (λ a. Fits (position a)) given
-    of_all [] [] e = (refl, tt)
-    of_all [] (a ∷ given) e = absurd (cc)
-    of_all (v ∷ values) given e =
-        let a = and_then _ (find v) given e in
-        let rest = mapped _ (all_of find values) given a.2 in
-        let first = finds.is_value v a.0 a.1 in
-        let behind = of_all values rest.0 rest.1 in
-        subst (λ xs. (v ∷ values ≡ map value_of xs) × AllByRecursion (λ x. Fits (position x)) xs) rest.2
-        ((λ i. first.0 i ∷ behind.0 i), (first.1, behind.1))
-
     pub all_there : (given : List A) → AllByRecursion (λ a. Fits (position a)) given
         → all_of find (map value_of given) ≡ Some given
     all_there [] h = refl

@@ -4,4 +4,5 @@ pub mod TableValues
 pub mod TableTexts
 pub mod WrittenTables
 -- What serves the proofs.
+pub mod MembersRead
 pub mod Parts

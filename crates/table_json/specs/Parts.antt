@@ -4,6 +4,8 @@ use Rattle.std.specs.Str.{bytes_eq}
 use Rattle.serde_json.specs.Data.{Data, Items, Members, no_members, member}
 use Rattle.serde_json.specs.Find.{as_number, as_u64, as_bool, as_str, as_array, as_object}
 use Rattle.serde_json.specs.Read.{read}
+use Rattle.json_reading.specs.declared.stop.Stop.{Stop}
+use Rattle.json_reading.specs.declared.stop.Stop.TheVariants as stop
 use Rattle.table_json.specs.declared.fault.TableFault.{TableFault}
 use Rattle.table_json.specs.declared.fault.TableFault.TheVariants.{NotJson, WrongVersion, WrongShape, OutOfMemory}
 use Rattle.table_json.specs.declared.table.Parameter.{Parameter}
@@ -121,13 +123,6 @@ Refuses {A} IsRead WrongVersion = ⊥
 Refuses {A} IsRead WrongShape = (a : A) → ¬ IsRead a
 Refuses {A} IsRead OutOfMemory = ⊤
 
--- a value has no version that is read, for this reason
-abbrev pub IsVersionFault : Data → TableFault → Type 0
-IsVersionFault value NotJson = ⊥
-IsVersionFault value WrongVersion = HasWrongVersion value
-IsVersionFault value WrongShape = version_of value ≡ None
-IsVersionFault value OutOfMemory = ⊥
-
 -- a value is not read, for this reason, where a wrong shape is this
 abbrev pub IsValueFault : (Data → Type 0) → Data → TableFault → Type 0
 IsValueFault HasWrong value NotJson = ⊥
@@ -135,9 +130,14 @@ IsValueFault HasWrong value WrongVersion = HasWrongVersion value
 IsValueFault HasWrong value WrongShape = HasWrong value
 IsValueFault HasWrong value OutOfMemory = ⊤
 
--- a text is not read as JSON, for this reason
-abbrev pub IsTextFault : List ℕ → TableFault → Type 0
-IsTextFault text NotJson = read text ≡ None
-IsTextFault text WrongVersion = ⊥
-IsTextFault text WrongShape = ⊥
-IsTextFault text OutOfMemory = ⊤
+-- the version of a text is none that is read, for this reason
+abbrev pub IsTextVersionFault : List ℕ → TableFault → Type 0
+IsTextVersionFault text NotJson = read text ≡ None
+IsTextVersionFault text WrongVersion = (value : Data) × (read text ≡ Some value) × HasWrongVersion value
+IsTextVersionFault text WrongShape = (value : Data) × (read text ≡ Some value) × (version_of value ≡ None)
+IsTextVersionFault text OutOfMemory = ⊤
+
+-- the same fault, of a table
+abbrev pub fault_of_stop : Stop → TableFault
+fault_of_stop stop.NotJson = NotJson
+fault_of_stop stop.OutOfMemory = OutOfMemory

@@ -1,5 +1,6 @@
 //! Why a text is not read.
 
+use json_reading::Stop;
 use std::alloc::{AllocError, AllocFailed};
 
 /// Why a text is not read as a table. The first reason that holds is told, in this order.
@@ -34,5 +35,20 @@ impl<T: Drop> From<AllocFailed<T>> for TableFault {
 
     fn from(_error: AllocFailed<T>) -> TableFault {
         TableFault::OutOfMemory
+    }
+}
+
+/// The same fault, of a table.
+impl From<Stop> for TableFault {
+    ghost use Rattle.std.specs.Prelude.{◌≡◌};
+    ghost use Rattle.table_json.specs.Parts.{fault_of_stop};
+
+    ghost from_gives = { λ stop fault. fault ≡ fault_of_stop stop };
+
+    fn from(stop: Stop) -> TableFault {
+        match stop {
+            Stop::NotJson => TableFault::NotJson,
+            Stop::OutOfMemory => TableFault::OutOfMemory,
+        }
     }
 }

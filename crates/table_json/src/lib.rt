@@ -1,21 +1,25 @@
 //! Tables of facts as JSON: the text of a table, and the table of a text. What a table says is in `specs/Tables.antt`,
 //! which values are those of a table in `specs/TableValues.antt`, and which texts, and why a text is none, in
 //! `specs/TableTexts.antt`; what is written of a table in `specs/WrittenTables.antt`. The functions of a table stand in
-//! other formats too, so what reads and writes these is offered beside, with the parts of objects that formats share.
+//! other formats too, so what reads and writes these is offered beside.
 #![tactic(auto)]
 
 ghost use Rattle.table_json.specs.WrittenTables.{TablesInOrderAreWritten};
 
 mod fault;
+mod functions;
 mod order;
-mod parts;
+mod parameters;
+mod positions;
 mod read;
 mod table;
 mod written;
 
 pub use fault::TableFault;
-pub use parts::{if_fits, position_in, three_members, two_members};
-pub use read::{from_json, known_version, parse, read_functions};
+pub use functions::{FunctionMembers, newer_with, read_functions, read_text};
+pub use order::are_distinct;
+pub use positions::{if_fits, read_position};
+pub use read::{from_json, known_version};
 pub use table::{Function, OLDER_VERSION, Parameter, Table, VERSION, Version};
 pub use written::{as_written, function_values, to_json};
 

@@ -1,7 +1,8 @@
 //! Lists in their order, of which nothing may come twice.
 
-ghost use Rattle.std.specs.Prelude.{ℕ, List, map, IfNone, IfSome};
-ghost use Rattle.std.specs.Ordering.{nat_cmp};
+ghost use Rattle.std.specs.Prelude.{ℕ, Decides, List, map, IfNone, IfSome};
+ghost use Rattle.std.specs.List.{IsDistinct};
+ghost use Rattle.std.specs.Ordering.{eq_by_cmp, nat_cmp};
 ghost use Rattle.table_json.specs.declared.table.Parameter.{Parameter};
 ghost use Rattle.table_json.specs.Tables.{Entry, by_bytes, entry_of, itself, name_of, position_of, IsArranged};
 
@@ -50,4 +51,13 @@ pub(crate) fn functions_in_order(functions: Vec<Function>) -> Option<Vec<Functio
     } else {
         None
     }
+}
+
+/// Whether no text comes twice.
+pub fn are_distinct(texts: Vec<&str>) -> bool
+    ensures { Decides result (IsDistinct (eq_by_cmp by_bytes) (map (λ text. text.now) texts.entry.items)) }
+{
+    let mut ordered = texts;
+    ordered.sort_unstable();
+    ordered.is_sorted_by(|first, second| first.cmp(second).is_lt())
 }

@@ -1,5 +1,5 @@
 -- What is found of a body's certificate, by way of its graph in memory.
-use Rattle.std.proofs.Common.{◌≡◌, ℕ, ◌+◌, Bool, true, false, List, [], ◌∷◌, map, Option, Some, None, refl, sym, ap, ◌∙◌, subst}
+use Rattle.std.proofs.Common.{◌≡◌, ℕ, ◌+◌, Bool, true, false, List, [], ◌∷◌, length, map, Option, Some, None, refl, sym, ap, ◌∙◌, subst}
 use Rattle.std.specs.Prelude.{◌↔◌, IsTrue}
 use Rattle.std.specs.List.Sorted.{IsPermutation}
 use Rattle.std.proofs.lemmas.Option.{same_Some}
@@ -77,6 +77,11 @@ module _ (given : Given) (own : Flags) (calls : Callee → ℕ → Bool) (number
     its_holds =
         subst (λ o. Holds (checked paths (flags_of_body own b) o) rows) same_order
         (subst (λ r. Holds (checked paths (flags_of_body own b) c.order) r) same_rows c.holds)
+
+  -- there are more rows than nodes, or fewer
+  pub not_as_many : (count size : ℕ) → count ≡ length rows → size ≡ length kept.order.items → (count ≡ size → ⊥)
+      → IsFound given own calls number (with_table seen credits) b None
+  not_as_many count size many nodes apart c = apart (many ∙ (its_holds c).has_rows.are_as_many ∙ sym nodes)
 
   settled_so : Holds body rows → (variable : ℕ) → SettlesSome body rows variable
       → SettlesBy given own calls number (with_table seen credits) b variable

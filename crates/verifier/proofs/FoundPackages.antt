@@ -8,10 +8,11 @@ use Rattle.meaning.specs.FunctionFacts.{FunctionFacts}
 use Rattle.meaning.specs.Uses.{Seen}
 use Rattle.meaning_packages.specs.CallsFlags.{Flags, FileWithCredits, calls_by}
 use Rattle.meaning_reports.specs.Loaded.{LoadedPackage, Tables, imported_flags, known_in, seen_files, signatures_of, trees_of}
+use Rattle.meaning_runs.proofs.EntryPlaces.{tree_seen}
+use Rattle.path_faults.proofs.Places.{place_of}
 use Rattle.report.specs.Entries.{Entry, entry_of}
 use Rattle.report.specs.declared.diagnostics.Diagnostic.{Diagnostic}
 use Rattle.verifier.proofs.OneVerified.{seen_of, claimed_too, one_verified}
-use Rattle.verifier.proofs.VerifiedYes.{tree_of}
 use Rattle.verifier.specs.Rules.{GivenByPath, IsVerified, AreFlagsByCertificates, SaysByCertificates}
 use Rattle.verifier.specs.SaidEntries.{AreSaid, IsSaidIn}
 use Rattle.verifier.specs.Verified.{Given, IsSaid, AreClaimed}
@@ -24,8 +25,9 @@ pub have_facts : (ps : List LoadedPackage) (tables : Tables) (p : LoadedPackage)
 have_facts ps tables p facts are files seen = record {
   each = λ file h name.
       let among = contains_map (λ (f : FileWithCredits). f.seen) files file h in
-      let w = tree_of (known_in ps tables p) 0 (trees_of p) file.seen (subst (λ ss. Contains ss file.seen) seen among) in
-      ap (λ (s : Seen). s.known.functions name) (sym w.3) ∙ sym (are name);
+      let at = place_of (seen_files ps tables p) file.seen (subst (λ ss. Contains ss file.seen) seen among) in
+      let w = tree_seen (known_in ps tables p) 0 (trees_of p) at.0 file.seen at.1 in
+      ap (λ (s : Seen). s.known.functions name) (sym w.2) ∙ sym (are name);
 }
 
 -- what is claimed is seen in the files alone

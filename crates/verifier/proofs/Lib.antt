@@ -6,7 +6,7 @@ mod FoundCertificates
 mod FoundPackages
 mod GivenMaps
 mod OneOrder
-mod OneVerified
+pub mod OneVerified
 mod OwnPasses
 mod SaidFiles
 mod SaidParts

@@ -140,7 +140,7 @@ same_files given own calls n (f ∷ fs) (g ∷ gs) same are too =
 -- Packages
 
 -- what the files of a package are seen with, by the tables of what it imports
-abbrev seen_by : List LoadedPackage → LoadedPackage → Tables → List Seen
+abbrev pub seen_by : List LoadedPackage → LoadedPackage → Tables → List Seen
 seen_by ps p known =
     seen_from (λ number. record {
       means = means_in ps p number;

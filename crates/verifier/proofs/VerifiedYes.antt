@@ -1,19 +1,20 @@
 -- Of a package of whose files nothing is said by certificates, what its table knows of functions holds, and no finding
 -- of `check` is to be said of it. So the promise is that of `yes_is_quiet`.
-use Rattle.std.proofs.Common.{◌≡◌, ℕ, ◌+◌, inl, inr, List, [], ◌∷◌, ◌++◌, Some, Contains, refl, sym, ap, ◌∙◌, subst}
+use Rattle.std.proofs.Common.{◌≡◌, ℕ, ◌+◌, List, [], ◌∷◌, ◌++◌, Some, Contains, refl, sym, ap, ◌∙◌, subst}
 use Rattle.std.specs.Prelude.{slice_get}
 use Rattle.checker.specs.CheckerLaws.{LeavesNoFault, KeepsClaims, SettlesWhatItSays}
 use Rattle.flow.specs.GraphOfCode.{nodes}
-use Rattle.meaning.proofs.Membership.{contains_here, contains_nil, contains_there, contains_cases, contains_map}
+use Rattle.meaning.proofs.Membership.{contains_here, contains_there, contains_map}
 use Rattle.meaning.specs.BodyEvents.{seen_file, sites_of}
 use Rattle.meaning.specs.Code.{Code, skip, does, leave, then_code, either, repeats, up_to}
 use Rattle.meaning.specs.Tracked.{Known}
 use Rattle.meaning.specs.TreeOfText.{IsTreeOf}
-use Rattle.meaning.specs.Uses.{Seen, Event}
+use Rattle.meaning.specs.Uses.{Event}
 use Rattle.meaning_packages.specs.CallsFlags.{FileWithCredits, calls_by}
 use Rattle.meaning_packages.specs.Credits.{AreFairCredits}
 use Rattle.meaning_packages.specs.PathFaults.{paths_of}
-use Rattle.meaning_reports.specs.Loaded.{imported_flags, seen_from, trees_of, known_in}
+use Rattle.meaning_reports.specs.Loaded.{imported_flags, seen_files, trees_of, known_in}
+use Rattle.meaning_runs.proofs.EntryPlaces.{tree_seen}
 use Rattle.meaning_runs.proofs.OccurrencePlaces.{occurrences_have_places}
 use Rattle.meaning_runs.proofs.PackageYes.{AreKnownWell, yes_of_a_package_is_quiet_by}
 use Rattle.meaning_runs.specs.OccurrencePlaces.{occurrences}
@@ -44,18 +45,6 @@ places_of_text text tree known is b promises there n m o p is_o is_p same same_o
     (occurrences_have_places Event text tree known b (sites_of (seen_file known tree) b.at) is there).one_each n m o p
     (ap (λ os. slice_get os n) (sym (nodes_are code)) ∙ is_o) (ap (λ os. slice_get os m) (sym (nodes_are code)) ∙ is_p)
     same same_order
-
--- each file is a tree that is looked at
-pub tree_of : (known : ℕ → Known) (n : ℕ) (trees : List SourceFile) (seen : Seen) → Contains (seen_from known n trees) seen
-    → (tree : SourceFile) × Contains trees tree × (k : ℕ) × (seen_file (known k) tree ≡ seen)
-tree_of known n [] seen h = absurd (contains_nil seen h)
-tree_of known n (tree ∷ trees) seen h =
-    elim (contains_cases (seen_file (known n) tree) seen (seen_from known (n + 1) trees) h) [
-      | inl same ↦ (tree, contains_here tree trees, n, same)
-      | inr later ↦
-          let w = tree_of known (n + 1) trees seen later in
-          (w.0, contains_there tree w.0 trees w.1, w.2, w.3)
-    ]
 
 -- Credits
 
@@ -98,10 +87,11 @@ module _ (leaves : LeavesNoFault) (keeps : KeepsClaims) (settles : SettlesWhatIt
       own_places : (file : FileWithCredits) → Contains its.files file → BodiesHaveOwnPlaces file.seen
       own_places file h =
           let among = contains_map (λ (f : FileWithCredits). f.seen) its.files file h in
-          let w = tree_of (known_in ps tables q) 0 (trees_of q) file.seen
+          let at = place_of (seen_files ps tables q) file.seen
           (subst (λ seens. Contains seens file.seen) its.is_verified.are_seen among) in
-          let text = texts w.0 w.1 in
-          subst BodiesHaveOwnPlaces w.3 (places_of_text text.0 w.0 (known_in ps tables q w.2) text.1)
+          let w = tree_seen (known_in ps tables q) 0 (trees_of q) at.0 file.seen at.1 in
+          let text = texts w.0 (contains_at (trees_of q) at.0 w.0 w.1) in
+          subst BodiesHaveOwnPlaces w.2 (places_of_text text.0 w.0 (known_in ps tables q (0 + at.0)) text.1)
 
       nothing : (number : ℕ) (file : FileWithCredits) → slice_get its.files number ≡ Some file
           → SaysNothing (given q.path) (tables q.path).calls

@@ -1,6 +1,6 @@
 -- What certificates give for packages, wherever they are kept. Of several packages with one path, bodies at one place,
 -- functions with one name, and parameters at one position the first counts; certificates that were read have no such.
-use Rattle.std.specs.Prelude.{ℕ, ◌≡◌, ◌==◌, ◌&&◌, if◌then◌else◌, List, [], ◌∷◌, map, Option, Some, None, option_map}
+use Rattle.std.specs.Prelude.{ℕ, ◌≡◌, ◌==◌, ◌&&◌, if◌then◌else◌, List, [], ◌∷◌, Option, Some, None, option_map}
 use Rattle.std.specs.Str.{bytes_eq}
 use Rattle.indexmap.specs.IndexMap.{get_by}
 use Rattle.names.specs.Answers.{at_name}
@@ -8,8 +8,7 @@ use Rattle.meaning.specs.FunctionFacts.{CancelType, plain, with_cause}
 use Rattle.table_json.specs.declared.table.Parameter.{Parameter}
 use Rattle.table_json.specs.declared.table.Parameter.TheVariants.{Cancel, Cause, Group}
 use Rattle.table_json.specs.Tables.{Entry, position_of}
-use Rattle.certificate_json.specs.Certificates.{BodyEntry, PackageEntry, package_of}
-use Rattle.flow.specs.GraphViews.{Vec}
+use Rattle.certificate_json.specs.Certificates.{BodyEntry, PackageEntry, package_of, rows_of}
 use Rattle.verifier.specs.declared.by_certificates.ByCertificates.{ByCertificates}
 use Rattle.verifier.specs.declared.given.GivenRows.{GivenRows}
 use Rattle.verifier.specs.declared.given.GivenClaims.{GivenClaims}
@@ -69,12 +68,9 @@ given_by by path = given_of (package_by by path)
 
 -- What the program keeps of a package
 
-abbrev pub rows_view : List (Vec ℕ) → List (List ℕ)
-rows_view = map (λ masks. masks.items)
-
 abbrev pub rows_at : GivenRows → ℕ → ℕ → Option (List (List ℕ))
 rows_at given number at =
-    option_map (λ rows. rows_view rows.now) (get_by (λ place. (number == place.file) && (at == place.at)) given.bodies)
+    option_map (λ rows. rows_of rows.now) (get_by (λ place. (number == place.file) && (at == place.at)) given.bodies)
 
 abbrev pub params_at : GivenClaims → List ℕ → Option (List Parameter)
 params_at given name = option_map (λ params. params.now) (at_name given.functions name)

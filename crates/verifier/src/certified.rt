@@ -3,13 +3,14 @@
 ghost use Rattle.std.specs.Prelude.{◌≡◌, ℕ, [], IfOk, Some, option_map};
 ghost use Rattle.bodies.specs.Bodies.{TellsBody, IsOrderedGraph, code_in};
 ghost use Rattle.calls_flags.specs.KnownCalls.{is_called, known_calls};
+ghost use Rattle.certificate_json.specs.Certificates.{rows_of};
 ghost use Rattle.credits.specs.CreditViews.{has};
 ghost use Rattle.events.specs.ToldViews.{TellsFile};
 ghost use Rattle.meaning.specs.BodyEvents.{variables_of, too_many_faults};
 ghost use Rattle.meaning.specs.Mentions.{BodyPlace};
 ghost use Rattle.meaning.specs.Uses.{Seen};
 ghost use Rattle.verifier.specs.FoundBodies.{with_table, IsFound};
-ghost use Rattle.verifier.specs.GivenViews.{TellsGiven, rows_view};
+ghost use Rattle.verifier.specs.GivenViews.{TellsGiven};
 ghost use Rattle.verifier.specs.Verified.{Given as MeantGiven};
 
 use crate::body_claims::BodyClaims;
@@ -17,6 +18,7 @@ use crate::given::GivenPackage;
 use crate::settled::settled_captured;
 use bodies::{Body, BodyGraph, ordered_graph};
 use calls_flags::{KnownCalls, function_name};
+use certificate_json::Rows;
 use checker::{holds, lay_out};
 use credits::{Credits, Reliance};
 use events::Told;
@@ -37,11 +39,12 @@ pub struct Grounds<'g, 'a> {
 #[derive(Clone, Copy)]
 struct GivenBody<'g, 'e, 'a> {
     body: &'g Body<'e, 'a>,
-    rows: &'g [Vec<u16>],
+    rows: &'g Rows,
 }
 
 /// What is found of the certificate of a body with that graph: where it holds, the numbers of the captured variables
-/// that it settles.
+/// that it settles. The rows are put into lists of their own only where there are as many as the body has nodes: so it
+/// is the source that says how much memory they take.
 fn found_in(
     alloc: Global,
     grounds: Grounds<'_, '_>,
@@ -53,7 +56,7 @@ fn found_in(
         → TellsBody number seen b given.entry.body.now
         → IsOrderedGraph (code_in seen b) kept.now
         → too_many_faults (variables_of seen b.at) ≡ []
-        → (g : MeantGiven) → g.rows number b.at ≡ Some (rows_view given.entry.rows.now)
+        → (g : MeantGiven) → g.rows number b.at ≡ Some (rows_of given.entry.rows.now)
         → IsFound g (is_called grounds.entry.calls.own.now) (known_calls grounds.entry.calls) number
         (with_table seen (has credits.now)) b (option_map (λ numbers. numbers.items) found)) }
 {
@@ -67,10 +70,15 @@ fn found_in(
         called: grounds.calls.own,
         name: function_name(given.body.place),
     };
-    if !holds(&laid_out, &reliance, &claims, given.rows) {
+    if given.rows.count() != kept.order.len() {
         return Ok(None);
     }
-    Ok(Some(settled_captured(alloc, &laid_out, given.rows)?))
+    let lists = given.rows.to_lists(alloc)?;
+    let rows = lists.as_slice();
+    if !holds(&laid_out, &reliance, &claims, rows) {
+        return Ok(None);
+    }
+    Ok(Some(settled_captured(alloc, &laid_out, rows)?))
 }
 
 /// What is found of the certificate of a body: where it has not too many variables, and one is given and holds, the

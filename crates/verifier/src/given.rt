@@ -1,15 +1,15 @@
 //! What certificates give for one package.
 
 ghost use Rattle.std.specs.Prelude.{◌≡◌, ℕ, List, IfOk, OnOk, None, map, option_map};
-ghost use Rattle.certificate_json.specs.Certificates.{body_of, package_of};
+ghost use Rattle.certificate_json.specs.Certificates.{body_of, package_of, rows_of};
 ghost use Rattle.facts.specs.FactViews.{type_view};
 ghost use Rattle.meaning.specs.OuterBlocks.{or_else};
 ghost use Rattle.names.specs.Maps.{only_at};
 ghost use Rattle.table_json.specs.Tables.{entry_of};
-ghost use Rattle.verifier.specs.GivenViews.{rows_view, rows_at, only_rows, rows_in, params_at, claim_of, claim_at, claim_in, first_params, given_of, TellsGiven};
+ghost use Rattle.verifier.specs.GivenViews.{rows_at, only_rows, rows_in, params_at, claim_of, claim_at, claim_in, first_params, given_of, TellsGiven};
 
 use crate::first::keep_first;
-use certificate_json::{Body, Package};
+use certificate_json::{Body, Package, Rows};
 use facts::CancelType;
 use indexmap::IndexMap;
 use std::alloc::{AllocError, Global};
@@ -25,7 +25,7 @@ struct Place {
 /// The rows of masks of bodies, by their places; of several at one place the first counts.
 #[derive(Drop)]
 pub struct GivenRows<'c> {
-    bodies: IndexMap<Place, &'c [Vec<u16>]>,
+    bodies: IndexMap<Place, &'c Rows>,
 }
 
 impl<'c> GivenRows<'c> {
@@ -38,8 +38,8 @@ impl<'c> GivenRows<'c> {
     }
 
     /// Those of the body at that byte offset of the file of that number.
-    pub fn at(&self, file: usize, at: u32) -> Option<&'c [Vec<u16>]>
-        ensures { option_map (λ rows. rows_view rows.now) result ≡ rows_at self.now file at }
+    pub fn at(&self, file: usize, at: u32) -> Option<&'c Rows>
+        ensures { option_map (λ rows. rows_of rows.now) result ≡ rows_at self.now file at }
     {
         match self.bodies.get(&Place { file, at }) {
             Some(rows) => Some(*rows),
@@ -55,7 +55,7 @@ impl<'c> GivenRows<'c> {
             file: body.file as usize,
             at: body.at,
         };
-        keep_first(&mut self.bodies, place, body.states.as_slice())
+        keep_first(&mut self.bodies, place, &body.states)
     }
 }
 

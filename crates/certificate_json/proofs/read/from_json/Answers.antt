@@ -1,49 +1,57 @@
-use Rattle.serde_json.specs.View.{view}
-use Rattle.table_json.proofs.Readings.{handed_on}
-use Rattle.certificate_json.specs.Certificates.{packages_of}
-use Rattle.certificate_json.specs.CertificateTexts.{IsCertificateFault}
-use Rattle.certificate_json.specs.Parts.{fault_of}
-use Rattle.certificate_json.proofs.CertificateLaws.{in_order, no_other, of_text_fault, of_value_fault, only_memory, IsOfMemory}
+use Rattle.std.proofs.Common.{map}
+use Rattle.table_json.proofs.TablesRead.{version_again}
+use Rattle.certificate_json.specs.Certificates.{package_of}
+use Rattle.certificate_json.specs.declared.fault.CertificateFault.TheVariants.{WrongShape}
+use Rattle.certificate_json.proofs.CertificateLaws.{in_order, no_other, only_memory}
+use Rattle.certificate_json.proofs.WholeRead.{no_whole, whole_read}
 use Rattle.certificate_json.proofs.read.from_json.Goals as goal
 
-pub returns-in_err-value-clause-fault : goal.returns-in_err-value-clause-fault
-returns-in_err-value-clause-fault c =
-    let text = c.args.text.now in
-    let fault = c.in_err-value.field-0.0 in
-    handed_on c.from_residual.result (fault_of fault) (IsCertificateFault text) c.from_residual.ensures.1
-    (of_text_fault text fault c.in_err-value.ensures.err)
+pub returns-in-Some-clause-certificates : goal.returns-in-Some-clause-certificates
+returns-in-Some-clause-certificates c =
+    let version = c.in_ok-version.ensures.ok in
+    let read = c.in_ok-packages.ensures.ok in
+    record {
+      value = read.0;
+      is_json = read.1;
+      are_certificates =
+          whole_read c.in_ok-version.version read.0 c.in_ok-packages.field-0 c.in-Some.packages read.2 c.in-Some.is
+          (version_again c.args.text.now c.in_ok-version.version version.0 read.0 version.1 version.2 read.1);
+    }
 
-pub returns-in_err-value-clause-only_memory : goal.returns-in_err-value-clause-only_memory
-returns-in_err-value-clause-only_memory c =
-    let text = c.args.text.now in
-    let fault = c.in_err-value.field-0.0 in
-    handed_on c.from_residual.result (fault_of fault) (IsOfMemory text) c.from_residual.ensures.1
-    (only_memory text (fault_of fault) (of_text_fault text fault c.in_err-value.ensures.err))
+pub returns-in-Some-clause-in_order : goal.returns-in-Some-clause-in_order
+returns-in-Some-clause-in_order c =
+    let version = c.in_ok-version.ensures.ok in
+    let read = c.in_ok-packages.ensures.ok in
+    in_order c.in_ok-version.version read.0 (map package_of c.in-Some.packages.items)
+    (whole_read c.in_ok-version.version read.0 c.in_ok-packages.field-0 c.in-Some.packages read.2 c.in-Some.is
+    (version_again c.args.text.now c.in_ok-version.version version.0 read.0 version.1 version.2 read.1))
 
-pub returns-in_err-read_value-clause-fault : goal.returns-in_err-read_value-clause-fault
-returns-in_err-read_value-clause-fault c =
-    let text = c.args.text.now in
-    let fault = c.in_err-read_value.field-0.0 in
-    handed_on c.from_residual-in_err-read_value.result (fault_of fault) (IsCertificateFault text)
-    c.from_residual-in_err-read_value.ensures.1
-    (of_value_fault text (view c.in_ok-value.value) fault c.in_ok-value.ensures.ok c.in_err-read_value.ensures.err)
+pub returns-in-Some-clause-no_other : goal.returns-in-Some-clause-no_other
+returns-in-Some-clause-no_other c = λ version other.
+    let known = c.in_ok-version.ensures.ok in
+    let read = c.in_ok-packages.ensures.ok in
+    no_other c.args.text.now read.0 c.in_ok-version.version version (map package_of c.in-Some.packages.items) other
+    read.1
+    (whole_read c.in_ok-version.version read.0 c.in_ok-packages.field-0 c.in-Some.packages read.2 c.in-Some.is
+    (version_again c.args.text.now c.in_ok-version.version known.0 read.0 known.1 known.2 read.1))
 
-pub returns-in_err-read_value-clause-only_memory : goal.returns-in_err-read_value-clause-only_memory
-returns-in_err-read_value-clause-only_memory c =
-    let text = c.args.text.now in
-    let fault = c.in_err-read_value.field-0.0 in
-    handed_on c.from_residual-in_err-read_value.result (fault_of fault) (IsOfMemory text)
-    c.from_residual-in_err-read_value.ensures.1
-    (only_memory text (fault_of fault)
-    (of_value_fault text (view c.in_ok-value.value) fault c.in_ok-value.ensures.ok c.in_err-read_value.ensures.err))
+pub returns-in-None-clause-fault : goal.returns-in-None-clause-fault
+returns-in-None-clause-fault c =
+    let version = c.in_ok-version.ensures.ok in
+    let read = c.in_ok-packages.ensures.ok in (
+      read.0,
+      read.1,
+      no_whole c.in_ok-version.version read.0 c.in_ok-packages.field-0 read.2 c.in-None.is
+          (version_again c.args.text.now c.in_ok-version.version version.0 read.0 version.1 version.2 read.1),
+    )
 
-pub returns-clause-in_order : goal.returns-clause-in_order
-returns-clause-in_order c =
-    let found = c.in_ok-read_value.field-0 in
-    in_order found.version (view c.in_ok-value.value) (packages_of found) c.in_ok-read_value.ensures.ok
-
-pub returns-clause-no_other : goal.returns-clause-no_other
-returns-clause-no_other c = λ version other.
-    let found = c.in_ok-read_value.field-0 in
-    no_other c.args.text.now (view c.in_ok-value.value) found.version version (packages_of found) other
-    c.in_ok-value.ensures.ok c.in_ok-read_value.ensures.ok
+pub returns-in-None-clause-only_memory : goal.returns-in-None-clause-only_memory
+returns-in-None-clause-only_memory c =
+    let version = c.in_ok-version.ensures.ok in
+    let read = c.in_ok-packages.ensures.ok in
+    only_memory c.args.text.now WrongShape (
+      read.0,
+      read.1,
+      no_whole c.in_ok-version.version read.0 c.in_ok-packages.field-0 read.2 c.in-None.is
+          (version_again c.args.text.now c.in_ok-version.version version.0 read.0 version.1 version.2 read.1),
+    )

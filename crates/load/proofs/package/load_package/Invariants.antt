@@ -1,7 +1,14 @@
-use Rattle.std.proofs.Common.{drop}
+use Rattle.std.proofs.Common.{◌++◌, List, drop}
+use Rattle.std.specs.Vec.Iter.{into_iter_items}
+use Rattle.lexer.specs.declared.source.Source.{Source}
+use Rattle.load.specs.Ahead.{AreReadAhead}
 use Rattle.load.proofs.FilesLoaded.{LoadsSo}
 use Rattle.load.proofs.package.load_package.Given as goal
 
--- the files so far, and what is left
+-- the files so far, what is left, and what is read ahead of that and of what comes after it
 abbrev pub invariant-loop-source : goal.invariant-loop-source
-invariant-loop-source l = LoadsSo l.source-items (drop l.source-index l.source-items) l.readings.items l.trees.items
+invariant-loop-source l =
+    let left = drop l.source-index l.source-items in
+    (after : List Source) → AreReadAhead (l.source-items ++ after) (into_iter_items l.initial.ahead)
+    → LoadsSo l.source-items left l.readings.items l.trees.items
+    × AreReadAhead (left ++ after) (into_iter_items l.ahead)

@@ -2,7 +2,8 @@ use Rattle.bodies.specs.NodeEvents.{node_event_view}
 use Rattle.flow.specs.GraphViews.{graph_view}
 use Rattle.maker.proofs.ChangedGraphs.{found_by_events}
 use Rattle.maker.proofs.search.reach_cancel.Goals as goal
-use Rattle.maker.specs.Flags.{cancel_step, cancel_width, cancel_entry}
+use Rattle.maker.specs.Flags.{cancel_width, cancel_entry}
+use Rattle.states.specs.BitSteps.{cancel_step}
 use Rattle.events.specs.VariableViews.{variable_role_view}
 
 pub returns : goal.returns

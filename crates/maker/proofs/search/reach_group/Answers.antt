@@ -3,8 +3,9 @@ use Rattle.bodies.specs.NodeEvents.{node_event_view}
 use Rattle.flow.specs.GraphViews.{graph_view}
 use Rattle.maker.proofs.ChangedGraphs.{found_by_events}
 use Rattle.maker.proofs.search.reach_group.Goals as goal
-use Rattle.maker.specs.Flags.{group_step, group_width, group_entry}
+use Rattle.maker.specs.Flags.{group_width, group_entry}
 use Rattle.states.specs.Bits.{group_bit}
+use Rattle.states.specs.BitSteps.{group_step}
 use Rattle.events.specs.VariableViews.{variable_role_view}
 
 pub returns : goal.returns

@@ -1,13 +1,21 @@
-use Rattle.std.proofs.Common.{◌≡◌, option_map, ap, ◌∙◌, subst}
+use Rattle.std.proofs.Common.{◌≡◌, ℕ, true, option_map, ap, ◌∙◌, subst, arith}
+use Rattle.std.specs.Prelude.{◌↔◌, IsTrue}
 use Rattle.calls_flags.specs.Claims.{function_name}
 use Rattle.calls_flags.specs.KnownCalls.{is_called, known_calls}
-use Rattle.checker.specs.LaidOutViews.{LaysOut, body_of}
-use Rattle.credits.specs.CreditViews.{has}
+use Rattle.certificate_json.specs.Certificates.{rows_of}
+use Rattle.checker.specs.Certificates.{Holds}
+use Rattle.checker.specs.LaidOutViews.{LaysOut, body_of, states_view}
+use Rattle.credits.specs.CreditViews.{has, is_among}
 use Rattle.meaning_packages.specs.Credits.{promises_in}
-use Rattle.verifier.proofs.FoundCertificates.{found_none, found_some, laid_so, same_body}
-use Rattle.verifier.specs.GivenViews.{rows_view}
+use Rattle.verifier.proofs.FoundCertificates.{found_none, found_some, laid_so, not_as_many, same_body}
+use Rattle.verifier.specs.SettledPlaces.{SettlesSome}
 use Rattle.verifier.specs.Verified.{flags_of_name}
 use Rattle.verifier.proofs.certified.found_in.Goals as goal
+
+pub returns-then-count-len : goal.returns-then-count-len
+returns-then-count-len c = λ number seen b tells is few g given.
+    not_as_many g (is_called c.args.grounds.calls.own.now) (known_calls c.args.grounds.calls) number seen (has c.args.credits.now)
+    b few (rows_of c.args.given.rows.now) given c.args.kept.now is _ _ c.count.ensures (c.len.ensures ∙ c.args.kept.now.order.ok.0) (grind arith)
 
 pub returns-then-not-holds : goal.returns-then-not-holds
 returns-then-not-holds c = λ number seen b tells is few g given.
@@ -21,10 +29,11 @@ returns-then-not-holds c = λ number seen b tells is few g given.
     let lays : LaysOut told.variables.items kept laid =
     subst (λ vs. LaysOut vs kept laid) c.deref.ensures.value c.in_ok-laid_out.ensures in
     let is_name : name ≡ function_name b = c.function_name.ensures ∙ ap function_name tells.is_place in
-    found_none g own calls number seen credits b few (rows_view c.args.given.rows.now) given kept is
-    (body_of laid (promises_in calls credits told.place.at) (flags_of_name own name))
+    let there = body_of laid (promises_in calls credits told.place.at) (flags_of_name own name) in
+    found_none g own calls number seen credits b few (rows_of c.args.given.rows.now) given kept is there
     (same_body seen b number told tells kept is laid lays own calls credits name is_name) c.holds.result
-    (c.holds.ensures (laid_so seen b number told tells kept is laid lays)) c.if-not-holds.true
+    (subst (λ rs. IsTrue c.holds.result ↔ Holds there rs) (ap states_view c.as_slice-rows.ensures.value ∙ c.in_ok-lists.ensures)
+    (c.holds.ensures (laid_so seen b number told tells kept is laid lays))) c.if-not-holds.true
 
 pub returns : goal.returns
 returns c = λ number seen b tells is few g given.
@@ -40,9 +49,12 @@ returns c = λ number seen b tells is few g given.
     let is_name : name ≡ function_name b = c.function_name.ensures ∙ ap function_name tells.is_place in
     let promises = promises_in calls credits told.place.at in
     let claims = flags_of_name own name in
+    let there = body_of laid promises claims in
     let is_laid = laid_so seen b number told tells kept is laid lays in
-    found_some g own calls number seen credits b few (rows_view c.args.given.rows.now) given kept is
-    (body_of laid promises claims)
+    let listed = ap states_view c.as_slice-rows.ensures.value ∙ c.in_ok-lists.ensures in
+    let numbers = c.in_ok-settled_captured.field-0.items in
+    found_some g own calls number seen credits b few (rows_of c.args.given.rows.now) given kept is there
     (same_body seen b number told tells kept is laid lays own calls credits name is_name) c.holds.result
-    (c.holds.ensures is_laid) c.if-not-holds.false c.in_ok-settled_captured.field-0.items
-    (c.in_ok-settled_captured.ensures is_laid promises claims)
+    (subst (λ rs. IsTrue c.holds.result ↔ Holds there rs) listed (c.holds.ensures is_laid)) c.if-not-holds.false numbers
+    (subst (λ rs. (variable : ℕ) → (is_among numbers variable ≡ true) ↔ SettlesSome there rs variable) listed
+    (c.in_ok-settled_captured.ensures is_laid promises claims))

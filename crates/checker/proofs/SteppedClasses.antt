@@ -1,0 +1,143 @@
+-- Bits of masks go where the classes go for which they stand.
+use Rattle.std.proofs.Common.{◌≡◌, ℕ, zero, suc, ◌+◌, ◌<◌, ◌≤◌, Bool, true, false, if◌then◌else◌, List, [], ◌∷◌, length, Option, Some, None, option_map, Contains, refl, sym, ap, ◌∙◌, subst, arith}
+use Rattle.std.specs.Prelude.{◌==◌, ◌&&◌, slice_get, option_and_then, unwrap_or}
+use Rattle.std.proofs.lemmas.Option.{none-some, same_Some, slice_get_within, get_or_from_slice_get}
+use Rattle.meaning.specs.Classes.{Promises, CancelClass, unset, opened, safe, pending, change_cancel, left_to, ended, started, GroupClass, unmade, in_state, awaited, change_group}
+use Rattle.meaning.specs.Tracked.{idle, live}
+use Rattle.meaning.specs.Uses.{Event, other, obtain, clear, call, defer_call, pass, defer_pass, lend, start, try, wait, defer_wait, make, defer_literal, return_event}
+use Rattle.states.proofs.ClassNumbers.{pending_found}
+use Rattle.states.specs.Bits.{most, cancel_bit, cancel_class, group_bit, group_class}
+use Rattle.states.specs.BitSteps.{bit_after, cancel_step, group_step}
+use Rattle.states.specs.Masks.{is_set, bit_of_group, GoesInto}
+use Rattle.checker.proofs.SteppedMasks.{StepsInto}
+
+abbrev pub HasBit : {K : Type 0} → (K → Option ℕ) → K → Type 0
+HasBit bit_of k = (bit : ℕ) × (bit_of k ≡ Some bit)
+
+-- Of any classes: each bit of the mask stands for one, and each class that has come of one of these has a bit
+
+module _ {K : Type 0} (class_of : ℕ → Option K) (bit_of : K → Option ℕ) (change : K → K) (before after : ℕ) where
+  step_is : (k : K) (bit to : ℕ) → class_of bit ≡ Some k → bit_of (change k) ≡ Some to
+      → bit_after class_of bit_of change bit ≡ to
+  step_is k bit to is goes =
+      ap (λ o. unwrap_or (option_and_then (λ k. bit_of (change k)) o) bit) is ∙ ap (λ o. unwrap_or o bit) goes
+
+  pub classes_go : ((k : K) (bit : ℕ) → class_of bit ≡ Some k → HasBit bit_of (change k))
+      → StepsInto (bit_after class_of bit_of change) before after
+      → GoesInto class_of bit_of change before after
+  classes_go keeps steps k may =
+      let its = keeps k may.bit may.is_class in
+      record {
+        bit = its.0;
+        is_bit = its.1;
+        is_in =
+            subst (λ to. is_set after to ≡ true) (step_is k may.bit its.0 may.is_class its.1)
+            (steps may.bit may.is_in);
+      }
+
+  pub bits_go : ((bit : ℕ) → is_set before bit ≡ true → (k : K) × (class_of bit ≡ Some k))
+      → GoesInto class_of bit_of change before after
+      → StepsInto (bit_after class_of bit_of change) before after
+  bits_go stands goes bit set =
+      let its = stands bit set in
+      let has = goes its.0 record { bit = bit; is_in = set; is_class = its.1 } in
+      subst (λ to. is_set after to ≡ true) (sym (step_is its.0 bit has.bit its.1 has.is_bit)) has.is_in
+
+-- Cancel variables
+
+-- the literal that the event starts is in one of the groups
+abbrev pub StartsAmong : List ℕ → Event → Type 0
+StartsAmong groups e = (g literal : ℕ) → e ≡ start g (Some literal) → Contains groups g
+
+module _ (groups : List ℕ) (fits : length groups + 3 ≤ most) where
+  abbrev HasOne : CancelClass → Type 0
+  HasOne = HasBit (cancel_bit groups)
+
+  pending_has : (k : CancelClass) (i : ℕ) (o : Option ℕ) → slice_get groups i ≡ o → option_map pending o ≡ Some k
+      → HasOne k
+  pending_has k i None at e = absurd (none-some k e)
+  pending_has k i (Some g) at e =
+      subst HasOne (same_Some (pending g) k e)
+      (pending_found groups g (i, slice_get_within groups i g at, get_or_from_slice_get groups i g g at) fits)
+
+  pub class_has : (k : CancelClass) (bit : ℕ) → cancel_class groups bit ≡ Some k → HasOne k
+  class_has k zero e = subst HasOne (same_Some unset k e) (0, refl)
+  class_has k (suc zero) e = subst HasOne (same_Some opened k e) (1, refl)
+  class_has k (suc (suc zero)) e = subst HasOne (same_Some safe k e) (2, refl)
+  class_has k (suc (suc (suc i))) e = pending_has k i (slice_get groups i) refl e
+
+  if_has : (b : Bool) (k l : CancelClass) → HasOne k → HasOne l → HasOne (if b then k else l)
+  if_has true k l h i = h
+  if_has false k l h i = i
+
+  ended_has : (g : ℕ) (k : CancelClass) → HasOne k → HasOne (ended g k)
+  ended_has g unset h = h
+  ended_has g opened h = h
+  ended_has g safe h = h
+  ended_has g (pending x) h = if_has (g == x) safe (pending x) (2, refl) h
+
+  left_has : (g : ℕ) (k : CancelClass) → HasOne (pending g) → HasOne k → HasOne (left_to g k)
+  left_has g unset new h = h
+  left_has g opened new h = new
+  left_has g safe new h = h
+  left_has g (pending x) new h = h
+
+  started_has : (p : Promises) (v g : ℕ) (literal : Option ℕ) (k : CancelClass) → StartsAmong groups (start g literal)
+      → HasOne k → HasOne (started p v g literal k)
+  started_has p v g None k among h = h
+  started_has p v g (Some at) k among h =
+      if_has (p.credits at v) (left_to g k) k (left_has g k (pending_found groups g (among g at refl) fits) h) h
+
+  change_has : (p : Promises) (v : ℕ) (e : Event) (k : CancelClass) → StartsAmong groups e → HasOne k
+      → HasOne (change_cancel p v e k)
+  change_has p v other k among h = h
+  change_has p v (obtain u f n is_declared) k among h = if_has (u.number == v) opened k (1, refl) h
+  change_has p v (clear u) k among h = if_has (u.number == v) unset k (0, refl) h
+  change_has p v (call u) k among h = if_has (u == v) safe k (2, refl) h
+  change_has p v (defer_call u) k among h = if_has (u == v) safe k (2, refl) h
+  change_has p v (pass u f n) k among h = if_has ((u.number == v) && p.calls f n) safe k (2, refl) h
+  change_has p v (defer_pass u f n) k among h = if_has ((u.number == v) && p.calls f n) safe k (2, refl) h
+  change_has p v (lend g f n) k among h = h
+  change_has p v (start g literal) k among h = started_has p v g literal k among h
+  change_has p v (try g literal) k among h = h
+  change_has p v (wait g) k among h = ended_has g k h
+  change_has p v (defer_wait g) k among h = h
+  change_has p v (make g state) k among h = ended_has g.number k h
+  change_has p v (defer_literal literal) k among h = if_has (p.credits literal v) safe k (2, refl) h
+  change_has p v (return_event handed) k among h = h
+
+  pub cancels_go : (p : Promises) (v : ℕ) (e : Event) (before after : ℕ) → StartsAmong groups e
+      → StepsInto (cancel_step p v groups e) before after
+      → GoesInto (cancel_class groups) (cancel_bit groups) (change_cancel p v e) before after
+  cancels_go p v e before after among =
+      classes_go (cancel_class groups) (cancel_bit groups) (change_cancel p v e) before after
+      (λ k bit is. change_has p v e k among (class_has k bit is))
+
+pub groups_go : (p : Promises) (v : ℕ) (e : Event) (before after : ℕ) → StepsInto (group_step p v e) before after
+    → GoesInto group_class bit_of_group (change_group p v e) before after
+groups_go p v e before after =
+    classes_go group_class bit_of_group (change_group p v e) before after
+    (λ k bit is. (group_bit (change_group p v e k), refl))
+
+-- Each bit stands for a class
+
+there_is : (groups : List ℕ) (k : ℕ) → k < length groups → (g : ℕ) × (slice_get groups k ≡ Some g)
+there_is [] k l = absurd (omega (arith, l))
+there_is (g ∷ gs) zero l = (g, refl)
+there_is (g ∷ gs) (suc k) l = there_is gs k (omega (arith, l))
+
+pub cancel_stands : (groups : List ℕ) (bit : ℕ) → bit < length groups + 3
+    → (k : CancelClass) × (cancel_class groups bit ≡ Some k)
+cancel_stands groups zero l = (unset, refl)
+cancel_stands groups (suc zero) l = (opened, refl)
+cancel_stands groups (suc (suc zero)) l = (safe, refl)
+cancel_stands groups (suc (suc (suc k))) l =
+    let its = there_is groups k (omega (arith, l)) in
+    (pending its.0, ap (option_map pending) its.1)
+
+pub group_stands : (bit : ℕ) → bit < 4 → (k : GroupClass) × (group_class bit ≡ Some k)
+group_stands zero l = (unmade, refl)
+group_stands (suc zero) l = (in_state idle, refl)
+group_stands (suc (suc zero)) l = (in_state live, refl)
+group_stands (suc (suc (suc zero))) l = (awaited, refl)
+group_stands (suc (suc (suc (suc n)))) l = absurd (omega (arith, l))

@@ -1,0 +1,7 @@
+use Rattle.judge.proofs.Loads.{is_report}
+use Rattle.judge.proofs.reports.report_by.Goals as goal
+
+pub returns-clause-report : goal.returns-clause-report
+returns-clause-report g c =
+    is_report c.args.given.items c.in_ok-packages.packages.items c.in_ok-report_loaded.field-0
+    c.in_ok-packages.ensures.loaded c.in_ok-report_loaded.ensures

@@ -1,0 +1,21 @@
+-- The trees of files that were read ahead.
+use Rattle.std.proofs.Common.{◌≡◌, List, [], ◌∷◌, Option, map, Result, Ok, IfOk, subst}
+use Rattle.std.specs.Borrow.{Bor}
+use Rattle.lexer.specs.declared.source.Source.{Source}
+use Rattle.tree.specs.declared.file.File.{File}
+use Rattle.workers.specs.Outcomes.{AreOutcomes}
+use Rattle.load.specs.Ahead.{AreReadAhead}
+use Rattle.load.specs.Readings.{HasTree}
+
+-- what came of the files is what was read ahead of them
+pub of_outcomes : (files : List (Bor Source)) (trees : List (Option File))
+    → AreOutcomes (λ file tree. HasTree file.now tree) files trees
+    → AreReadAhead (map (λ file. file.now) files) trees
+of_outcomes [] [] are = tt
+of_outcomes [] (t ∷ ts) are = absurd are
+of_outcomes (f ∷ fs) [] are = absurd are
+of_outcomes (f ∷ fs) (t ∷ ts) are = (are.0, of_outcomes fs ts are.1)
+
+-- what holds of a value if there is one, holds of the one that there is
+pub of_ok : {A E : Type 0} (P : A → Type 0) (result : Result A E) (x : A) → result ≡ Ok x → IfOk result P → P x
+of_ok P result x is holds = subst (λ r. IfOk r P) is holds

@@ -1,0 +1,33 @@
+use Rattle.std.proofs.Common.{codes}
+use Rattle.json_reading.proofs.ObjectKeys.{same_key, other_key}
+use Rattle.outside_json.proofs.PackagesRead.{functions_put, path_put, unknown_put}
+use Rattle.outside_json.proofs.packages.PackageMembersReadMember.read_member.Goals as goal
+
+pub returns-in_ok-self-clause-ok : goal.returns-in_ok-self-clause-ok
+returns-in_ok-self-clause-ok c =
+    let read = c.in_ok-self.ensures.ok in
+    let key = c.args.key.now in (
+      read.value,
+      read.stands,
+      λ begun ms h. functions_put key read.value ms _ _ _ h _ (same_key key (codes "functions") c.if-eq.ensures)
+          read.judged,
+    )
+
+pub returns-in_ok-self-2-clause-ok : goal.returns-in_ok-self-2-clause-ok
+returns-in_ok-self-2-clause-ok c =
+    let read = c.in_ok-self-2.ensures.ok in
+    let key = c.args.key.now in (
+      read.value,
+      read.stands,
+      λ begun ms h. path_put key read.value ms _ _ _ h _ (same_key key (codes "path") c.if-eq-2.ensures) read.judged,
+    )
+
+pub returns-in_ok-pass_value-clause-ok : goal.returns-in_ok-pass_value-clause-ok
+returns-in_ok-pass_value-clause-ok c =
+    let passed = c.in_ok-pass_value.ensures.ok in
+    let key = c.args.key.now in (
+      passed.0,
+      passed.1,
+      λ begun ms h. unknown_put key passed.0 ms _ _ _ h (other_key key (codes "functions") c.if-eq.ensures)
+          (other_key key (codes "path") c.if-eq-2.ensures),
+    )

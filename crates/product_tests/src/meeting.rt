@@ -1,0 +1,59 @@
+//! Work that several threads share, at the same time.
+
+use std::sync::atomic::{AtomicU64, Ordering};
+use std::test::Fail;
+use std::thread;
+use std::time::{Clock, Duration};
+use workers::{Work, Workers, outcomes};
+
+/// So many times of a millisecond the first thread waits for the second one.
+const MOST_TURNS: u32 = 10_000;
+
+/// Work of which the first piece goes on only once a second one was begun.
+#[derive(Drop)]
+struct Meeting<'r, R> {
+    rt: &'r R,
+    begun: AtomicU64,
+    gave_up: AtomicU64,
+}
+
+impl<'r, R: Clock> Work<u64, u64> for Meeting<'r, R> {
+    ghost is_outcome = { λ _ item outcome. Unit {0} };
+
+    fn outcome(&self, item: &u64) -> Option<u64> {
+        if self.begun.fetch_add(1, Ordering::SeqCst) == 0 {
+            self.wait_for_another();
+        }
+        Some(*item)
+    }
+}
+
+impl<'r, R: Clock> Meeting<'r, R> {
+    /// Waits until another piece was begun, or gives up.
+    fn wait_for_another(&self) {
+        for _ in 0..MOST_TURNS {
+            if self.begun.load(Ordering::SeqCst) > 1 {
+                return;
+            }
+            thread::sleep(self.rt, Duration::from_millis(1));
+        }
+        self.gave_up.fetch_add(1, Ordering::SeqCst);
+    }
+}
+
+#[test]
+fn two_workers_meet(rt: HostRuntime) -> Result<(), Fail> {
+    let Some(two) = Workers::new(2) else {
+        return Err(Fail::new("no workers"));
+    };
+    let work = Meeting {
+        rt: &rt,
+        begun: AtomicU64::new(0),
+        gave_up: AtomicU64::new(0),
+    };
+    let found = outcomes(&rt, rt.alloc(), [7, 9].as_slice(), two, &work)?;
+    assert_eq!(rt; found.as_slice(), [Some(7), Some(9)].as_slice());
+    assert_eq!(rt; work.begun.load(Ordering::SeqCst), 2);
+    assert_eq!(rt; work.gave_up.load(Ordering::SeqCst), 0);
+    Ok(())
+}
