@@ -1,5 +1,5 @@
-"""What bench/lexer, bench/parser, bench/check and bench/damaged share: Go texts, packages, and how programs are built and
-timed."""
+"""What bench/lexer, bench/parser, bench/check, bench/damaged and bench/hostile share: Go texts, packages, and how programs
+are built and timed."""
 
 import os
 import random
