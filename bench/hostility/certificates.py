@@ -1,10 +1,10 @@
 """Texts of certificates that are none, that are damaged, or of other sources."""
 
 import json
-import os
 
 from common import verdicts
-from hostility.runs import OUT_OF_MEMORY, Section, trouble_of_form
+from hostility.huge import huge_texts
+from hostility.runs import Section, trouble_of_form
 from hostility.worked import (
     DEFERRED, DEFERRED_IN_A_LOOP, HEAD, LOOP, ON_ONE_BRANCH, RECURSION, WORKED, report_of, words_of
 )
@@ -18,10 +18,6 @@ MISSING = "LC16 f certificate missing or not holding"
 TEXT_FAULTS = (NOT_JSON, OTHER_SHAPE, NEW_VERSION)
 # 127 lists and objects in each other are read, and more are no JSON.
 DEEPEST = 127
-HUGE = 100_000_000
-# The most kilobytes of addresses that a run on a huge text gets.
-ROOM = 8_000_000
-MIB = 1 << 20
 DAMAGES = b'"\\{}[],:09-\xff'
 
 NO_BODIES = '{"bodies":[],"facts":[],"path":"a"}'
@@ -119,7 +115,9 @@ def certificates(bench, long):
     for text in (DEFERRED, ON_ONE_BRANCH, RECURSION):
         damaged_bytes(section, text)
     other_sources(section)
-    huge_texts(section)
+    bench.empty_case()
+    path, words = bench.at(FILE), words_of(bench, {"a": DEFERRED})
+    huge_texts(section, path, ["verify", "--cert", path, *words], HUGE_TEXTS)
     return section
 
 
@@ -227,17 +225,7 @@ def other_sources(section):
             section.note(end, trouble)
 
 
-def long_file(path, opening, part, closing):
-    """A file of about 100 MB, written piece by piece."""
-    piece = part * (MIB // len(part))
-    with open(path, "wb") as file:
-        file.write(opening)
-        for _ in range(HUGE // len(piece)):
-            file.write(piece)
-        file.write(closing)
-
-
-# Huge texts: what stands before and after what is repeated, and what may be told.
+# Texts of 100 MB: what stands before and after what is repeated, and what may be told.
 HUGE_TEXTS = {
     "digits": (b"", b"1", b"", (NOT_JSON, OTHER_SHAPE)),
     "digits of a version": (b'{"packages":[],"version":', b"1", b"}", (NOT_JSON, OTHER_SHAPE)),
@@ -255,20 +243,3 @@ HUGE_TEXTS = {
     ),
     "keys of one name": (b'{"version":1', b',"packages":[]', b"}", ()),
 }
-
-
-def huge_texts(section):
-    """Texts of 100 MB; a run on one may say that memory runs out, since it has not all of the machine's."""
-    bench = section.bench
-    bench.empty_case()
-    words = words_of(bench, {"a": DEFERRED})
-    before = ("sh", "-c", f'ulimit -v {ROOM}; exec "$@"', "sh")
-    path = bench.at(FILE)
-    for name, (opening, part, closing, faults) in HUGE_TEXTS.items():
-        long_file(path, opening, part, closing)
-        end = bench.run(["verify", "--cert", path, *words], before=before)
-        known = (2, b"") == end.says()[:2] and end.err in (*faults, OUT_OF_MEMORY)
-        unread = faults and not known and f"{name}: {end.says()!r}"[:400]
-        section.note(end, unread or trouble_of_form(end))
-        print(f"100 MB, {name}: {end.seconds:.1f} s, {end.kilobytes / 1000:.0f} MB, {end.kind()}", flush=True)
-    os.remove(path)

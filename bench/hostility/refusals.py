@@ -1,7 +1,7 @@
 """What becomes of a run that is refused memory or threads, and how many requests for memory it makes."""
 
 from hostility.runs import NO_THREAD, OUT_OF_MEMORY, Section, trouble_of_form
-from hostility.worked import GIVEN, GIVER, GROUP, HEAD, IMPORT_IS_NOT_YES, RECURSION, loops, words_of
+from hostility.worked import FACTS, GIVEN, GIVER, GROUP, HEAD, IMPORT_IS_NOT_YES, NOTIFIED, PASSED, RECURSION, loops, words_of
 
 # So many runs in a row that meet no refusal end a search by the number of a request: threads ask in no fixed order.
 CALM = 3
@@ -12,6 +12,8 @@ MOST_REQUESTS = 1.5
 
 # Packages that call, give and start what is tracked.
 WIDE = {"a": GIVER, "b": GIVEN, "c": GROUP, "d": RECURSION}
+# Packages that import what is declared.
+DECLARED = {"a": NOTIFIED, "b": PASSED}
 
 
 class Command:
@@ -58,13 +60,24 @@ def commands(bench, packages):
     bench.empty_case()
     words, kept = words_of(bench, packages), bench.at("kept.json")
     bench.run(["check", "--cert", kept, *words])
-    # Here goes a command with --facts, once there is one.
     return [
         Command(bench, ["check", "-j", "1", *words], False),
         Command(bench, ["check", "-j", "3", *words], False),
         Command(bench, ["check", "--cert", bench.at(OUT), *words], True),
         Command(bench, ["check", "-j", "3", "--cert", bench.at(OUT), *words], True),
         Command(bench, ["verify", "--cert", kept, *words], False),
+    ]
+
+
+def commands_with_facts(bench):
+    """The commands that are refused something while they have declared facts."""
+    bench.empty_case()
+    words, kept, facts = words_of(bench, DECLARED), bench.at("kept.json"), bench.put("facts.json", FACTS.encode())
+    bench.run(["check", "--facts", facts, "--cert", kept, *words])
+    return [
+        Command(bench, ["check", "--facts", facts, *words], False),
+        Command(bench, ["check", "-j", "3", "--facts", facts, "--cert", bench.at(OUT), *words], True),
+        Command(bench, ["verify", "--cert", kept, "--facts", facts, *words], False),
     ]
 
 
@@ -85,16 +98,22 @@ def memory(bench, long):
     """Each request for memory refused, and all from it on."""
     section = Section(bench, "memory")
     for packages in (IMPORT_IS_NOT_YES, WIDE) if long else (IMPORT_IS_NOT_YES,):
-        for command in commands(bench, packages):
-            command.note_ample(section)
-            unwritten = (OUT_OF_MEMORY, b"ctxvet: cannot write: %s\n" % bench.at(OUT).encode())
-
-            def judge(end, met):
-                return command.trouble(end, (OUT_OF_MEMORY,) if met else (), unwritten if met else ())
-
-            for setting in ("memory", "memory+"):
-                each_refused(section, command, setting, lambda counts: counts.refused_memory, judge)
+        memory_of(section, commands(bench, packages))
+    memory_of(section, commands_with_facts(bench))
     return section
+
+
+def memory_of(section, commands):
+    """Each request for memory of these commands refused, and all from it on."""
+    for command in commands:
+        command.note_ample(section)
+        unwritten = (OUT_OF_MEMORY, b"ctxvet: cannot write: %s\n" % section.bench.at(OUT).encode())
+
+        def judge(end, met):
+            return command.trouble(end, (OUT_OF_MEMORY,) if met else (), unwritten if met else ())
+
+        for setting in ("memory", "memory+"):
+            each_refused(section, command, setting, lambda counts: counts.refused_memory, judge)
 
 
 def threads(bench, long):

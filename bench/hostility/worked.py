@@ -142,6 +142,39 @@ GROUP_OF_THE_CALLER = GROUP_HEAD + """func f(p context.Context, g *errgroup.Grou
 }
 """
 
+NOTIFIED = """package a
+
+import (
+	"context"
+	"os/signal"
+)
+
+func f(p context.Context) {
+	ctx, stop := signal.NotifyContext(p)
+	use(ctx)
+}
+"""
+
+PASSED = """package a
+
+import (
+	"context"
+	"x/run"
+)
+
+func f(p context.Context) {
+	_, cancel := context.WithCancel(p)
+	run.Close(cancel)
+}
+"""
+
+# Declared facts by which the cancel function of NOTIFIED is followed, and that of PASSED was called.
+FACTS = (
+    '{"packages":[{"functions":[{"causes":[],"gives":[1],"name":"NotifyContext","params":[],"results":2}],'
+    '"path":"os/signal"},{"functions":[{"causes":[],"gives":[],"name":"Close","params":[{"at":0,"calls":true,'
+    '"kind":"cancel"}],"results":0}],"path":"x/run"}],"version":2}'
+)
+
 # The most cancel variables that a body may have.
 MOST_CANCELS = 48
 

@@ -5,7 +5,7 @@ import signal
 
 from hostility.refusals import CALM, OLD, OUT, Command
 from hostility.runs import UNWRITTEN, Section, trouble_of_form
-from hostility.worked import DEFERRED, IMPORT_IS_NOT_YES, words_of
+from hostility.worked import DEFERRED, FACTS, IMPORT_IS_NOT_YES, words_of
 
 YES = {"a": DEFERRED}
 
@@ -40,12 +40,13 @@ def left_beside(bench):
 
 
 def commands(bench):
-    """A check, a check that writes certificates, and a verification by them."""
+    """A check, a check with declared facts, one that writes certificates, and a verification by them."""
     for packages in (IMPORT_IS_NOT_YES, YES):
         bench.empty_case()
         words, kept = words_of(bench, packages), bench.at("kept.json")
         bench.run(["check", "--cert", kept, *words])
         yield Command(bench, ["check", *words], False)
+        yield Command(bench, ["check", "--facts", bench.put("facts.json", FACTS.encode()), *words], False)
         yield Command(bench, ["check", "--cert", bench.at(OUT), *words], True)
         yield Command(bench, ["verify", "--cert", kept, *words], False)
 

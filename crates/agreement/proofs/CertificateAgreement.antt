@@ -67,11 +67,11 @@ pub record HasTable (ps : List LoadedPackage) (tables : Tables) (p : LoadedPacka
   pub are_calls : (tables p.path).calls ≡ flags
   pub are_signatures : (name : List ℕ) → (tables p.path).signatures name ≡ signatures_of ps p name
 
-has_table : (ps : List LoadedPackage) (tables : Tables) (are : AreTables ps tables) (i : ℕ) (p : LoadedPackage)
-    (files : List FileWithCredits) (flags : Flags)
+has_table : (declared : Tables) (ps : List LoadedPackage) (tables : Tables) (are : AreTables declared ps tables) (i : ℕ)
+    (p : LoadedPackage) (files : List FileWithCredits) (flags : Flags)
     → IsJudged ps tables i p files flags
     → HasTable ps tables p flags
-has_table ps tables are i p files flags judged = by (are.of_package i p judged.is_package)
+has_table declared ps tables are i p files flags judged = by (are.of_package i p judged.is_package)
   where
     by : IsTableBy AreFlagsByPaths ps tables i p (tables p.path) → HasTable ps tables p flags
     by (empty x fault h) = absurd (judged.has_no_whole_fault x fault)
@@ -155,14 +155,15 @@ module _ (ps : List LoadedPackage) (tables : Tables) (i : ℕ) (p : LoadedPackag
 
 -- All of a package
 
-module _ (bodies : BodiesAreApart) (ps : List LoadedPackage) (entries : List PackageEntry) (tables : Tables)
-    (distinct : HaveDistinctPaths ps) (are : AreTables ps tables) (certificates : AreCertificatesBy ps tables entries)
+module _ (bodies : BodiesAreApart) (declared : Tables) (ps : List LoadedPackage) (entries : List PackageEntry)
+    (tables : Tables) (distinct : HaveDistinctPaths ps) (are : AreTables declared ps tables)
+    (certificates : AreCertificatesBy ps tables entries)
     (texts : (i : ℕ) (p : LoadedPackage) → slice_get ps i ≡ Some p → AreTreesOfTexts p)
     (fits : (i : ℕ) (p : LoadedPackage) → slice_get ps i ≡ Some p → CanBeWritten tables p) where
   module _ (i : ℕ) (p : LoadedPackage) (files : List FileWithCredits) (flags : Flags)
       (judged : IsJudged ps tables i p files flags) (entry : PackageEntry) (is : slice_get entries i ≡ Some entry) where
     its_table : HasTable ps tables p flags
-    its_table = has_table ps tables are i p files flags judged
+    its_table = has_table declared ps tables are i p files flags judged
 
     certificate : IsCertificateOf ps tables i p entry
     certificate = certificates.each i p entry judged.is_package is
@@ -212,11 +213,11 @@ module _ (bodies : BodiesAreApart) (ps : List LoadedPackage) (entries : List Pac
   ]
 
 pub certificates_agree : LowerLaws → BodiesAreApart → CertificatesAgree
-certificates_agree laws bodies ps entries checked verified is_checked is_verified distinct certificates texts fits =
-    reports_agree laws bodies (given_in entries) ps checked verified is_checked is_verified texts
-    (given_by_paths bodies ps entries is_checked.tables distinct is_checked.are_tables
+certificates_agree laws bodies declared ps entries checked verified is_checked is_verified distinct certificates texts fits =
+    reports_agree laws bodies declared (given_in entries) ps checked verified is_checked is_verified texts
+    (given_by_paths bodies declared ps entries is_checked.tables distinct is_checked.are_tables
     (subst (λ t. AreCertificatesBy ps t entries)
-    (one_way AreFlagsByPaths flags_by_paths ps certificates.tables is_checked.tables certificates.are_tables
+    (one_way AreFlagsByPaths flags_by_paths declared ps certificates.tables is_checked.tables certificates.are_tables
     is_checked.are_tables)
     certificates.are_certificates)
     texts fits)

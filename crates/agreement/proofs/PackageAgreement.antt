@@ -44,9 +44,9 @@ determined given ps one other i p flags more is none same first second =
     one_claimed first.files second.files (first.are_seen ∙ (seen ∙ sym second.are_seen)) (given p.path) flags more
     first.are_claimed second.are_claimed
 
-module _ (given : GivenByPath) (ps : List LoadedPackage) (tables : Tables) where
-  tables_by_paths : AreGivenByPaths given ps tables → AreTablesBy AreFlagsByPaths ps tables
-      → AreTablesBy (AreFlagsByClaims given) ps tables
+module _ (declared : Tables) (given : GivenByPath) (ps : List LoadedPackage) (tables : Tables) where
+  tables_by_paths : AreGivenByPaths given ps tables → AreTablesBy AreFlagsByPaths declared ps tables
+      → AreTablesBy (AreFlagsByClaims given) declared ps tables
   tables_by_paths least are = record {
     of_package = λ i p is. by i p (are.of_package i p is);
     of_others = are.of_others;
@@ -62,8 +62,8 @@ module _ (given : GivenByPath) (ps : List LoadedPackage) (tables : Tables) where
             are_claimed = (least i p its.files flags its.is_judged).are_claimed;
           }) signatures calls
 
-  tables_by_certificates : AreTablesBy (AreFlagsByCertificates given) ps tables
-      → AreTablesBy (AreFlagsByClaims given) ps tables
+  tables_by_certificates : AreTablesBy (AreFlagsByCertificates given) declared ps tables
+      → AreTablesBy (AreFlagsByClaims given) declared ps tables
   tables_by_certificates are = record {
     of_package = λ i p is. by i p (are.of_package i p is);
     of_others = are.of_others;
@@ -105,8 +105,8 @@ other_at files others number file same e =
 
 -- Packages
 
-module _ (laws : LowerLaws) (bodies : BodiesAreApart) (given : GivenByPath) (ps : List LoadedPackage) (tables : Tables)
-    (texts : (i : ℕ) (p : LoadedPackage) → slice_get ps i ≡ Some p → AreTreesOfTexts p)
+module _ (laws : LowerLaws) (bodies : BodiesAreApart) (declared : Tables) (given : GivenByPath)
+    (ps : List LoadedPackage) (tables : Tables) (texts : (i : ℕ) (p : LoadedPackage) → slice_get ps i ≡ Some p → AreTreesOfTexts p)
     (least : AreGivenByPaths given ps tables) where
   -- a package that is judged by both
 
@@ -156,8 +156,8 @@ module _ (laws : LowerLaws) (bodies : BodiesAreApart) (given : GivenByPath) (ps 
           (what_is_believed_has_no_finding laws (given p.path) flags calls number file other its_text.have_own_groups
           its_text.have_own_places (has_least number file is) same (given_credits number other is_other) nothing).1
 
-  module _ (by_path : AreTablesBy AreFlagsByPaths ps tables)
-      (by_cert : AreTablesBy (AreFlagsByCertificates given) ps tables) where
+  module _ (by_path : AreTablesBy AreFlagsByPaths declared ps tables)
+      (by_cert : AreTablesBy (AreFlagsByCertificates given) declared ps tables) where
     -- a package without a fault of the whole package is judged by both
     its_flags : (i : ℕ) (p : LoadedPackage) → slice_get ps i ≡ Some p → HasNoWholeFault ps i
         → (flags : Flags) × AreFlagsByPaths ps tables i p flags
@@ -177,7 +177,7 @@ module _ (laws : LowerLaws) (bodies : BodiesAreApart) (given : GivenByPath) (ps 
         by (full flags nothing its signatures calls) = (flags, its)
 
     -- what is said of files by certificates is not said where nothing is by paths
-    none_said : (i : ℕ) (x : Entry) → HasNoWholeFault ps i → IsYesBy by_paths ps tables i
+    none_said : (i : ℕ) (x : Entry) → HasNoWholeFault ps i → IsYesBy (by_paths declared) ps tables i
         → SaysByCertificates given ps tables i x
         → ⊥
     none_said i x none its_yes s =
@@ -199,7 +199,7 @@ module _ (laws : LowerLaws) (bodies : BodiesAreApart) (given : GivenByPath) (ps 
         subst (λ (f : Flags). SaysNothing (given p.path) f (calls_by f (imported_flags p tables)) s.number s.file)
         (sym (same_flags i p files s.files w.0 s.flags judged s.is_verified)) quiet x s.is_said
 
-    none_found : (i : ℕ) (x : Entry) → HasNoWholeFault ps i → IsYesBy (by_certificates given) ps tables i
+    none_found : (i : ℕ) (x : Entry) → HasNoWholeFault ps i → IsYesBy (by_certificates given declared) ps tables i
         → SaysByPaths ps tables i x
         → ⊥
     none_found i x none its_yes s =
@@ -229,23 +229,24 @@ module _ (laws : LowerLaws) (bodies : BodiesAreApart) (given : GivenByPath) (ps 
         nothing)
         x s.is_finding
 
-    quiet_by_certificates : (i : ℕ) (x : Entry) → IsFindingBy (by_certificates given) ps tables i x
-        → IsYesBy by_paths ps tables i
+    quiet_by_certificates : (i : ℕ) (x : Entry) → IsFindingBy (by_certificates given declared) ps tables i x
+        → IsYesBy (by_paths declared) ps tables i
         → ⊥
     quiet_by_certificates i x (of_whole h) its_yes = its_yes x (of_whole h)
     quiet_by_certificates i x (of_import j number spec y none im finding) its_yes =
         quiet_by_certificates j y finding (λ z h. its_yes _ (of_import j number spec z none im h))
     quiet_by_certificates i x (of_files none said) its_yes = none_said i x none its_yes said
 
-    quiet_by_paths : (i : ℕ) (x : Entry) → IsFindingBy by_paths ps tables i x
-        → IsYesBy (by_certificates given) ps tables i
+    quiet_by_paths : (i : ℕ) (x : Entry) → IsFindingBy (by_paths declared) ps tables i x
+        → IsYesBy (by_certificates given declared) ps tables i
         → ⊥
     quiet_by_paths i x (of_whole h) its_yes = its_yes x (of_whole h)
     quiet_by_paths i x (of_import j number spec y none im finding) its_yes =
         quiet_by_paths j y finding (λ z h. its_yes _ (of_import j number spec z none im h))
     quiet_by_paths i x (of_files none said) its_yes = none_found i x none its_yes said
 
-    pub same_yes : (i : ℕ) → IsYesBy by_paths ps tables i ↔ IsYesBy (by_certificates given) ps tables i
+    pub same_yes : (i : ℕ) → IsYesBy (by_paths declared) ps tables i
+        ↔ IsYesBy (by_certificates given declared) ps tables i
     same_yes i = (λ its_yes x h. quiet_by_certificates i x h its_yes, λ its_yes x h. quiet_by_paths i x h its_yes)
 
 -- Reports
@@ -279,25 +280,26 @@ module _ (rules : Rules) (ps : List LoadedPackage) (report : List Said) (is : Is
   ]
 
 pub reports_agree : LowerLaws → BodiesAreApart → ReportsAgree
-reports_agree laws bodies given ps checked verified is_checked is_verified texts least = (
+reports_agree laws bodies declared given ps checked verified is_checked is_verified texts least = (
   same,
   λ i. (
-    λ its_yes. said_yes (by_certificates given) ps verified is_verified i its_yes.loaded its_yes.is_package
-        (subst (λ t. IsYesBy (by_certificates given) ps t i) same
-        ((agree i).0 (is_yes by_paths ps checked is_checked i its_yes))),
-    λ its_yes. said_yes by_paths ps checked is_checked i its_yes.loaded its_yes.is_package
-        ((agree i).1 (subst (λ t. IsYesBy (by_certificates given) ps t i) (sym same)
-        (is_yes (by_certificates given) ps verified is_verified i its_yes))),
+    λ its_yes. said_yes (by_certificates given declared) ps verified is_verified i its_yes.loaded its_yes.is_package
+        (subst (λ t. IsYesBy (by_certificates given declared) ps t i) same
+        ((agree i).0 (is_yes (by_paths declared) ps checked is_checked i its_yes))),
+    λ its_yes. said_yes (by_paths declared) ps checked is_checked i its_yes.loaded its_yes.is_package
+        ((agree i).1 (subst (λ t. IsYesBy (by_certificates given declared) ps t i) (sym same)
+        (is_yes (by_certificates given declared) ps verified is_verified i its_yes))),
   ),
 )
   where
     same : is_checked.tables ≡ is_verified.tables
     same =
-        one_way (AreFlagsByClaims given) (determined given) ps is_checked.tables is_verified.tables
-        (tables_by_paths given ps is_checked.tables least is_checked.are_tables)
-        (tables_by_certificates given ps is_verified.tables is_verified.are_tables)
+        one_way (AreFlagsByClaims given) (determined given) declared ps is_checked.tables is_verified.tables
+        (tables_by_paths declared given ps is_checked.tables least is_checked.are_tables)
+        (tables_by_certificates declared given ps is_verified.tables is_verified.are_tables)
 
-    agree : (i : ℕ) → IsYesBy by_paths ps is_checked.tables i ↔ IsYesBy (by_certificates given) ps is_checked.tables i
+    agree : (i : ℕ) → IsYesBy (by_paths declared) ps is_checked.tables i
+        ↔ IsYesBy (by_certificates given declared) ps is_checked.tables i
     agree =
-        same_yes laws bodies given ps is_checked.tables texts least is_checked.are_tables
-        (subst (AreTablesBy (AreFlagsByCertificates given) ps) (sym same) is_verified.are_tables)
+        same_yes laws bodies declared given ps is_checked.tables texts least is_checked.are_tables
+        (subst (AreTablesBy (AreFlagsByCertificates given) declared ps) (sym same) is_verified.are_tables)

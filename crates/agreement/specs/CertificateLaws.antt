@@ -1,5 +1,5 @@
 -- What `check` and `verify` have to do with each other, by the certificates that `check` makes of packages: the reports
--- of both say yes of the same packages.
+-- of both say yes of the same packages, where the same is declared of packages that were not given.
 use Rattle.std.specs.Prelude.{ℕ, ◌≡◌, ◌↔◌, ◌<◌, ◌≤◌, ◌^◌, true, List, length, Some, slice_get}
 use Rattle.all_certificates.specs.CertifiedPackages.{AreCertificatesOfAll}
 use Rattle.certificate_json.specs.Certificates.{PackageEntry}
@@ -21,11 +21,12 @@ pub record CanBeWritten (tables : Tables) (p : LoadedPackage) : Type 0 where
   pub positions_fit : (name : List ℕ) (k : ℕ) → (tables p.path).calls name k ≡ true → k < 2 ^ 32
 
 abbrev pub CertificatesAgree : Type 0
-CertificatesAgree = (ps : List LoadedPackage) (entries : List PackageEntry) (checked verified : List Said)
-    → (is_checked : IsReportBy by_paths ps checked)
-    → (is_verified : IsReportBy (by_certificates (given_in entries)) ps verified)
+CertificatesAgree =
+    (declared : Tables) (ps : List LoadedPackage) (entries : List PackageEntry) (checked verified : List Said)
+    → (is_checked : IsReportBy (by_paths declared) ps checked)
+    → (is_verified : IsReportBy (by_certificates (given_in entries) declared) ps verified)
     → HaveDistinctPaths ps
-    → AreCertificatesOfAll ps entries
+    → AreCertificatesOfAll declared ps entries
     → ((i : ℕ) (p : LoadedPackage) → slice_get ps i ≡ Some p → AreTreesOfTexts p)
     → ((i : ℕ) (p : LoadedPackage) → slice_get ps i ≡ Some p → CanBeWritten is_checked.tables p)
     → (is_checked.tables ≡ is_verified.tables) × ((i : ℕ) → IsYesIn ps checked i ↔ IsYesIn ps verified i)

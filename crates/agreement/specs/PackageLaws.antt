@@ -1,5 +1,6 @@
 -- What `check` and `verify` have to do with each other, of packages. Where what is given for each package is what
--- `check` makes of it, the reports of both say yes of the same packages, and know the same of their functions.
+-- `check` makes of it, and the same is declared of others, the reports of both say yes of the same packages, and know
+-- the same of their functions.
 use Rattle.std.specs.Prelude.{ℕ, ◌≡◌, ◌↔◌, List, Some, slice_get}
 use Rattle.agreement.specs.AgreementLaws.{GivesLeast}
 use Rattle.meaning_packages.specs.CallsFlags.{Flags, FileWithCredits, calls_by}
@@ -28,9 +29,9 @@ AreGivenByPaths given ps tables = (i : ℕ) (p : LoadedPackage) (files : List Fi
     → IsGivenByPaths (given p.path) tables p files flags
 
 abbrev pub ReportsAgree : Type 0
-ReportsAgree = (given : GivenByPath) (ps : List LoadedPackage) (checked verified : List Said)
-    → (is_checked : IsReportBy by_paths ps checked)
-    → (is_verified : IsReportBy (by_certificates given) ps verified)
+ReportsAgree = (declared : Tables) (given : GivenByPath) (ps : List LoadedPackage) (checked verified : List Said)
+    → (is_checked : IsReportBy (by_paths declared) ps checked)
+    → (is_verified : IsReportBy (by_certificates given declared) ps verified)
     → ((i : ℕ) (p : LoadedPackage) → slice_get ps i ≡ Some p → AreTreesOfTexts p)
     → AreGivenByPaths given ps is_checked.tables
     → (is_checked.tables ≡ is_verified.tables) × ((i : ℕ) → IsYesIn ps checked i ↔ IsYesIn ps verified i)

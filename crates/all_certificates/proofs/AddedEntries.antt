@@ -1,6 +1,8 @@
 -- Entries that are added one part after the other.
-use Rattle.std.proofs.Common.{◌≡◌, ℕ, ◌+◌, Bool, List, [], ◌∷◌, ◌++◌, sym, ap, ◌∙◌, subst}
+use Rattle.std.proofs.Common.{◌≡◌, ℕ, zero, suc, ◌+◌, Bool, List, [], ◌∷◌, ◌++◌, drop, Some, sym, ap, ◌∙◌, subst, arith}
+use Rattle.std.specs.Prelude.{slice_get}
 use Rattle.std.proofs.lemmas.List.{append-nil, append_assoc}
+use Rattle.std.proofs.lemmas.Option.{none-some, same_Some}
 use Rattle.all_certificates.specs.AddedEntries.{Adds}
 use Rattle.all_certificates.specs.CertifiedBodies.{InTurn, no_item, item_and, AreOfFile, AreOfFiles, no_file, file_and}
 use Rattle.certificate_json.specs.Certificates.{BodyEntry}
@@ -9,6 +11,13 @@ use Rattle.meaning_packages.specs.CallsFlags.{FileWithCredits}
 
 grown : (so_far own rest next : List BodyEntry) → next ≡ so_far ++ own → so_far ++ (own ++ rest) ≡ next ++ rest
 grown so_far own rest next is = sym (append_assoc so_far own rest) ∙ ap (λ es. es ++ rest) (sym is)
+
+-- what is left of a list from a place on
+pub rest_from : {A : Type 0} (xs : List A) (i : ℕ) (x : A) → slice_get xs i ≡ Some x → drop i xs ≡ x ∷ drop (i + 1) xs
+rest_from [] i x is = absurd (none-some x is)
+rest_from (y ∷ ys) zero x is = ap (λ z. z ∷ ys) (same_Some y x is)
+rest_from (y ∷ ys) (suc i) x is =
+    let e : suc (i + 1) ≡ suc i + 1 = omega arith in rest_from ys i x is ∙ ap (λ n. x ∷ drop n (y ∷ ys)) e
 
 -- Items
 

@@ -13,7 +13,7 @@ use Rattle.certificate_json.specs.Certificates.{PackageEntry, path_of, AreApart,
 use Rattle.certificate_json.specs.CertificateTexts.{AreCertificatesOf}
 use Rattle.certificate_json.specs.CertificateValues.{certificates_value}
 use Rattle.certificate_json.specs.WrittenCertificates.{IsTold, CertificatesInOrderAreWritten}
-use Rattle.meaning_reports.specs.Loaded.{LoadedPackage}
+use Rattle.meaning_reports.specs.Loaded.{LoadedPackage, Tables}
 use Rattle.whole_packages.specs.LoadedViews.{HaveDistinctPaths}
 use Rattle.all_certificates.specs.CertifiedPackages.{AreCertificatesOfAll}
 use Rattle.all_certificates.specs.OrderLaws.{AreAllOfTexts, CertificatesAreInOrder, CertificatesReadBack}
@@ -53,7 +53,8 @@ same_path xs ys e = same_text xs ys (sym e ∙ sym (texts_ties xs ys))
 
 -- Packages
 
-module _ (ps : List LoadedPackage) (entries : List PackageEntry) (are : AreCertificatesOfAll ps entries) where
+module _ (declared : Tables) (ps : List LoadedPackage) (entries : List PackageEntry)
+    (are : AreCertificatesOfAll declared ps entries) where
   its_package : (i : ℕ) (entry : PackageEntry) → slice_get entries i ≡ Some entry
       → (p : LoadedPackage) × (slice_get ps i ≡ Some p)
   its_package i entry is =
@@ -93,16 +94,16 @@ module _ (ps : List LoadedPackage) (entries : List PackageEntry) (are : AreCerti
       )
 
 pub certificates_are_in_order : CertificatesAreInOrder
-certificates_are_in_order ps entries are distinct texts = record {
-  apart = apart ps entries are distinct;
-  each_in_order = each_at HasOrder entries λ i entry is. (of_entry ps entries are texts i entry is).0;
+certificates_are_in_order declared ps entries are distinct texts = record {
+  apart = apart declared ps entries are distinct;
+  each_in_order = each_at HasOrder entries λ i entry is. (of_entry declared ps entries are texts i entry is).0;
 }
 
 -- by the law of `certificate_json`
 pub certificates_read_back : CertificatesInOrderAreWritten → CertificatesReadBack
-certificates_read_back law ps entries text are distinct texts written =
-    let order = certificates_are_in_order ps entries are distinct texts in
-    let told = each_at IsTold entries λ i entry is. (of_entry ps entries are texts i entry is).1 in
+certificates_read_back law declared ps entries text are distinct texts written =
+    let order = certificates_are_in_order declared ps entries are distinct texts in
+    let told = each_at IsTold entries λ i entry is. (of_entry declared ps entries are texts i entry is).1 in
     let same : written.written ≡ entries = law entries written.written written.are_written order told in
     record {
       is_text = written.is_text ∙ ap (λ es. compact_text (certificates_value es)) same;

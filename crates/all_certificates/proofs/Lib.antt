@@ -1,6 +1,6 @@
 mod AddedEntries
 mod AllCertified
-mod CertifiedPackage
+mod MadeCertificates
 mod RisingLists
 mod FactOrder
 mod BodyOrder

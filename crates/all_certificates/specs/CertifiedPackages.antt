@@ -6,7 +6,7 @@ use Rattle.all_certificates.specs.CertifiedBodies.{AreOfFiles}
 use Rattle.all_packages.specs.Tables.{IsPlain}
 use Rattle.certificate_json.specs.Certificates.{BodyEntry, PackageEntry}
 use Rattle.meaning.specs.Uses.{Callee, Seen}
-use Rattle.meaning_packages.specs.CallsFlags.{FileWithCredits, calls_by}
+use Rattle.meaning_packages.specs.CallsFlags.{FileWithCredits, Flags, calls_by}
 use Rattle.meaning_reports.specs.Loaded.{LoadedPackage, Tables, imported_flags, seen_files}
 use Rattle.meaning_reports.specs.PackageTables.{AreCredited, AreTables}
 use Rattle.meaning_reports.specs.WholeFaults.{HasNoWholeFault, IsWholeFault}
@@ -18,12 +18,16 @@ pub record AreOfBodies (calls : Callee → ℕ → Bool) (seens : List Seen) (en
   pub are_files : AreCredited seens files
   pub are_of : AreOfFiles calls 0 files entries
 
+-- of the package, which has no fault of the whole package and these flags
+abbrev pub are_of_bodies : List LoadedPackage → Tables → LoadedPackage → Flags → List BodyEntry → Type 0
+are_of_bodies ps tables p flags =
+    AreOfBodies (calls_by flags (imported_flags p tables)) (seen_files ps tables p)
+
 -- of the package at that place
 pub record AreOfPackage
     (ps : List LoadedPackage) (tables : Tables) (i : ℕ) (p : LoadedPackage) (entries : List BodyEntry)
     : Type 0 where
-  pub of_bodies : HasNoWholeFault ps i
-      → AreOfBodies (calls_by (tables p.path).calls (imported_flags p tables)) (seen_files ps tables p) entries
+  pub of_bodies : HasNoWholeFault ps i → are_of_bodies ps tables p (tables p.path).calls entries
   pub are_none : (x : Entry) → IsWholeFault ps i x → entries ≡ []
 
 pub record IsCertificateOf
@@ -41,8 +45,9 @@ pub record AreCertificatesBy (ps : List LoadedPackage) (tables : Tables) (entrie
       → slice_get entries i ≡ Some entry
       → IsCertificateOf ps tables i p entry
 
--- the same by the packages' own tables
-pub record AreCertificatesOfAll (ps : List LoadedPackage) (entries : List PackageEntry) : Type 0 where
+-- the same by the packages' own tables, where this is declared of packages that were not given
+pub record AreCertificatesOfAll (declared : Tables) (ps : List LoadedPackage) (entries : List PackageEntry)
+    : Type 0 where
   pub tables : Tables
-  pub are_tables : AreTables ps tables
+  pub are_tables : AreTables declared ps tables
   pub are_certificates : AreCertificatesBy ps tables entries

@@ -4,14 +4,15 @@ use Rattle.all_certificates.specs.CertifiedPackages.{AreCertificatesOfAll}
 use Rattle.all_certificates.specs.declared.certified.Certified.{Certified}
 use Rattle.all_packages.specs.Reports.{TellsReport}
 use Rattle.certificate_json.specs.Certificates.{packages_of}
-use Rattle.meaning_reports.specs.Loaded.{LoadedPackage}
+use Rattle.meaning_reports.specs.Loaded.{LoadedPackage, Tables}
 use Rattle.whole_packages.specs.LoadedViews.{TellPackages, HaveDistinctPaths}
 use Rattle.whole_packages.specs.declared.loaded_package.LoadedPackage.{LoadedPackage as KeptPackage}
 
--- it is the report of the packages that are kept so, whichever these are, with their certificates
-pub record TellsCertified (kept : List KeptPackage) (certified : Certified) : Type 0 where
-  pub tells_report : TellsReport kept certified.report
+-- it is the report of the packages that are kept so, whichever these are, with their certificates, where this is
+-- declared of packages that are not among them
+pub record TellsCertified (declared : Tables) (kept : List KeptPackage) (certified : Certified) : Type 0 where
+  pub tells_report : TellsReport declared kept certified.report
   pub are_certificates : (ps : List LoadedPackage)
       → TellPackages ps kept
       → HaveDistinctPaths ps
-      → AreCertificatesOfAll ps (packages_of certified.certificates)
+      → AreCertificatesOfAll declared ps (packages_of certified.certificates)

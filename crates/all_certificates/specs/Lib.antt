@@ -6,3 +6,4 @@ pub mod CertifiedReports
 pub mod OrderLaws
 -- What serves the proofs.
 pub mod AddedEntries
+pub mod KeptCertificates

@@ -7,7 +7,7 @@ use Rattle.certificate_json.specs.Certificates.{PackageEntry, AreInOrder}
 use Rattle.certificate_json.specs.CertificateTexts.{AreCertificatesOf}
 use Rattle.certificate_json.specs.CertificateValues.{certificates_value}
 use Rattle.certificate_json.specs.WrittenCertificates.{IsWrittenText}
-use Rattle.meaning_reports.specs.Loaded.{LoadedPackage}
+use Rattle.meaning_reports.specs.Loaded.{LoadedPackage, Tables}
 use Rattle.meaning_runs.specs.Promise.{AreTreesOfTexts}
 use Rattle.whole_packages.specs.LoadedViews.{HaveDistinctPaths}
 use Rattle.all_certificates.specs.CertifiedPackages.{AreCertificatesOfAll}
@@ -17,8 +17,8 @@ abbrev pub AreAllOfTexts : List LoadedPackage → Type 0
 AreAllOfTexts ps = (i : ℕ) (p : LoadedPackage) → slice_get ps i ≡ Some p → AreTreesOfTexts p
 
 abbrev pub CertificatesAreInOrder : Type 0
-CertificatesAreInOrder = (ps : List LoadedPackage) (entries : List PackageEntry)
-    → AreCertificatesOfAll ps entries
+CertificatesAreInOrder = (declared : Tables) (ps : List LoadedPackage) (entries : List PackageEntry)
+    → AreCertificatesOfAll declared ps entries
     → HaveDistinctPaths ps
     → AreAllOfTexts ps
     → AreInOrder entries
@@ -29,8 +29,9 @@ pub record IsTextOf (entries : List PackageEntry) (text : List ℕ) : Type 0 whe
   pub reads_back : AreCertificatesOf text Newer entries
 
 abbrev pub CertificatesReadBack : Type 0
-CertificatesReadBack = (ps : List LoadedPackage) (entries : List PackageEntry) (text : List ℕ)
-    → AreCertificatesOfAll ps entries
+CertificatesReadBack =
+    (declared : Tables) (ps : List LoadedPackage) (entries : List PackageEntry) (text : List ℕ)
+    → AreCertificatesOfAll declared ps entries
     → HaveDistinctPaths ps
     → AreAllOfTexts ps
     → IsWrittenText entries text

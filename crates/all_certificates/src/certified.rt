@@ -2,10 +2,14 @@
 
 ghost use Rattle.std.specs.Prelude.{IfOk};
 ghost use Rattle.all_certificates.specs.CertifiedReports.{TellsCertified};
+ghost use Rattle.declared_tables.specs.DeclaredTables.{declared_tables};
+ghost use Rattle.outside_json.specs.Outside.{packages_of};
 
-use crate::packages::certificates_of;
-use all_packages::{Report, judge_packages};
+use crate::certifying::Certifying;
+use crate::packages::{CertifiedPackages, certified_packages};
+use all_packages::{Report, check_by, report_from};
 use certificate_json::Certificates;
+use outside_json::Outside;
 use std::alloc::{AllocError, Global};
 use whole_packages::LoadedPackage;
 
@@ -16,18 +20,26 @@ pub struct Certified {
     pub certificates: Certificates,
 }
 
-/// Judges packages of different paths by the paths of bodies, and tells what is to be said of them, with their
-/// certificates.
+/// Judges packages of different paths by the paths of bodies, where this is declared of packages that are not given,
+/// and tells what is to be said of them, with their certificates. These are made while a package is judged, so that
+/// nothing is told of it a second time.
 ///
 /// # Errors
 ///
 /// Memory was refused.
-pub fn certified_report(alloc: Global, packages: &[LoadedPackage]) -> Result<Certified, AllocError>
-    ensures { IfOk result (TellsCertified packages.now) }
+pub fn certified_report(
+    alloc: Global,
+    packages: &[LoadedPackage],
+    outside: &Outside,
+) -> Result<Certified, AllocError>
+    ensures { IfOk result (TellsCertified (declared_tables (packages_of outside.now)) packages.now) }
 {
-    let all = judge_packages(alloc, packages)?;
-    let certificates = certificates_of(alloc, packages, &all)?;
-    let report = all.into_report(alloc)?;
+    let judged = check_by(alloc, packages, outside, &Certifying)?;
+    let CertifiedPackages {
+        reports,
+        certificates,
+    } = certified_packages(alloc, packages, judged)?;
+    let report = report_from(alloc, &reports)?;
     Ok(Certified {
         report,
         certificates,

@@ -2,22 +2,22 @@
 
 ghost use Rattle.std.specs.Prelude.{List, IfOk, map};
 ghost use Rattle.all_certificates.specs.CertifiedBodies.{AreOfFiles};
-ghost use Rattle.all_certificates.specs.CertifiedPackages.{AreOfBodies};
-ghost use Rattle.all_packages.specs.ToldPackages.{IsToldPackage};
 ghost use Rattle.calls_flags.specs.FilesBodies.{TellAll};
 ghost use Rattle.calls_flags.specs.KnownCalls.{known_calls};
 ghost use Rattle.certificate_json.specs.Certificates.{body_of};
 ghost use Rattle.meaning_packages.specs.CallsFlags.{FileWithCredits};
-ghost use Rattle.meaning_reports.specs.Loaded.{LoadedPackage as MeantPackage, Tables, seen_files};
 
 use crate::entries::{Grounds, add_entries};
-use all_packages::ToldPackage;
-use calls_flags::{FileBodies, KnownCalls, bodies_of_files};
+use calls_flags::{FileBodies, KnownCalls};
 use certificate_json::Body as Entry;
 use std::alloc::{AllocError, Global};
 
 /// The least certificates of the bodies of these files, file by file.
-fn entries_of_files<'f, 'a>(
+///
+/// # Errors
+///
+/// Memory was refused.
+pub fn entries_of_files<'f, 'a>(
     alloc: Global,
     calls: KnownCalls<'f, 'a>,
     files: &'f [FileBodies<'f, 'a>],
@@ -35,22 +35,4 @@ fn entries_of_files<'f, 'a>(
         add_entries(alloc, grounds, &file.bodies, &mut entries)?;
     }
     Ok(entries)
-}
-
-/// The least certificates of the bodies of a package that was told of, where this is known of functions.
-///
-/// # Errors
-///
-/// Memory was refused.
-pub fn entries_of<'a>(
-    alloc: Global,
-    told: &ToldPackage<'a>,
-    calls: KnownCalls<'_, 'a>,
-) -> Result<Vec<Entry>, AllocError>
-    ensures { IfOk result (λ entries. (ps : List MeantPackage) (tables : Tables) (p : MeantPackage)
-        → IsToldPackage ps tables p told.now
-        → AreOfBodies (known_calls calls.entry) (seen_files ps tables p) (map body_of entries.items)) }
-{
-    let files = bodies_of_files(alloc, &told.files)?;
-    entries_of_files(alloc, calls, &files)
 }

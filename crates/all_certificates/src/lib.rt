@@ -3,6 +3,7 @@
 #![tactic(auto)]
 
 mod certified;
+mod certifying;
 mod entries;
 mod files;
 mod laws;
@@ -10,4 +11,3 @@ mod packages;
 
 pub use certified::{Certified, certified_report};
 pub use laws::{certificates_are_in_order, certificates_read_back};
-pub use packages::certificates_of;

@@ -1,102 +1,96 @@
-//! The certificates of packages.
+//! What is said of packages that were judged, and their certificates.
 
-ghost use Rattle.std.specs.Prelude.{◌≡◌, ℕ, List, IfOk, Some, map, slice_get};
-ghost use Rattle.all_certificates.specs.CertifiedPackages.{AreCertificatesBy, AreOfPackage, IsCertificateOf};
-ghost use Rattle.all_packages.specs.JudgedPackages.{AreAll, IsJudgedBy, tables_in};
-ghost use Rattle.all_packages.specs.declared.packages.JudgedPackages.{JudgedPackages as KeptPackages};
-ghost use Rattle.certificate_json.specs.Certificates.{body_of, package_of, packages_of};
-ghost use Rattle.meaning_reports.specs.Loaded.{LoadedPackage as MeantPackage};
+ghost use Rattle.std.specs.Prelude.{◌≡◌, ◌++◌, ◌∷◌, [], IfOk, OnOk, map};
+ghost use Rattle.all_certificates.specs.KeptCertificates.{AddsPackage, AreFactsAt, AreMadeFrom};
+ghost use Rattle.all_packages.specs.Reports.{report_in};
+ghost use Rattle.certificate_json.specs.Certificates.{package_of, packages_of};
+ghost use Rattle.table_json.specs.Tables.{entries_of};
 ghost use Rattle.table_json.specs.declared.table.Version.TheVariants.{Newer};
-ghost use Rattle.whole_packages.specs.LoadedViews.{TellPackages, TellsPackage};
 
-use crate::files::entries_of;
-use all_packages::{JudgedBy, JudgedPackages, package_table};
-use calls_flags::KnownCalls;
-use certificate_json::{Body as Entry, Certificates, Package};
+use all_packages::{Judged, package_table};
+use certificate_json::{Certificates, Package};
+use report::PackageReport;
 use std::alloc::{AllocError, Global};
 use table_json::{Table, Version};
 use whole_packages::LoadedPackage;
 
-/// The certificates of the bodies of a package that was judged by this: none where it has a fault as a whole.
-fn entries_by(alloc: Global, by: &JudgedBy<'_, '_>) -> Result<Vec<Entry>, AllocError>
-    ensures { IfOk result (λ entries. (ps : List MeantPackage) (all : KeptPackages) (i : ℕ) (p : MeantPackage)
-        → IsJudgedBy ps all i p by.now → AreOfPackage ps (tables_in all) i p (map body_of entries.items)) }
-{
-    match &by.told {
-        Some(told) => {
-            let calls = KnownCalls {
-                own: &by.judged.table.called,
-                imported: &by.calls,
-            };
-            entries_of(alloc, told, calls)
-        }
-        None => Ok(Vec::new(alloc)),
-    }
-}
-
-/// The certificates of a package that was judged by this.
-fn certificate_by(
+/// What is known of the functions of the package of that place, which was judged so.
+fn facts_at(
     alloc: Global,
-    loaded: &LoadedPackage,
-    by: &JudgedBy<'_, '_>,
-) -> Result<Package, AllocError>
-    ensures { IfOk result (λ entry. (ps : List MeantPackage) (all : KeptPackages) (i : ℕ) (p : MeantPackage)
-        → TellsPackage p loaded.now → IsJudgedBy ps all i p by.now
-        → IsCertificateOf ps (tables_in all) i p (package_of entry)) }
-{
-    let bodies = entries_by(alloc, by)?;
-    let facts = package_table(alloc, loaded, by.judged)?;
-    let path = String::from_str(alloc, loaded.path.as_str())?;
-    Ok(Package {
-        path,
-        bodies,
-        facts,
-    })
-}
-
-/// The certificates of the package of that place.
-fn certificate_at(
-    alloc: Global,
-    all: &JudgedPackages<'_>,
+    packages: &[LoadedPackage],
     place: usize,
-    loaded: &LoadedPackage,
-) -> Result<Package, AllocError>
-    ensures { IfOk result (λ entry. (ps : List MeantPackage) (p : MeantPackage)
-        → AreAll ps all.now → slice_get ps place ≡ Some p → TellsPackage p loaded.now
-        → IsCertificateOf ps (tables_in all.now) place p (package_of entry)) }
+    judged: &Judged<'_>,
+) -> Result<Table, AllocError>
+    ensures { IfOk result (λ facts. AreFactsAt packages.now place judged.now (entries_of facts)) }
 {
-    match all.judged_by(alloc, place)? {
-        Some(by) => certificate_by(alloc, loaded, &by),
-        None => Ok(Package {
-            path: String::from_str(alloc, loaded.path.as_str())?,
-            bodies: Vec::new(alloc),
-            facts: Table {
-                functions: Vec::new(alloc),
-            },
+    match packages.get(place) {
+        Some(loaded) => package_table(alloc, loaded, judged),
+        None => Ok(Table {
+            functions: Vec::new(alloc),
         }),
     }
 }
 
-/// The certificates of these packages, which were judged.
+/// Adds what is said of a package that was judged, and its certificates. Its place is the number of those before it.
+fn add_package<'a>(
+    alloc: Global,
+    packages: &[LoadedPackage],
+    judged: Judged<'a>,
+    reports: &mut Vec<PackageReport<'a>>,
+    certified: &mut Vec<Package>,
+) -> Result<(), AllocError>
+    ensures reports { OnOk result (reports.new.items ≡ reports.old.items ++ (report_in judged.entry ∷ [])) }
+    ensures certified { OnOk result (AddsPackage packages.now judged.entry (map package_of certified.old.items)
+        (map package_of certified.new.items)) }
+{
+    let facts = facts_at(alloc, packages, certified.len(), &judged)?;
+    let Judged {
+        report,
+        certificates,
+        ..
+    } = judged;
+    let path = String::from_str(alloc, report.path)?;
+    reports.push(report)?;
+    certified.push(Package {
+        path,
+        bodies: certificates,
+        facts,
+    })?;
+    Ok(())
+}
+
+/// What is said of packages, and their certificates, each in their order.
+#[derive(Drop)]
+pub struct CertifiedPackages<'a> {
+    pub reports: Vec<PackageReport<'a>>,
+    pub certificates: Certificates,
+}
+
+/// What is said of these packages, which were judged so, and their certificates. Those of the bodies are moved.
 ///
 /// # Errors
 ///
 /// Memory was refused.
-pub fn certificates_of(
+pub fn certified_packages<'a>(
     alloc: Global,
     packages: &[LoadedPackage],
-    all: &JudgedPackages<'_>,
-) -> Result<Certificates, AllocError>
-    ensures version { IfOk result (λ certificates. certificates.version ≡ Newer) }
-    ensures packages { IfOk result (λ certificates. (ps : List MeantPackage) → TellPackages ps packages.now
-        → AreAll ps all.now → AreCertificatesBy ps (tables_in all.now) (packages_of certificates)) }
+    judged: Vec<Judged<'a>>,
+) -> Result<CertifiedPackages<'a>, AllocError>
+    ensures reports { IfOk result (λ certified. certified.reports.items ≡ map report_in judged.entry.items) }
+    ensures version { IfOk result (λ certified. certified.certificates.version ≡ Newer) }
+    ensures certified { IfOk result (λ certified. AreMadeFrom packages.now 0 judged.entry.items
+        (packages_of certified.certificates)) }
 {
+    let mut reports = Vec::new(alloc);
     let mut certified = Vec::new(alloc);
-    for (place, loaded) in packages.iter().enumerate() {
-        certified.push(certificate_at(alloc, all, place, loaded)?)?;
+    for one in judged {
+        add_package(alloc, packages, one, &mut reports, &mut certified)?;
     }
-    Ok(Certificates {
-        version: Version::Newer,
-        packages: certified,
+    Ok(CertifiedPackages {
+        reports,
+        certificates: Certificates {
+            version: Version::Newer,
+            packages: certified,
+        },
     })
 }

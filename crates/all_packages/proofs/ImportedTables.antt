@@ -1,133 +1,161 @@
--- What is known of a package's imports where other packages were judged before it.
-use Rattle.std.proofs.Common.{◌≡◌, ℕ, ◌⊎◌, inl, inr, Bool, true, false, ◌||◌, if◌then◌else◌, List, [], ◌∷◌, Contains, Option, Some, None, option_map, is_some, bytes_eq, refl, sym, ap, ◌∙◌, subst}
-use Rattle.std.specs.Prelude.{◌↔◌, slice_get}
+-- What is known of a package's imports by what was judged of them.
+use Rattle.std.proofs.Common.{◌≡◌, ℕ, inl, inr, Bool, true, false, ◌||◌, if◌then◌else◌, List, [], ◌∷◌, Contains, Option, Some, None, option_map, is_some, bytes_eq, refl, sym, ap, ◌∙◌, subst}
+use Rattle.std.specs.Prelude.{slice_get}
 use Rattle.std.specs.List.{list_any}
 use Rattle.std.proofs.lemmas.Bool.{false≢true}
-use Rattle.meaning.specs.OuterBlocks.{or_else}
+use Rattle.std.proofs.lemmas.Option.{same_Some}
+use Rattle.std.proofs.lemmas.Slice.Eq.{bytes_eq-Decides}
+use Rattle.meaning.proofs.Membership.{contains_nil, contains_cases}
 use Rattle.facts.specs.declared.table.Imported.{Imported}
 use Rattle.facts.specs.FactViews.{facts_in_table, facts_by_path, table_by_path}
-use Rattle.imports.specs.Ranks.{Package, Imports, HasRank}
+use Rattle.imports.specs.Ranks.{Package, Imports}
 use Rattle.imports.specs.Settling.{place_from}
 use Rattle.imports.proofs.GivenImports.{first_there}
 use Rattle.calls_flags.specs.declared.known_calls.ImportedCalls.{ImportedCalls}
 use Rattle.calls_flags.specs.KnownCalls.{is_called_in, called_by_path, flags_by_path}
-use Rattle.report.specs.Entries.{Entry}
-use Rattle.whole_packages.specs.declared.loaded_package.LoadedPackage.{LoadedPackage as KeptPackage}
-use Rattle.whole_packages.specs.WholeEntries.{is_set, TellsOrder}
+use Rattle.declared_tables.specs.declared.tables.PackageTable.{PackageTable as KeptTable}
+use Rattle.declared_tables.specs.DeclaredTables.{table_if_any}
+use Rattle.meaning.specs.OuterBlocks.{or_else}
+use Rattle.whole_packages.specs.WholeEntries.{TellsOrder}
 use Rattle.meaning_reports.proofs.ImportsOf.{has_path, no_place, names_first, list_item, in_lists, given_in_lists}
 use Rattle.meaning_reports.specs.Loaded.{LoadedPackage, PackageTable, Tables, import_list, imported_paths, no_table, is_imported, imported_signatures, imported_flags, package_names}
-use Rattle.meaning_reports.specs.WholeFaults.{IsWholeFault}
-use Rattle.meaning_reports.specs.PackageReports.{Rules, of_whole}
+use Rattle.meaning_reports.specs.PackageReports.{Rules}
+use Rattle.gathering.specs.Results.{IsNotGiven, HaveResults}
+use Rattle.all_packages.specs.declared.given.Given.{Given}
 use Rattle.all_packages.specs.declared.judged.Judged.{Judged}
-use Rattle.all_packages.specs.Judgments.{HasFinding, KnownAround, AreMarked}
-use Rattle.all_packages.specs.Progress.{JudgedByPath, given_by_paths, table_or_none, Agrees, AreRight, WasJudged, IsReady}
+use Rattle.all_packages.specs.Judgments.{table_view, KnownAround, IsOfImport}
+use Rattle.all_packages.specs.Progress.{TellsGiven}
+use Rattle.all_packages.specs.Reports.{said_view}
+use Rattle.all_packages.specs.Results.{declared_among, declared_outside, first_at, judged_at, said_at, results_by, table_or, AreImported, HaveTheirTables}
+use Rattle.all_packages.proofs.DeclaredImports.{is_outside, was_given}
+use Rattle.all_packages.proofs.FirstJudged.{first_is, found_at}
 
-pub some_from : {A : Type 0} (o : Option A) → is_some o ≡ true → (a : A) × (o ≡ Some a)
-some_from None e = absurd (false≢true e)
-some_from (Some a) e = (a, refl)
+path_any : (paths : List (List ℕ)) (path : List ℕ) → Contains paths path → list_any (λ q. bytes_eq q path) paths ≡ true
+path_any [] path h = absurd (contains_nil path h)
+path_any (q ∷ qs) path h = elim (contains_cases q path qs h) [
+  | inl same ↦ ap (λ b. b || list_any (λ r. bytes_eq r path) qs) ((bytes_eq-Decides q path).1 same)
+  | inr later ↦ by (bytes_eq q path) (path_any qs path later)
+]
+  where
+    by : (b : Bool) → list_any (λ r. bytes_eq r path) qs ≡ true → (b || list_any (λ r. bytes_eq r path) qs) ≡ true
+    by true rest = refl
+    by false rest = rest
 
--- Paths
+-- Their tables
 
--- what is given for a path is that of its package, if it is among the paths
-module _ {V : Type 0} (f : Judged → V) (judged : JudgedByPath) (path : List ℕ) where
-  pub given_among : (paths : List (List ℕ)) → given_by_paths f judged paths path
-      ≡ (if list_any (λ q. bytes_eq q path) paths then option_map f (judged path) else None)
-  given_among [] = refl
-  given_among (q ∷ qs) =
-      ap (or_else (if bytes_eq q path then option_map f (judged path) else None)) (given_among qs)
-      ∙ by (bytes_eq q path) (list_any (λ r. bytes_eq r path) qs) (judged path)
-    where
-      by : (b c : Bool) (o : Option Judged)
-          → or_else (if b then option_map f o else None) (if c then option_map f o else None)
-          ≡ (if b || c then option_map f o else None)
-      by true true None = refl
-      by true true (Some j) = refl
-      by true false None = refl
-      by true false (Some j) = refl
-      by false true o = refl
-      by false false o = refl
-
--- Tables
-
-module _ (ps : List LoadedPackage) (judged : JudgedByPath) (i : ℕ) (p : LoadedPackage) (is_p : slice_get ps i ≡ Some p)
-    (ready : IsReady ps judged i) (tables : Tables) (agrees : Agrees ps judged tables) where
+module _ (ps : List LoadedPackage) (i : ℕ) (p : LoadedPackage) (is_p : slice_get ps i ≡ Some p) where
   abbrev lists : List Package
   lists = import_list ps
 
-  -- a package that is imported and was not judged has no table
-  not_judged : (path : List ℕ) → Contains (imported_paths p) path → judged path ≡ None → tables path ≡ no_table
-  not_judged path names none = by (place_from path lists 0) refl
-    where
-      by : (o : Option ℕ) → place_from path lists 0 ≡ o → tables path ≡ no_table
-      by None e =
-          agrees.of_others path λ k q is same.
-          no_place path lists 0 e k (record { path = q.path; imports = imported_paths q }) (in_lists ps k q is) same
-      by (Some k) e =
-          let first = first_there lists path k e in
-          let q = given_in_lists ps k first.found first.is_found in
-          let same : q.0.path ≡ path = ap (λ (r : Package). r.path) q.2 ∙ first.same in
-          elim (ready k (names_first ps i p is_p path k names first)) [
-            | inl was ↦
-                absurd (false≢true (sym (ap is_some (ap judged same ∙ none)) ∙ was q.0 q.1))
-            | inr unranked ↦ subst (λ r. tables r ≡ no_table) same (agrees.of_unranked k q.0 q.1 unranked)
-          ]
+  -- the path of an import is one that the package names
+  is_named : (path : List ℕ) → IsOfImport ps i path → is_imported p path ≡ true
+  is_named path it =
+      let im = it.imports in
+      let importer : im.importer ≡ list_item ps p = same_Some im.importer (list_item ps p) (sym im.is_importer ∙ in_lists ps i p is_p) in
+      let imported : im.imported ≡ list_item ps it.imported =
+      same_Some im.imported (list_item ps it.imported) (sym im.is_imported ∙ in_lists ps it.place it.imported it.is_there) in
+      path_any (imported_paths p) path
+      (subst (Contains (imported_paths p)) (ap (λ (q : Package). q.path) imported ∙ sym it.is_path)
+      (subst (λ (q : Package). Contains q.imports im.imported.path) importer im.names))
 
-  imported_so : (path : List ℕ) → Contains (imported_paths p) path → tables path ≡ table_or_none (judged path)
-  imported_so path names = by (judged path) refl
-    where
-      by : (o : Option Judged) → judged path ≡ o → tables path ≡ table_or_none o
-      by None e = not_judged path names e
-      by (Some j) e = agrees.of_judged path j e
+  module _ (given : Given) (declared : Tables) (tells : TellsGiven declared ps given) (js : List Judged)
+      (tables : Tables) where
+    -- these have the tables that are said of them, the other imports have none, and what isn't given has what is declared
+    pub tables_so : ((j : Judged) → Contains js j → IsOfImport ps i j.report.path.now)
+        → ((k : ℕ) (q : LoadedPackage) (j : Judged) → Imports lists i k → slice_get ps k ≡ Some q
+        → judged_at js q.path ≡ Some j → tables q.path ≡ table_view j)
+        → ((k : ℕ) (q : LoadedPackage) → Imports lists i k → slice_get ps k ≡ Some q
+        → judged_at js q.path ≡ None → tables q.path ≡ no_table)
+        → ((path : List ℕ) → IsNotGiven ps path → tables path ≡ declared path)
+        → HaveTheirTables given p tables js
+    tables_so of_imports of_found of_none of_others path = by (judged_at js path) refl (is_imported p path) refl
+      where
+        there : (j : Judged) → judged_at js path ≡ Some j → IsOfImport ps i path
+        there j e = let w = found_at js path j e in subst (IsOfImport ps i) w.1 (of_imports j w.0)
 
-  pub are_signatures : (path name : List ℕ)
-      → facts_in_table (given_by_paths (λ j. j.table.signatures) judged (imported_paths p) path) name
+        outside : judged_at js path ≡ None → is_imported p path ≡ true → (o : Option ℕ) → place_from path lists 0 ≡ o
+            → table_if_any (declared_outside given path) ≡ tables path
+        outside none names None e =
+            ap table_if_any (is_outside given path (ap is_some (tells.are_places path ∙ e)))
+            ∙ (tells.are_declared path
+            ∙ sym (of_others path λ k q is its. no_place path lists 0 e k (list_item ps q) (in_lists ps k q is) its))
+        outside none names (Some k) e =
+            let first = first_there lists path k e in
+            let q = given_in_lists ps k first.found first.is_found in
+            let same : q.0.path ≡ path = ap (λ (r : Package). r.path) q.2 ∙ first.same in
+            let im = names_first ps i p is_p path k (has_path (imported_paths p) path names) first in
+            ap table_if_any (was_given given path (ap is_some (tells.are_places path ∙ e)))
+            ∙ sym (subst (λ r. tables r ≡ no_table) same (of_none k q.0 im q.1 (ap (judged_at js) same ∙ none)))
+
+        by : (o : Option Judged) → judged_at js path ≡ o → (b : Bool) → is_imported p path ≡ b
+            → table_or (table_if_any (if b then declared_outside given path else None)) o
+            ≡ (if b then tables path else no_table)
+        by None none true names = outside none names (place_from path lists 0) refl
+        by None none false names = refl
+        by (Some j) e true names =
+            let it = there j e in
+            sym (ap tables it.is_path ∙ of_found it.place it.imported j it.imports it.is_there (ap (judged_at js) (sym it.is_path) ∙ e))
+        by (Some j) e false names = absurd (false≢true (sym names ∙ is_named path (there j e)))
+
+    pub tables_by_results : (rules : Rules) → rules.declared ≡ declared → AreImported ps i js
+        → HaveResults rules ps tables i (results_by ps js)
+        → HaveTheirTables given p tables js
+    tables_by_results rules is are have =
+        tables_so are.of_imports
+        (λ k q j im is_q e.
+        (have.of_results k q (said_view j) im is_q (ap (said_at js) is_q ∙ ap (option_map said_view) e)).0)
+        (λ k q im is_q e.
+        have.of_unranked k q im is_q λ rank. false≢true (sym (ap is_some e) ∙ are.are_all k q im is_q rank))
+        (λ path none. have.of_others path none ∙ ap (λ (d : Tables). d path) is)
+
+-- All that is known around the package
+
+module _ (ps : List LoadedPackage) (tables : Tables) (p : LoadedPackage) (given : Given) (js : List Judged)
+    (have : HaveTheirTables given p tables js) where
+  -- what is declared of an import of that path
+  abbrev pub other : List ℕ → Option KeptTable
+  other = declared_among given (imported_paths p)
+
+  signatures_so : (path name : List ℕ)
+      → facts_in_table (or_else (first_at (λ j. j.table.signatures) js path) (option_map (λ t. t.signatures) (other path))) name
       ≡ imported_signatures p tables path name
-  are_signatures path name =
-      ap (λ t. facts_in_table t name) (given_among (λ j. j.table.signatures) judged path (imported_paths p))
-      ∙ by (is_imported p path) refl
+  signatures_so path name =
+      ap (λ t. facts_in_table (or_else t (option_map (λ t. t.signatures) (other path))) name)
+      (first_is (λ j. j.table.signatures) js path)
+      ∙ (seen (judged_at js path) (other path) ∙ ap (λ (t : PackageTable). t.signatures name) (have path))
     where
-      seen : (o : Option Judged)
-          → facts_in_table (option_map (λ j. j.table.signatures) o) name ≡ (table_or_none o).signatures name
-      seen None = refl
-      seen (Some j) = refl
+      seen : (o : Option Judged) (d : Option KeptTable)
+          → facts_in_table (or_else (option_map (λ j. j.table.signatures) o) (option_map (λ t. t.signatures) d)) name
+          ≡ (table_or (table_if_any d) o).signatures name
+      seen (Some j) d = refl
+      seen None None = refl
+      seen None (Some t) = refl
 
-      by : (b : Bool) → is_imported p path ≡ b
-          → facts_in_table (if b then option_map (λ j. j.table.signatures) (judged path) else None) name
-          ≡ (if b then tables path else no_table).signatures name
-      by true e =
-          seen (judged path)
-          ∙ ap (λ (t : PackageTable). t.signatures name) (sym (imported_so path (has_path (imported_paths p) path e)))
-      by false e = refl
-
-  pub are_calls : (path name : List ℕ) (k : ℕ)
-      → is_called_in (given_by_paths (λ j. j.table.called) judged (imported_paths p) path) name k
+  pub calls_so : (path name : List ℕ) (k : ℕ)
+      → is_called_in (or_else (first_at (λ j. j.table.called) js path) (option_map (λ t. t.called) (other path))) name k
       ≡ imported_flags p tables path name k
-  are_calls path name k =
-      ap (λ t. is_called_in t name k) (given_among (λ j. j.table.called) judged path (imported_paths p))
-      ∙ by (is_imported p path) refl
+  calls_so path name k =
+      ap (λ t. is_called_in (or_else t (option_map (λ t. t.called) (other path))) name k)
+      (first_is (λ j. j.table.called) js path)
+      ∙ (seen (judged_at js path) (other path) ∙ ap (λ (t : PackageTable). t.calls name k) (have path))
     where
-      seen : (o : Option Judged)
-          → is_called_in (option_map (λ j. j.table.called) o) name k ≡ (table_or_none o).calls name k
-      seen None = refl
-      seen (Some j) = refl
-
-      by : (b : Bool) → is_imported p path ≡ b
-          → is_called_in (if b then option_map (λ j. j.table.called) (judged path) else None) name k
-          ≡ (if b then tables path else no_table).calls name k
-      by true e =
-          seen (judged path)
-          ∙ ap (λ (t : PackageTable). t.calls name k) (sym (imported_so path (has_path (imported_paths p) path e)))
-      by false e = refl
-
-  -- All that is known around the package
+      seen : (o : Option Judged) (d : Option KeptTable)
+          → is_called_in (or_else (option_map (λ j. j.table.called) o) (option_map (λ t. t.called) d)) name k
+          ≡ (table_or (table_if_any d) o).calls name k
+      seen (Some j) d = refl
+      seen None None = refl
+      seen None (Some t) = refl
 
   pub around_so : (names : List ℕ → Option (List ℕ)) (places : List ℕ → Option ℕ) (unranked : List Bool)
       (imported : Imported) (calls : ImportedCalls)
       → ((path : List ℕ) → names path ≡ package_names ps path)
       → TellsOrder ps places unranked
-      → ((path : List ℕ) → table_by_path imported path
-      ≡ given_by_paths (λ j. j.table.signatures) judged (imported_paths p) path)
-      → ((path : List ℕ) → called_by_path calls path ≡ given_by_paths (λ j. j.table.called) judged (imported_paths p) path)
+      → ((path : List ℕ)
+      → table_by_path imported path
+      ≡ or_else (first_at (λ j. j.table.signatures) js path) (option_map (λ t. t.signatures) (other path)))
+      → ((path : List ℕ)
+      → called_by_path calls path
+      ≡ or_else (first_at (λ j. j.table.called) js path) (option_map (λ t. t.called) (other path)))
       → KnownAround ps tables p (record {
         names = names;
         signatures = facts_by_path imported;
@@ -137,35 +165,7 @@ module _ (ps : List LoadedPackage) (judged : JudgedByPath) (i : ℕ) (p : Loaded
       })
   around_so names places unranked imported calls are_names order signatures known = record {
     are_names = are_names;
-    are_signatures = λ path name. ap (λ t. facts_in_table t name) (signatures path) ∙ are_signatures path name;
-    are_calls = λ path name k. ap (λ t. is_called_in t name k) (known path) ∙ are_calls path name k;
+    are_signatures = λ path name. ap (λ t. facts_in_table t name) (signatures path) ∙ signatures_so path name;
+    are_calls = λ path name k. ap (λ t. is_called_in t name k) (known path) ∙ calls_so path name k;
     is_order = order;
   }
-
-  -- Which of its imports are not yes
-
-  module _ (rules : Rules) (kept : List KeptPackage) (marks : List Bool) (right : AreRight rules ps kept judged marks)
-      (unranked_fault : (j : ℕ) (q : LoadedPackage) → slice_get ps j ≡ Some q → (HasRank lists j → ⊥)
-      → (y : Entry) × IsWholeFault ps j y) where
-    are_not_yes : (j : ℕ) → Imports lists i j → (is_set (slice_get marks j) ≡ true) ↔ HasFinding rules ps tables j
-    are_not_yes j im = by (given_in_lists ps j im.imported im.is_imported) (ready j im)
-      where
-        by : ((q : LoadedPackage) × (slice_get ps j ≡ Some q) × (list_item ps q ≡ im.imported))
-            → WasJudged ps judged j ⊎ (HasRank lists j → ⊥)
-            → (is_set (slice_get marks j) ≡ true) ↔ HasFinding rules ps tables j
-        by q (inl was) =
-            let k = some_from (judged q.0.path) (was q.0 q.1) in
-            let marked = right.are_marked j q.0 k.0 q.1 k.1 in
-            let said = (right.are_judgments j q.0 k.0 q.1 k.1 tables agrees).are_findings in (
-              λ m. let x = marked.0 m in record { entry = x.0; is_finding = (said.each x.0).0 x.1 },
-              λ h. marked.1 (h.entry, (said.each h.entry).1 h.is_finding),
-            )
-        by q (inr unranked) =
-            let fault = unranked_fault j q.0 q.1 unranked in (
-              λ m. record { entry = fault.0; is_finding = of_whole fault.1 },
-              λ h. right.unranked_marked j q.0 q.1 unranked,
-            )
-
-    pub marked_so : (places : List ℕ → Option ℕ) → ((path : List ℕ) → places path ≡ place_from path lists 0)
-        → AreMarked rules ps tables i places marks
-    marked_so places are_places = record { are_places = are_places; are_not_yes = are_not_yes }

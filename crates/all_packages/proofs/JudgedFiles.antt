@@ -13,13 +13,14 @@ use Rattle.meaning.specs.BodyEvents.{seen_file}
 use Rattle.meaning_packages.specs.CallsFlags.{Flags, FileWithCredits, AreMost, calls_by}
 use Rattle.report.specs.declared.codes.DiagnosticCode.TheVariants.{ImportIsNotYes}
 use Rattle.report.specs.Entries.{Entry}
-use Rattle.imports.proofs.GivenImports.{FirstAt, first_there, there_first}
+use Rattle.imports.specs.Ranks.{Package}
+use Rattle.imports.proofs.GivenImports.{FirstAt}
 use Rattle.meaning_reports.specs.Loaded.{LoadedPackage, NumberedTree, Tables, numbered_trees, imports_of, imported_paths, import_list, imported_flags, seen_from, seen_files, known_in, means_in, signatures_of, imported_signatures, trees_of}
 use Rattle.meaning_reports.specs.WholeFaults.{ImportsAt, import_entry, HasNoWholeFault}
 use Rattle.meaning_reports.specs.PackageTables.{IsJudged}
 use Rattle.meaning_reports.specs.PackageReports.{IsFileFinding, SaysByPaths, Rules, IsFindingBy, of_whole, of_import, of_files}
-use Rattle.whole_packages.specs.WholeEntries.{is_set, is_set_at, is_marked, spec_entries, tree_entries}
-use Rattle.meaning_reports.proofs.ImportsOf.{gives, given_by, only_one, names_first, import_there, first_import}
+use Rattle.whole_packages.specs.WholeEntries.{spec_entries, tree_entries}
+use Rattle.meaning_reports.proofs.ImportsOf.{gives, given_by, in_lists, list_item, only_one, import_there}
 use Rattle.calls_flags.specs.declared.file_bodies.FileBodies.{FileBodies}
 use Rattle.calls_flags.specs.declared.told_file.ToldFile.{ToldFile}
 use Rattle.calls_flags.specs.FilesBodies.{with_credits, with_all_credits}
@@ -27,7 +28,7 @@ use Rattle.calls_flags.specs.ToldFiles.{TellAllSeen}
 use Rattle.calls_flags.specs.Claims.{HaveFacts}
 use Rattle.findings.specs.FoundEntries.{IsFoundIn}
 use Rattle.meaning_reports.proofs.OneAnswer.{one_list, one_most}
-use Rattle.all_packages.specs.Judgments.{HasFinding, AreMarked}
+use Rattle.all_packages.specs.Judgments.{HasFinding, AreNotYes}
 
 -- The files
 
@@ -120,18 +121,7 @@ module _ (ps : List LoadedPackage) (tables : Tables) (i : ℕ) (p : LoadedPackag
 
 module _ (rules : Rules) (ps : List LoadedPackage) (tables : Tables) (i : ℕ) (p : LoadedPackage)
     (is_p : slice_get ps i ≡ Some p) (none : HasNoWholeFault ps i) where
-  -- the path of a spec is one that the package imports
-  path_there : (t : NumberedTree) (s : ImportSpec) → Contains (numbered_trees p) t → Contains (imports_of t.tree) s
-      → Contains (imported_paths p) s.path
-  path_there t s is_tree is_spec =
-      gives (λ tree. map (λ (r : ImportSpec). r.path) (imports_of tree)) (trees_of p) t.tree s.path
-      (contains_map (λ (n : NumberedTree). n.tree) (numbered_trees p) t is_tree)
-      (contains_map (λ (r : ImportSpec). r.path) (imports_of t.tree) s is_spec)
-
-  module _ (places : List ℕ → Option ℕ) (marks : List Bool) (marked : AreMarked rules ps tables i places marks) where
-    abbrev is_one : List ℕ → Bool
-    is_one = is_marked places marks
-
+  module _ (is_one : List ℕ → Bool) (not_yes : AreNotYes rules ps tables i is_one) where
     abbrev pub import_part : List Entry
     import_part = flat_map (tree_entries is_one ImportIsNotYes) (numbered_trees p)
 
@@ -140,19 +130,23 @@ module _ (rules : Rules) (ps : List LoadedPackage) (tables : Tables) (i : ℕ) (
       first : FirstAt path (import_list ps) place
       has_finding : HasFinding rules ps tables place
 
-    marked_is : (path : List ℕ) → Contains (imported_paths p) path → is_one path ≡ true → IsNotYes path
-    marked_is path names e = by (places path) refl
-      where
-        by : (o : Option ℕ) → places path ≡ o → IsNotYes path
-        by None n = absurd (false≢true (sym (ap (λ q. is_set_at q marks) n) ∙ e))
-        by (Some j) s =
-            let first = first_there (import_list ps) path j (sym (marked.are_places path) ∙ s) in
-            record {
-              place = j;
-              first = first;
-              has_finding = (marked.are_not_yes j (names_first ps i p is_p path j names first)).0
-                  (sym (ap (λ q. is_set_at q marks) s) ∙ e);
-            }
+    not_yes_is : (path : List ℕ) → is_one path ≡ true → IsNotYes path
+    not_yes_is path e =
+        let it = not_yes.are_given path e in
+        let im = it.imports in
+        let imported = same_Some im.imported (list_item ps it.imported)
+        (sym im.is_imported ∙ in_lists ps it.place it.imported it.is_there) in
+        let same : im.imported.path ≡ path = ap (λ (q : Package). q.path) imported ∙ sym it.is_path in
+        record {
+          place = it.place;
+          first = record {
+            found = im.imported;
+            is_found = im.is_imported;
+            same = same;
+            first = λ m q is e. im.is_first m q is (e ∙ sym same);
+          };
+          has_finding = (not_yes.of_imports it.place it.imported im it.is_there).0 (ap is_one (sym it.is_path) ∙ e);
+        }
 
     spec_is : (t : NumberedTree) (s : ImportSpec) (x : Entry) → Contains (numbered_trees p) t
         → Contains (imports_of t.tree) s
@@ -164,7 +158,7 @@ module _ (rules : Rules) (ps : List LoadedPackage) (tables : Tables) (i : ℕ) (
             → Contains (if b then import_entry t.file s ImportIsNotYes ∷ [] else []) x
             → IsFindingBy rules ps tables i x
         by true e g =
-            let j = marked_is s.path (path_there t s is_tree is_spec) e in
+            let j = not_yes_is s.path e in
             subst (IsFindingBy rules ps tables i) (only_one _ x g)
             (of_import j.place t.file s j.has_finding.entry none
             (import_there ps i p is_p t s j.place is_tree is_spec j.first) j.has_finding.is_finding)
@@ -183,10 +177,9 @@ module _ (rules : Rules) (ps : List LoadedPackage) (tables : Tables) (i : ℕ) (
         let same = same_Some im.importer p (sym im.is_importer ∙ is_p) in
         let is_tree : Contains (numbered_trees p) im.tree =
         subst (λ (r : LoadedPackage). Contains (numbered_trees r) im.tree) same im.is_tree in
-        let first = first_import ps i p is_p j number s im in
         let is_set : is_one s.path ≡ true =
-        ap (λ q. is_set_at q marks) (marked.are_places s.path ∙ there_first (import_list ps) s.path j first)
-        ∙ (marked.are_not_yes j im.imports).1 (record { entry = z; is_finding = finding }) in
+        ap is_one im.is_path
+        ∙ (not_yes.of_imports j im.imported im.imports im.is_imported).1 (record { entry = z; is_finding = finding }) in
         gives (tree_entries is_one ImportIsNotYes) (numbered_trees p) im.tree _ is_tree
         (gives (spec_entries is_one ImportIsNotYes im.tree.file) (imports_of im.tree.tree) s _ im.is_spec
         (there im.tree is_set (ap (λ m. import_entry m s ImportIsNotYes) im.is_file)))

@@ -1,14 +1,16 @@
 pub mod AllPackages
 mod AllReports
+mod DeclaredImports
+mod FirstJudged
+mod FollowsSo
 mod FoundPackages
+mod ImportedRows
 mod ImportedTables
+mod ImportsNotYes
 pub mod JudgedFiles
-mod KeptNext
-mod KnownImports
+pub mod KeptPackages
 mod NextPackage
-mod NotYes
 mod PackageNames
-mod PathsInOrder
 mod PlainNames
 mod PlainTables
 mod Verdicts

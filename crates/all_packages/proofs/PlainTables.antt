@@ -109,7 +109,8 @@ is_plain ps tables i p k table entries tells is_table told = record {
 }
 
 module _ (kept : List KeptPackage) (said : List Judged) (ts : List Table) (are : AreTablesFrom kept 0 said ts) where
-  module _ (ps : List LoadedPackage) (tell : TellPackages ps kept) (reports : AreReports ps kept said) where
+  module _ (declared : Tables) (ps : List LoadedPackage) (tell : TellPackages ps kept)
+      (reports : AreReports declared ps kept said) where
     plain_at : (i : ℕ) (j : Judged) (t : Table) (p : LoadedPackage) (k : KeptPackage) → slice_get said i ≡ Some j
         → slice_get kept i ≡ Some k
         → slice_get ps i ≡ Some p
@@ -155,14 +156,14 @@ module _ (kept : List KeptPackage) (said : List Judged) (ts : List Table) (are :
             subst (λ n. IsTableAt kept n j t) (let e : i + 0 ≡ i = omega arith in e)
             (table_there kept 0 said ts are i j t is_j is_t)
 
-pub plain_so : (kept : List KeptPackage) (said : List Judged) (ts : List Table)
-    → ((ps : List LoadedPackage) → TellPackages ps kept → HaveDistinctPaths ps → AreReports ps kept said)
+pub plain_so : (declared : Tables) (kept : List KeptPackage) (said : List Judged) (ts : List Table)
+    → ((ps : List LoadedPackage) → TellPackages ps kept → HaveDistinctPaths ps → AreReports declared ps kept said)
     → AreTablesFrom kept 0 said ts
-    → TellsTables kept ts
-plain_so kept said ts reports are = record {
+    → TellsTables declared kept ts
+plain_so declared kept said ts reports are = record {
   said = said;
   are_reports = reports;
   are_as_many = as_many kept 0 said ts are;
   are_plain = λ ps tell distinct i j t is_j is_t.
-      plain_there kept said ts are ps tell (reports ps tell distinct) i j t is_j is_t;
+      plain_there kept said ts are declared ps tell (reports ps tell distinct) i j t is_j is_t;
 }

@@ -1,6 +1,6 @@
 -- A package with a fault as a whole: nothing else is to be said of it.
-use Rattle.std.proofs.Common.{◌≡◌, ℕ, zero, suc, ◌+◌, ◌<◌, inl, inr, Bool, true, false, if◌then◌else◌, List, [], ◌∷◌, map, length, get_or, Contains, Option, Some, None, refl, sym, ap, ◌∙◌, subst, arith}
-use Rattle.std.specs.Prelude.{◌↔◌, ◌==◌, not, slice_get, slice_set}
+use Rattle.std.proofs.Common.{◌≡◌, ℕ, ◌+◌, ◌<◌, inl, inr, Bool, true, false, if◌then◌else◌, List, [], ◌∷◌, map, length, get_or, Contains, Option, Some, None, refl, sym, ap, ◌∙◌, subst, arith}
+use Rattle.std.specs.Prelude.{◌↔◌, ◌==◌, slice_get}
 use Rattle.std.proofs.lemmas.Bool.{false≢true}
 use Rattle.std.proofs.lemmas.Bool.Decides.{Decides-eqb}
 use Rattle.std.proofs.lemmas.List.{length-map}
@@ -10,15 +10,13 @@ use Rattle.tree.specs.Syntax.{TopLevelDeclaration, function_declaration, general
 use Rattle.meaning.proofs.Membership.{contains_nil, contains_here, contains_there, contains_cases}
 use Rattle.meaning.specs.OuterBlocks.{can_be_meant}
 use Rattle.meaning.specs.TwoFunctions.{FunctionName, function_names_in, function_names_from, is_called_before, second_after, second_function}
-use Rattle.report.specs.Entries.{Entry, entry_of}
-use Rattle.report.specs.declared.diagnostics.Diagnostic.{Diagnostic}
+use Rattle.report.specs.Entries.{Entry}
 use Rattle.meaning_reports.specs.Loaded.{LoadedPackage, NumberedTree, Tables, numbered_trees, trees_of}
 use Rattle.meaning_reports.specs.WholeFaults.{IsWholeFault, HasNoWholeFault, has_two_functions}
 use Rattle.meaning_reports.specs.PackageTables.{empty}
 use Rattle.meaning_reports.specs.PackageReports.{Rules, IsFindingBy, of_whole, of_import, of_files}
 use Rattle.all_packages.specs.declared.judged.Judged.{Judged}
 use Rattle.all_packages.specs.Judgments.{IsJudgment, IsWholeOnly}
-use Rattle.all_packages.specs.Progress.{HasEntry}
 
 -- The second function of a name is one of the trees'
 
@@ -116,27 +114,3 @@ module _ {A B : Type 0} (f : A → B) where
   pub is_empty : (xs : List A) (len : ℕ) → length xs ≡ len → true ≡ (len == 0) → map f xs ≡ []
   is_empty [] len l e = refl
   is_empty (x ∷ xs) len l e = absurd (let none = (Decides-eqb len 0).0 (sym e) in omega (arith, l, none))
-
--- a mark is set where something is to be said
-pub mark_is : (y : Bool) (ds : List Diagnostic) → ((y ≡ true) ↔ (ds ≡ [])) → (not y ≡ true) ↔ HasEntry (map entry_of ds)
-mark_is true ds are = (
-  λ e. absurd (false≢true e),
-  λ h. absurd (contains_nil h.0 (subst (λ es. Contains (map entry_of es) h.0) (are.0 refl) h.1)),
-)
-mark_is false [] are = (λ e. absurd (false≢true (are.1 refl)), λ h. refl)
-mark_is false (d ∷ ds) are = (λ e. (entry_of d, contains_here (entry_of d) (map entry_of ds)), λ h. refl)
-
--- Marks
-
-pub set_here : (marks : List Bool) (i : ℕ) (mark : Bool) → i < length marks → slice_get (slice_set marks i mark) i ≡ Some mark
-set_here [] i mark l = absurd (omega (arith, l))
-set_here (m ∷ ms) zero mark l = refl
-set_here (m ∷ ms) (suc i) mark l = set_here ms i mark (omega (arith, l))
-
-pub set_others : (marks : List Bool) (i : ℕ) (mark : Bool) (n : ℕ) → (n ≡ i → ⊥)
-    → slice_get (slice_set marks i mark) n ≡ slice_get marks n
-set_others [] i mark n other = refl
-set_others (m ∷ ms) zero mark zero other = absurd (other refl)
-set_others (m ∷ ms) zero mark (suc n) other = refl
-set_others (m ∷ ms) (suc i) mark zero other = refl
-set_others (m ∷ ms) (suc i) mark (suc n) other = set_others ms i mark n λ same. other (ap suc same)

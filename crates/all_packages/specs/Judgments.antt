@@ -1,25 +1,26 @@
 -- What the program keeps of a package that was judged, and of those around it, and what it stands for.
-use Rattle.std.specs.Prelude.{ℕ, ◌≡◌, ◌↔◌, Bool, true, List, Option, map, slice_get, Contains, string_bytes}
+use Rattle.std.specs.Prelude.{ℕ, ◌≡◌, ◌↔◌, Bool, true, List, Option, Some, map, slice_get, Contains, string_bytes}
 use Rattle.std.specs.List.{AllPairs}
 use Rattle.meaning.specs.FunctionFacts.{FunctionFacts}
 use Rattle.meaning_packages.specs.CallsFlags.{Flags}
-use Rattle.facts.specs.FactViews.{facts_by_name, facts_by_path}
+use Rattle.declared_tables.specs.DeclaredTables.{table_view as kept_view}
+use Rattle.facts.specs.FactViews.{facts_by_path}
 use Rattle.imports.specs.Ranks.{Imports}
-use Rattle.imports.specs.Settling.{place_from}
 use Rattle.imports.specs.Views.{at_path}
-use Rattle.calls_flags.specs.KnownCalls.{is_called, flags_by_path}
+use Rattle.calls_flags.specs.KnownCalls.{flags_by_path}
 use Rattle.whole_packages.specs.declared.loaded_package.LoadedPackage.{LoadedPackage as KeptPackage}
 use Rattle.whole_packages.specs.WholeEntries.{is_set, TellsOrder}
-use Rattle.names.specs.Answers.{names_by_path}
+use Rattle.names.specs.Answers.{at_name, names_by_path}
 use Rattle.report.specs.Entries.{Entry, Precedes, entry_of}
 use Rattle.meaning_reports.specs.Loaded.{LoadedPackage, PackageTable, Tables, import_list, package_names, imported_signatures, imported_flags}
 use Rattle.meaning_reports.specs.PackageTables.{IsTableBy, IsEmpty}
 use Rattle.meaning_reports.specs.PackageReports.{Rules, IsFindingBy, AreFindingsBy}
 use Rattle.all_packages.specs.declared.judged.Around.{Around}
 use Rattle.all_packages.specs.declared.judged.Judged.{Judged}
+use Rattle.all_packages.specs.declared.known_imports.NotYes.{NotYes}
 
 abbrev pub table_view : Judged → PackageTable
-table_view judged = record { signatures = facts_by_name judged.table.signatures; calls = is_called judged.table.called }
+table_view judged = kept_view judged.table
 
 -- what is said of the package
 abbrev pub entries_of : Judged → List Entry
@@ -62,18 +63,33 @@ pub record HasFinding (rules : Rules) (ps : List LoadedPackage) (tables : Tables
   pub entry : Entry
   pub is_finding : IsFindingBy rules ps tables i entry
 
--- the imports of the package of the place `i` that aren't yes are marked
-pub record AreMarked
-    (rules : Rules) (ps : List LoadedPackage) (tables : Tables) (i : ℕ)
-    (places : List ℕ → Option ℕ) (marks : List Bool)
-    : Type 0 where
-  pub are_places : (path : List ℕ) → places path ≡ place_from path (import_list ps) 0
-  pub are_not_yes : (j : ℕ) → Imports (import_list ps) i j
-      → (is_set (slice_get marks j) ≡ true) ↔ HasFinding rules ps tables j
+-- the path is that of a package that the package of the place `i` imports
+pub record IsOfImport (ps : List LoadedPackage) (i : ℕ) (path : List ℕ) : Type 0 where
+  pub place : ℕ
+  pub imported : LoadedPackage
+  pub is_there : slice_get ps place ≡ Some imported
+  pub imports : Imports (import_list ps) i place
+  pub is_path : path ≡ imported.path
 
-abbrev pub MarksNotYes : Rules → List LoadedPackage → Tables → ℕ → Around → Type 0
-MarksNotYes rules ps tables i around =
-    AreMarked rules ps tables i (at_path around.not_yes.places.now) around.not_yes.marks.now
+-- picked are the imports of the package of the place `i` that aren't yes, and nothing that it doesn't import
+pub record AreNotYes
+    (rules : Rules) (ps : List LoadedPackage) (tables : Tables) (i : ℕ) (picked : List ℕ → Bool)
+    : Type 0 where
+  pub of_imports : (j : ℕ) (q : LoadedPackage)
+      → Imports (import_list ps) i j
+      → slice_get ps j ≡ Some q
+      → (picked q.path ≡ true) ↔ HasFinding rules ps tables j
+  pub are_given : (path : List ℕ) → picked path ≡ true → IsOfImport ps i path
+
+-- whether something is to be said of the package of that path, if it was judged
+abbrev pub mark_by_path : NotYes → List ℕ → Option Bool
+mark_by_path not_yes = at_name not_yes.packages
+
+abbrev pub is_picked : NotYes → List ℕ → Bool
+is_picked not_yes path = is_set (mark_by_path not_yes path)
+
+abbrev pub PicksNotYes : Rules → List LoadedPackage → Tables → ℕ → Around → Type 0
+PicksNotYes rules ps tables i around = AreNotYes rules ps tables i (is_picked around.not_yes.now)
 
 -- What is found
 

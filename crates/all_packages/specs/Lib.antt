@@ -2,8 +2,10 @@
 -- are those of `meaning_reports/specs/PackageReports.antt` and `meaning_reports/specs/PackageTables.antt`.
 pub mod Judgments
 pub mod ToldPackages
+pub mod Certified
 pub mod JudgedPackages
 pub mod Reports
+pub mod Results
 pub mod Tables
 -- What serves the proofs: what is known while packages are judged one after another.
 pub mod Progress

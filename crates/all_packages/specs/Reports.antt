@@ -2,7 +2,7 @@
 use Rattle.std.specs.Prelude.{ℕ, ◌≡◌, Bool, true, false, List, [], ◌∷◌, map, Some, slice_get}
 use Rattle.std.specs.List.{list_all}
 use Rattle.whole_packages.specs.declared.loaded_package.LoadedPackage.{LoadedPackage as KeptPackage}
-use Rattle.meaning_reports.specs.Loaded.{LoadedPackage}
+use Rattle.meaning_reports.specs.Loaded.{LoadedPackage, Tables}
 use Rattle.meaning_reports.specs.PackageReports.{Rules, Said, IsReportBy, by_paths}
 use Rattle.whole_packages.specs.LoadedViews.{TellPackages, HaveDistinctPaths}
 use Rattle.report.specs.declared.diagnostics.Diagnostic.{Diagnostic}
@@ -29,8 +29,8 @@ pub record AreReportsBy (rules : Rules) (ps : List LoadedPackage) (kept : List K
   pub are_told : (i : ℕ) (k : KeptPackage) (j : Judged) → slice_get kept i ≡ Some k → slice_get said i ≡ Some j
       → TellsSources k j
 
-abbrev pub AreReports : List LoadedPackage → List KeptPackage → List Judged → Type 0
-AreReports = AreReportsBy by_paths
+abbrev pub AreReports : Tables → List LoadedPackage → List KeptPackage → List Judged → Type 0
+AreReports declared = AreReportsBy (by_paths declared)
 
 -- there is nothing to say of the package
 abbrev pub says_nothing : List Diagnostic → Bool
@@ -41,9 +41,12 @@ abbrev pub is_yes : PackageReport → Bool
 is_yes report = says_nothing report.diagnostics.items
 
 -- the text is that of what is said, and `yes` tells whether nothing is to be said of any package
-pub record IsTold (said : List Judged) (report : Report) : Type 0 where
-  pub is_text : report.text.items ≡ report_text (map report_in said)
-  pub verdict : report.yes ≡ list_all is_yes (map report_in said)
+pub record AreTold (reports : List PackageReport) (report : Report) : Type 0 where
+  pub is_text : report.text.items ≡ report_text reports
+  pub verdict : report.yes ≡ list_all is_yes reports
+
+abbrev pub IsTold : List Judged → Report → Type 0
+IsTold said = AreTold (map report_in said)
 
 -- it is the report of the packages that are kept so, whichever these are
 pub record TellsReportBy (rules : Rules) (kept : List KeptPackage) (report : Report) : Type 0 where
@@ -54,5 +57,5 @@ pub record TellsReportBy (rules : Rules) (kept : List KeptPackage) (report : Rep
       → AreReportsBy rules ps kept said
   pub told : IsTold said report
 
-abbrev pub TellsReport : List KeptPackage → Report → Type 0
-TellsReport = TellsReportBy by_paths
+abbrev pub TellsReport : Tables → List KeptPackage → Report → Type 0
+TellsReport declared = TellsReportBy (by_paths declared)

@@ -11,7 +11,7 @@ use Rattle.table_json.specs.declared.table.Parameter.TheVariants.{Cancel, Cause,
 use Rattle.table_json.specs.declared.table.Table.{Table}
 use Rattle.table_json.specs.Tables.{Entry, by_bytes, entries_of}
 use Rattle.table_json.specs.TableValues.{if_fits}
-use Rattle.meaning_reports.specs.Loaded.{LoadedPackage, PackageTable}
+use Rattle.meaning_reports.specs.Loaded.{LoadedPackage, PackageTable, Tables}
 use Rattle.all_packages.specs.declared.judged.Judged.{Judged}
 use Rattle.all_packages.specs.Judgments.{table_view}
 use Rattle.all_packages.specs.Reports.{AreReports}
@@ -103,10 +103,14 @@ AreTablesFrom kept n [] (t ∷ ts) = ⊥
 AreTablesFrom kept n (j ∷ js) [] = ⊥
 AreTablesFrom kept n (j ∷ js) (t ∷ ts) = IsTableAt kept n j t × AreTablesFrom kept (n + 1) js ts
 
--- they are the final tables of the packages that are kept so, whichever these are: a table of each, in their order
-pub record TellsTables (kept : List KeptPackage) (tables : List Table) : Type 0 where
+-- They are the final tables of the packages that are kept so, whichever these are, where this is declared of others: a
+-- table of each, in their order.
+pub record TellsTables (declared : Tables) (kept : List KeptPackage) (tables : List Table) : Type 0 where
   pub said : List Judged
-  pub are_reports : (ps : List LoadedPackage) → TellPackages ps kept → HaveDistinctPaths ps → AreReports ps kept said
+  pub are_reports : (ps : List LoadedPackage)
+      → TellPackages ps kept
+      → HaveDistinctPaths ps
+      → AreReports declared ps kept said
   pub are_as_many : length tables ≡ length said
   pub are_plain : (ps : List LoadedPackage) → TellPackages ps kept → HaveDistinctPaths ps
       → (i : ℕ) (j : Judged) (table : Table)

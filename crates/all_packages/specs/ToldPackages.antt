@@ -7,13 +7,15 @@ use Rattle.calls_flags.specs.ToldFiles.{TellAllSeen}
 use Rattle.calls_flags.specs.FilesBodies.{HaveBodies, with_all_credits}
 use Rattle.meaning_packages.specs.CallsFlags.{FileWithCredits, AreMost}
 use Rattle.meaning_reports.specs.Loaded.{LoadedPackage, Tables, imported_flags, seen_files, signatures_of}
-use Rattle.meaning_reports.specs.PackageReports.{Rules, IsFindingBy}
+use Rattle.meaning_reports.specs.PackageReports.{Rules, IsFindingBy, SaysByPaths}
+use Rattle.meaning_reports.specs.PackageTables.{AreFlagsByPaths}
 use Rattle.meaning_reports.specs.WholeFaults.{IsWholeFault, HasNoWholeFault}
 use Rattle.report.specs.Entries.{Entry, entry_of}
 use Rattle.all_packages.specs.declared.grounds.Grounds.{Grounds}
 use Rattle.all_packages.specs.declared.grounds.Grounds.TheVariants.{WholeFaults, Told}
 use Rattle.all_packages.specs.declared.told_package.ToldPackage.{ToldPackage}
 use Rattle.all_packages.specs.declared.told_package.PackageBodies.{PackageBodies}
+use Rattle.all_packages.specs.declared.by_paths.JudgedBodies.{JudgedBodies}
 use Rattle.all_packages.specs.declared.file_rules.FoundFiles.{FoundFiles}
 use Rattle.all_packages.specs.declared.judged.FoundPackage.{FoundPackage}
 
@@ -49,6 +51,14 @@ pub record HasPackageBodies
     : Type 0 where
   pub are_bodies : HaveBodies (seen_files ps tables p) bodies.files.items
   pub are_flags : AreMost (files_of ps tables p bodies) (imported_flags p tables) (is_called bodies.called)
+
+-- what is kept are the bodies of its files, what paths say of these, and the flags that it has by them
+pub record AreJudgedBodies
+    (ps : List LoadedPackage) (tables : Tables) (i : ℕ) (p : LoadedPackage) (bodies : JudgedBodies)
+    : Type 0 where
+  pub are_bodies : HaveBodies (seen_files ps tables p) bodies.files.items
+  pub are_flags : AreFlagsByPaths ps tables i p (is_called bodies.called)
+  pub each : (x : Entry) → Contains (map entry_of bodies.diagnostics.items) x ↔ SaysByPaths ps tables i x
 
 -- what was found is what the rules say of the package's files, and the flags that it has by them
 pub record AreFoundFiles

@@ -1,9 +1,12 @@
 //! One package.
 
-ghost use Rattle.std.specs.Prelude.{◌≡◌, ◌↔◌, ℕ, List, IfOk, Some, map, slice_get, Contains, string_bytes};
+ghost use Rattle.std.specs.Prelude.{◌≡◌, ◌↔◌, ℕ, List, [], IfOk, Some, map, slice_get, Contains, string_bytes};
 ghost use Rattle.std.specs.List.{AllPairs};
-ghost use Rattle.all_packages.specs.Judgments.{IsJudgment, IsWholeOnly, MarksNotYes, TellsAround, TellsSources};
+ghost use Rattle.all_packages.specs.Certified.{certificates_in, HasCertificates};
+ghost use Rattle.all_packages.specs.Judgments.{IsJudgment, IsWholeOnly, PicksNotYes, TellsAround, TellsSources};
 ghost use Rattle.all_packages.specs.ToldPackages.{IsToldPackage, IsFoundPackage};
+ghost use Rattle.calls_flags.specs.KnownCalls.{is_called};
+ghost use Rattle.certificate_json.specs.Certificates.{body_of};
 ghost use Rattle.whole_packages.specs.LoadedViews.{TellsPackage};
 ghost use Rattle.report.specs.Entries.{Entry, Precedes, entry_of};
 ghost use Rattle.meaning_reports.specs.Loaded.{LoadedPackage as MeantPackage, Tables};
@@ -11,8 +14,11 @@ ghost use Rattle.meaning_reports.specs.WholeFaults.{HasNoWholeFault};
 
 use crate::file_rules::{FileRules, FoundFiles};
 use crate::grounds::{Grounds, find_grounds};
+use crate::known_imports::NotYes;
 use crate::told_package::ToldPackage;
 use calls_flags::{Called, ImportedCalls};
+use certificate_json::Body;
+use declared_tables::PackageTable;
 use facts::{Imported, Table};
 use names::PackageNames;
 use report::{Diagnostic, DiagnosticCode, PackageReport, in_order};
@@ -30,8 +36,8 @@ pub struct Around<'k, 'a> {
     pub calls: &'k ImportedCalls<'a, 'k>,
     /// The given packages that have no rank.
     pub unranked: Marked<'k, 'a>,
-    /// Among its imports, those that are not yes.
-    pub not_yes: Marked<'k, 'a>,
+    /// Its imports that are not yes.
+    pub not_yes: &'k NotYes<'a>,
 }
 
 /// What is to be said of a package, in no order, and which of their parameters its functions are known to call.
@@ -39,15 +45,7 @@ pub struct Around<'k, 'a> {
 struct FoundPackage<'a> {
     diagnostics: Vec<Diagnostic<'a>>,
     called: Called<'a>,
-}
-
-/// What is known of the functions of a package.
-#[derive(Drop)]
-pub struct PackageTable<'a> {
-    /// What their signatures say.
-    pub signatures: Table<'a>,
-    /// Which of their parameters they are known to call.
-    pub called: Called<'a>,
+    certificates: Vec<Body>,
 }
 
 /// What is said of a package, and what is known of its functions.
@@ -55,6 +53,8 @@ pub struct PackageTable<'a> {
 pub struct Judged<'a> {
     pub report: PackageReport<'a>,
     pub table: PackageTable<'a>,
+    /// Certificates of its bodies, by rules that make some.
+    pub certificates: Vec<Body>,
 }
 
 /// The report of a package of which this was found.
@@ -80,6 +80,7 @@ fn whole_only<'a>(
 ) -> Judged<'a>
     ensures only { IsWholeOnly (map entry_of faults.entry.items) result }
     ensures told { TellsSources loaded.now result }
+    ensures certified { certificates_in result ≡ [] }
 {
     Judged {
         report: report_of(loaded, faults),
@@ -87,6 +88,7 @@ fn whole_only<'a>(
             signatures: Table::new(alloc),
             called: Called::new(alloc),
         },
+        certificates: Vec::new(alloc),
     }
 }
 
@@ -99,16 +101,22 @@ fn find_in_package<'a, R: FileRules>(
     around: Around<'_, 'a>,
     rules: &R,
 ) -> Result<FoundPackage<'a>, AllocError>
-    ensures { IfOk result (λ found. (ps : List MeantPackage) (tables : Tables) (i : ℕ) (p : MeantPackage)
-        → slice_get ps i ≡ Some p → TellsPackage p loaded.now → TellsAround ps tables p around.entry
-        → MarksNotYes (R.rules rules.now) ps tables i around.entry
+    ensures found { IfOk result (λ found. (declared : Tables) (ps : List MeantPackage) (tables : Tables) (i : ℕ)
+        (p : MeantPackage) → slice_get ps i ≡ Some p → TellsPackage p loaded.now → TellsAround ps tables p around.entry
+        → PicksNotYes (R.rules rules.now declared) ps tables i around.entry
         → IsToldPackage ps tables p told.now
         → HasNoWholeFault ps i
-        → IsFoundPackage (R.rules rules.now) ps tables i p found) }
+        → IsFoundPackage (R.rules rules.now declared) ps tables i p found) }
+    ensures certified { IfOk result (λ found. (ps : List MeantPackage) (tables : Tables) (i : ℕ) (p : MeantPackage)
+        → slice_get ps i ≡ Some p → TellsPackage p loaded.now → TellsAround ps tables p around.entry
+        → IsToldPackage ps tables p told.now
+        → HasNoWholeFault ps i
+        → R.certificates rules.now ps tables p (is_called found.called) (map body_of found.certificates.items)) }
 {
     let FoundFiles {
         mut diagnostics,
         called,
+        certificates,
     } = rules.find(alloc, loaded, told, around)?;
     let trees = numbered_trees(alloc, loaded)?;
     add_imports(
@@ -120,6 +128,7 @@ fn find_in_package<'a, R: FileRules>(
     Ok(FoundPackage {
         diagnostics,
         called,
+        certificates,
     })
 }
 
@@ -132,20 +141,27 @@ fn judge_told<'a, R: FileRules>(
     rules: &R,
 ) -> Result<Judged<'a>, AllocError>
     ensures told { IfOk result (TellsSources loaded.now) }
-    ensures judged { IfOk result (λ judged. (ps : List MeantPackage) (tables : Tables) (i : ℕ) (p : MeantPackage)
-        → slice_get ps i ≡ Some p → TellsPackage p loaded.now → TellsAround ps tables p around.entry
-        → MarksNotYes (R.rules rules.now) ps tables i around.entry
+    ensures judged { IfOk result (λ judged. (declared : Tables) (ps : List MeantPackage) (tables : Tables)
+        (i : ℕ) (p : MeantPackage) → slice_get ps i ≡ Some p → TellsPackage p loaded.now
+        → TellsAround ps tables p around.entry
+        → PicksNotYes (R.rules rules.now declared) ps tables i around.entry
         → HasNoWholeFault ps i → IsToldPackage ps tables p told.entry
-        → IsJudgment (R.rules rules.now) ps tables i p judged) }
+        → IsJudgment (R.rules rules.now declared) ps tables i p judged) }
+    ensures certified { IfOk result (λ judged. (ps : List MeantPackage) (tables : Tables) (i : ℕ) (p : MeantPackage)
+        → slice_get ps i ≡ Some p → TellsPackage p loaded.now → TellsAround ps tables p around.entry
+        → HasNoWholeFault ps i → IsToldPackage ps tables p told.entry
+        → HasCertificates (R.certificates rules.now) ps tables i p judged) }
 {
     let FoundPackage {
         diagnostics,
         called,
+        certificates,
     } = find_in_package(alloc, loaded, &told, around, rules)?;
     let ToldPackage { signatures, .. } = told;
     Ok(Judged {
         report: report_of(loaded, diagnostics),
         table: PackageTable { signatures, called },
+        certificates,
     })
 }
 
@@ -161,10 +177,14 @@ pub fn judge<'a, R: FileRules>(
     rules: &R,
 ) -> Result<Judged<'a>, AllocError>
     ensures told { IfOk result (TellsSources loaded.now) }
-    ensures judged { IfOk result (λ judged. (ps : List MeantPackage) (tables : Tables) (i : ℕ) (p : MeantPackage)
+    ensures judged { IfOk result (λ judged. (declared : Tables) (ps : List MeantPackage) (tables : Tables)
+        (i : ℕ) (p : MeantPackage) → slice_get ps i ≡ Some p → TellsPackage p loaded.now
+        → TellsAround ps tables p around.entry
+        → (HasNoWholeFault ps i → PicksNotYes (R.rules rules.now declared) ps tables i around.entry)
+        → IsJudgment (R.rules rules.now declared) ps tables i p judged) }
+    ensures certified { IfOk result (λ judged. (ps : List MeantPackage) (tables : Tables) (i : ℕ) (p : MeantPackage)
         → slice_get ps i ≡ Some p → TellsPackage p loaded.now → TellsAround ps tables p around.entry
-        → MarksNotYes (R.rules rules.now) ps tables i around.entry
-        → IsJudgment (R.rules rules.now) ps tables i p judged) }
+        → HasCertificates (R.certificates rules.now) ps tables i p judged) }
 {
     match find_grounds(alloc, loaded, around)? {
         Grounds::WholeFaults(faults) => Ok(whole_only(alloc, loaded, faults)),

@@ -15,11 +15,15 @@ mod reports;
 mod tables;
 mod told_package;
 
-pub use by_paths::ByPaths;
+pub use by_paths::{ByPaths, JudgedBodies, judge_bodies};
 pub use file_rules::{FileRules, FoundFiles};
-pub use judged::{Around, Judged, PackageTable};
+pub use given::{Given, given_packages};
+pub use judged::{Around, Judged};
+pub use known_imports::{KnownImports, NotYes};
 pub use package_names::names_of_packages;
-pub use packages::{JudgedBy, JudgedPackages, judge_packages, judge_packages_by};
-pub use reports::{Report, whole_report, whole_report_by};
+pub use packages::{
+    JudgedBy, JudgedPackages, check_by, judge_package, judge_packages, judge_packages_by,
+};
+pub use reports::{Report, report_from, whole_report, whole_report_by};
 pub use tables::{final_tables, package_table};
 pub use told_package::ToldPackage;

@@ -1,12 +1,18 @@
 //! All packages, one after another.
 
-ghost use Rattle.std.specs.Prelude.{◌≡◌, ℕ, List, Option, IfOk, OnOk, Some, slice_get};
+ghost use Rattle.std.specs.Prelude.{◌≡◌, ℕ, List, Option, IfOk, OnOk, Some, filter_map, slice_get};
+ghost use Rattle.all_packages.specs.Certified.{AreAllCertified, CertificatesFollow};
 ghost use Rattle.all_packages.specs.JudgedPackages.{AreAll, AreAllBy, IsFoundBy, IsJudgedBy};
-ghost use Rattle.all_packages.specs.Judgments.{IsJudgment, TellsAround, TellsSources};
-ghost use Rattle.all_packages.specs.Progress.{judged_in, marks_in, Agrees, AreRight, AreRankedJudged, AreAllJudged, IsNext, IsReady, JudgedByPath, KnowsImports, TellsGiven};
-ghost use Rattle.all_packages.specs.Reports.{AreReports, AreReportsBy};
+ghost use Rattle.all_packages.specs.Judgments.{TellsAround, TellsSources};
+ghost use Rattle.all_packages.specs.Progress.{imports_at, judged_in, slots_in, AreRight, AreRankedJudged, AreAllJudged, IsNext, IsReady, TellsGiven};
+ghost use Rattle.all_packages.specs.Reports.{said_view, AreReports, AreReportsBy};
+ghost use Rattle.all_packages.specs.Results.{results_by, AreImported, HaveTheirTables, KnowsImports};
+ghost use Rattle.all_packages.specs.declared.judged.Judged.{Judged};
+ghost use Rattle.declared_tables.specs.DeclaredTables.{declared_tables};
+ghost use Rattle.gathering.specs.Results.{FollowsFrom};
 ghost use Rattle.imports.specs.Ranks.{IsOrder};
-ghost use Rattle.imports.specs.Views.{at_path, package_view};
+ghost use Rattle.imports.specs.Views.{package_view};
+ghost use Rattle.outside_json.specs.Outside.{packages_of};
 ghost use Rattle.whole_packages.specs.LoadedViews.{HaveDistinctPaths, TellPackages, TellsPackage};
 ghost use Rattle.meaning_reports.specs.Loaded.{LoadedPackage as MeantPackage, Tables, import_list, imported_paths};
 
@@ -16,25 +22,21 @@ use crate::given::{Given, given_packages};
 use crate::grounds::told_of;
 use crate::judged::{Around, Judged, judge};
 use crate::known_imports::{KnownImports, known_imports};
-use crate::progress::{Progress, in_their_order};
+use crate::progress::Progress;
 use crate::told_package::ToldPackage;
 use calls_flags::ImportedCalls;
 use imports::ImportList;
+use outside_json::Outside;
 use std::alloc::{AllocError, Global};
 use whole_packages::{LoadedPackage, Marked};
 
 /// What is known around a package of which this is known of its imports.
-fn around<'k, 't, 'a>(
-    given: &'k Given<'a>,
-    imports: &'k KnownImports<'a, 't>,
-    not_yes: &'k [bool],
-) -> Around<'k, 'a>
-    ensures known { (ps : List MeantPackage) (tables : Tables) (i : ℕ) (p : MeantPackage) (judged : JudgedByPath)
-        → TellsGiven ps given.now → slice_get ps i ≡ Some p → IsReady ps judged i → Agrees ps judged tables
-        → KnowsImports judged (imported_paths p) imports.now
+fn around<'k, 't, 'a>(given: &'k Given<'a>, imports: &'k KnownImports<'a, 't>) -> Around<'k, 'a>
+    ensures known { (declared : Tables) (ps : List MeantPackage) (tables : Tables) (p : MeantPackage)
+        (js : List Judged) → TellsGiven declared ps given.now
+        → KnowsImports given.now (imported_paths p) js imports.now → HaveTheirTables given.now p tables js
         → TellsAround ps tables p result }
-    ensures places { at_path result.not_yes.places.now ≡ at_path given.now.places }
-    ensures marks { result.not_yes.marks.now ≡ not_yes.now }
+    ensures not_yes { result.not_yes.now ≡ imports.now.not_yes }
 {
     Around {
         names: &given.names,
@@ -44,18 +46,44 @@ fn around<'k, 't, 'a>(
             places: &given.places,
             marks: &given.unranked,
         },
-        not_yes: Marked {
-            places: &given.places,
-            marks: not_yes,
-        },
+        not_yes: &imports.not_yes,
     }
 }
 
-/// A package, and what it imports.
+/// Judges a package by what is known of its imports, whoever found that, and by what is declared of those that were not
+/// given. Of those without a rank nothing need be known.
+///
+/// # Errors
+///
+/// Memory was refused.
+pub fn judge_package<'a, R: FileRules>(
+    alloc: Global,
+    given: &Given<'a>,
+    loaded: &'a LoadedPackage,
+    imports: &KnownImports<'a, '_>,
+    rules: &R,
+) -> Result<Judged<'a>, AllocError>
+    ensures told { IfOk result (TellsSources loaded.now) }
+    ensures follows { IfOk result (λ judged. (declared : Tables) (ps : List MeantPackage) (i : ℕ) (p : MeantPackage)
+        (js : List Judged) → TellsGiven declared ps given.now → slice_get ps i ≡ Some p → TellsPackage p loaded.now
+        → KnowsImports given.now (imported_paths p) js imports.now → AreImported ps i js
+        → FollowsFrom (R.rules rules.now declared) ps i p (results_by ps js) (said_view judged)) }
+    ensures certified { IfOk result (λ judged. (declared : Tables) (ps : List MeantPackage) (i : ℕ) (p : MeantPackage)
+        (js : List Judged) → TellsGiven declared ps given.now → slice_get ps i ≡ Some p → TellsPackage p loaded.now
+        → KnowsImports given.now (imported_paths p) js imports.now → AreImported ps i js
+        → CertificatesFollow (R.rules rules.now declared) (R.certificates rules.now) ps i p (results_by ps js)
+        judged) }
+{
+    rules.are_determined();
+    judge(alloc, loaded, around(&*given, &*imports), rules)
+}
+
+/// A package, what it imports, and the places of those that were given.
 #[derive(Clone, Copy)]
 struct Importer<'g, 'a> {
     loaded: &'a LoadedPackage,
     list: &'g ImportList<'a>,
+    places: &'g [usize],
 }
 
 /// Judges a package by what was judged before.
@@ -67,21 +95,27 @@ fn judge_one<'a, R: FileRules>(
     rules: &R,
 ) -> Result<Judged<'a>, AllocError>
     ensures told { IfOk result (TellsSources importer.entry.loaded.now) }
-    ensures judged { IfOk result (λ judged. (ps : List MeantPackage) (i : ℕ) (p : MeantPackage)
-        → TellsGiven ps given.now → slice_get ps i ≡ Some p → TellsPackage p importer.entry.loaded.now
+    ensures follows { IfOk result (λ judged. (declared : Tables) (ps : List MeantPackage) (i : ℕ) (p : MeantPackage)
+        → TellsGiven declared ps given.now → slice_get ps i ≡ Some p → TellsPackage p importer.entry.loaded.now
         → (package_view importer.entry.list.now).imports ≡ imported_paths p
-        → IsReady ps (judged_in progress.now) i
-        → AreRight (R.rules rules.now) ps given.now.packages.now (judged_in progress.now) (marks_in progress.now)
-        → (tables : Tables) → Agrees ps (judged_in progress.now) tables
-        → IsJudgment (R.rules rules.now) ps tables i p judged) }
+        → AreImported ps i (filter_map (judged_in progress.now) importer.entry.places.now)
+        → FollowsFrom (R.rules rules.now declared) ps i p
+        (results_by ps (filter_map (judged_in progress.now) importer.entry.places.now)) (said_view judged)) }
+    ensures certified { IfOk result (λ judged. (declared : Tables) (ps : List MeantPackage) (i : ℕ) (p : MeantPackage)
+        → TellsGiven declared ps given.now → slice_get ps i ≡ Some p → TellsPackage p importer.entry.loaded.now
+        → (package_view importer.entry.list.now).imports ≡ imported_paths p
+        → AreImported ps i (filter_map (judged_in progress.now) importer.entry.places.now)
+        → CertificatesFollow (R.rules rules.now declared) (R.certificates rules.now) ps i p
+        (results_by ps (filter_map (judged_in progress.now) importer.entry.places.now)) judged) }
 {
-    let imports = known_imports(alloc, &importer.list.imports, &progress.judged)?;
-    judge(
+    let imports = known_imports(
         alloc,
-        importer.loaded,
-        around(given, &imports, &progress.not_yes),
-        rules,
-    )
+        given,
+        &importer.list.imports,
+        progress,
+        importer.places,
+    )?;
+    judge_package(alloc, given, importer.loaded, &imports, rules)
 }
 
 /// Judges the package of that place, unless it was judged.
@@ -92,20 +126,33 @@ fn judge_next<'a, R: FileRules>(
     progress: &mut Progress<'a>,
     rules: &R,
 ) -> Result<(), AllocError>
-    ensures { OnOk result ((ps : List MeantPackage) → TellsGiven ps given.now → HaveDistinctPaths ps
-        → IsReady ps (judged_in progress.old) place
-        → AreRight (R.rules rules.now) ps given.now.packages.now (judged_in progress.old) (marks_in progress.old)
-        → IsNext (R.rules rules.now) ps given.now.packages.now (judged_in progress.old) (judged_in progress.new)
-        (marks_in progress.new) place) }
+    ensures { OnOk result ((declared : Tables) (ps : List MeantPackage) → TellsGiven declared ps given.now
+        → HaveDistinctPaths ps
+        → IsReady ps (slots_in progress.old) place
+        → AreRight (R.rules rules.now declared) (R.certificates rules.now) ps given.now.packages.now
+        (slots_in progress.old)
+        → IsNext (R.rules rules.now declared) (R.certificates rules.now) ps given.now.packages.now
+        (slots_in progress.old) (slots_in progress.new) place) }
 {
-    let (Some(loaded), Some(list)) = (given.packages.get(place), given.lists.get(place)) else {
+    rules.are_determined();
+    let (Some(loaded), Some(list), Some(places)) = (
+        given.packages.get(place),
+        given.lists.get(place),
+        given.imports.get(place),
+    ) else {
         return Ok(());
     };
-    if progress.judged.contains_key(loaded.path.as_str()) {
+    if progress.at(place).is_some() {
         return Ok(());
     }
-    let judged = judge_one(alloc, given, Importer { loaded, list }, progress, rules)?;
-    progress.keep(place, judged)
+    let importer = Importer {
+        loaded,
+        list,
+        places: places.as_slice(),
+    };
+    let judged = judge_one(alloc, given, importer, progress, rules)?;
+    progress.keep(place, judged);
+    Ok(())
 }
 
 /// Judges the packages that have ranks, in the order of these.
@@ -116,11 +163,13 @@ fn judge_ranked<'a, R: FileRules>(
     progress: &mut Progress<'a>,
     rules: &R,
 ) -> Result<(), AllocError>
-    ensures { OnOk result ((ps : List MeantPackage) → TellsGiven ps given.now → HaveDistinctPaths ps
+    ensures { OnOk result ((declared : Tables) (ps : List MeantPackage) → TellsGiven declared ps given.now
+        → HaveDistinctPaths ps
         → (rank : ℕ → Option ℕ) → IsOrder (import_list ps) rank ranked.now
-        → AreRight (R.rules rules.now) ps given.now.packages.now (judged_in progress.old) (marks_in progress.old)
-        → AreRankedJudged (R.rules rules.now) ps given.now.packages.now ranked.now (judged_in progress.new)
-        (marks_in progress.new)) }
+        → AreRight (R.rules rules.now declared) (R.certificates rules.now) ps given.now.packages.now
+        (slots_in progress.old)
+        → AreRankedJudged (R.rules rules.now declared) (R.certificates rules.now) ps given.now.packages.now ranked.now
+        (slots_in progress.new)) }
 {
     for place in ranked {
         judge_next(alloc, given, *place, progress, rules)?;
@@ -135,12 +184,13 @@ fn judge_rest<'a, R: FileRules>(
     progress: &mut Progress<'a>,
     rules: &R,
 ) -> Result<(), AllocError>
-    ensures { OnOk result ((ps : List MeantPackage) → TellsGiven ps given.now → HaveDistinctPaths ps
+    ensures { OnOk result ((declared : Tables) (ps : List MeantPackage) → TellsGiven declared ps given.now
+        → HaveDistinctPaths ps
         → (rank : ℕ → Option ℕ) (ranked : List ℕ) → IsOrder (import_list ps) rank ranked
-        → AreRankedJudged (R.rules rules.now) ps given.now.packages.now ranked (judged_in progress.old)
-        (marks_in progress.old)
-        → AreAllJudged (R.rules rules.now) ps given.now.packages.now (judged_in progress.new)
-        (marks_in progress.new)) }
+        → AreRankedJudged (R.rules rules.now declared) (R.certificates rules.now) ps given.now.packages.now ranked
+        (slots_in progress.old)
+        → AreAllJudged (R.rules rules.now declared) (R.certificates rules.now) ps given.now.packages.now
+        (slots_in progress.new)) }
 {
     for place in 0..given.packages.len() {
         judge_next(alloc, given, place, progress, rules)?;
@@ -154,10 +204,12 @@ fn judge_all<'a, R: FileRules>(
     given: &Given<'a>,
     rules: &R,
 ) -> Result<Progress<'a>, AllocError>
-    ensures { IfOk result (λ progress. (ps : List MeantPackage) → TellsGiven ps given.now → HaveDistinctPaths ps
-        → AreAllJudged (R.rules rules.now) ps given.now.packages.now (judged_in progress) (marks_in progress)) }
+    ensures { IfOk result (λ progress. (declared : Tables) (ps : List MeantPackage)
+        → TellsGiven declared ps given.now → HaveDistinctPaths ps
+        → AreAllJudged (R.rules rules.now declared) (R.certificates rules.now) ps given.now.packages.now
+        (slots_in progress)) }
 {
-    let mut progress = Progress::new(alloc, &given.unranked)?;
+    let mut progress = Progress::new(alloc, given.packages.len())?;
     judge_ranked(alloc, given, given.order.ranked(), &mut progress, rules)?;
     judge_rest(alloc, given, &mut progress, rules)?;
     Ok(progress)
@@ -170,7 +222,8 @@ pub struct JudgedPackages<'a> {
     progress: Progress<'a>,
 }
 
-/// Judges packages of different paths, each once, and their files by these rules.
+/// Judges packages of different paths, each once, and their files by these rules, where this is declared of packages
+/// that are not given.
 ///
 /// # Errors
 ///
@@ -178,18 +231,22 @@ pub struct JudgedPackages<'a> {
 pub fn judge_packages_by<'a, R: FileRules>(
     alloc: Global,
     packages: &'a [LoadedPackage],
+    outside: &'a Outside,
     rules: &R,
 ) -> Result<JudgedPackages<'a>, AllocError>
     ensures packages { IfOk result (λ all. all.given.packages.now ≡ packages.now) }
     ensures judged { IfOk result (λ all. (ps : List MeantPackage) → TellPackages ps packages.now
-        → HaveDistinctPaths ps → AreAllBy (R.rules rules.now) ps all) }
+        → HaveDistinctPaths ps
+        → AreAllBy (R.rules rules.now (declared_tables (packages_of outside.now))) (R.certificates rules.now) ps all) }
 {
-    let given = given_packages(alloc, packages)?;
+    let given = given_packages(alloc, packages, outside)?;
     let progress = judge_all(alloc, &given, rules)?;
+    rules.are_determined();
     Ok(JudgedPackages { given, progress })
 }
 
-/// Judges packages of different paths, each once, by the paths of bodies.
+/// Judges packages of different paths, each once, by the paths of bodies, where this is declared of packages that are
+/// not given.
 ///
 /// # Errors
 ///
@@ -197,12 +254,13 @@ pub fn judge_packages_by<'a, R: FileRules>(
 pub fn judge_packages<'a>(
     alloc: Global,
     packages: &'a [LoadedPackage],
+    outside: &'a Outside,
 ) -> Result<JudgedPackages<'a>, AllocError>
     ensures packages { IfOk result (λ all. all.given.packages.now ≡ packages.now) }
     ensures judged { IfOk result (λ all. (ps : List MeantPackage) → TellPackages ps packages.now
-        → HaveDistinctPaths ps → AreAll ps all) }
+        → HaveDistinctPaths ps → AreAll (declared_tables (packages_of outside.now)) ps all) }
 {
-    judge_packages_by(alloc, packages, &ByPaths)
+    judge_packages_by(alloc, packages, outside, &ByPaths)
 }
 
 /// What is said of a package that was judged, and what it was judged by.
@@ -216,27 +274,30 @@ pub struct JudgedBy<'a, 'k> {
 }
 
 impl<'a> JudgedPackages<'a> {
-    /// What is said of this package, which imports these, and what it was judged by. It is told of it once more, since
-    /// that was let go when it was judged.
+    /// What is said of this package, and what it was judged by. It is told of it once more, since that was let go when
+    /// it was judged.
     fn by_imports<'k>(
         &'k self,
         alloc: Global,
-        loaded: &'a LoadedPackage,
-        list: &ImportList<'a>,
+        importer: Importer<'_, 'a>,
         judged: &'k Judged<'a>,
     ) -> Result<JudgedBy<'a, 'k>, AllocError>
-        ensures { IfOk result (λ by. (ps : List MeantPackage) (i : ℕ) (p : MeantPackage)
-            → AreAll ps self.now → slice_get ps i ≡ Some p → TellsPackage p loaded.now
-            → (package_view list.now).imports ≡ imported_paths p
-            → judged_in self.now.progress p.path ≡ Some judged.now
-            → IsJudgedBy ps self.now i p by) }
+        ensures { IfOk result (λ by. (declared : Tables) (ps : List MeantPackage) (i : ℕ) (p : MeantPackage)
+            → AreAll declared ps self.now → slice_get ps i ≡ Some p
+            → TellsPackage p importer.entry.loaded.now
+            → (package_view importer.entry.list.now).imports ≡ imported_paths p
+            → importer.entry.places.now ≡ imports_at ps i
+            → judged_in self.now.progress i ≡ Some judged.now
+            → IsJudgedBy declared ps self.now i p by) }
     {
-        let imports = known_imports(alloc, &list.imports, &self.progress.judged)?;
-        let told = told_of(
+        let imports = known_imports(
             alloc,
-            loaded,
-            around(&self.given, &imports, &self.progress.not_yes),
+            &self.given,
+            &importer.list.imports,
+            &self.progress,
+            importer.places,
         )?;
+        let told = told_of(alloc, importer.loaded, around(&self.given, &imports))?;
         let KnownImports { calls, .. } = imports;
         Ok(JudgedBy {
             judged,
@@ -255,36 +316,32 @@ impl<'a> JudgedPackages<'a> {
         alloc: Global,
         place: usize,
     ) -> Result<Option<JudgedBy<'a, 'k>>, AllocError>
-        ensures { IfOk result (λ found. (ps : List MeantPackage) (p : MeantPackage)
-            → AreAll ps self.now → slice_get ps place ≡ Some p
-            → IsFoundBy ps self.now place p found) }
+        ensures { IfOk result (λ found. (declared : Tables) (ps : List MeantPackage) (p : MeantPackage)
+            → AreAll declared ps self.now → slice_get ps place ≡ Some p
+            → IsFoundBy declared ps self.now place p found) }
     {
-        let (Some(loaded), Some(list)) = (
+        let (Some(loaded), Some(list), Some(places)) = (
             self.given.packages.get(place),
             self.given.lists.get(place),
+            self.given.imports.get(place),
         ) else {
             return Ok(None);
         };
-        match self.progress.judged.get(loaded.path.as_str()) {
-            Some(judged) => Ok(Some(self.by_imports(alloc, loaded, list, judged)?)),
+        let importer = Importer {
+            loaded,
+            list,
+            places: places.as_slice(),
+        };
+        match self.progress.at(place) {
+            Some(judged) => Ok(Some(self.by_imports(alloc, importer, judged)?)),
             None => Ok(None),
         }
     }
-
-    /// What is said of each package, in their order, and what is known of its functions.
-    pub(crate) fn into_judged(self, alloc: Global) -> Result<Vec<Judged<'a>>, AllocError>
-        ensures { IfOk result (λ found. (ps : List MeantPackage) → TellPackages ps self.entry.given.packages.now
-            → HaveDistinctPaths ps → AreAll ps self.entry
-            → AreReports ps self.entry.given.packages.now found.items) }
-    {
-        let JudgedPackages { given, progress } = self;
-        let Progress { judged, .. } = progress;
-        in_their_order(alloc, given.packages, judged)
-    }
 }
 
-/// Judges packages of different paths, and their files by these rules: what is to be said of each, in their order, and
-/// what is known of its functions.
+/// Judges packages of different paths, and their files by these rules, where this is declared of packages that are not
+/// given: what is to be said of each, in their order, what is known of its functions, and the certificates of its
+/// bodies, if the rules make some.
 ///
 /// # Errors
 ///
@@ -292,14 +349,19 @@ impl<'a> JudgedPackages<'a> {
 pub fn check_by<'a, R: FileRules>(
     alloc: Global,
     packages: &'a [LoadedPackage],
+    outside: &'a Outside,
     rules: &R,
 ) -> Result<Vec<Judged<'a>>, AllocError>
-    ensures { IfOk result (λ found. (ps : List MeantPackage) → TellPackages ps packages.now → HaveDistinctPaths ps
-        → AreReportsBy (R.rules rules.now) ps packages.now found.items) }
+    ensures reports { IfOk result (λ found. (ps : List MeantPackage) → TellPackages ps packages.now
+        → HaveDistinctPaths ps
+        → AreReportsBy (R.rules rules.now (declared_tables (packages_of outside.now))) ps packages.now found.items) }
+    ensures certified { IfOk result (λ found. (ps : List MeantPackage) → TellPackages ps packages.now
+        → HaveDistinctPaths ps
+        → AreAllCertified (R.rules rules.now (declared_tables (packages_of outside.now))) (R.certificates rules.now) ps
+        found.items) }
 {
-    let JudgedPackages { progress, .. } = judge_packages_by(alloc, packages, rules)?;
-    let Progress { judged, .. } = progress;
-    in_their_order(alloc, packages, judged)
+    let JudgedPackages { progress, .. } = judge_packages_by(alloc, packages, outside, rules)?;
+    progress.into_judged(alloc)
 }
 
 /// The same by the paths of bodies.
@@ -310,9 +372,10 @@ pub fn check_by<'a, R: FileRules>(
 pub fn check<'a>(
     alloc: Global,
     packages: &'a [LoadedPackage],
+    outside: &'a Outside,
 ) -> Result<Vec<Judged<'a>>, AllocError>
     ensures { IfOk result (λ found. (ps : List MeantPackage) → TellPackages ps packages.now → HaveDistinctPaths ps
-        → AreReports ps packages.now found.items) }
+        → AreReports (declared_tables (packages_of outside.now)) ps packages.now found.items) }
 {
-    check_by(alloc, packages, &ByPaths)
+    check_by(alloc, packages, outside, &ByPaths)
 }

@@ -2,16 +2,16 @@
 
 ghost use Rattle.std.specs.Prelude.{◌≡◌, List, IfOk, map};
 ghost use Rattle.std.specs.List.{list_all};
-ghost use Rattle.all_packages.specs.JudgedPackages.{AreAll};
-ghost use Rattle.all_packages.specs.Reports.{is_yes, report_in, IsTold, TellsReport, TellsReportBy};
-ghost use Rattle.meaning_reports.specs.Loaded.{LoadedPackage as MeantPackage};
+ghost use Rattle.all_packages.specs.Reports.{is_yes, report_in, AreTold, IsTold, TellsReport, TellsReportBy};
+ghost use Rattle.declared_tables.specs.DeclaredTables.{declared_tables};
+ghost use Rattle.outside_json.specs.Outside.{packages_of};
 ghost use Rattle.report.specs.ReportText.{report_text};
-ghost use Rattle.whole_packages.specs.LoadedViews.{HaveDistinctPaths, TellPackages};
 
 use crate::by_paths::ByPaths;
 use crate::file_rules::FileRules;
 use crate::judged::Judged;
-use crate::packages::{JudgedPackages, check_by};
+use crate::packages::check_by;
+use outside_json::Outside;
 use report::{PackageReport, PutFault, Sink, write_text};
 use std::alloc::{AllocError, Global};
 use whole_packages::LoadedPackage;
@@ -65,7 +65,8 @@ fn text_of(alloc: Global, reports: &[PackageReport]) -> Result<Vec<u8>, AllocErr
     }
 }
 
-fn is_yes(report: &PackageReport) -> bool
+/// Whether nothing is to be said of the package.
+pub fn is_yes(report: &PackageReport) -> bool
     ensures { result ≡ is_yes report.now }
 {
     report.is_yes()
@@ -91,32 +92,28 @@ pub struct Report {
 }
 
 /// The report of packages of which this is said.
+///
+/// # Errors
+///
+/// Memory was refused.
+pub fn report_from(alloc: Global, reports: &[PackageReport]) -> Result<Report, AllocError>
+    ensures { IfOk result (AreTold reports.now) }
+{
+    let text = text_of(alloc, reports)?;
+    let yes = are_yes(reports);
+    Ok(Report { text, yes })
+}
+
+/// The same without what is known of the packages' functions.
 fn told(alloc: Global, judged: Vec<Judged<'_>>) -> Result<Report, AllocError>
     ensures { IfOk result (IsTold judged.entry.items) }
 {
     let reports = reports_of(alloc, judged)?;
-    let text = text_of(alloc, &reports)?;
-    let yes = are_yes(&reports);
-    Ok(Report { text, yes })
+    report_from(alloc, &reports)
 }
 
-impl<'a> JudgedPackages<'a> {
-    /// The report of the packages, if they have different paths.
-    ///
-    /// # Errors
-    ///
-    /// Memory was refused.
-    pub fn into_report(self, alloc: Global) -> Result<Report, AllocError>
-        ensures { IfOk result (λ report. ((ps : List MeantPackage) → TellPackages ps self.entry.given.packages.now
-            → HaveDistinctPaths ps → AreAll ps self.entry)
-            → TellsReport self.entry.given.packages.now report) }
-    {
-        let judged = self.into_judged(alloc)?;
-        told(alloc, judged)
-    }
-}
-
-/// Judges packages of different paths, and their files by these rules, and tells what is to be said of them.
+/// Judges packages of different paths, and their files by these rules, where this is declared of packages that are not
+/// given, and tells what is to be said of them.
 ///
 /// # Errors
 ///
@@ -124,21 +121,27 @@ impl<'a> JudgedPackages<'a> {
 pub fn whole_report_by<R: FileRules>(
     alloc: Global,
     packages: &[LoadedPackage],
+    outside: &Outside,
     rules: &R,
 ) -> Result<Report, AllocError>
-    ensures { IfOk result (TellsReportBy (R.rules rules.now) packages.now) }
+    ensures { IfOk result (TellsReportBy (R.rules rules.now (declared_tables (packages_of outside.now))) packages.now) }
 {
-    let judged = check_by(alloc, packages, rules)?;
+    let judged = check_by(alloc, packages, outside, rules)?;
     told(alloc, judged)
 }
 
-/// Judges packages of different paths by the paths of bodies, and tells what is to be said of them.
+/// Judges packages of different paths by the paths of bodies, where this is declared of packages that are not given,
+/// and tells what is to be said of them.
 ///
 /// # Errors
 ///
 /// Memory was refused.
-pub fn whole_report(alloc: Global, packages: &[LoadedPackage]) -> Result<Report, AllocError>
-    ensures { IfOk result (TellsReport packages.now) }
+pub fn whole_report(
+    alloc: Global,
+    packages: &[LoadedPackage],
+    outside: &Outside,
+) -> Result<Report, AllocError>
+    ensures { IfOk result (TellsReport (declared_tables (packages_of outside.now)) packages.now) }
 {
-    whole_report_by(alloc, packages, &ByPaths)
+    whole_report_by(alloc, packages, outside, &ByPaths)
 }

@@ -3,11 +3,13 @@
 ghost use Rattle.std.specs.Prelude.{◌≡◌, ◌++◌, ℕ, List, IfOk, OnOk, flat_map, map};
 ghost use Rattle.all_packages.specs.Judgments.{table_view};
 ghost use Rattle.all_packages.specs.Tables.{as_list, declared_name, declared_names, entries_for, entry_told, if_told, is_none_of, parameter_kept, parameter_told, result_told, AreInOrder, AreTablesFrom, IsPlain, IsTableAt, TellsNames, TellsTables};
+ghost use Rattle.declared_tables.specs.DeclaredTables.{declared_tables};
 ghost use Rattle.facts.specs.FactViews.{cancel_result_view, facts_view, parameter_view, tracked_type_view, type_view};
 ghost use Rattle.imports.specs.Views.{text_views};
 ghost use Rattle.calls_flags.specs.KnownCalls.{is_called};
 ghost use Rattle.meaning_reports.specs.Loaded.{LoadedPackage as MeantPackage, Tables};
 ghost use Rattle.meaning_reports.specs.PackageTables.{IsTable};
+ghost use Rattle.outside_json.specs.Outside.{packages_of};
 ghost use Rattle.table_json.specs.Tables.{entries_of, entry_of};
 ghost use Rattle.tree.specs.View.{file_syntax, top_level_syntax};
 ghost use Rattle.whole_packages.specs.LoadedViews.{TellsPackage};
@@ -16,6 +18,7 @@ use crate::judged::Judged;
 use crate::packages::check;
 use calls_flags::Called;
 use facts::{CancelResult, CancelType, FunctionFacts, TrackedParameter, TrackedType};
+use outside_json::Outside;
 use std::alloc::{AllocError, Global};
 use table_json::{Function, Parameter, Table, if_fits};
 use tree::{File, TopLevelDecl};
@@ -287,15 +290,21 @@ fn tables_of(
     Ok(tables)
 }
 
-/// Judges packages of different paths, and tells what is known of their functions: a table of each, in their order. A
-/// function of which nothing is told is left out, and so is a position that is not below 2^32.
+/// Judges packages of different paths, where this is declared of packages that are not given, and tells what is known
+/// of their functions: a table of each, in their order. A function of which nothing is told is left out, and so is a
+/// position that is not below 2^32.
 ///
 /// # Errors
 ///
 /// Memory was refused.
-pub fn final_tables(alloc: Global, packages: &[LoadedPackage]) -> Result<Vec<Table>, AllocError>
-    ensures { IfOk result (λ tables. TellsTables packages.now tables.items) }
+pub fn final_tables(
+    alloc: Global,
+    packages: &[LoadedPackage],
+    outside: &Outside,
+) -> Result<Vec<Table>, AllocError>
+    ensures { IfOk result (λ tables. TellsTables (declared_tables (packages_of outside.now)) packages.now
+        tables.items) }
 {
-    let judged = check(alloc, packages)?;
+    let judged = check(alloc, packages, outside)?;
     tables_of(alloc, packages, &judged)
 }

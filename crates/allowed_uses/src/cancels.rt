@@ -1,19 +1,21 @@
-//! Calls and passes of cancel functions. Their returns stand in `uses`, with the choice by the role.
+//! Calls, passes and returns of cancel functions.
 
-ghost use Rattle.std.specs.Prelude.{◌≡◌, false, option_map};
-ghost use Rattle.meaning.specs.Uses.{variable_at, has_its_arguments, cancel_called, cancel_passed};
+ghost use Rattle.std.specs.Prelude.{◌≡◌, ◌&&◌, [], false, IfOk, map, option_map};
+ghost use Rattle.meaning.specs.Uses.{allowed_if, body_gives, cancel_called, cancel_passed, cancel_use, has_its_arguments, is_given_as, is_own, variable_at};
 ghost use Rattle.allowed_uses.specs.UseViews.{use_view};
 ghost use Rattle.facts.specs.FactViews.{type_view};
-ghost use Rattle.mentions.specs.MarkViews.{call_view, mention_view};
+ghost use Rattle.mentions.specs.MarkViews.{body_view, call_view, mention_view, role_view};
 ghost use Rattle.tracked.specs.LocalViews.{local_view};
 ghost use Rattle.tracked_rows.specs.RowViews.{known_view};
 
 use crate::allowed_use::Use;
+use crate::gives::{body_gives, is_given_as};
 use crate::groups::only_argument;
 use crate::local_mention::{LocalMention, variable_at};
 use crate::places::{has_no_argument, is_call_place, is_deferred_place, is_statement_place, takes};
 use facts::{CancelType, TrackedType};
-use mentions::Call;
+use mentions::{Call, Role, is_body};
+use std::alloc::{AllocError, Global};
 use tracked_rows::{Event, Known, callee_of};
 
 /// `()`, or `(e)` where the function takes a cause.
@@ -27,7 +29,7 @@ fn has_its_arguments(cancel_type: CancelType, call: Call<'_>) -> bool
 }
 
 /// `c()` as a statement, and `defer c()`, or `c(e)` and `defer c(e)` where it takes a cause; in literals too.
-pub fn cancel_called<'a>(
+fn cancel_called<'a>(
     cancel_type: CancelType,
     number: u32,
     selected: Option<&str>,
@@ -50,7 +52,7 @@ pub fn cancel_called<'a>(
 
 /// Argument c, without `&`, of a function that takes one of its type at that position, at a call place or under
 /// `defer`.
-pub fn cancel_passed<'a>(
+fn cancel_passed<'a>(
     known: Known<'_, 'a>,
     cancel_type: CancelType,
     here: LocalMention<'_, 'a>,
@@ -82,4 +84,65 @@ pub fn cancel_passed<'a>(
         });
     }
     Use::NotAllowed
+}
+
+/// An item of a return list at the position of a result of its type, which the return hands on.
+fn cancel_returned<'a>(
+    alloc: Global,
+    known: Known<'_, 'a>,
+    cancel_type: CancelType,
+    here: LocalMention<'_, 'a>,
+    item: usize,
+) -> Result<Use<'a>, AllocError>
+    ensures { IfOk result (λ allowed. use_view allowed ≡ allowed_if
+        (is_own (local_view here.entry.local) (map body_view here.entry.bodies.now)
+        && is_given_as item (type_view cancel_type) (body_gives (known_view known.entry)
+        (map body_view here.entry.bodies.now))) []) }
+{
+    if !is_body(here.local.body, here.bodies) {
+        return Ok(Use::NotAllowed);
+    }
+    let gives = body_gives(alloc, known, here.bodies)?;
+    if is_given_as(item, cancel_type, &gives) {
+        Ok(Use::Silent)
+    } else {
+        Ok(Use::NotAllowed)
+    }
+}
+
+/// What a mention of a cancel variable of that type does, if it is allowed.
+///
+/// # Errors
+///
+/// Memory was refused.
+pub fn cancel_use<'a>(
+    alloc: Global,
+    known: Known<'_, 'a>,
+    cancel_type: CancelType,
+    here: LocalMention<'_, 'a>,
+) -> Result<Use<'a>, AllocError>
+    ensures { IfOk result (λ allowed. use_view allowed ≡ cancel_use (known_view known.entry)
+        (type_view cancel_type) (local_view here.entry.local) (map body_view here.entry.bodies.now)
+        (mention_view here.entry.mention) (role_view here.entry.mention.role)) }
+{
+    let local = here.local;
+    match here.mention.role {
+        Role::Called(call) => Ok(cancel_called(
+            cancel_type,
+            local.number,
+            here.mention.named.selected,
+            call,
+        )),
+        Role::Argument(position, has_address, call) => {
+            if is_body(local.body, here.bodies) && !has_address {
+                Ok(cancel_passed(known, cancel_type, here, position, call))
+            } else {
+                Ok(Use::NotAllowed)
+            }
+        }
+        Role::Returned(item) => cancel_returned(alloc, known, cancel_type, here, item),
+        Role::Elsewhere => Ok(Use::NotAllowed),
+        Role::CalledInBrackets => Ok(Use::NotAllowed),
+        _ => Ok(Use::NotAllowed),
+    }
 }

@@ -12,7 +12,7 @@ mod places;
 
 pub use allowed_use::{Use, allowed_if};
 pub use between::{are_all_deferred, are_all_members};
-pub use cancels::{cancel_called, cancel_passed};
+pub use cancels::cancel_use;
 pub use gives::{body_gives, hands_on, is_given_as};
 pub use groups::{
     group_awaited, group_lent, group_limited, group_started, group_tried, literal_at, only_argument,

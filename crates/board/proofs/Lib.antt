@@ -5,3 +5,4 @@ pub mod ImportersAdded
 pub mod Steps
 pub mod Answered
 pub mod Told
+pub mod Stopped

@@ -1,10 +1,11 @@
 //! Which packages import a package.
 
-ghost use Rattle.std.specs.Prelude.{◌≡◌, [], ◌∷◌, ◌++◌, IfOk, OnOk, slice_set, slice_index_or, replicate};
+ghost use Rattle.std.specs.Prelude.{◌≡◌, IfOk, OnOk};
 ghost use Rattle.imports.specs.Views.{rows_view};
 ghost use Rattle.board.specs.Ready.{row};
 ghost use Rattle.board.specs.Importers.{AddsImporter, AreImporters};
 
+use imports::rows::{empty_rows, push_at};
 use std::alloc::{AllocError, Global};
 
 /// The row at that place.
@@ -17,17 +18,6 @@ pub fn row_at(rows: &[Vec<usize>], place: usize) -> &[usize]
     }
 }
 
-/// Adds the importer to what is known of the package at that place, if there is one.
-fn add(importers: &mut Vec<Vec<usize>>, place: usize, importer: usize) -> Result<(), AllocError>
-    ensures { OnOk result (rows_view importers.new.items ≡ slice_set (rows_view importers.old.items) place
-        (slice_index_or (rows_view importers.old.items) place [] ++ importer ∷ [])) }
-{
-    if place < importers.len() {
-        importers[place].push(importer)?;
-    }
-    Ok(())
-}
-
 /// Adds the importer to each of its imports.
 fn add_to_all(
     importers: &mut Vec<Vec<usize>>,
@@ -38,20 +28,9 @@ fn add_to_all(
         (rows_view importers.new.items)) }
 {
     for import in imports {
-        add(importers, *import, importer)?;
+        push_at(importers, *import, importer)?;
     }
     Ok(())
-}
-
-/// No importer for so many packages.
-fn no_importers(alloc: Global, count: usize) -> Result<Vec<Vec<usize>>, AllocError>
-    ensures { IfOk result (λ importers. rows_view importers.items ≡ replicate count []) }
-{
-    let mut importers = Vec::new(alloc);
-    for _place in 0..count {
-        importers.push(Vec::new(alloc))?;
-    }
-    Ok(importers)
 }
 
 /// For each package the packages that import it, where these are what each package imports.
@@ -62,7 +41,7 @@ fn no_importers(alloc: Global, count: usize) -> Result<Vec<Vec<usize>>, AllocErr
 pub fn importers_of(alloc: Global, imports: &[Vec<usize>]) -> Result<Vec<Vec<usize>>, AllocError>
     ensures { IfOk result (λ importers. AreImporters (rows_view imports.now) (rows_view importers.items)) }
 {
-    let mut importers = no_importers(alloc, imports.len())?;
+    let mut importers = empty_rows(alloc, imports.len())?;
     for place in 0..imports.len() {
         add_to_all(&mut importers, row_at(imports, place), place)?;
     }

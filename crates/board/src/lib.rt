@@ -2,6 +2,7 @@
 #![tactic(auto)]
 
 ghost use Rattle.board.specs.Examples.{AreTold};
+ghost use Rattle.board.specs.ThreeWorkers.{AreStopped};
 
 pub mod core_board;
 pub mod entries;
@@ -18,4 +19,10 @@ pub use outcome::Outcome;
 /// only one that is allowed.
 pub fn two_workers_are_told()
     ensures { AreTold }
+{}
+
+/// What three workers are told who work on three packages that import nothing: each gets another one, and once one was
+/// given back the others may still deliver theirs, and nobody gets more.
+pub fn three_workers_are_stopped()
+    ensures { AreStopped }
 {}

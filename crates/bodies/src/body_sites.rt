@@ -2,10 +2,10 @@
 
 ghost use Rattle.std.specs.Prelude.{IfOk, OnOk};
 ghost use Rattle.bodies.specs.BodySites.{AddsEvents, AddsPanics, TellsSites};
-ghost use Rattle.code.specs.SiteViews.{sites_view};
+ghost use Rattle.body_code.specs.SiteViews.{sites_view};
 
 use crate::node::NodeEvent;
-use code::Sites;
+use body_code::Sites;
 use events::{SiteEvent, Told};
 use std::alloc::{AllocError, Global};
 

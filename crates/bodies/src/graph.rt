@@ -12,7 +12,7 @@ ghost use Rattle.mentions.specs.MarkViews.{body_view};
 
 use crate::body_sites::sites_of;
 use crate::node::NodeEvent;
-use code::body_code;
+use body_code::body_code;
 use events::Told;
 use flow::{Graph, NodePlace, build, in_order};
 use mentions::BodyPlace;

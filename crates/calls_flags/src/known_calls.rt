@@ -47,7 +47,7 @@ impl<'a> Called<'a> {
     /// # Errors
     ///
     /// Memory was refused.
-    pub(crate) fn add(&mut self, parameter: FunctionParameter<'a>) -> Result<(), AllocError>
+    pub fn add(&mut self, parameter: FunctionParameter<'a>) -> Result<(), AllocError>
         ensures { OnOk result ((name : List ℕ) (k : ℕ) → is_called self.new name k
             ≡ (is_called self.old name k || is_parameter name k parameter.entry)) }
     {

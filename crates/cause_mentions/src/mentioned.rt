@@ -8,7 +8,8 @@ ghost use Rattle.names.specs.Answers.{declared_at, names_by_path};
 ghost use Rattle.tree.specs.View.{file_syntax};
 
 use facts::is_of;
-use mentions::{Mark, Named, file_marks};
+use marks::file_marks;
+use mentions::{Mark, Named};
 use names::{CONTEXT, Names, PackageNames, names_of};
 use std::alloc::{AllocError, Global};
 use tree::File;

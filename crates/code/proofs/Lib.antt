@@ -1,5 +1,2 @@
 pub mod Codes
 pub mod CodeLists
-pub mod SpecEvents
-pub mod CaseLists
-pub mod Bodies

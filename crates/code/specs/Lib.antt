@@ -1,3 +1,2 @@
--- What the contracts of this crate name: what a code in memory stands for, and the sites of a body.
+-- What the contracts of this crate name: what a code in memory stands for.
 pub mod CodeViews
-pub mod SiteViews

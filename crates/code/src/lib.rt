@@ -1,15 +1,8 @@
-//! What a body does, as a code in memory: in which order the events of its sites can come (the Go specification, from
-//! "Terminating statements" to "Defer statements"). The definitions are those of `meaning/specs/Code.antt` and
-//! `meaning/specs/StatementCode.antt`. Which events a site has is not known here.
+//! Codes in memory, and how they are put together: in which order events can come. The definitions are those of
+//! `meaning/specs/Code.antt` and, of loops and labels, of `meaning/specs/StatementCode.antt`.
 #![tactic(auto)]
 
-mod body;
-mod clauses;
 pub mod code;
-mod parts;
-mod site;
-pub mod sites;
+pub mod parts;
 
-pub use body::body_code;
 pub use code::{Code, Occurrence, Way};
-pub use sites::Sites;

@@ -1,2 +1,3 @@
 mod AskedBy
 mod Given
+mod WordsKept

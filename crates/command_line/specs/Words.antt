@@ -9,7 +9,7 @@ use Rattle.std.specs.Str.Parse.{digits_value, without_leading_plus, IsNumeral}
 use Rattle.workers.specs.Counts.{count_of}
 use Rattle.workers.specs.declared.count.Workers.{Workers}
 use Rattle.command_line.specs.declared.words.Awaited.{Awaited}
-use Rattle.command_line.specs.declared.words.Awaited.TheVariants.{Nothing, File, Number}
+use Rattle.command_line.specs.declared.words.Awaited.TheVariants.{Nothing, File, Facts, Number}
 use Rattle.command_line.specs.declared.words.Asked.{Asked}
 use Rattle.command_line.specs.declared.words.Asked.TheVariants.{Check, Certify, Verify, Help, Wrong}
 
@@ -24,6 +24,12 @@ file_in word =
     if starts_with nat_eq word (codes "--cert=") then Some (drop (length (codes "--cert=")) word)
     else None
 
+-- the file of declared facts that stands in a word behind `--facts=`
+abbrev pub facts_in : List ℕ → Option (List ℕ)
+facts_in word =
+    if starts_with nat_eq word (codes "--facts=") then Some (drop (length (codes "--facts=")) word)
+    else None
+
 -- the number that stands in a word behind `-j`, or behind `-j=`
 abbrev pub number_in : List ℕ → Option (List ℕ)
 number_in word =
@@ -31,17 +37,22 @@ number_in word =
     else if starts_with nat_eq word (codes "-j") then Some (drop (length (codes "-j")) word)
     else None
 
--- what words behind a command name: files by `--cert`, numbers by `-j`, and packages
+-- what words behind a command name: files by `--cert`, files of declared facts by `--facts`, numbers by `-j`, and
+-- packages
 pub record Named : Type 0 where
   pub files : List (List ℕ)
+  pub facts : List (List ℕ)
   pub numbers : List (List ℕ)
   pub packages : List (List ℕ)
 
 abbrev pub only_packages : List (List ℕ) → Named
-only_packages words = record { files = []; numbers = []; packages = words }
+only_packages words = record { files = []; facts = []; numbers = []; packages = words }
 
 abbrev pub with_file : List ℕ → Named → Named
 with_file file named = record named { files = file ∷ named.files }
+
+abbrev pub with_facts : List ℕ → Named → Named
+with_facts file named = record named { facts = file ∷ named.facts }
 
 abbrev pub with_number : List ℕ → Named → Named
 with_number number named = record named { numbers = number ∷ named.numbers }
@@ -50,31 +61,35 @@ abbrev pub with_package : List ℕ → Named → Named
 with_package word named = record named { packages = word ∷ named.packages }
 
 -- a word that is no option without its value names the file or the number that stands in it, or else a package
-abbrev pub with_word : Option (List ℕ) → Option (List ℕ) → List ℕ → Named → Named
-with_word (Some file) number word named = with_file file named
-with_word None (Some number) word named = with_number number named
-with_word None None word named = with_package word named
+abbrev pub with_word : Option (List ℕ) → Option (List ℕ) → Option (List ℕ) → List ℕ → Named → Named
+with_word (Some file) facts number word named = with_file file named
+with_word None (Some file) number word named = with_facts file named
+with_word None None (Some number) word named = with_number number named
+with_word None None None word named = with_package word named
 
 -- What these words name, one after the other. The first of them may be the value of an option that stands before it.
 -- Behind the first `--` each is the word of a package.
 abbrev pub named_after : Awaited → List (List ℕ) → Named
 named_after awaited [] = only_packages []
 named_after File (w ∷ ws) = with_file w (named_after Nothing ws)
+named_after Facts (w ∷ ws) = with_facts w (named_after Nothing ws)
 named_after Number (w ∷ ws) = with_number w (named_after Nothing ws)
 named_after Nothing (w ∷ ws) =
     if bytes_eq w (codes "--") then only_packages ws
     else if bytes_eq w (codes "--cert") then named_after File ws
+    else if bytes_eq w (codes "--facts") then named_after Facts ws
     else if bytes_eq w (codes "-j") then named_after Number ws
-    else with_word (file_in w) (number_in w) w (named_after Nothing ws)
+    else with_word (file_in w) (facts_in w) (number_in w) w (named_after Nothing ws)
 
 abbrev pub named_by : List (List ℕ) → Named
 named_by = named_after Nothing
 
--- the words are this command, and then name these files by `--cert`, and these packages
-pub record IsCommand (command : List ℕ) (words files packages : List (List ℕ)) : Type 0 where
+-- the words are this command, and then name these files by `--cert`, these by `--facts`, and these packages
+pub record IsCommand (command : List ℕ) (words files facts packages : List (List ℕ)) : Type 0 where
   pub rest : List (List ℕ)
   pub is_command : words ≡ command ∷ rest
   pub are_files : files ≡ (named_by rest).files
+  pub are_facts : facts ≡ (named_by rest).facts
   pub are_packages : packages ≡ (named_by rest).packages
 
 -- behind their command the words name these numbers by `-j`
@@ -103,18 +118,23 @@ pub record AskForWorkers (words : List (List ℕ)) (workers : Workers) : Type 0 
 abbrev pub texts_of : List (Bor (List ℕ)) → List (List ℕ)
 texts_of = map (λ t. t.now)
 
+-- the text, if there is one
+abbrev pub option_texts : Option (Bor (List ℕ)) → List (List ℕ)
+option_texts None = []
+option_texts (Some t) = t.now ∷ []
+
 -- `check` names no file, or the one for its certificates, and may say how many workers there are. `verify` names the
--- file that has certificates, and says nothing of workers. Help is given where a word asks for it. Words may be wrong
--- for any reason.
+-- file that has certificates, and says nothing of workers. Both may name a file of declared facts. Help is given where
+-- a word asks for it. Words may be wrong for any reason.
 abbrev pub IsAsked : List (List ℕ) → Asked → Type 0
 IsAsked words (Check asked) =
-    IsCommand (codes "check") words [] (texts_of asked.packages.items)
+    IsCommand (codes "check") words [] (option_texts asked.facts) (texts_of asked.packages.items)
     × AskForWorkers words asked.workers
 IsAsked words (Certify asked) =
-    IsCommand (codes "check") words (asked.file.now ∷ []) (texts_of asked.packages.items)
+    IsCommand (codes "check") words (asked.file.now ∷ []) (option_texts asked.facts) (texts_of asked.packages.items)
     × AskForWorkers words asked.workers
 IsAsked words (Verify asked) =
-    IsCommand (codes "verify") words (asked.file.now ∷ []) (texts_of asked.packages.items)
+    IsCommand (codes "verify") words (asked.file.now ∷ []) (option_texts asked.facts) (texts_of asked.packages.items)
     × NameNumbers words []
 IsAsked words (Help text) = AsksForHelp words
 IsAsked words (Wrong text) = ⊤

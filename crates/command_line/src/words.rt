@@ -1,9 +1,10 @@
 //! What the words of the command line ask for.
 
-ghost use Rattle.std.specs.Prelude.{◌≡◌, ◌↔◌, ◌++◌, Bool, ℕ, List, [], ◌∷◌, Contains, IfOk, OnOk, IfSome, IsTrue, map, option_map};
-ghost use Rattle.command_line.specs.Words.{file_in, number_in, texts_of, AreWorkers, AsksForHelp, IsAsked, IsNumber};
+ghost use Rattle.std.specs.Prelude.{◌≡◌, ◌↔◌, ◌++◌, Bool, false, ℕ, List, [], ◌∷◌, codes, Contains, IfOk, OnOk, IfSome, IsTrue, map, option_map};
+ghost use Rattle.std.specs.Str.{bytes_eq};
+ghost use Rattle.command_line.specs.Words.{facts_in, file_in, named_after, named_by, number_in, option_texts, texts_of, AreWorkers, AsksForHelp, IsAsked, IsNumber, Named};
 ghost use Rattle.workers.specs.Counts.{count_of};
-ghost use Rattle.command_line.specs.KeptWords.{AreKept, IsAskedBy};
+ghost use Rattle.command_line.specs.KeptWords.{ends_options, AreKept, IsAskedBy, IsKeptSo};
 
 use clap::builder::ValueParser;
 use clap::error::ErrorKind;
@@ -23,6 +24,12 @@ const OPTION: &str = "--cert";
 /// With this a word begins that has the option and its value.
 const FILE_AFTER: &str = "--cert=";
 
+/// The option whose value is the file of declared facts.
+const FACTS_OPTION: &str = "--facts";
+
+/// With this a word begins that has the option and its value.
+const FACTS_AFTER: &str = "--facts=";
+
 /// The option whose value is the number of workers. It may stand in one word with its value, also with `=` between.
 const WORKERS_OPTION: &str = "-j";
 
@@ -40,7 +47,8 @@ Examples:
   ctxvet check $(go list -f '{{.ImportPath}}={{.Dir}}' ./...)
   ctxvet check -j 4 $(go list -f '{{.ImportPath}}={{.Dir}}' ./...)
   ctxvet check --cert pool.json example.org/pool=./pool
-  ctxvet verify --cert pool.json example.org/pool=./pool";
+  ctxvet verify --cert pool.json example.org/pool=./pool
+  ctxvet check --facts facts.json example.org/pool=./pool";
 
 const CHECK: &str = "Checks packages and prints their report";
 
@@ -49,7 +57,8 @@ const AFTER_CHECK: &str =
 finding,
   FILE:LINE:COLUMN: CODE NAME TEXT
 and then `yes PATH` where nothing was found, else `no PATH`.
-What a package imports is known where it is given too; other packages are taken as unknown.";
+What a package imports is known where it is given too, and as far as it is declared in the file of
+facts; else it is taken as unknown.";
 
 const VERIFY: &str =
     "Judges packages by the certificates of an earlier check, and prints their report";
@@ -64,6 +73,9 @@ const OUT: &str =
 
 const IN: &str = "The file of certificates";
 
+const FACTS: &str =
+    "The file of declared facts, as JSON: what is taken for true of functions of packages that are not given";
+
 const WORKERS: &str =
     "How many threads read the files at most, from 1 to 64. The report is the same for each number \
 [default: 1]";
@@ -76,10 +88,12 @@ const ESCAPE: &str = "--";
 
 const VERSION: &str = "0.1.0";
 
-/// The words of packages, `PATH=DIR` each, and how many workers may check them.
+/// The words of packages, `PATH=DIR` each, how many workers may check them, and the file of declared facts, if one is
+/// named.
 #[derive(Debug, Drop)]
 pub struct CheckWords<'a> {
     pub workers: Workers,
+    pub facts: Option<&'a str>,
     pub packages: Vec<&'a str>,
 }
 
@@ -88,13 +102,15 @@ pub struct CheckWords<'a> {
 pub struct CertifyWords<'a> {
     pub workers: Workers,
     pub file: &'a str,
+    pub facts: Option<&'a str>,
     pub packages: Vec<&'a str>,
 }
 
-/// The words of packages, and the file that has their certificates.
+/// The words of packages, the file that has their certificates, and the file of declared facts, if one is named.
 #[derive(Debug, Drop)]
 pub struct VerifyWords<'a> {
     pub file: &'a str,
+    pub facts: Option<&'a str>,
     pub packages: Vec<&'a str>,
 }
 
@@ -146,15 +162,23 @@ fn asked_of<'a>(alloc: Global, command: &str, kept: Kept<'a>) -> Asked<'a>
 {
     let Kept {
         files,
+        facts,
         numbers,
         packages,
     } = kept;
+    let Some(facts) = at_most_one(&facts) else {
+        return Asked::Wrong(String::new(alloc));
+    };
     if command == CHECK_WORD {
         let Some(workers) = workers_by(&numbers) else {
             return Asked::Wrong(String::new(alloc));
         };
         if files.is_empty() {
-            return Asked::Check(CheckWords { workers, packages });
+            return Asked::Check(CheckWords {
+                workers,
+                facts,
+                packages,
+            });
         }
         let Some(file) = only_one(&files) else {
             return Asked::Wrong(String::new(alloc));
@@ -162,6 +186,7 @@ fn asked_of<'a>(alloc: Global, command: &str, kept: Kept<'a>) -> Asked<'a>
         return Asked::Certify(CertifyWords {
             workers,
             file,
+            facts,
             packages,
         });
     }
@@ -169,7 +194,11 @@ fn asked_of<'a>(alloc: Global, command: &str, kept: Kept<'a>) -> Asked<'a>
         return Asked::Wrong(String::new(alloc));
     };
     if command == VERIFY_WORD && numbers.is_empty() {
-        Asked::Verify(VerifyWords { file, packages })
+        Asked::Verify(VerifyWords {
+            file,
+            facts,
+            packages,
+        })
     } else {
         Asked::Wrong(String::new(alloc))
     }
@@ -205,11 +234,22 @@ fn only_one<'a>(words: &[&'a str]) -> Option<&'a str>
     }
 }
 
-/// What is kept of the words behind a command: the files that `--cert` names, the numbers that `-j` names, and the
-/// words of packages.
+/// The word, if there is one, where there are not more.
+fn at_most_one<'a>(words: &[&'a str]) -> Option<Option<&'a str>>
+    ensures { IfSome result (λ word. texts_of words.now ≡ option_texts word) }
+{
+    if words.is_empty() {
+        return Some(None);
+    }
+    Some(Some(only_one(words)?))
+}
+
+/// What is kept of the words behind a command: the files that `--cert` names, those that `--facts` names, the numbers
+/// that `-j` names, and the words of packages.
 #[derive(Drop)]
 pub struct Kept<'a> {
     files: Vec<&'a str>,
+    facts: Vec<&'a str>,
     numbers: Vec<&'a str>,
     packages: Vec<&'a str>,
 }
@@ -219,6 +259,7 @@ pub struct Kept<'a> {
 pub enum Awaited {
     Nothing,
     File,
+    Facts,
     Number,
 }
 
@@ -239,6 +280,13 @@ fn file_in(word: &str) -> Option<&str>
     word.strip_prefix(FILE_AFTER)
 }
 
+/// The file of declared facts that stands in a word behind `--facts=`.
+fn facts_in(word: &str) -> Option<&str>
+    ensures { option_map (λ file. file.now) result ≡ facts_in word.now }
+{
+    word.strip_prefix(FACTS_AFTER)
+}
+
 /// The number that stands in a word behind `-j`.
 fn number_in(word: &str) -> Option<&str>
     ensures { option_map (λ number. number.now) result ≡ number_in word.now }
@@ -249,41 +297,90 @@ fn number_in(word: &str) -> Option<&str>
     }
 }
 
+/// Keeps the word of a package, or the file or the number that stands in a word with its option. Of an option whose
+/// value is the next word it says which one.
+fn keep_word<'a>(word: &'a str, kept: &mut Kept<'a>) -> Result<Awaited, AllocError>
+    ensures { IfOk result (λ next. bytes_eq word.now (codes "--") ≡ false → (words : List (List ℕ)) (all : Named)
+        → IsKeptSo kept.old (named_by (word.now ∷ words)) all
+        → IsKeptSo kept.new (named_after next words) all) }
+{
+    if word == OPTION {
+        Ok(Awaited::File)
+    } else if word == FACTS_OPTION {
+        Ok(Awaited::Facts)
+    } else if word == WORKERS_OPTION {
+        Ok(Awaited::Number)
+    } else if let Some(file) = file_in(word) {
+        kept.files.push(file)?;
+        Ok(Awaited::Nothing)
+    } else if let Some(file) = facts_in(word) {
+        kept.facts.push(file)?;
+        Ok(Awaited::Nothing)
+    } else if let Some(number) = number_in(word) {
+        kept.numbers.push(number)?;
+        Ok(Awaited::Nothing)
+    } else {
+        kept.packages.push(word)?;
+        Ok(Awaited::Nothing)
+    }
+}
+
+/// Whether behind this word no word is an option. The value of an option is no such word.
+fn ends_options(awaited: Awaited, word: &str) -> bool
+    ensures { result ≡ ends_options awaited word.now }
+{
+    match awaited {
+        Awaited::Nothing => word == ESCAPE,
+        _ => false,
+    }
+}
+
+/// Keeps the next word. The option before it may wait for it.
+fn keep_next<'a>(
+    awaited: Awaited,
+    word: &'a str,
+    kept: &mut Kept<'a>,
+) -> Result<Awaited, AllocError>
+    ensures { IfOk result (λ next. ends_options awaited word.now ≡ false → (words : List (List ℕ)) (all : Named)
+        → IsKeptSo kept.old (named_after awaited (word.now ∷ words)) all
+        → IsKeptSo kept.new (named_after next words) all) }
+{
+    match awaited {
+        Awaited::File => {
+            kept.files.push(word)?;
+            Ok(Awaited::Nothing)
+        }
+        Awaited::Facts => {
+            kept.facts.push(word)?;
+            Ok(Awaited::Nothing)
+        }
+        Awaited::Number => {
+            kept.numbers.push(word)?;
+            Ok(Awaited::Nothing)
+        }
+        Awaited::Nothing => keep_word(word, kept),
+    }
+}
+
 /// What these words, those behind a command, name.
 fn kept_words<'a, S: AsStr>(alloc: Global, words: &'a [S]) -> Result<Kept<'a>, AllocError>
     ensures { IfOk result (AreKept (map S.text words.now)) }
 {
     let mut kept = Kept {
         files: Vec::new(alloc),
+        facts: Vec::new(alloc),
         numbers: Vec::new(alloc),
         packages: Vec::new(alloc),
     };
     let mut awaited = Awaited::Nothing;
     for (place, word) in words.iter().enumerate() {
         let word = word.as_str();
-        let value = awaited;
-        awaited = Awaited::Nothing;
-        match value {
-            Awaited::File => kept.files.push(word)?,
-            Awaited::Number => kept.numbers.push(word)?,
-            Awaited::Nothing => {
-                if word == ESCAPE {
-                    let (_, rest) = words.split_at(place + 1);
-                    add_all(rest, &mut kept.packages)?;
-                    return Ok(kept);
-                } else if word == OPTION {
-                    awaited = Awaited::File;
-                } else if word == WORKERS_OPTION {
-                    awaited = Awaited::Number;
-                } else if let Some(file) = file_in(word) {
-                    kept.files.push(file)?;
-                } else if let Some(number) = number_in(word) {
-                    kept.numbers.push(number)?;
-                } else {
-                    kept.packages.push(word)?;
-                }
-            }
+        if ends_options(awaited, word) {
+            let (_, rest) = words.split_at(place + 1);
+            add_all(rest, &mut kept.packages)?;
+            return Ok(kept);
         }
+        awaited = keep_next(awaited, word, &mut kept)?;
     }
     Ok(kept)
 }
@@ -315,11 +412,13 @@ fn command<'a>(alloc: Global) -> Result<Command<'a>, AllocError> {
         .after_help(AFTER_CHECK)
         .arg(workers_option(alloc))?
         .arg(file(alloc).value_name("OUT").help(OUT))?
+        .arg(facts_option(alloc))?
         .arg(package(alloc))?;
     let verify = Command::new(alloc, VERIFY_WORD)
         .about(VERIFY)
         .after_help(AFTER_VERIFY)
         .arg(file(alloc).value_name("IN").help(IN).required(true))?
+        .arg(facts_option(alloc))?
         .arg(package(alloc))?;
     Command::new(alloc, "ctxvet")
         .about(ABOUT)
@@ -346,6 +445,15 @@ fn workers_option<'a>(alloc: Global) -> Arg<'a> {
 /// The option that names a file of certificates.
 fn file<'a>(alloc: Global) -> Arg<'a> {
     Arg::new(alloc, "cert").long("cert").action(ArgAction::Set)
+}
+
+/// The option that names a file of declared facts.
+fn facts_option<'a>(alloc: Global) -> Arg<'a> {
+    Arg::new(alloc, "facts")
+        .long("facts")
+        .value_name("FILE")
+        .help(FACTS)
+        .action(ArgAction::Set)
 }
 
 /// The words of packages, at least one.

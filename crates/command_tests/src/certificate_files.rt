@@ -1,10 +1,7 @@
 //! The file of certificates that a run reads, and the one that it writes: which of several faults is told, and what is
 //! done all the same.
 
-use crate::real_folders::{FolderEntry, folder_with};
-use crate::runs::{expect_transcript, outcome};
-use std::fs;
-use std::test::Fail;
+use crate::real_folders::FolderEntry;
 
 /// A package that names the type of cancel functions with a cause, through an import under another name.
 const CAUSE: &str = "package a
@@ -27,13 +24,14 @@ type CancelCauseFunc int
 const OLD: &str = r#"{"packages":[{"bodies":[{"at":11,"file":0,"states":[[],[]]}],
 "facts":[{"gives":[],"name":"f","params":[]}],"path":"a"}],"version":1}"#;
 
-const ENTRIES: &[(&str, FolderEntry)] = &[
+pub const ENTRIES: &[(&str, FolderEntry)] = &[
     ("empty", FolderEntry::Folder),
     ("good", FolderEntry::Package("package good\n")),
     ("body", FolderEntry::Package("package a\n\nfunc f() {}\n")),
     ("cause", FolderEntry::Package(CAUSE)),
     ("other", FolderEntry::Package(OTHER_CAUSE)),
     ("bad", FolderEntry::Text("{")),
+    ("latin", FolderEntry::Bytes(b"\"\xe9\"")),
     ("shape", FolderEntry::Text("{}")),
     ("new", FolderEntry::Text("{\"version\":3}")),
     ("old", FolderEntry::Text(OLD)),
@@ -43,7 +41,7 @@ const ENTRIES: &[(&str, FolderEntry)] = &[
     ),
 ];
 
-const TRANSCRIPT: &str = "\
+pub const TRANSCRIPT: &str = "\
 # A bad word is told before the file of certificates is looked for.
 $ verify --cert DIR/none a=DIR/good b
 status 2
@@ -123,20 +121,8 @@ $ check a=DIR/good
 DIR/good/x.go:1:1: LC02 - unexpected token
 no a
 status 1
+# A fault stays in its line.
+$ verify --cert DIR/aFORGED a=DIR/good
+status 2
+ctxvet: cannot read: DIR/a\\nyes b
 ";
-
-#[test]
-fn files_of_certificates(rt: HostRuntime) -> Result<(), Fail> {
-    let outer = folder_with(&rt, "certificates", ENTRIES)?;
-    let latin = format!(in rt.alloc(); "{outer}/latin")?;
-    fs::write(&rt, latin, b"\"\xe9\"".as_slice())?;
-    expect_transcript(&rt, outer.as_str(), TRANSCRIPT)?;
-    // A fault stays in its line.
-    let words = ["verify", "--cert", "DIR/a\nyes b", "a=DIR/good"];
-    let found = outcome(&rt, outer.as_str(), words.as_slice())?;
-    assert_eq!(rt;
-        found.as_str(),
-        "status 2\nctxvet: cannot read: DIR/a\\nyes b\n"
-    );
-    Ok(fs::remove_dir_all(&rt, outer.as_str())?)
-}

@@ -1,4 +1,5 @@
-//! Tests of the program's commands: their words, folders of real files, several packages, and certificates.
+//! Tests of the program's commands: their words, folders of real files, several packages, certificates and declared
+//! facts; and of its outside by what stands in for the system.
 #![tactic(auto)]
 
 #[cfg(test)]
@@ -6,12 +7,22 @@ mod certificate_files;
 #[cfg(test)]
 mod certificate_runs;
 #[cfg(test)]
+mod declared_facts;
+#[cfg(test)]
 mod packages;
 #[cfg(test)]
 mod real_folders;
 #[cfg(test)]
+mod refusals;
+#[cfg(test)]
 mod runs;
 #[cfg(test)]
+mod stand_in;
+#[cfg(test)]
+mod transcripts;
+#[cfg(test)]
 mod words;
+#[cfg(test)]
+mod writers;
 #[cfg(test)]
 mod written_files;

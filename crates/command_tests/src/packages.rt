@@ -1,13 +1,13 @@
 //! Several packages in one run.
 
-use crate::real_folders::{FolderEntry, folder_with, new_folder};
+use crate::real_folders::{FolderEntry, new_folder};
 use crate::runs::expect_transcript;
 use driver::{Fault, GivenPackage, report_of};
 use std::alloc::{AllocError, Global};
 use std::fs;
 use std::test::Fail;
 
-const FOLDERS: &[(&str, FolderEntry)] = &[
+pub const ENTRIES: &[(&str, FolderEntry)] = &[
     ("empty", FolderEntry::Folder),
     ("good", FolderEntry::Package("package good\n")),
     (
@@ -20,7 +20,7 @@ const FOLDERS: &[(&str, FolderEntry)] = &[
     ),
 ];
 
-const TRANSCRIPT: &str = "\
+pub const TRANSCRIPT: &str = "\
 # The report is in the order of the paths, whatever that of the words.
 $ check z=DIR/good a=DIR/good
 yes a
@@ -80,13 +80,6 @@ $ check a=DIR/good a=DIR/none b=DIR/absent
 status 2
 ctxvet: cannot read: DIR/none
 ";
-
-#[test]
-fn packages_are_judged_together(rt: HostRuntime) -> Result<(), Fail> {
-    let outer = folder_with(&rt, "packages", FOLDERS)?;
-    expect_transcript(&rt, outer.as_str(), TRANSCRIPT)?;
-    Ok(fs::remove_dir_all(&rt, outer.as_str())?)
-}
 
 /// So many composite literals in each other, with a number in the last, are a tree as deep as a file may have.
 const MOST_LITERALS: usize = 199;

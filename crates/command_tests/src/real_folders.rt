@@ -1,6 +1,6 @@
 //! Folders of real files. Links stand for files without rights, which a superuser would read.
 
-use crate::runs::{expect_check, expect_transcript, outcome};
+use crate::runs::expect_check;
 use std::fs::File;
 use std::os::unix::fs::symlink;
 use std::test::Fail;
@@ -10,6 +10,7 @@ use std::{env, fs, process};
 #[derive(Clone, Copy)]
 pub enum FolderEntry {
     Text(&'static str),
+    Bytes(&'static [u8]),
     /// So many NUL bytes, which take no room on the disk.
     Sparse(u64),
     Folder,
@@ -36,6 +37,7 @@ fn make(rt: &HostRuntime, folder: &str, name: &str, entry: FolderEntry) -> Resul
     let path = format!(in rt.alloc(); "{folder}/{name}")?;
     match entry {
         FolderEntry::Text(text) => fs::write(rt, path, text)?,
+        FolderEntry::Bytes(bytes) => fs::write(rt, path, bytes)?,
         FolderEntry::Sparse(size) => File::create(rt, path)?.set_len(size)?,
         FolderEntry::Folder => fs::create_dir(rt, path)?,
         FolderEntry::Package(text) => {
@@ -147,14 +149,15 @@ fn folders_are_read(rt: HostRuntime) -> Result<(), Fail> {
     Ok(())
 }
 
-const FOLDERS: &[(&str, FolderEntry)] = &[
+/// Folders that are named in other ways.
+pub const NAMED: &[(&str, FolderEntry)] = &[
     ("x=y", FolderEntry::Package("")),
     ("inner", FolderEntry::Package("")),
     ("link", FolderEntry::Link("inner")),
-    ("line\nbreak", FolderEntry::Folder),
+    ("line\nyes b", FolderEntry::Folder),
 ];
 
-const TRANSCRIPT: &str = "\
+pub const NAMED_TRANSCRIPT: &str = "\
 # The first `=` of a word parts it, a slash is not doubled, and a link to a folder is one.
 $ check a=DIR/x=y
 DIR/x=y/x.go:1:1: LC02 - unexpected token
@@ -178,18 +181,8 @@ ctxvet: cannot read: DIR/inner/x.go
 $ check a=DIR/\x1b[1mnone
 status 2
 ctxvet: cannot read: DIR/\\u{1b}[1mnone
+# A folder that no line could name.
+$ check a=DIR/lineFORGED
+status 2
+ctxvet: cannot read: DIR/line\\nyes b
 ";
-
-#[test]
-fn names_of_folders(rt: HostRuntime) -> Result<(), Fail> {
-    let outer = folder_with(&rt, "names", FOLDERS)?;
-    expect_transcript(&rt, outer.as_str(), TRANSCRIPT)?;
-    // A folder that no line could name.
-    let words = ["check", "a=DIR/line\nbreak"];
-    let found = outcome(&rt, outer.as_str(), words.as_slice())?;
-    assert_eq!(rt;
-        found.as_str(),
-        "status 2\nctxvet: cannot read: DIR/line\\nbreak\n"
-    );
-    Ok(fs::remove_dir_all(&rt, outer.as_str())?)
-}

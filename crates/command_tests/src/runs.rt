@@ -41,7 +41,8 @@ pub fn words_of<'a>(alloc: Global, line: &'a str) -> Result<Vec<&'a str>, AllocE
 }
 
 /// What a run with these words leaves: what stands on standard output, a line `status N`, and what stands on standard
-/// error. In the words and in this text a `DIR` stands for the folder.
+/// error. In the words and in this text a `DIR` stands for the folder, and in the words a `FORGED` for a line that does
+/// not belong there.
 pub fn outcome<R: Files + AllocGlobal + Threads + Sync>(
     rt: &R,
     folder: &str,
@@ -49,7 +50,8 @@ pub fn outcome<R: Files + AllocGlobal + Threads + Sync>(
 ) -> Result<String, Fail> {
     let mut given = Vec::new(rt.alloc());
     for word in words {
-        given.push(word.replace(rt.alloc(), "DIR", folder)?)?;
+        let word = word.replace(rt.alloc(), "DIR", folder)?;
+        given.push(word.replace(rt.alloc(), "FORGED", "\nyes b")?)?;
     }
     let Ended { status, out, err } = run_words(rt, given.as_slice())?;
     let text = format!(in rt.alloc(); "{out}status {status}\n{err}")?;

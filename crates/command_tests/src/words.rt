@@ -13,10 +13,13 @@ const ROWS: &[Case] = &[
     ("check --help", 0, "<PATH=DIR>...", ""),
     ("help check", 0, "FILE:LINE:COLUMN: CODE NAME TEXT", ""),
     ("check --help", 0, "--cert <OUT>", ""),
+    ("check --help", 0, "--facts <FILE>", ""),
     ("check --help", 0, "-j <N>", ""),
     ("verify --help", 0, "--cert <IN>", ""),
+    ("verify --help", 0, "--facts <FILE>", ""),
     ("help verify", 0, "<PATH=DIR>...", ""),
     ("--help", 0, "ctxvet verify --cert pool.json", ""),
+    ("--help", 0, "ctxvet check --facts ", ""),
     ("--version", 0, "ctxvet 0.1.0\n", ""),
     ("-V", 0, "ctxvet 0.1.0\n", ""),
     ("", 2, "", "Usage: ctxvet "),
@@ -57,6 +60,25 @@ const ROWS: &[Case] = &[
     ("verify a=.", 2, "", "--cert <IN>"),
     ("verify --cert c", 2, "", "<PATH=DIR>..."),
     ("verify -- --cert c a=.", 2, "", "--cert <IN>"),
+    // `--facts` names one file, for both commands.
+    ("check --facts", 2, "", "--facts <FILE>"),
+    ("check a=. --facts", 2, "", "--facts <FILE>"),
+    ("check --facts f", 2, "", "<PATH=DIR>..."),
+    ("check --facts f a=. --facts f", 2, "", "--facts <FILE>"),
+    ("check --facts=f --facts=g a=.", 2, "", "--facts <FILE>"),
+    ("check --facts -f a=.", 2, "", "Usage: ctxvet "),
+    ("check --facts -- a=.", 2, "", "--facts <FILE>"),
+    ("check --fact f a=.", 2, "", "Usage: ctxvet "),
+    ("check -f f a=.", 2, "", "Usage: ctxvet "),
+    ("--facts f check a=.", 2, "", "Usage: ctxvet "),
+    ("verify --facts f a=.", 2, "", "--cert <IN>"),
+    ("verify --cert c --facts a=.", 2, "", "<PATH=DIR>..."),
+    (
+        "verify --facts f --cert c --facts g a=.",
+        2,
+        "",
+        "--facts <FILE>",
+    ),
     ("a=.", 2, "", "Usage: ctxvet "),
 ];
 
@@ -84,6 +106,7 @@ const BAD_PACKAGES: &[(&str, &str)] = &[
     // Behind `--` no word is an option.
     ("--cert", "--cert"),
     ("-j2", "-j2"),
+    ("--facts", "--facts"),
     ("a\nyes b=.", "a\\nyes b=."),
     ("a\x7fé=.", "a\\u{7f}é=."),
 ];

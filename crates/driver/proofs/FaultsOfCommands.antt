@@ -1,61 +1,93 @@
 -- Faults of what is read and judged are faults of the command that asks for it.
-use Rattle.std.proofs.Common.{ℕ, List, true≢false, sym, refl}
+use Rattle.std.proofs.Common.{ℕ, List, [], ◌∷◌, Option, refl}
 use Rattle.load.specs.declared.packages.GivenPackage.{GivenPackage}
 use Rattle.certificate_json.specs.declared.certificates.Certificates.{Certificates}
+use Rattle.outside_json.specs.Outside.{packages_of}
+use Rattle.outside_json.specs.declared.outside.Outside.{Outside}
 use Rattle.folders.specs.ReadFaults.{IsReadFault}
 use Rattle.folders.specs.declared.fault.Fault.{Fault}
-use Rattle.folders.specs.declared.fault.Fault.TheVariants.{BadPackage, CannotRead, CannotWrite, CannotWriteFile, CertificateNotJson, CertificateWrongShape, CertificateWrongVersion, CertificateTooOld, TwoPackages, TooManyPackages, OutOfMemory}
+use Rattle.folders.specs.declared.fault.Fault.TheVariants.{BadPackage, CannotRead, CannotWrite, CannotWriteFile, CertificateNotJson, CertificateWrongShape, CertificateWrongVersion, CertificateTooOld, FactsNotJson, FactsWrongShape, FactsWrongVersion, FactsReserved, FactsNameGiven, TwoPackages, TooManyPackages, OutOfMemory}
+use Rattle.folders.specs.declared.whole_files.ReadFile.{ReadFile}
 use Rattle.driver.specs.declared.packages.NamedPackage.{NamedPackage}
 use Rattle.driver.specs.Certificates.{IsInputFault, StandIn}
+use Rattle.driver.specs.DeclaredFacts.{AreDeclaredBy, IsFactsFault, IsReadFactsFault}
 use Rattle.driver.specs.Packages.{AreGiven, AreNamed}
-use Rattle.driver.specs.Faults.{IsCertifyFault, IsCheckFault, IsReadingFault, IsVerdictFault, IsVerificationFault, IsWordsFault}
+use Rattle.driver.specs.Faults.{IsCertifyFault, IsCheckFault, IsReadingFault, IsVerdictFault, IsVerificationFault, IsVerifiedFault, IsWordsFault}
 use Rattle.driver.proofs.ReadGiven.{none_bad}
 
--- a fault of a check is one of a check that writes certificates
-pub of_check : (words : List (List ℕ)) (fault : Fault) → IsCheckFault words fault → IsCertifyFault words fault
-of_check words (CannotWriteFile name) is = absurd is
-of_check words _ is = is
+-- what is read
+pub of_read : (facts : List (List ℕ)) (fault : Fault) → IsReadFault fault → IsReadFactsFault facts fault
+of_read facts (CannotRead name) is = tt
+of_read facts OutOfMemory is = tt
+of_read facts _ is = absurd is
 
--- a fault of words is one of reading
-pub of_words : (words : List (List ℕ)) (fault : Fault) → IsWordsFault words fault → IsReadingFault words fault
-of_words words (BadPackage text) is = is
-of_words words OutOfMemory is = tt
-of_words words _ is = absurd is
+pub of_bytes : (name bytes : List ℕ) (fault : Fault) → IsFactsFault bytes fault → IsReadFactsFault (name ∷ []) fault
+of_bytes name bytes FactsNotJson is = record { name = name; is_named = refl; bytes = bytes; is_fault = is }
+of_bytes name bytes FactsWrongShape is = record { name = name; is_named = refl; bytes = bytes; is_fault = is }
+of_bytes name bytes FactsWrongVersion is = record { name = name; is_named = refl; bytes = bytes; is_fault = is }
+of_bytes name bytes (FactsReserved path) is = record { name = name; is_named = refl; bytes = bytes; is_fault = is }
+of_bytes name bytes OutOfMemory is = tt
+of_bytes name bytes _ is = absurd is
 
-pub of_input : (words : List (List ℕ)) (packages : List NamedPackage) (fault : Fault) → AreNamed words packages
-    → IsInputFault fault
-    → IsReadingFault words fault
-of_input words packages (CannotRead name) named is = none_bad words packages named
-of_input words packages OutOfMemory named is = tt
-of_input words packages CertificateNotJson named is = (none_bad words packages named, refl, is)
-of_input words packages CertificateWrongShape named is = (none_bad words packages named, refl, is)
-of_input words packages CertificateWrongVersion named is = (none_bad words packages named, refl, is)
-of_input words packages _ named is = absurd is.is_fault
+module _ (words facts : List (List ℕ)) where
+  -- a fault of a check is one of a check that writes certificates
+  pub of_check : (fault : Fault) → IsCheckFault words facts fault → IsCertifyFault words facts fault
+  of_check (CannotWriteFile name) is = absurd is
+  of_check _ is = is
 
-pub of_folders : (words : List (List ℕ)) (packages : List NamedPackage) (fault : Fault) → AreNamed words packages
-    → IsReadFault fault
-    → IsReadingFault words fault
-of_folders words packages (CannotRead name) named is = none_bad words packages named
-of_folders words packages OutOfMemory named is = tt
-of_folders words packages _ named is = absurd is
+  -- a fault of words is one of reading
+  pub of_words : (fault : Fault) → IsWordsFault words fault → IsReadingFault words facts fault
+  of_words (BadPackage text) is = is
+  of_words OutOfMemory is = tt
+  of_words _ is = absurd is
 
-pub of_read_input : (words : List (List ℕ)) (fault : Fault) → IsReadingFault words fault → IsVerificationFault words fault
-of_read_input words CannotWrite is = absurd (true≢false (sym is.1))
-of_read_input words (CertificateTooOld path) is = absurd (true≢false (sym is.1))
-of_read_input words (TwoPackages path) is = absurd (true≢false (sym is.1))
-of_read_input words TooManyPackages is = absurd (true≢false (sym is.1))
-of_read_input words _ is = is
+  pub of_read_input : (fault : Fault) → IsReadingFault words facts fault → IsVerificationFault words facts fault
+  of_read_input CannotWrite is = absurd is
+  of_read_input (CertificateTooOld path) is = absurd is
+  of_read_input (FactsNameGiven path) is = absurd is
+  of_read_input (TwoPackages path) is = absurd is
+  of_read_input TooManyPackages is = absurd is
+  of_read_input _ is = is
 
-pub of_verdict : (words : List (List ℕ)) (given : List GivenPackage) (certificates : Certificates) (fault : Fault)
-    → AreGiven words given
-    → StandIn certificates
-    → IsVerdictFault given certificates fault
-    → IsVerificationFault words fault
-of_verdict words given certificates (TwoPackages path) are stand is =
-    record { given = given; are_given = are; certificates = certificates; stand_in = stand; is_fault = is }
-of_verdict words given certificates TooManyPackages are stand is =
-    record { given = given; are_given = are; certificates = certificates; stand_in = stand; is_fault = is }
-of_verdict words given certificates (CertificateTooOld path) are stand is =
-    record { given = given; are_given = are; certificates = certificates; stand_in = stand; is_fault = is }
-of_verdict words given certificates OutOfMemory are stand is = tt
-of_verdict words given certificates _ are stand is = absurd is
+module _ (words facts : List (List ℕ)) (packages : List NamedPackage) (named : AreNamed words packages) where
+  pub of_input : (fault : Fault) → IsInputFault fault → IsReadingFault words facts fault
+  of_input (CannotRead name) is = none_bad words packages named
+  of_input OutOfMemory is = tt
+  of_input CertificateNotJson is = (none_bad words packages named, is)
+  of_input CertificateWrongShape is = (none_bad words packages named, is)
+  of_input CertificateWrongVersion is = (none_bad words packages named, is)
+  of_input _ is = absurd is.is_fault
+
+  pub of_facts : (fault : Fault) → IsReadFactsFault facts fault → IsReadingFault words facts fault
+  of_facts (CannotRead name) is = none_bad words packages named
+  of_facts OutOfMemory is = tt
+  of_facts FactsNotJson is = (none_bad words packages named, is)
+  of_facts FactsWrongShape is = (none_bad words packages named, is)
+  of_facts FactsWrongVersion is = (none_bad words packages named, is)
+  of_facts (FactsReserved path) is = (none_bad words packages named, is)
+  of_facts _ is = absurd is.is_fault
+
+module _ (words facts : List (List ℕ)) (given : List GivenPackage) (file : Option ReadFile) (outside : Outside)
+    (certificates : Certificates) (are : AreGiven words given) (declared : AreDeclaredBy facts file outside)
+    (stand : StandIn certificates) where
+  of_verified : (fault : Fault) → IsVerdictFault (packages_of outside) given certificates fault
+      → IsVerifiedFault words facts fault
+  of_verified fault is = record {
+    given = given;
+    are_given = are;
+    file = file;
+    outside = outside;
+    are_declared = declared;
+    certificates = certificates;
+    stand_in = stand;
+    is_fault = is;
+  }
+
+  pub of_verdict : (fault : Fault) → IsVerdictFault (packages_of outside) given certificates fault
+      → IsVerificationFault words facts fault
+  of_verdict (FactsNameGiven path) is = of_verified (FactsNameGiven path) is
+  of_verdict (TwoPackages path) is = of_verified (TwoPackages path) is
+  of_verdict TooManyPackages is = of_verified TooManyPackages is
+  of_verdict (CertificateTooOld path) is = of_verified (CertificateTooOld path) is
+  of_verdict OutOfMemory is = tt
+  of_verdict _ is = absurd is

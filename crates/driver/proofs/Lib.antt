@@ -1,3 +1,4 @@
+mod AskedReports
 mod FaultsOfCommands
 mod ReadGiven
 mod WrittenParts

@@ -1,13 +1,16 @@
 -- Words that name packages, and faults of what is read and judged.
-use Rattle.std.proofs.Common.{◌≡◌, ◌⊎◌, inl, inr, ℕ, List, [], ◌∷◌, IfErr, IsErrAnd, Result, Ok, Err, sym, subst}
+use Rattle.std.proofs.Common.{◌≡◌, inl, inr, ℕ, List, [], ◌∷◌, Option, IfErr, IsErrAnd, Result, Ok, Err, sym, subst}
 use Rattle.std.proofs.lemmas.Result.{err_from_is_err_and}
 use Rattle.load.specs.declared.packages.GivenPackage.{GivenPackage}
-use Rattle.folders.specs.ReadFaults.{IsReadFault}
+use Rattle.outside_json.specs.Outside.{packages_of}
+use Rattle.outside_json.specs.declared.outside.Outside.{Outside}
 use Rattle.folders.specs.declared.fault.Fault.{Fault}
-use Rattle.folders.specs.declared.fault.Fault.TheVariants.{CannotRead, CannotWrite, TwoPackages, TooManyPackages, OutOfMemory}
+use Rattle.folders.specs.declared.fault.Fault.TheVariants.{CannotRead, FactsNotJson, FactsWrongShape, FactsWrongVersion, FactsReserved, FactsNameGiven, TwoPackages, TooManyPackages, OutOfMemory}
+use Rattle.folders.specs.declared.whole_files.ReadFile.{ReadFile}
 use Rattle.driver.specs.declared.packages.NamedPackage.{NamedPackage}
-use Rattle.driver.specs.Packages.{AreGiven, AreNamed}
-use Rattle.driver.specs.Faults.{HasBadWord, IsCheckFault, IsReportFault}
+use Rattle.driver.specs.DeclaredFacts.{AreDeclaredBy, IsReadFactsFault}
+use Rattle.driver.specs.Packages.{AreGiven, AreNamed, AreRead}
+use Rattle.driver.specs.Faults.{HasBadWord, IsCheckFault, IsGivenFault, IsReportFault}
 
 -- a fault that `?` hands on as it is
 pub handed_on : {T : Type 0} (r : Result T Fault) (fault : Fault) (P : Fault → Type 0) → IsErrAnd r (λ told. told ≡ fault)
@@ -32,24 +35,44 @@ none_bad (w ∷ ws) [] h bad = absurd h
 none_bad (w ∷ ws) (n ∷ ns) h (inl bad) = bad n.path.now n.folder.now h.0
 none_bad (w ∷ ws) (n ∷ ns) h (inr bad) = none_bad ws ns h.1 bad.1
 
-pub of_reading : (words : List (List ℕ)) (packages : List NamedPackage) (fault : Fault) → AreNamed words packages
-    → IsReadFault fault
-    → IsCheckFault words fault
-of_reading words packages (CannotRead name) named is = none_bad words packages named
-of_reading words packages OutOfMemory named is = tt
-of_reading words packages _ named is = absurd is
+-- what is named and read, where the packages are lent
+pub are_given : (words : List (List ℕ)) (packages lent : List NamedPackage) (given : List GivenPackage)
+    → AreNamed words packages
+    → lent ≡ packages
+    → AreRead lent given
+    → AreGiven words given
+are_given words packages lent given named same read = record {
+  packages = packages;
+  are_named = named;
+  are_read = subst (λ ps. AreRead ps given) same read;
+}
 
-pub of_report : (words : List (List ℕ)) (given : List GivenPackage) (fault : Fault) → AreGiven words given
-    → IsReportFault given fault
-    → IsCheckFault words fault
-of_report words given (TwoPackages path) are is = record { given = given; are_given = are; is_fault = is }
-of_report words given TooManyPackages are is = record { given = given; are_given = are; is_fault = is }
-of_report words given OutOfMemory are is = tt
-of_report words given _ are is = absurd is
+pub of_reading : (words facts : List (List ℕ)) (packages : List NamedPackage) (fault : Fault) → AreNamed words packages
+    → IsReadFactsFault facts fault
+    → IsCheckFault words facts fault
+of_reading words facts packages (CannotRead name) named is = none_bad words packages named
+of_reading words facts packages OutOfMemory named is = tt
+of_reading words facts packages FactsNotJson named is = (none_bad words packages named, is)
+of_reading words facts packages FactsWrongShape named is = (none_bad words packages named, is)
+of_reading words facts packages FactsWrongVersion named is = (none_bad words packages named, is)
+of_reading words facts packages (FactsReserved path) named is = (none_bad words packages named, is)
+of_reading words facts packages _ named is = absurd is.is_fault
 
-pub of_judging : (words : List (List ℕ)) (given : List GivenPackage) (fault : Fault) → AreGiven words given
-    → (fault ≡ CannotWrite) ⊎ IsReportFault given fault
-    → IsCheckFault words fault
-of_judging words given fault are (inl is) =
-    subst (IsCheckFault words) (sym is) (none_bad words are.packages are.are_named)
-of_judging words given fault are (inr is) = of_report words given fault are is
+module _ (words facts : List (List ℕ)) (given : List GivenPackage) (file : Option ReadFile) (outside : Outside)
+    (are : AreGiven words given) (declared : AreDeclaredBy facts file outside) where
+  of_given : (fault : Fault) → IsReportFault (packages_of outside) given fault → IsGivenFault words facts fault
+  of_given fault is = record {
+    given = given;
+    are_given = are;
+    file = file;
+    outside = outside;
+    are_declared = declared;
+    is_fault = is;
+  }
+
+  pub of_report : (fault : Fault) → IsReportFault (packages_of outside) given fault → IsCheckFault words facts fault
+  of_report (FactsNameGiven path) is = of_given (FactsNameGiven path) is
+  of_report (TwoPackages path) is = of_given (TwoPackages path) is
+  of_report TooManyPackages is = of_given TooManyPackages is
+  of_report OutOfMemory is = tt
+  of_report _ is = absurd is

@@ -3,16 +3,20 @@ use Rattle.std.specs.Prelude.{◌≡◌, ◌⊎◌, ⊤, ℕ, Bool, true, false,
 use Rattle.load.specs.declared.packages.GivenPackage.{GivenPackage}
 use Rattle.load.specs.declared.packages.LoadFault.{LoadFault}
 use Rattle.load.specs.declared.packages.LoadFault.TheVariants as load_fault
-use Rattle.load.specs.GivenPackages.{IsLoadFault}
+use Rattle.load.specs.LoadedBeside.{IsLoadFaultBeside}
+use Rattle.outside_json.specs.Outside.{PackageEntry, packages_of}
+use Rattle.outside_json.specs.declared.outside.Outside.{Outside}
 use Rattle.certificate_json.specs.declared.certificates.Certificates.{Certificates}
 use Rattle.judge.specs.Verified.{IsVerifyFault}
 use Rattle.judge.specs.declared.verified.VerifyFault.{VerifyFault}
 use Rattle.judge.specs.declared.verified.VerifyFault.TheVariants as verify_fault
 use Rattle.folders.specs.Packages.{IsPackageWord}
 use Rattle.folders.specs.declared.fault.Fault.{Fault}
-use Rattle.folders.specs.declared.fault.Fault.TheVariants.{BadPackage, CannotRead, CannotWrite, CannotWriteFile, CertificateNotJson, CertificateWrongShape, CertificateWrongVersion, CertificateTooOld, TwoPackages, TooManyPackages, OutOfMemory}
+use Rattle.folders.specs.declared.fault.Fault.TheVariants.{BadPackage, CannotRead, CannotWrite, CannotWriteFile, CertificateNotJson, CertificateWrongShape, CertificateWrongVersion, CertificateTooOld, FactsNotJson, FactsWrongShape, FactsWrongVersion, FactsReserved, FactsNameGiven, TwoPackages, TooManyPackages, OutOfMemory}
+use Rattle.folders.specs.declared.whole_files.ReadFile.{ReadFile}
 use Rattle.command_line.specs.Words.{AsksForHelp, IsCommand}
 use Rattle.driver.specs.Certificates.{HaveFault, StandIn}
+use Rattle.driver.specs.DeclaredFacts.{AreDeclaredBy, HaveFactsFault}
 use Rattle.driver.specs.Packages.{AreGiven}
 
 -- no package is the one that the word names
@@ -42,94 +46,131 @@ IsWordFault word = IsFaultWhere (NamesNone word)
 abbrev pub IsWordsFault : List (List ℕ) → Fault → Type 0
 IsWordsFault words = IsFaultWhere (HasBadWord words)
 
--- the fault of packages that should be judged
-abbrev pub IsReportFault : List GivenPackage → Fault → Type 0
-IsReportFault given (TwoPackages path) = IsLoadFault given (load_fault.TwoPackages path)
-IsReportFault given TooManyPackages = IsLoadFault given load_fault.TooMany
-IsReportFault given OutOfMemory = ⊤
-IsReportFault given _ = ⊥
+-- the fault of packages that should be judged, where this is declared of others
+abbrev pub IsReportFault : List PackageEntry → List GivenPackage → Fault → Type 0
+IsReportFault outside given (FactsNameGiven path) = IsLoadFaultBeside given outside (load_fault.NamesGiven path)
+IsReportFault outside given (TwoPackages path) = IsLoadFaultBeside given outside (load_fault.TwoPackages path)
+IsReportFault outside given TooManyPackages = IsLoadFaultBeside given outside load_fault.TooMany
+IsReportFault outside given OutOfMemory = ⊤
+IsReportFault outside given _ = ⊥
 
--- the words name packages, as they are read, and it is the fault of these
-pub record IsGivenFault (words : List (List ℕ)) (fault : Fault) : Type 0 where
+-- the words name packages, as they are read, declared facts are read too, and it is the fault of these
+pub record IsGivenFault (words facts : List (List ℕ)) (fault : Fault) : Type 0 where
   pub given : List GivenPackage
   pub are_given : AreGiven words given
-  pub is_fault : IsReportFault given fault
+  pub file : Option ReadFile
+  pub outside : Outside
+  pub are_declared : AreDeclaredBy facts file outside
+  pub is_fault : IsReportFault (packages_of outside) given fault
 
--- the fault of a check of these words
-abbrev pub IsCheckFault : List (List ℕ) → Fault → Type 0
-IsCheckFault words (BadPackage text) = HasBadWord words
-IsCheckFault words (CannotRead name) = HasBadWord words → ⊥
-IsCheckFault words CannotWrite = HasBadWord words → ⊥
-IsCheckFault words (TwoPackages path) = IsGivenFault words (TwoPackages path)
-IsCheckFault words TooManyPackages = IsGivenFault words TooManyPackages
-IsCheckFault words OutOfMemory = ⊤
-IsCheckFault words _ = ⊥
+-- the words name packages, and the fault is that of the bytes of a file of declared facts
+abbrev pub IsFactsFaultOf : List (List ℕ) → List (List ℕ) → Fault → Type 0
+IsFactsFaultOf words facts fault = (HasBadWord words → ⊥) × HaveFactsFault facts fault
+
+-- the fault of a check of these words, with these files of declared facts
+abbrev pub IsCheckFault : List (List ℕ) → List (List ℕ) → Fault → Type 0
+IsCheckFault words facts (BadPackage text) = HasBadWord words
+IsCheckFault words facts (CannotRead name) = HasBadWord words → ⊥
+IsCheckFault words facts CannotWrite = HasBadWord words → ⊥
+IsCheckFault words facts FactsNotJson = IsFactsFaultOf words facts FactsNotJson
+IsCheckFault words facts FactsWrongShape = IsFactsFaultOf words facts FactsWrongShape
+IsCheckFault words facts FactsWrongVersion = IsFactsFaultOf words facts FactsWrongVersion
+IsCheckFault words facts (FactsReserved text) = IsFactsFaultOf words facts (FactsReserved text)
+IsCheckFault words facts (FactsNameGiven path) = IsGivenFault words facts (FactsNameGiven path)
+IsCheckFault words facts (TwoPackages path) = IsGivenFault words facts (TwoPackages path)
+IsCheckFault words facts TooManyPackages = IsGivenFault words facts TooManyPackages
+IsCheckFault words facts OutOfMemory = ⊤
+IsCheckFault words facts _ = ⊥
 
 -- the fault of a check of these words that writes certificates: one of a check, or that the file can't be written
-abbrev pub IsCertifyFault : List (List ℕ) → Fault → Type 0
-IsCertifyFault words (CannotWriteFile name) = HasBadWord words → ⊥
-IsCertifyFault words fault = IsCheckFault words fault
+abbrev pub IsCertifyFault : List (List ℕ) → List (List ℕ) → Fault → Type 0
+IsCertifyFault words facts (CannotWriteFile name) = HasBadWord words → ⊥
+IsCertifyFault words facts fault = IsCheckFault words facts fault
 
--- the fault of packages that should be judged by certificates
-abbrev pub IsVerdictFault : List GivenPackage → Certificates → Fault → Type 0
-IsVerdictFault given certificates (TwoPackages path) =
-    IsVerifyFault given certificates (verify_fault.NotLoaded (load_fault.TwoPackages path))
-IsVerdictFault given certificates TooManyPackages =
-    IsVerifyFault given certificates (verify_fault.NotLoaded load_fault.TooMany)
-IsVerdictFault given certificates (CertificateTooOld path) =
-    IsVerifyFault given certificates (verify_fault.TooOld path)
-IsVerdictFault given certificates OutOfMemory = ⊤
-IsVerdictFault given certificates _ = ⊥
+-- the fault of packages that should be judged by certificates, where this is declared of others
+abbrev pub IsVerdictFault : List PackageEntry → List GivenPackage → Certificates → Fault → Type 0
+IsVerdictFault outside given certificates (FactsNameGiven path) =
+    IsVerifyFault outside given certificates (verify_fault.NotLoaded (load_fault.NamesGiven path))
+IsVerdictFault outside given certificates (TwoPackages path) =
+    IsVerifyFault outside given certificates (verify_fault.NotLoaded (load_fault.TwoPackages path))
+IsVerdictFault outside given certificates TooManyPackages =
+    IsVerifyFault outside given certificates (verify_fault.NotLoaded load_fault.TooMany)
+IsVerdictFault outside given certificates (CertificateTooOld path) =
+    IsVerifyFault outside given certificates (verify_fault.TooOld path)
+IsVerdictFault outside given certificates OutOfMemory = ⊤
+IsVerdictFault outside given certificates _ = ⊥
 
--- the words name packages, as they are read, certificates are read too, and it is the fault of these
-pub record IsVerifiedFault (words : List (List ℕ)) (fault : Fault) : Type 0 where
+-- the words name packages, as they are read, certificates and declared facts are read too, and it is the fault of these
+pub record IsVerifiedFault (words facts : List (List ℕ)) (fault : Fault) : Type 0 where
   pub given : List GivenPackage
   pub are_given : AreGiven words given
+  pub file : Option ReadFile
+  pub outside : Outside
+  pub are_declared : AreDeclaredBy facts file outside
   pub certificates : Certificates
   pub stand_in : StandIn certificates
-  pub is_fault : IsVerdictFault given certificates fault
+  pub is_fault : IsVerdictFault (packages_of outside) given certificates fault
 
--- the fault of certificates as a text
-abbrev pub is_of_certificates : Fault → Bool
-is_of_certificates CertificateNotJson = true
-is_of_certificates CertificateWrongShape = true
-is_of_certificates CertificateWrongVersion = true
-is_of_certificates _ = false
+-- the fault of a file's bytes, which are no certificates or no declared facts
+abbrev pub is_of_bytes : Fault → Bool
+is_of_bytes CertificateNotJson = true
+is_of_bytes CertificateWrongShape = true
+is_of_bytes CertificateWrongVersion = true
+is_of_bytes FactsNotJson = true
+is_of_bytes FactsWrongShape = true
+is_of_bytes FactsWrongVersion = true
+is_of_bytes (FactsReserved text) = true
+is_of_bytes _ = false
 
--- the fault of reading for a verification of these words, which come first; of certificates it is that of some bytes
-abbrev pub IsReadingFault : List (List ℕ) → Fault → Type 0
-IsReadingFault words (BadPackage text) = HasBadWord words
-IsReadingFault words (CannotRead name) = HasBadWord words → ⊥
-IsReadingFault words OutOfMemory = ⊤
-IsReadingFault words fault = (HasBadWord words → ⊥) × (is_of_certificates fault ≡ true) × HaveFault fault
+-- the words name packages, and the fault is that of the bytes of a file of certificates
+abbrev pub IsCertificatesFaultOf : List (List ℕ) → Fault → Type 0
+IsCertificatesFaultOf words fault = (HasBadWord words → ⊥) × HaveFault fault
+
+-- the fault of reading for a verification of these words, which come first
+abbrev pub IsReadingFault : List (List ℕ) → List (List ℕ) → Fault → Type 0
+IsReadingFault words facts (BadPackage text) = HasBadWord words
+IsReadingFault words facts (CannotRead name) = HasBadWord words → ⊥
+IsReadingFault words facts CertificateNotJson = IsCertificatesFaultOf words CertificateNotJson
+IsReadingFault words facts CertificateWrongShape = IsCertificatesFaultOf words CertificateWrongShape
+IsReadingFault words facts CertificateWrongVersion = IsCertificatesFaultOf words CertificateWrongVersion
+IsReadingFault words facts FactsNotJson = IsFactsFaultOf words facts FactsNotJson
+IsReadingFault words facts FactsWrongShape = IsFactsFaultOf words facts FactsWrongShape
+IsReadingFault words facts FactsWrongVersion = IsFactsFaultOf words facts FactsWrongVersion
+IsReadingFault words facts (FactsReserved text) = IsFactsFaultOf words facts (FactsReserved text)
+IsReadingFault words facts OutOfMemory = ⊤
+IsReadingFault words facts _ = ⊥
 
 -- the fault of a verification of these words
-abbrev pub IsVerificationFault : List (List ℕ) → Fault → Type 0
-IsVerificationFault words CannotWrite = HasBadWord words → ⊥
-IsVerificationFault words (CertificateTooOld path) = IsVerifiedFault words (CertificateTooOld path)
-IsVerificationFault words (TwoPackages path) = IsVerifiedFault words (TwoPackages path)
-IsVerificationFault words TooManyPackages = IsVerifiedFault words TooManyPackages
-IsVerificationFault words fault = IsReadingFault words fault
+abbrev pub IsVerificationFault : List (List ℕ) → List (List ℕ) → Fault → Type 0
+IsVerificationFault words facts CannotWrite = HasBadWord words → ⊥
+IsVerificationFault words facts (CertificateTooOld path) = IsVerifiedFault words facts (CertificateTooOld path)
+IsVerificationFault words facts (FactsNameGiven path) = IsVerifiedFault words facts (FactsNameGiven path)
+IsVerificationFault words facts (TwoPackages path) = IsVerifiedFault words facts (TwoPackages path)
+IsVerificationFault words facts TooManyPackages = IsVerifiedFault words facts TooManyPackages
+IsVerificationFault words facts fault = IsReadingFault words facts fault
 
 -- the words ask to check packages, and it is the fault of this
 pub record IsFaultOfCheck (words : List (List ℕ)) (fault : Fault) : Type 0 where
+  pub facts : List (List ℕ)
   pub packages : List (List ℕ)
-  pub is_check : IsCommand (codes "check") words [] packages
-  pub is_fault : IsCheckFault packages fault
+  pub is_check : IsCommand (codes "check") words [] facts packages
+  pub is_fault : IsCheckFault packages facts fault
 
 -- the words ask to check packages and to write certificates, and it is the fault of this
 pub record IsFaultOfCertify (words : List (List ℕ)) (fault : Fault) : Type 0 where
   pub file : List ℕ
+  pub facts : List (List ℕ)
   pub packages : List (List ℕ)
-  pub is_certify : IsCommand (codes "check") words (file ∷ []) packages
-  pub is_fault : IsCertifyFault packages fault
+  pub is_certify : IsCommand (codes "check") words (file ∷ []) facts packages
+  pub is_fault : IsCertifyFault packages facts fault
 
 -- the words ask to judge packages by certificates, and it is the fault of this
 pub record IsFaultOfVerify (words : List (List ℕ)) (fault : Fault) : Type 0 where
   pub file : List ℕ
+  pub facts : List (List ℕ)
   pub packages : List (List ℕ)
-  pub is_verify : IsCommand (codes "verify") words (file ∷ []) packages
-  pub is_fault : IsVerificationFault packages fault
+  pub is_verify : IsCommand (codes "verify") words (file ∷ []) facts packages
+  pub is_fault : IsVerificationFault packages facts fault
 
 -- the fault of a run with these words: memory was refused, help could not be written, or it is that of their command
 abbrev pub IsRunFault : List (List ℕ) → Fault → Type 0
@@ -152,6 +193,7 @@ LeavesUnwritten fault old new = is_of_output fault ≡ false → new ≡ old
 abbrev pub told_fault : LoadFault → Fault
 told_fault load_fault.TooMany = TooManyPackages
 told_fault (load_fault.TwoPackages path) = TwoPackages path
+told_fault (load_fault.NamesGiven path) = FactsNameGiven path
 told_fault load_fault.OutOfMemory = OutOfMemory
 
 abbrev pub told_verify_fault : VerifyFault → Fault

@@ -6,13 +6,17 @@ use Rattle.std.specs.Prelude.{◌≡◌, ◌⊎◌, ℕ, Bool, true, false, List
 use Rattle.std.specs.Io.KnownBytes.{Appends}
 use Rattle.certificate_json.specs.declared.certificates.Certificates.{Certificates}
 use Rattle.load.specs.declared.packages.GivenPackage.{GivenPackage}
+use Rattle.outside_json.specs.Outside.{packages_of}
+use Rattle.outside_json.specs.declared.outside.Outside.{Outside}
 use Rattle.command_line.specs.Words.{AsksForHelp, IsCommand}
 use Rattle.folders.specs.declared.fault.Fault.{Fault}
 use Rattle.folders.specs.declared.fault.Fault.TheVariants.{CannotWrite, CannotWriteFile}
+use Rattle.folders.specs.declared.whole_files.ReadFile.{ReadFile}
 use Rattle.judge.specs.Certified.{IsCertifiedReport}
 use Rattle.judge.specs.Verified.{IsVerifiedReport}
 use Rattle.judge.specs.Reports.{IsReport, Report}
 use Rattle.driver.specs.Certificates.{StandIn}
+use Rattle.driver.specs.DeclaredFacts.{AreDeclaredBy}
 use Rattle.driver.specs.Packages.{AreGiven}
 use Rattle.driver.specs.Faults.{IsRunFault, LeavesUnwritten}
 use Rattle.driver.specs.Printing.{AppendsFront}
@@ -27,52 +31,65 @@ IsWritten old new verdict report = (report.yes ≡ verdict) × Appends old new r
 abbrev pub IsBegun : Option (List ℕ) → Option (List ℕ) → Report → Type 0
 IsBegun old new report = AppendsFront old new report.text.items
 
--- this holds of the report on the packages that these words name
-pub record OfReport (words : List (List ℕ)) (holds : Report → Type 0) : Type 0 where
-  pub given : List GivenPackage
-  pub are_given : AreGiven words given
-  pub report : Report
-  pub is_report : IsReport given report
-  pub so : holds report
+module _ (words facts : List (List ℕ)) (file : Option ReadFile) where
+  -- this holds of the report on the packages that these words name, with the declared facts of this file
+  pub record OfReport (holds : Report → Type 0) : Type 0 where
+    pub given : List GivenPackage
+    pub are_given : AreGiven words given
+    pub outside : Outside
+    pub are_declared : AreDeclaredBy facts file outside
+    pub report : Report
+    pub is_report : IsReport (packages_of outside) given report
+    pub so : holds report
 
--- the same where this is the text of their certificates
-pub record OfCertifiedReport (words : List (List ℕ)) (text : List ℕ) (holds : Report → Type 0) : Type 0 where
-  pub given : List GivenPackage
-  pub are_given : AreGiven words given
-  pub report : Report
-  pub is_report : IsCertifiedReport given report text
-  pub so : holds report
+  -- the same where this is the text of their certificates
+  pub record OfCertifiedReport (text : List ℕ) (holds : Report → Type 0) : Type 0 where
+    pub given : List GivenPackage
+    pub are_given : AreGiven words given
+    pub outside : Outside
+    pub are_declared : AreDeclaredBy facts file outside
+    pub report : Report
+    pub is_report : IsCertifiedReport (packages_of outside) given report text
+    pub so : holds report
 
--- the same of their report by certificates that stand in a file
-pub record OfVerifiedReport (words : List (List ℕ)) (holds : Report → Type 0) : Type 0 where
-  pub given : List GivenPackage
-  pub are_given : AreGiven words given
-  pub certificates : Certificates
-  pub stand_in : StandIn certificates
-  pub report : Report
-  pub is_report : IsVerifiedReport given certificates report
-  pub so : holds report
+  -- the same of their report by certificates that stand in a file
+  pub record OfVerifiedReport (holds : Report → Type 0) : Type 0 where
+    pub given : List GivenPackage
+    pub are_given : AreGiven words given
+    pub outside : Outside
+    pub are_declared : AreDeclaredBy facts file outside
+    pub certificates : Certificates
+    pub stand_in : StandIn certificates
+    pub report : Report
+    pub is_report : IsVerifiedReport (packages_of outside) given certificates report
+    pub so : holds report
 
--- the words ask to check packages, and this holds of their report
+-- the words ask to check packages, and this holds of their report, with what is declared
 pub record OfCheck (words : List (List ℕ)) (holds : Report → Type 0) : Type 0 where
+  pub facts : List (List ℕ)
   pub packages : List (List ℕ)
-  pub is_check : IsCommand (codes "check") words [] packages
-  pub report : OfReport packages holds
+  pub is_check : IsCommand (codes "check") words [] facts packages
+  pub read : Option ReadFile
+  pub report : OfReport packages facts read holds
 
 -- the words ask to check packages and to write certificates, and this holds of the report
 pub record OfCertify (words : List (List ℕ)) (holds : Report → Type 0) : Type 0 where
   pub file : List ℕ
+  pub facts : List (List ℕ)
   pub packages : List (List ℕ)
-  pub is_certify : IsCommand (codes "check") words (file ∷ []) packages
+  pub is_certify : IsCommand (codes "check") words (file ∷ []) facts packages
+  pub read : Option ReadFile
   pub text : List ℕ
-  pub report : OfCertifiedReport packages text holds
+  pub report : OfCertifiedReport packages facts read text holds
 
 -- the words ask to judge packages by certificates, and this holds of the report
 pub record OfVerify (words : List (List ℕ)) (holds : Report → Type 0) : Type 0 where
   pub file : List ℕ
+  pub facts : List (List ℕ)
   pub packages : List (List ℕ)
-  pub is_verify : IsCommand (codes "verify") words (file ∷ []) packages
-  pub report : OfVerifiedReport packages holds
+  pub is_verify : IsCommand (codes "verify") words (file ∷ []) facts packages
+  pub read : Option ReadFile
+  pub report : OfVerifiedReport packages facts read holds
 
 -- this holds of the report for which the words ask
 abbrev pub OfAsked : List (List ℕ) → (Report → Type 0) → Type 0

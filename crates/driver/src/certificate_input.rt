@@ -17,8 +17,8 @@ pub fn read_certificates<R: Files + AllocGlobal>(rt: &R, name: &str) -> Result<C
     ensures read { IfOk result StandIn }
     ensures fault { IfErr result IsInputFault }
 {
-    let bytes = read_file(rt, name)?;
-    certificates_of(rt.alloc(), &bytes)
+    let file = read_file(rt, name)?;
+    certificates_of(rt.alloc(), file.bytes())
 }
 
 /// The certificates whose text these bytes are.

@@ -1,30 +1,34 @@
 //! A check that writes certificates.
 
-ghost use Rattle.std.specs.Prelude.{◌≡◌, ℕ, List, Bool, IfErr, IfOk};
-ghost use Rattle.command_line.specs.Words.{texts_of};
+ghost use Rattle.std.specs.Prelude.{◌≡◌, ℕ, List, Bool, Option, IfErr, IfOk};
+ghost use Rattle.command_line.specs.Words.{option_texts, texts_of};
 ghost use Rattle.driver.specs.Faults.{IsCertifyFault, LeavesUnwritten};
 ghost use Rattle.driver.specs.Printing.{refused_by};
 ghost use Rattle.driver.specs.Statuses.{status_of};
 ghost use Rattle.driver.specs.WrittenReport.{IsBegun, IsWritten, OfCertifiedReport};
 ghost use Rattle.folders.specs.WrittenFiles.{name_of, text_of};
+ghost use Rattle.folders.specs.declared.whole_files.ReadFile.{ReadFile};
 
+use crate::input::read_input;
 use crate::notes::note_empty;
-use crate::packages::{FoldersAsked, all_named, read_packages};
+use crate::packages::{FoldersAsked, all_named};
 use crate::printing::print;
 use crate::reports::certified_report_by;
 use crate::status::Status;
 use crate::writers::Refusals;
 use command_line::CertifyWords;
-use folders::{Fault, UnwrittenFile, WrittenFile, write_file};
+use folders::{Fault, ReadFile, UnwrittenFile, WrittenFile, write_file};
 use judge::CertifiedReport;
 use std::io::Write;
 use std::rt::Files;
 use std::thread::Threads;
 
-/// How a check ended that wrote certificates, and the file that they were written to.
+/// How a check ended that wrote certificates, the file of declared facts that was read, and the file that the
+/// certificates were written to.
 #[derive(Debug, Drop)]
 pub struct Certified<'a> {
     pub status: Status,
+    pub facts: Option<ReadFile<'a>>,
     pub file: WrittenFile<'a>,
 }
 
@@ -38,27 +42,32 @@ pub fn certify<'a, R: Files + AllocGlobal + Threads + Sync, W: Write, E: Write>(
     refusals: &mut Refusals,
 ) -> Result<Certified<'a>, Fault>
     ensures written { IfOk result (λ done. (yes : Bool) × (done.status ≡ status_of yes)
-        × OfCertifiedReport (texts_of asked.now.packages.items) (text_of done.file)
-        (IsWritten (W.contents out.old) (W.contents out.new) yes)) }
+        × OfCertifiedReport (texts_of asked.now.packages.items) (option_texts asked.now.facts) done.facts
+        (text_of done.file) (IsWritten (W.contents out.old) (W.contents out.new) yes)) }
     ensures file { IfOk result (λ done. name_of done.file ≡ asked.now.file.now) }
-    ensures fault { IfErr result (IsCertifyFault (texts_of asked.now.packages.items)) }
+    ensures fault { IfErr result (IsCertifyFault (texts_of asked.now.packages.items) (option_texts asked.now.facts)) }
     ensures unwritten { IfErr result (λ fault. LeavesUnwritten fault (W.contents out.old) (W.contents out.new)) }
     ensures begun { IfErr result (λ fault. fault ≡ Fault.CannotWrite
-        → (text : List ℕ) × OfCertifiedReport (texts_of asked.now.packages.items) text
+        → (read : Option ReadFile) × (text : List ℕ)
+        × OfCertifiedReport (texts_of asked.now.packages.items) (option_texts asked.now.facts) read text
         (IsBegun (W.contents out.old) (W.contents out.new))) }
     ensures whole { IfErr result (λ fault. (name : _) → fault ≡ Fault.CannotWriteFile name
-        → (yes : Bool) × (text : List ℕ) × OfCertifiedReport (texts_of asked.now.packages.items) text
+        → (yes : Bool) × (read : Option ReadFile) × (text : List ℕ)
+        × OfCertifiedReport (texts_of asked.now.packages.items) (option_texts asked.now.facts) read text
         (IsWritten (W.contents out.old) (W.contents out.new) yes)) }
     ensures refused { refusals.new.any ≡ refused_by refusals.old.any result }
 {
     let packages = all_named(rt.alloc(), &asked.packages)?;
-    let mut empty = Vec::new(rt.alloc());
-    let given = read_packages(rt, &packages, &mut empty, &mut FoldersAsked::none())?;
+    let input = read_input(rt, &packages, asked.facts, &mut FoldersAsked::none())?;
     let file = UnwrittenFile::named(rt.alloc(), asked.file)?;
-    let told = certified_report_by(rt, given, asked.workers)?;
+    let told = certified_report_by(rt, input.given, input.outside, asked.workers)?;
     print(out, &told.report.text, refusals)?;
-    note_empty(&empty, err);
+    note_empty(&input.empty, err);
     let status = Status::of_verdict(told.report.yes);
     let file = write_file(rt, file, told.certificates)?;
-    Ok(Certified { status, file })
+    Ok(Certified {
+        status,
+        facts: input.facts,
+        file,
+    })
 }

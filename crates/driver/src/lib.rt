@@ -1,9 +1,11 @@
 //! The program `ctxvet` as a library: reads the Go files of packages, has them judged, and prints the report. It writes
-//! certificates, and reads them.
+//! certificates, and reads them and declared facts.
 #![tactic(auto)]
 
 mod certificate_input;
 mod certify;
+mod facts_input;
+mod input;
 mod notes;
 mod packages;
 mod printing;

@@ -1,33 +1,33 @@
 //! The whole program, over two writers.
 
-ghost use Rattle.std.specs.Prelude.{◌≡◌, ◌⊎◌, Bool, IfErr, IfOk, map};
-ghost use Rattle.command_line.specs.Words.{texts_of};
-ghost use Rattle.driver.specs.Faults.{IsCheckFault, IsReportFault, IsRunFault, LeavesUnwritten};
+ghost use Rattle.std.specs.Prelude.{◌≡◌, Bool, Option, IfErr, IfOk, map};
+ghost use Rattle.command_line.specs.Words.{option_texts, texts_of};
+ghost use Rattle.driver.specs.Faults.{IsCheckFault, IsRunFault, LeavesUnwritten};
 ghost use Rattle.driver.specs.Printing.{refused_by};
 ghost use Rattle.driver.specs.Statuses.{status_code, status_of};
 ghost use Rattle.driver.specs.WrittenReport.{EndsWith, IsBegun, IsWritten, LeavesBegun, LeavesWhole, OfReport};
-ghost use Rattle.judge.specs.Reports.{IsReport, Report};
+ghost use Rattle.folders.specs.declared.whole_files.ReadFile.{ReadFile};
 
 use crate::certify::certify;
+use crate::input::read_input;
 use crate::notes::{PROGRAM, note_empty};
-use crate::packages::{FoldersAsked, all_named, read_packages};
+use crate::packages::{FoldersAsked, all_named};
 use crate::printing::print;
 use crate::reports::report_by;
 use crate::status::Status;
 use crate::verify::verify;
 use crate::writers::Refusals;
 use command_line::{Asked, CheckWords, read_words};
-use folders::{Fault, fail};
-use load::GivenPackage;
+use folders::{Fault, ReadFile, fail};
 use std::convert::AsStr;
 use std::io::Write;
 use std::rt::Files;
 use std::thread::Threads;
-use workers::Workers;
 
 /// Runs the program with the words after its name: prints its report or help on `out` and its fault on `err`, and
 /// returns its status. 0: each package is yes, or help or the version was asked for. 1: some package is no. 2: a fault,
-/// which is the first one.
+/// which is the first one. What a yes says, and in which runs, `judge::report_of` tells: where a file of facts is
+/// named, in those in which what it declares is true.
 pub fn run<R: Files + AllocGlobal + Threads + Sync, S: AsStr, W: Write, E: Write>(
     rt: &R,
     words: &[S],
@@ -70,12 +70,18 @@ fn answer<R: Files + AllocGlobal + Threads + Sync, S: AsStr, W: Write, E: Write>
     ensures refused { refusals.new.any ≡ refused_by refusals.old.any result }
 {
     match read_words(rt.alloc(), words)? {
-        Asked::Check(asked) => check(rt, &asked, out, err, refusals),
+        Asked::Check(asked) => {
+            let done = check(rt, &asked, out, err, refusals)?;
+            Ok(done.status)
+        }
         Asked::Certify(asked) => {
             let done = certify(rt, &asked, out, err, refusals)?;
             Ok(done.status)
         }
-        Asked::Verify(asked) => verify(rt, &asked, out, err, refusals),
+        Asked::Verify(asked) => {
+            let done = verify(rt, &asked, out, err, refusals)?;
+            Ok(done.status)
+        }
         Asked::Help(text) => {
             print(out, text.as_bytes(), refusals)?;
             Ok(Status::Fine)
@@ -89,49 +95,40 @@ fn answer<R: Files + AllocGlobal + Threads + Sync, S: AsStr, W: Write, E: Write>
     }
 }
 
+/// How a check ended, and the file of declared facts that was read for it.
+#[derive(Debug, Drop)]
+struct Checked<'a> {
+    status: Status,
+    facts: Option<ReadFile<'a>>,
+}
+
 /// Checks the packages of these words, `PATH=DIR` each, and prints their report. Folders without a Go file are noted
 /// after it.
-fn check<R: Files + AllocGlobal + Threads + Sync, W: Write, E: Write>(
+fn check<'a, R: Files + AllocGlobal + Threads + Sync, W: Write, E: Write>(
     rt: &R,
-    asked: &CheckWords<'_>,
+    asked: &CheckWords<'a>,
     out: &mut W,
     err: &mut E,
     refusals: &mut Refusals,
-) -> Result<Status, Fault>
-    ensures written { IfOk result (λ status. (yes : Bool) × (status ≡ status_of yes)
-        × OfReport (texts_of asked.now.packages.items) (IsWritten (W.contents out.old) (W.contents out.new) yes)) }
-    ensures fault { IfErr result (IsCheckFault (texts_of asked.now.packages.items)) }
+) -> Result<Checked<'a>, Fault>
+    ensures written { IfOk result (λ done. (yes : Bool) × (done.status ≡ status_of yes)
+        × OfReport (texts_of asked.now.packages.items) (option_texts asked.now.facts) done.facts
+        (IsWritten (W.contents out.old) (W.contents out.new) yes)) }
+    ensures fault { IfErr result
+        (IsCheckFault (texts_of asked.now.packages.items) (option_texts asked.now.facts)) }
     ensures unwritten { IfErr result (λ fault. LeavesUnwritten fault (W.contents out.old) (W.contents out.new)) }
-    ensures begun { IfErr result (λ fault. fault ≡ Fault.CannotWrite
-        → OfReport (texts_of asked.now.packages.items) (IsBegun (W.contents out.old) (W.contents out.new))) }
+    ensures begun { IfErr result (λ fault. fault ≡ Fault.CannotWrite → (read : Option ReadFile)
+        × OfReport (texts_of asked.now.packages.items) (option_texts asked.now.facts) read
+        (IsBegun (W.contents out.old) (W.contents out.new))) }
     ensures refused { refusals.new.any ≡ refused_by refusals.old.any result }
 {
     let packages = all_named(rt.alloc(), &asked.packages)?;
-    let mut empty = Vec::new(rt.alloc());
-    let given = read_packages(rt, &packages, &mut empty, &mut FoldersAsked::none())?;
-    let status = report(rt, given, asked.workers, out, refusals)?;
-    note_empty(&empty, err);
-    Ok(status)
-}
-
-/// Judges these packages, and prints their report.
-fn report<R: AllocGlobal + Threads + Sync, W: Write>(
-    rt: &R,
-    given: Vec<GivenPackage>,
-    workers: Workers,
-    out: &mut W,
-    refusals: &mut Refusals,
-) -> Result<Status, Fault>
-    ensures written { IfOk result (λ status. (yes : Bool) × (status ≡ status_of yes)
-        × (report : Report) × IsReport given.items report
-        × IsWritten (W.contents out.old) (W.contents out.new) yes report) }
-    ensures fault { IfErr result (λ fault. (fault ≡ Fault.CannotWrite) ⊎ IsReportFault given.items fault) }
-    ensures unwritten { IfErr result (λ fault. LeavesUnwritten fault (W.contents out.old) (W.contents out.new)) }
-    ensures begun { IfErr result (λ fault. fault ≡ Fault.CannotWrite
-        → (report : Report) × IsReport given.items report × IsBegun (W.contents out.old) (W.contents out.new) report) }
-    ensures refused { refusals.new.any ≡ refused_by refusals.old.any result }
-{
-    let report = report_by(rt, given, workers)?;
+    let input = read_input(rt, &packages, asked.facts, &mut FoldersAsked::none())?;
+    let report = report_by(rt, input.given, input.outside, asked.workers)?;
     print(out, &report.text, refusals)?;
-    Ok(Status::of_verdict(report.yes))
+    note_empty(&input.empty, err);
+    Ok(Checked {
+        status: Status::of_verdict(report.yes),
+        facts: input.facts,
+    })
 }

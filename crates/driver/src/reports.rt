@@ -1,15 +1,18 @@
 //! The reports of given packages, with the faults that the program tells.
 
-ghost use Rattle.std.specs.Prelude.{◌≡◌, IfErr, IfOk, string_bytes};
+ghost use Rattle.std.specs.Prelude.{◌≡◌, [], IfErr, IfOk, string_bytes};
 ghost use Rattle.driver.specs.Faults.{told_fault, told_verify_fault, IsReportFault, IsVerdictFault};
 ghost use Rattle.judge.specs.Certified.{IsCertifiedReport};
 ghost use Rattle.judge.specs.Reports.{IsReport};
 ghost use Rattle.judge.specs.Verified.{IsVerifiedReport};
+ghost use Rattle.outside_json.specs.Outside.{packages_of};
 
+use crate::facts_input::nothing_declared;
 use certificate_json::Certificates;
 use folders::Fault;
 use judge::{CertifiedReport, Report, VerifyFault};
 use load::{GivenPackage, LoadFault};
+use outside_json::Outside;
 use std::alloc::Global;
 use std::thread::Threads;
 use workers::Workers;
@@ -21,61 +24,66 @@ fn told_fault(fault: LoadFault) -> Fault
     match fault {
         LoadFault::TooMany => Fault::TooManyPackages,
         LoadFault::TwoPackages(path) => Fault::TwoPackages(path),
+        LoadFault::NamesGiven(path) => Fault::FactsNameGiven(path),
         LoadFault::OutOfMemory => Fault::OutOfMemory,
     }
 }
 
-/// The report of these packages, in the order of their paths. No thread is started.
+/// The report of these packages, in the order of their paths, where nothing is declared of others. No thread is
+/// started.
 ///
 /// # Errors
 ///
 /// There are more than 10,000 packages, or more than 4,294,967,295 files of one; two packages have one path; or memory
 /// was refused.
 pub fn report_of(alloc: Global, given: Vec<GivenPackage>) -> Result<Report, Fault>
-    ensures report { IfOk result (IsReport given.items) }
-    ensures fault { IfErr result (IsReportFault given.items) }
+    ensures report { IfOk result (IsReport [] given.items) }
+    ensures fault { IfErr result (IsReportFault [] given.items) }
 {
-    match judge::report_of(alloc, given) {
+    match judge::report_of(alloc, given, nothing_declared(alloc)) {
         Ok(report) => Ok(report),
         Err(fault) => Err(told_fault(fault)),
     }
 }
 
-/// The same report, for any number of workers. So many threads read the files.
+/// The report of these packages with what is declared of others, the same for any number of workers. So many threads
+/// read the files.
 ///
 /// # Errors
 ///
-/// As `report_of`.
+/// As `report_of`; after these faults, something is declared of a package that is given.
 pub fn report_by<R: AllocGlobal + Threads + Sync>(
     rt: &R,
     given: Vec<GivenPackage>,
+    outside: Outside,
     workers: Workers,
 ) -> Result<Report, Fault>
-    ensures report { IfOk result (IsReport given.items) }
-    ensures fault { IfErr result (IsReportFault given.items) }
+    ensures report { IfOk result (IsReport (packages_of outside) given.items) }
+    ensures fault { IfErr result (IsReportFault (packages_of outside) given.items) }
 {
-    match judge::report_by(rt, rt.alloc(), given, workers) {
+    match judge::report_by(rt, rt.alloc(), given, outside, workers) {
         Ok(report) => Ok(report),
         Err(fault) => Err(told_fault(fault)),
     }
 }
 
-/// The report of these packages, in the order of their paths, and the certificates of their bodies: both are the same
-/// for any number of workers. So many threads read the files.
+/// The same report, and the certificates of the packages' bodies: both are the same for any number of workers. So many
+/// threads read the files.
 ///
 /// # Errors
 ///
-/// As `report_of`.
+/// As `report_by`.
 pub fn certified_report_by<R: AllocGlobal + Threads + Sync>(
     rt: &R,
     given: Vec<GivenPackage>,
+    outside: Outside,
     workers: Workers,
 ) -> Result<CertifiedReport, Fault>
     ensures report { IfOk result
-        (λ told. IsCertifiedReport given.items told.report (string_bytes told.certificates)) }
-    ensures fault { IfErr result (IsReportFault given.items) }
+        (λ told. IsCertifiedReport (packages_of outside) given.items told.report (string_bytes told.certificates)) }
+    ensures fault { IfErr result (IsReportFault (packages_of outside) given.items) }
 {
-    match judge::certified_report_by(rt, rt.alloc(), given, workers) {
+    match judge::certified_report_by(rt, rt.alloc(), given, outside, workers) {
         Ok(told) => Ok(told),
         Err(fault) => Err(told_fault(fault)),
     }
@@ -91,20 +99,21 @@ fn told_verify_fault(fault: VerifyFault) -> Fault
     }
 }
 
-/// The report of these packages by these certificates, in the order of their paths.
+/// The report of these packages by these certificates, in the order of their paths, with what is declared of others.
 ///
 /// # Errors
 ///
-/// As `report_of`; after these faults, the certificates are too old.
+/// As `report_by`; after these faults, the certificates are too old.
 pub fn verified_report_of(
     alloc: Global,
     given: Vec<GivenPackage>,
+    outside: Outside,
     certificates: &Certificates,
 ) -> Result<Report, Fault>
-    ensures report { IfOk result (IsVerifiedReport given.items certificates.now) }
-    ensures fault { IfErr result (IsVerdictFault given.items certificates.now) }
+    ensures report { IfOk result (IsVerifiedReport (packages_of outside) given.items certificates.now) }
+    ensures fault { IfErr result (IsVerdictFault (packages_of outside) given.items certificates.now) }
 {
-    match judge::verified_report_of(alloc, given, certificates) {
+    match judge::verified_report_of(alloc, given, outside, certificates) {
         Ok(report) => Ok(report),
         Err(fault) => Err(told_verify_fault(fault)),
     }

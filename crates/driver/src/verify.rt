@@ -1,56 +1,75 @@
 //! A judgement by certificates.
 
-ghost use Rattle.std.specs.Prelude.{◌≡◌, Bool, true, IfErr, IfOk};
-ghost use Rattle.command_line.specs.Words.{texts_of};
-ghost use Rattle.driver.specs.Faults.{is_of_certificates, IsReadingFault, IsVerificationFault, LeavesUnwritten};
+ghost use Rattle.std.specs.Prelude.{◌≡◌, Bool, true, Option, IfErr, IfOk};
+ghost use Rattle.command_line.specs.Words.{option_texts, texts_of};
+ghost use Rattle.driver.specs.Faults.{is_of_bytes, IsReadingFault, IsVerificationFault, LeavesUnwritten};
 ghost use Rattle.driver.specs.Packages.{AreGiven};
 ghost use Rattle.driver.specs.Certificates.{StandIn};
+ghost use Rattle.driver.specs.DeclaredFacts.{AreDeclaredBy};
 ghost use Rattle.driver.specs.Printing.{refused_by};
 ghost use Rattle.driver.specs.Statuses.{status_of};
 ghost use Rattle.driver.specs.WrittenReport.{IsBegun, IsWritten, OfVerifiedReport};
+ghost use Rattle.folders.specs.declared.whole_files.ReadFile.{ReadFile};
 
 use crate::certificate_input::read_certificates;
+use crate::input::read_input;
 use crate::notes::note_empty;
-use crate::packages::{FoldersAsked, all_named, read_packages};
+use crate::packages::{FoldersAsked, all_named};
 use crate::printing::print;
 use crate::reports::verified_report_of;
 use crate::status::Status;
 use crate::writers::Refusals;
 use certificate_json::Certificates;
 use command_line::VerifyWords;
-use folders::Fault;
+use folders::{Fault, ReadFile};
 use load::GivenPackage;
+use outside_json::Outside;
 use std::io::Write;
 use std::rt::Files;
 
-/// What is read for it: the certificates, the packages, and the folders that have no Go file.
+/// What is read for it: the certificates, what is declared, with the file that was read for that, the packages, and the
+/// folders that have no Go file.
 #[derive(Drop)]
-struct Input<'a> {
+struct Evidence<'a> {
     certificates: Certificates,
+    facts: Option<ReadFile<'a>>,
+    outside: Outside,
     given: Vec<GivenPackage>,
     empty: Vec<&'a str>,
 }
 
-/// Reads the file of certificates, and after it the folders of the packages.
-fn read_input<'a, R: Files + AllocGlobal>(
+/// Reads the file of certificates, after it the file of declared facts, if one is named, and then the folders of the
+/// packages.
+fn read_evidence<'a, R: Files + AllocGlobal>(
     rt: &R,
     asked: &VerifyWords<'a>,
     folders: &mut FoldersAsked,
-) -> Result<Input<'a>, Fault>
-    ensures certificates { IfOk result (λ input. StandIn input.certificates) }
-    ensures given { IfOk result (λ input. AreGiven (texts_of asked.now.packages.items) input.given.items) }
-    ensures fault { IfErr result (IsReadingFault (texts_of asked.now.packages.items)) }
-    ensures order { IfErr result (λ fault. is_of_certificates fault ≡ true → folders.new.any ≡ folders.old.any) }
+) -> Result<Evidence<'a>, Fault>
+    ensures certificates { IfOk result (λ read. StandIn read.certificates) }
+    ensures declared { IfOk result
+        (λ read. AreDeclaredBy (option_texts asked.now.facts) read.facts read.outside) }
+    ensures given { IfOk result (λ read. AreGiven (texts_of asked.now.packages.items) read.given.items) }
+    ensures fault { IfErr result
+        (IsReadingFault (texts_of asked.now.packages.items) (option_texts asked.now.facts)) }
+    ensures order { IfErr result (λ fault. is_of_bytes fault ≡ true → folders.new.any ≡ folders.old.any) }
 {
     let packages = all_named(rt.alloc(), &asked.packages)?;
     let certificates = read_certificates(rt, asked.file)?;
-    let mut empty = Vec::new(rt.alloc());
-    let given = read_packages(rt, &packages, &mut empty, folders)?;
-    Ok(Input {
+    let input = read_input(rt, &packages, asked.facts, folders)?;
+    Ok(Evidence {
         certificates,
-        given,
-        empty,
+        facts: input.facts,
+        outside: input.outside,
+        given: input.given,
+        empty: input.empty,
     })
+}
+
+/// How a verification ended, and the file of declared facts that was read for it.
+#[derive(Debug, Drop)]
+pub struct Verified<'a> {
+    pub status: Status,
+    pub facts: Option<ReadFile<'a>>,
 }
 
 /// Judges the packages of these words by the certificates in the file, and prints their report. Folders without a Go
@@ -61,19 +80,24 @@ pub fn verify<'a, R: Files + AllocGlobal, W: Write, E: Write>(
     out: &mut W,
     err: &mut E,
     refusals: &mut Refusals,
-) -> Result<Status, Fault>
-    ensures written { IfOk result (λ status. (yes : Bool) × (status ≡ status_of yes)
-        × OfVerifiedReport (texts_of asked.now.packages.items)
+) -> Result<Verified<'a>, Fault>
+    ensures written { IfOk result (λ done. (yes : Bool) × (done.status ≡ status_of yes)
+        × OfVerifiedReport (texts_of asked.now.packages.items) (option_texts asked.now.facts) done.facts
         (IsWritten (W.contents out.old) (W.contents out.new) yes)) }
-    ensures fault { IfErr result (IsVerificationFault (texts_of asked.now.packages.items)) }
+    ensures fault { IfErr result
+        (IsVerificationFault (texts_of asked.now.packages.items) (option_texts asked.now.facts)) }
     ensures unwritten { IfErr result (λ fault. LeavesUnwritten fault (W.contents out.old) (W.contents out.new)) }
-    ensures begun { IfErr result (λ fault. fault ≡ Fault.CannotWrite
-        → OfVerifiedReport (texts_of asked.now.packages.items) (IsBegun (W.contents out.old) (W.contents out.new))) }
+    ensures begun { IfErr result (λ fault. fault ≡ Fault.CannotWrite → (read : Option ReadFile)
+        × OfVerifiedReport (texts_of asked.now.packages.items) (option_texts asked.now.facts) read
+        (IsBegun (W.contents out.old) (W.contents out.new))) }
     ensures refused { refusals.new.any ≡ refused_by refusals.old.any result }
 {
-    let input = read_input(rt, asked, &mut FoldersAsked::none())?;
-    let report = verified_report_of(rt.alloc(), input.given, &input.certificates)?;
+    let read = read_evidence(rt, asked, &mut FoldersAsked::none())?;
+    let report = verified_report_of(rt.alloc(), read.given, read.outside, &read.certificates)?;
     print(out, &report.text, refusals)?;
-    note_empty(&input.empty, err);
-    Ok(Status::of_verdict(report.yes))
+    note_empty(&read.empty, err);
+    Ok(Verified {
+        status: Status::of_verdict(report.yes),
+        facts: read.facts,
+    })
 }

@@ -40,6 +40,21 @@ pub enum Fault {
     /// The certificates have an older version, in which those of the package of this path can't be told. Escaped.
     #[error("certificate version too old: {0}")]
     CertificateTooOld(String),
+    /// The file of declared facts is not UTF-8, or no JSON.
+    #[error("facts are not JSON")]
+    FactsNotJson,
+    /// The file of declared facts is JSON, but has no facts of a version that is known.
+    #[error("facts have another shape")]
+    FactsWrongShape,
+    /// The file of declared facts has a version that is not known.
+    #[error("facts version not known")]
+    FactsWrongVersion,
+    /// Something is declared of the package of this path, of which nothing may be.
+    #[error("facts name a reserved path: {0}")]
+    FactsReserved(&'static str),
+    /// Something is declared of the package of this path, which was given.
+    #[error("facts name a given package: {0}")]
+    FactsNameGiven(String),
     /// Two packages have this path.
     #[error("two packages of one path: {0}")]
     TwoPackages(String),

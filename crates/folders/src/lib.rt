@@ -12,4 +12,4 @@ pub use fault::{Fault, fail, words_fault};
 pub use files::read_folder;
 pub use names::{escaped, push_escaped};
 pub use package::split_word;
-pub use whole_files::{UnwrittenFile, WrittenFile, read_file, write_file};
+pub use whole_files::{ReadFile, UnwrittenFile, WrittenFile, read_file, write_file};

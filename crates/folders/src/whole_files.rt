@@ -4,6 +4,7 @@ ghost use Rattle.std.specs.Prelude.{◌≡◌, IfErr, IfOk, OnOk};
 ghost use Rattle.std.specs.Fs.{file_type, IsFile};
 ghost use Rattle.std.specs.Io.KnownBytes.{Appends};
 ghost use Rattle.folders.specs.ReadFaults.{IsReadFault};
+ghost use Rattle.folders.specs.ReadFiles.{bytes_read, name_read};
 ghost use Rattle.folders.specs.WrittenFiles.{HoldsAll};
 
 use crate::fault::{self, Fault};
@@ -14,16 +15,34 @@ use std::io::{self, ErrorKind, Write};
 use std::path::{Path, PathBuf};
 use std::rt::Files;
 
-/// All bytes of the file of this name.
+/// A file that was read: its name, and all its bytes. Only `read_file` makes one, so that nobody else can tell of a
+/// file that was not read.
+#[derive(Debug, Drop)]
+pub struct ReadFile<'a> {
+    name: &'a str,
+    bytes: Vec<u8>,
+}
+
+impl<'a> ReadFile<'a> {
+    /// All its bytes.
+    pub fn bytes(&self) -> &[u8]
+        ensures { result.now ≡ bytes_read self.now }
+    {
+        &self.bytes
+    }
+}
+
+/// Reads all bytes of the file of this name.
 ///
 /// # Errors
 ///
 /// The file can't be read, or memory was refused.
-pub fn read_file<R: Files + AllocGlobal>(rt: &R, name: &str) -> Result<Vec<u8>, Fault>
-    ensures { IfErr result IsReadFault }
+pub fn read_file<'a, R: Files + AllocGlobal>(rt: &R, name: &'a str) -> Result<ReadFile<'a>, Fault>
+    ensures read { IfOk result (λ file. name_read file ≡ name.now) }
+    ensures fault { IfErr result IsReadFault }
 {
     match fs::read(rt, name) {
-        Ok(bytes) => Ok(bytes),
+        Ok(bytes) => Ok(ReadFile { name, bytes }),
         Err(error) => {
             let name = escaped(rt.alloc(), name)?;
             Err(fault::reading(&error, name))

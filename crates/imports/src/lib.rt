@@ -6,7 +6,7 @@ pub mod import_list;
 pub mod ordering;
 mod ranking;
 pub mod ranks;
-mod rows;
+pub mod rows;
 
 pub use given::first_places;
 pub use import_list::ImportList;

@@ -5,6 +5,7 @@ use crate::page::{Classes, FilePage, place_of};
 use crate::use_fault_lines::push_outer;
 use all_packages::{JudgedBy, ToldPackage, judge_packages};
 use calls_flags::{KnownCalls, bodies_of_files};
+use outside_json::Outside;
 use report::PackageReport;
 use std::alloc::{AllocError, Global};
 use whole_packages::LoadedPackage;
@@ -20,7 +21,8 @@ pub enum Nodes {
     Certificates,
 }
 
-/// The lines of what the bodies of these packages do, in the order of packages, files and bodies: as they were judged.
+/// The lines of what the bodies of these packages do, in the order of packages, files and bodies: as they were judged,
+/// where nothing is declared of other packages.
 ///
 /// # Errors
 ///
@@ -30,7 +32,10 @@ pub fn text_of_bodies(
     packages: &[LoadedPackage],
     nodes: Nodes,
 ) -> Result<String, AllocError> {
-    let all = judge_packages(alloc, packages)?;
+    let nothing = Outside {
+        packages: Vec::new(alloc),
+    };
+    let all = judge_packages(alloc, packages, &nothing)?;
     let mut text = String::new(alloc);
     for place in 0..packages.len() {
         if let Some(found) = all.judged_by(alloc, place)? {

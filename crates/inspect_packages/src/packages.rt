@@ -61,6 +61,7 @@ pub fn text_of_packages(
         Ok(packages) => Ok(text_of_owned(alloc, shown, packages)?),
         Err(LoadFault::TooMany) => Err(Fault::TooManyPackages),
         Err(LoadFault::TwoPackages(path)) => Err(Fault::TwoPackages(path)),
+        Err(LoadFault::NamesGiven(path)) => Err(Fault::FactsNameGiven(path)),
         Err(LoadFault::OutOfMemory) => Err(Fault::OutOfMemory),
     }
 }

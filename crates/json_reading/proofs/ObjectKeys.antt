@@ -7,7 +7,7 @@ use Rattle.std.specs.Cmp.Lexicographic.{slice_cmp}
 use Rattle.std.specs.declared.cmp.Ordering.{Ordering}
 use Rattle.std.specs.declared.cmp.Ordering.TheVariants.{Less, Equal, Greater}
 use Rattle.std.specs.Ordering.{nat_cmp, match_ordering, ordering_reverse}
-use Rattle.serde_json.specs.Data.{Data, Members, no_members, member, put}
+use Rattle.serde_json.specs.Data.{Data, Members, member, put}
 use Rattle.serde_json.specs.Find.{get_member}
 use Rattle.serde_json.proofs.Views.{get_member-put, get_member-put_other}
 use Rattle.json_reading.specs.Standing.{Judges, Refutes}
@@ -114,10 +114,6 @@ one_or_none : (k q : List ℕ) (keys : List (List ℕ)) → IsNone k keys → Is
 one_or_none k q [] none one e = one
 one_or_none k q (r ∷ keys) none (inl h) e = none.0 (sym e ∙ h)
 one_or_none k q (r ∷ keys) none (inr one) e = one_or_none k q keys none.1 one e
-
-pub no_other_first : (keys : List (List ℕ)) → HasOther keys no_members false
-no_other_first [] = refl
-no_other_first (k ∷ keys) = no_other_first keys
 
 pub other_kept : (keys : List (List ℕ)) (k : List ℕ) (value : Data) (ms : Members) (other : Bool) → KeysRise keys
     → IsOne k keys

@@ -15,9 +15,6 @@ pub record Leaves {A : Type 0} (all left : Option (A × List Token)) : Type 0 wh
   pub passes : (new : List Token) → Passes left new → Passes all new
   pub none : left ≡ None → all ≡ None
 
-pub leaves_all : {A : Type 0} (all : Option (A × List Token)) → Leaves all all
-leaves_all all = record { passes = λ new h. h; none = λ e. e }
-
 pub passes_by : {A B : Type 0} (f : A → B) (all : Option (B × List Token)) (left : Option (A × List Token)) (new : List Token)
     → all ≡ parse_map f left
     → Passes left new

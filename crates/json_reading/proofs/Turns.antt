@@ -169,9 +169,6 @@ module _ (depth : ℕ) where
   pub items_over : (ts r : List Token) → after_end_array ts ≡ Some r → items_at depth ts ≡ Some (no_items, r)
   items_over ts r e = ap (converted of_items) (items_end (value depth) (length ts) ts r (omega arith) e)
 
-  some_there : (ts r : List Token) (d : Data) → value_at depth ts ≡ Some (d, r) → length r ≤ length ts - 1
-  some_there ts r d e = omega (arith, value_shorter depth ts r d e)
-
   pub item_next : (ts r : List Token) (d : Data) → after_end_array ts ≡ None → value_at depth ts ≡ Some (d, r)
       → items_at depth ts ≡ parse_map (item d) (items_at depth r)
   item_next ts r d going e =

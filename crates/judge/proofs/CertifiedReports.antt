@@ -1,26 +1,41 @@
 -- What is told of loaded packages with their certificates is so of those that were given.
-use Rattle.std.proofs.Common.{List}
+use Rattle.std.proofs.Common.{List, refl, subst}
 use Rattle.std.specs.Prelude.{string_bytes}
+use Rattle.declared_tables.specs.DeclaredTables.{declared_tables}
 use Rattle.judge.proofs.Loads.{tell_loaded, is_report_by}
 use Rattle.judge.specs.Certified.{IsCertifiedReport, TellsCertifiedText}
 use Rattle.judge.specs.declared.certified.CertifiedReport.{CertifiedReport}
-use Rattle.load.specs.GivenPackages.{IsLoad}
+use Rattle.load.specs.LoadedBeside.{IsLoadBeside}
+use Rattle.load.specs.declared.loaded.Loaded.{Loaded}
 use Rattle.load.specs.declared.packages.GivenPackage.{GivenPackage}
 use Rattle.meaning_reports.specs.PackageReports.{by_paths}
 use Rattle.meaning_runs.proofs.EntryPlaces.{entries_lie_in_files}
 use Rattle.meaning_runs.proofs.PackageYes.{yes_of_a_package_is_quiet}
-use Rattle.whole_packages.specs.declared.loaded_package.LoadedPackage.{LoadedPackage as KeptPackage}
+use Rattle.outside_json.specs.Outside.{PackageEntry, packages_of}
 
-pub is_certified : (given : List GivenPackage) (packages : List KeptPackage) (told : CertifiedReport)
-    → IsLoad given packages
-    → TellsCertifiedText packages told
-    → IsCertifiedReport given told.report (string_bytes told.certificates)
+certified_so : (outside : List PackageEntry) (given : List GivenPackage) (loaded : Loaded) (told : CertifiedReport)
+    → IsLoadBeside given outside loaded
+    → TellsCertifiedText (declared_tables outside) loaded.packages.items told
+    → IsCertifiedReport outside given told.report (string_bytes told.certificates)
 unfolding is_report_by
-is_certified given packages told load tells = record {
-  is_report =
-      is_report_by by_paths yes_of_a_package_is_quiet entries_lie_in_files given packages told.report load
-      tells.tells_report;
-  entries = tells.entries;
-  are_certificates = tells.are_certificates load.meant (tell_loaded given packages load) load.distinct;
-  is_text = tells.is_text;
-}
+certified_so outside given loaded told beside tells =
+    let declared = declared_tables outside in
+    record {
+      is_report =
+          is_report_by by_paths outside refl (yes_of_a_package_is_quiet declared) (entries_lie_in_files declared) given
+          loaded told.report beside tells.tells_report;
+      entries = tells.entries;
+      are_certificates =
+          tells.are_certificates beside.load.meant (tell_loaded given loaded.packages.items beside.load)
+          beside.load.distinct;
+      is_text = tells.is_text;
+    }
+
+pub is_certified : (outside : List PackageEntry) (given : List GivenPackage) (loaded : Loaded) (told : CertifiedReport)
+    → IsLoadBeside given outside loaded
+    → TellsCertifiedText (declared_tables (packages_of loaded.outside)) loaded.packages.items told
+    → IsCertifiedReport outside given told.report (string_bytes told.certificates)
+is_certified outside given loaded told beside tells =
+    certified_so outside given loaded told beside
+    (subst (λ (es : List PackageEntry). TellsCertifiedText (declared_tables es) loaded.packages.items told)
+    beside.is_outside tells)

@@ -1,20 +1,26 @@
 -- Packages that are loaded are kept as they are meant.
-use Rattle.std.proofs.Common.{List}
-use Rattle.whole_packages.specs.declared.loaded_package.LoadedPackage.{LoadedPackage as KeptPackage}
-use Rattle.load.specs.declared.packages.GivenPackage.{GivenPackage}
-use Rattle.load.specs.GivenPackages.{IsLoad}
-use Rattle.whole_packages.specs.LoadedViews.{TellPackages}
+use Rattle.std.proofs.Common.{◌≡◌, List, refl, subst}
 use Rattle.all_packages.specs.declared.reports.Report.{Report}
 use Rattle.all_packages.specs.Reports.{AreReportsBy, TellsReportBy, TellsReport}
-use Rattle.meaning_reports.specs.PackageReports.{Rules, by_paths}
-use Rattle.meaning_runs.specs.EntryPlaces.{EntriesLieInFilesBy}
-use Rattle.meaning_runs.specs.PackageYes.{YesOfAPackageIsQuietBy}
-use Rattle.meaning_runs.proofs.EntryPlaces.{entries_lie_in_files}
-use Rattle.meaning_runs.proofs.PackageYes.{yes_of_a_package_is_quiet}
-use Rattle.judge.specs.Reports.{IsReportBy, IsReport}
+use Rattle.declared_tables.specs.DeclaredTables.{declared_tables}
 use Rattle.judge.proofs.LoadedPackages.{are_as_many, each_loaded}
 use Rattle.judge.proofs.QuietYes.{of_texts, yes_are_quiet}
 use Rattle.judge.proofs.SourcePlaces.{stand_in_sources}
+use Rattle.judge.specs.QuietYes.{YesAreQuiet}
+use Rattle.judge.specs.Reports.{IsReportBy, IsReport}
+use Rattle.load.specs.GivenPackages.{IsLoad}
+use Rattle.load.specs.LoadedBeside.{IsLoadBeside}
+use Rattle.load.specs.declared.loaded.Loaded.{Loaded}
+use Rattle.load.specs.declared.packages.GivenPackage.{GivenPackage}
+use Rattle.meaning_reports.specs.Loaded.{Tables}
+use Rattle.meaning_reports.specs.PackageReports.{Rules, by_paths}
+use Rattle.meaning_runs.proofs.EntryPlaces.{entries_lie_in_files}
+use Rattle.meaning_runs.proofs.PackageYes.{yes_of_a_package_is_quiet}
+use Rattle.meaning_runs.specs.EntryPlaces.{EntriesLieInFilesBy}
+use Rattle.meaning_runs.specs.PackageYes.{YesOfAPackageIsQuietBy}
+use Rattle.outside_json.specs.Outside.{PackageEntry, packages_of}
+use Rattle.whole_packages.specs.LoadedViews.{TellPackages}
+use Rattle.whole_packages.specs.declared.loaded_package.LoadedPackage.{LoadedPackage as KeptPackage}
 
 -- what is kept of loaded packages is what they are meant to be
 pub tell_loaded : (given : List GivenPackage) (packages : List KeptPackage) (load : IsLoad given packages)
@@ -24,26 +30,41 @@ tell_loaded given packages load = record {
   each = λ i p k is_p is_k. (each_loaded load.in_order load.meant packages load.are_loaded i p k is_p is_k).loaded.tells;
 }
 
--- what is said of loaded packages by these rules is the report of those that were given
-unfoldable pub is_report_by : (rules : Rules) → YesOfAPackageIsQuietBy rules → EntriesLieInFilesBy rules
-    → (given : List GivenPackage) (packages : List KeptPackage) (report : Report)
-    → IsLoad given packages
-    → TellsReportBy rules packages report
-    → IsReportBy rules given report
-is_report_by rules are_quiet they_lie given packages report load judged =
-    let reports : AreReportsBy rules load.meant packages judged.said =
-    judged.are_reports load.meant (tell_loaded given packages load) load.distinct in
+-- by rules that take what is declared as it is, what is said of loaded packages is the report of those that were given
+unfoldable pub is_report_by : (rules : Tables → Rules) (outside : List PackageEntry)
+    → (rules (declared_tables outside)).declared ≡ declared_tables outside
+    → YesOfAPackageIsQuietBy (rules (declared_tables outside))
+    → EntriesLieInFilesBy (rules (declared_tables outside))
+    → (given : List GivenPackage) (loaded : Loaded) (report : Report)
+    → IsLoadBeside given outside loaded
+    → TellsReportBy (rules (declared_tables outside)) loaded.packages.items report
+    → IsReportBy rules outside given report
+is_report_by rules outside same are_quiet they_lie given loaded report beside judged =
+    let load : IsLoad given loaded.packages.items = beside.load in
+    let reports : AreReportsBy (rules (declared_tables outside)) load.meant loaded.packages.items judged.said =
+    judged.are_reports load.meant (tell_loaded given loaded.packages.items load) load.distinct in
     record {
-      packages = packages;
-      load = load;
+      loaded = loaded;
+      load = beside;
       said = judged.said;
       are_reports = reports;
       told = judged.told;
-      placed = stand_in_sources rules they_lie load.in_order load.meant packages judged.said load.are_loaded reports;
-      quiet = yes_are_quiet rules are_quiet load.meant judged.said reports.is_report (of_texts load.in_order load.meant packages load.are_loaded);
+      placed =
+          stand_in_sources (rules (declared_tables outside)) they_lie load.in_order load.meant loaded.packages.items
+          judged.said load.are_loaded reports;
+      quiet =
+          subst (λ (d : Tables). YesAreQuiet d load.meant reports.is_report.tables judged.said) same
+          (yes_are_quiet (rules (declared_tables outside)) are_quiet load.meant judged.said reports.is_report
+          (of_texts load.in_order load.meant loaded.packages.items load.are_loaded));
     }
 
-pub is_report : (given : List GivenPackage) (packages : List KeptPackage) (report : Report) → IsLoad given packages
-    → TellsReport packages report
-    → IsReport given report
-is_report = is_report_by by_paths yes_of_a_package_is_quiet entries_lie_in_files
+-- what is said of them by paths is their report
+pub is_report : (outside : List PackageEntry) (given : List GivenPackage) (loaded : Loaded) (report : Report)
+    → IsLoadBeside given outside loaded
+    → TellsReport (declared_tables (packages_of loaded.outside)) loaded.packages.items report
+    → IsReport outside given report
+is_report outside given loaded report beside told =
+    let declared = declared_tables outside in
+    is_report_by by_paths outside refl (yes_of_a_package_is_quiet declared) (entries_lie_in_files declared) given loaded
+    report beside
+    (subst (λ (es : List PackageEntry). TellsReport (declared_tables es) loaded.packages.items report) beside.is_outside told)

@@ -9,16 +9,19 @@ use Rattle.lexer.specs.declared.source.Source.{Source}
 use Rattle.meaning.proofs.Membership.{contains_nil, contains_unmap}
 use Rattle.report.specs.declared.diagnostics.Diagnostic.{Diagnostic}
 use Rattle.report.specs.Entries.{Entry, entry_of}
-use Rattle.meaning_reports.specs.Loaded.{Reading, has_tree, has_text_fault, has_tree_fault, LoadedPackage}
+use Rattle.meaning_reports.specs.Loaded.{Reading, has_tree, has_text_fault, has_tree_fault, LoadedPackage, Tables}
 use Rattle.meaning_reports.specs.WholeFaults.{IsWholeFault, has_no_tree}
 use Rattle.meaning_reports.specs.PackageReports.{of_whole, Said, IsReportOf}
 use Rattle.meaning_reports.proofs.OneReport.{one_report}
+use Rattle.whole_packages.specs.declared.loaded_package.LoadedPackage.{LoadedPackage as KeptPackage}
 use Rattle.load.specs.declared.packages.GivenPackage.{GivenPackage}
 use Rattle.load.specs.Readings.{IsReadingOf}
-use Rattle.load.specs.GivenPackages.{PathAndFiles, entry_of as path_and_files, AreLoaded}
+use Rattle.load.specs.GivenPackages.{PathAndFiles, entry_of as path_and_files, AreLoaded, IsLoad}
 use Rattle.all_packages.specs.declared.judged.Judged.{Judged}
 use Rattle.all_packages.specs.Judgments.{table_view}
 use Rattle.all_packages.specs.Reports.{report_in, said_view, says_nothing, is_yes}
+use Rattle.declared_tables.specs.DeclaredTables.{declared_tables}
+use Rattle.outside_json.specs.Outside.{PackageEntry}
 use Rattle.judge.specs.Reports.{Report, IsReport}
 use Rattle.judge.specs.OneReport.{HaveTrees, GivenPackagesHaveOneReport}
 use Rattle.judge.proofs.LoadedPackages.{are_as_many, each_loaded}
@@ -71,8 +74,8 @@ whole_fault ps h = by h.file.reading h.file.is_there h.file.is_fault
     by (has_tree_fault at why) is fault = (_, has_no_tree h.loaded h.file.place at why h.is_there is)
 
 -- a package in which a tree is missing is no yes
-no_yes : (ps : List LoadedPackage) (said : List Said) → IsReportOf ps said → HasNoTreeIn ps → list_all is_quiet said ≡ false
-no_yes ps said reports h =
+no_yes : (declared : Tables) (ps : List LoadedPackage) (said : List Said) → IsReportOf declared ps said → HasNoTreeIn ps → list_all is_quiet said ≡ false
+no_yes declared ps said reports h =
     let within = slice_get_within ps h.place h.loaded h.is_there in
     let long = reports.is_as_long in
     let s = there said h.place (omega (arith, within, long)) in
@@ -82,52 +85,69 @@ no_yes ps said reports h =
 
 -- Two reports
 
-module _ (given : List GivenPackage) (one other : Report) (h : IsReport given one) (k : IsReport given other) where
-  order : h.load.in_order ≡ k.load.in_order
-  order = one_order (map path_and_files given) h.packages k.packages h.load k.load
+module _
+    (outside : List PackageEntry) (given : List GivenPackage) (one other : Report)
+    (h : IsReport outside given one) (k : IsReport outside given other) where
+  abbrev declared : Tables
+  declared = declared_tables outside
+
+  abbrev first_kept : List KeptPackage
+  first_kept = h.loaded.packages.items
+
+  abbrev second_kept : List KeptPackage
+  second_kept = k.loaded.packages.items
+
+  abbrev first_load : IsLoad given first_kept
+  first_load = h.load.load
+
+  abbrev second_load : IsLoad given second_kept
+  second_load = k.load.load
+
+  order : first_load.in_order ≡ second_load.in_order
+  order = one_order (map path_and_files given) first_kept second_kept first_load second_load
 
   -- what is kept in the second report, of the entries in the order of the first
-  loaded_too : AreLoaded h.load.in_order k.load.meant k.packages
-  loaded_too = subst (λ (es : List PathAndFiles). AreLoaded es k.load.meant k.packages) (sym order) k.load.are_loaded
+  loaded_too : AreLoaded first_load.in_order second_load.meant second_kept
+  loaded_too = subst (λ (es : List PathAndFiles). AreLoaded es second_load.meant second_kept) (sym order) second_load.are_loaded
 
-  ways : (h.load.meant ≡ k.load.meant) ⊎ (HasNoTreeIn h.load.meant × HasNoTreeIn k.load.meant)
-  ways = one_way h.load.in_order h.load.meant k.load.meant h.packages k.packages h.load.are_loaded loaded_too
+  ways : (first_load.meant ≡ second_load.meant) ⊎ (HasNoTreeIn first_load.meant × HasNoTreeIn second_load.meant)
+  ways = one_way first_load.in_order first_load.meant second_load.meant first_kept second_kept first_load.are_loaded loaded_too
 
   -- the second report as one of the packages of the first
-  report_too : h.load.meant ≡ k.load.meant → IsReportOf h.load.meant (map said_view k.said)
+  report_too : first_load.meant ≡ second_load.meant → IsReportOf declared first_load.meant (map said_view k.said)
   report_too same =
-      subst (λ (ps : List LoadedPackage). IsReportOf ps (map said_view k.said)) (sym same) k.are_reports.is_report
+      subst (λ (ps : List LoadedPackage). IsReportOf declared ps (map said_view k.said)) (sym same) k.are_reports.is_report
 
   verdicts : list_all is_quiet (map said_view h.said) ≡ list_all is_quiet (map said_view k.said)
   verdicts = by ways
     where
-      by : (h.load.meant ≡ k.load.meant) ⊎ (HasNoTreeIn h.load.meant × HasNoTreeIn k.load.meant)
+      by : (first_load.meant ≡ second_load.meant) ⊎ (HasNoTreeIn first_load.meant × HasNoTreeIn second_load.meant)
           → list_all is_quiet (map said_view h.said) ≡ list_all is_quiet (map said_view k.said)
       by (inl same) =
-          ap (list_all is_quiet) (one_report h.load.meant (map said_view h.said) (map said_view k.said) h.are_reports.is_report (report_too same))
+          ap (list_all is_quiet) (one_report declared first_load.meant (map said_view h.said) (map said_view k.said) h.are_reports.is_report (report_too same))
       by (inr w) =
-          no_yes h.load.meant (map said_view h.said) h.are_reports.is_report w.0
-          ∙ sym (no_yes k.load.meant (map said_view k.said) k.are_reports.is_report w.1)
+          no_yes declared first_load.meant (map said_view h.said) h.are_reports.is_report w.0
+          ∙ sym (no_yes declared second_load.meant (map said_view k.said) k.are_reports.is_report w.1)
 
   same_verdict : one.yes ≡ other.yes
   same_verdict =
       h.told.verdict ∙ (all_quiet h.said ∙ (verdicts ∙ (sym (all_quiet k.said) ∙ sym k.told.verdict)))
 
   -- no tree is missing
-  none_missing : HaveTrees given → HasNoTreeIn h.load.meant → ⊥
+  none_missing : HaveTrees given → HasNoTreeIn first_load.meant → ⊥
   none_missing trees w =
-      let within = slice_get_within h.load.meant w.place w.loaded w.is_there in
-      let long = are_as_many h.load.in_order h.load.meant h.packages h.load.are_loaded in
-      let kept = there h.packages w.place (omega (arith, within, long)) in
-      let own = each_loaded h.load.in_order h.load.meant h.packages h.load.are_loaded w.place w.loaded kept.0 w.is_there kept.1 in
+      let within = slice_get_within first_load.meant w.place w.loaded w.is_there in
+      let long = are_as_many first_load.in_order first_load.meant first_kept first_load.are_loaded in
+      let kept = there first_kept w.place (omega (arith, within, long)) in
+      let own = each_loaded first_load.in_order first_load.meant first_kept first_load.are_loaded w.place w.loaded kept.0 w.is_there kept.1 in
       let s = source_there kept.0.sources.items w.loaded.files own.loaded.are_files w.file.place w.file.reading w.file.is_there in
       let among : Contains kept.0.sources.items s.0 =
       (w.file.place, slice_get_within kept.0.sources.items w.file.place s.0 s.1, get_or_from_slice_get kept.0.sources.items w.file.place s.0 s.0 s.1) in
       let by_name = own.loaded.by_name.same in
       let its = Contains-permutation kept.0.sources.items own.of.1.items s.0
       (IsPermutation-sym own.of.1.items kept.0.sources.items by_name) among in
-      let entry = Contains-permutation h.load.in_order (map path_and_files given) own.of
-      (IsPermutation-sym (map path_and_files given) h.load.in_order h.load.same) own.is_given in
+      let entry = Contains-permutation first_load.in_order (map path_and_files given) own.of
+      (IsPermutation-sym (map path_and_files given) first_load.in_order first_load.same) own.is_given in
       let g = contains_unmap path_and_files given own.of entry in
       let in_given : Contains g.0.sources.items s.0 =
       subst (λ (e : PathAndFiles). Contains e.1.items s.0) (sym g.2) its in
@@ -151,27 +171,27 @@ module _ (given : List GivenPackage) (one other : Report) (h : IsReport given on
       let in_second = slice_get_within (map said_view k.said) i (said_view b) second in
       let long = h.are_reports.is_report.is_as_long in
       let long_too = k.are_reports.is_report.is_as_long in
-      let many = are_as_many h.load.in_order h.load.meant h.packages h.load.are_loaded in
-      let many_too = are_as_many k.load.in_order k.load.meant k.packages k.load.are_loaded in
-      let kept = there h.packages i (omega (arith, in_first, long, many)) in
-      let others = there k.packages i (omega (arith, in_second, long_too, many_too)) in
+      let many = are_as_many first_load.in_order first_load.meant first_kept first_load.are_loaded in
+      let many_too = are_as_many second_load.in_order second_load.meant second_kept second_load.are_loaded in
+      let kept = there first_kept i (omega (arith, in_first, long, many)) in
+      let others = there second_kept i (omega (arith, in_second, long_too, many_too)) in
       (h.are_reports.are_told i kept.0 a kept.1 is).are_sources
-      ∙ (one_source h.load.in_order h.load.meant k.load.meant h.packages k.packages h.load.are_loaded loaded_too i kept.0 others.0 kept.1 others.1
+      ∙ (one_source first_load.in_order first_load.meant second_load.meant first_kept second_kept first_load.are_loaded loaded_too i kept.0 others.0 kept.1 others.1
       ∙ sym (k.are_reports.are_told i others.0 b others.1 that).are_sources)
 
   same_text : HaveTrees given → one.text.items ≡ other.text.items
   same_text trees = by ways
     where
-      by : (h.load.meant ≡ k.load.meant) ⊎ (HasNoTreeIn h.load.meant × HasNoTreeIn k.load.meant)
+      by : (first_load.meant ≡ second_load.meant) ⊎ (HasNoTreeIn first_load.meant × HasNoTreeIn second_load.meant)
           → one.text.items ≡ other.text.items
       by (inl same) =
           h.told.is_text
-          ∙ (one_text report_in table_view h.load.meant h.said k.said h.are_reports.is_report (report_too same) sources
+          ∙ (one_text report_in table_view declared first_load.meant h.said k.said h.are_reports.is_report (report_too same) sources
           ∙ sym k.told.is_text)
       by (inr w) = absurd (none_missing trees w.0)
 
 pub given_packages_have_one_report : GivenPackagesHaveOneReport
 given_packages_have_one_report = record {
   one_verdict = same_verdict;
-  one_text = λ given one other trees h k. same_text given one other h k trees;
+  one_text = λ outside given one other trees h k. same_text outside given one other h k trees;
 }

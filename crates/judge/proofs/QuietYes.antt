@@ -52,7 +52,7 @@ no_entry : (ds : List Diagnostic) → says_nothing ds ≡ true → map entry_of 
 no_entry [] e = refl
 no_entry (d ∷ ds) e = let bad : false ≡ true = e in cc
 
-pub yes_are_quiet : (rules : Rules) → YesOfAPackageIsQuietBy rules → (ps : List LoadedPackage) (said : List Judged) (is_report : IsReportBy rules ps (map said_view said)) → ((i : ℕ) (p : LoadedPackage) → slice_get ps i ≡ Some p → AreTreesOfTexts p) → YesAreQuiet ps is_report.tables said
+pub yes_are_quiet : (rules : Rules) → YesOfAPackageIsQuietBy rules → (ps : List LoadedPackage) (said : List Judged) (is_report : IsReportBy rules ps (map said_view said)) → ((i : ℕ) (p : LoadedPackage) → slice_get ps i ≡ Some p → AreTreesOfTexts p) → YesAreQuiet rules.declared ps is_report.tables said
 yes_are_quiet rules are_quiet ps said is_report texts i told =
     are_quiet ps (map said_view said) i is_report record {
       loaded = told.loaded;

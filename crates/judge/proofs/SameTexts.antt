@@ -9,7 +9,7 @@ use Rattle.report.specs.declared.diagnostics.Diagnostic.{Diagnostic}
 use Rattle.report.specs.declared.diagnostics.PackageReport.{PackageReport}
 use Rattle.report.specs.Codes.{code_number, code_text}
 use Rattle.report.specs.Entries.{Entry, entry_of}
-use Rattle.meaning_reports.specs.Loaded.{LoadedPackage, PackageTable}
+use Rattle.meaning_reports.specs.Loaded.{LoadedPackage, PackageTable, Tables}
 use Rattle.meaning_reports.specs.PackageReports.{Said, IsReportOf}
 use Rattle.meaning_reports.proofs.OneReport.{one_report}
 use Rattle.report.specs.ReportText.{name_of, bytes_of, diagnostic_line, verdict_of, verdict_line, package_text, report_text}
@@ -107,11 +107,11 @@ module _ {J : Type 0} (report_of : J → PackageReport) (table_of : J → Packag
         say_the_same others bs rest (λ i c d is that. sources (suc i) c d is that),
       )
 
-  pub one_text : (ps : List LoadedPackage) (one other : List J)
-      → IsReportOf ps (map said_of one)
-      → IsReportOf ps (map said_of other)
+  pub one_text : (declared : Tables) (ps : List LoadedPackage) (one other : List J)
+      → IsReportOf declared ps (map said_of one)
+      → IsReportOf declared ps (map said_of other)
       → HaveOneSource one other
       → report_text (map report_of one) ≡ report_text (map report_of other)
-  one_text ps one other h k sources =
+  one_text declared ps one other h k sources =
       same_text (map report_of one) (map report_of other)
-      (say_the_same one other (one_report ps (map said_of one) (map said_of other) h k) sources)
+      (say_the_same one other (one_report declared ps (map said_of one) (map said_of other) h k) sources)

@@ -5,7 +5,7 @@ use Rattle.std.proofs.lemmas.Option.{same_Some, slice_get-map}
 use Rattle.meaning.specs.Uses.{Callee, Seen}
 use Rattle.meaning_packages.specs.CallsFlags.{Flags, FileWithCredits, calls_by}
 use Rattle.meaning_packages.specs.PathFaults.{of_a_pass}
-use Rattle.meaning_reports.specs.Loaded.{imported_flags, seen_files}
+use Rattle.meaning_reports.specs.Loaded.{Tables, imported_flags, seen_files}
 use Rattle.meaning_reports.specs.PackageReports as by_paths
 use Rattle.meaning_runs.specs.EntryPlaces.{LieInFiles, EntriesLieInFilesBy}
 use Rattle.meaning_runs.proofs.EntryPlaces.{Stands, finding_in, seen_stands, entries_lie_in_files_by}
@@ -41,5 +41,6 @@ sayings_lie given ps i p texts is are tables x none said =
     let low = said_in (length text.0) (given q.path) said.flags (calls_by said.flags (imported_flags q tables)) said.number file x text.2 said.is_said in
     record { text = text.0; is_file = ap (slice_get texts) low.0 ∙ text.1; within = low.1 }
 
-pub verified_entries_lie : (given : GivenByPath) → EntriesLieInFilesBy (by_certificates given)
-verified_entries_lie given = entries_lie_in_files_by (by_certificates given) (sayings_lie given)
+pub verified_entries_lie : (given : GivenByPath) (declared : Tables)
+    → EntriesLieInFilesBy (by_certificates given declared)
+verified_entries_lie given declared = entries_lie_in_files_by (by_certificates given declared) (sayings_lie given)

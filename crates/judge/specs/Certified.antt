@@ -5,27 +5,31 @@ use Rattle.all_certificates.specs.CertifiedPackages.{AreCertificatesOfAll}
 use Rattle.all_packages.specs.Reports.{TellsReport}
 use Rattle.certificate_json.specs.Certificates.{PackageEntry}
 use Rattle.certificate_json.specs.WrittenCertificates.{IsWrittenText}
+use Rattle.declared_tables.specs.DeclaredTables.{declared_tables}
 use Rattle.judge.specs.Reports.{Report, IsReport}
 use Rattle.judge.specs.declared.certified.CertifiedReport.{CertifiedReport}
 use Rattle.load.specs.declared.packages.GivenPackage.{GivenPackage}
-use Rattle.meaning_reports.specs.Loaded.{LoadedPackage}
+use Rattle.meaning_reports.specs.Loaded.{LoadedPackage, Tables}
+use Rattle.outside_json.specs.Outside.{PackageEntry as DeclaredEntry}
 use Rattle.whole_packages.specs.LoadedViews.{TellPackages, HaveDistinctPaths}
 use Rattle.whole_packages.specs.declared.loaded_package.LoadedPackage.{LoadedPackage as KeptPackage}
 
--- It is the report of the given packages, and the text is that of their certificates.
-pub record IsCertifiedReport (given : List GivenPackage) (report : Report) (text : List ℕ) : Type 0 where
-  pub is_report : IsReport given report
+-- It is the report of the given packages, where that is declared of others, and the text is that of their certificates.
+pub record IsCertifiedReport
+    (outside : List DeclaredEntry) (given : List GivenPackage) (report : Report) (text : List ℕ)
+    : Type 0 where
+  pub is_report : IsReport outside given report
   pub entries : List PackageEntry
-  pub are_certificates : AreCertificatesOfAll is_report.load.meant entries
+  pub are_certificates : AreCertificatesOfAll (declared_tables outside) is_report.load.load.meant entries
   pub is_text : IsWrittenText entries text
 
 -- What serves the proofs: the same of packages in memory
 
-pub record TellsCertifiedText (kept : List KeptPackage) (told : CertifiedReport) : Type 0 where
-  pub tells_report : TellsReport kept told.report
+pub record TellsCertifiedText (declared : Tables) (kept : List KeptPackage) (told : CertifiedReport) : Type 0 where
+  pub tells_report : TellsReport declared kept told.report
   pub entries : List PackageEntry
   pub are_certificates : (ps : List LoadedPackage)
       → TellPackages ps kept
       → HaveDistinctPaths ps
-      → AreCertificatesOfAll ps entries
+      → AreCertificatesOfAll declared ps entries
   pub is_text : IsWrittenText entries (string_bytes told.certificates)

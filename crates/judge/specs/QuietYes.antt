@@ -1,5 +1,8 @@
 -- What a yes says of runs: where nothing is said of a package, each return of a frame of the package is quiet, in every
--- run over the package and the given packages below it. `meaning_runs` has the runs.
+-- run over the package and the given packages below it. `meaning_runs` has the runs. They have two premises on
+-- functions without a body, as those of packages that were not given: what is declared of one is true when it returns
+-- (`DeclaredIsTrue`); and it starts work in a group that it was lent only before it returns (`IsOutsideCall`), while
+-- what it started there may start more.
 use Rattle.std.specs.Prelude.{ℕ, ◌≡◌, true, List, Some, slice_get}
 use Rattle.meaning_reports.specs.Loaded.{LoadedPackage, Tables}
 use Rattle.all_packages.specs.declared.judged.Judged.{Judged}
@@ -15,7 +18,7 @@ pub record IsToldYes (ps : List LoadedPackage) (said : List Judged) (i : ℕ) : 
   pub is_said : slice_get said i ≡ Some judged
   pub is_yes : is_yes judged.report ≡ true
 
-abbrev pub YesAreQuiet : List LoadedPackage → Tables → List Judged → Type 0
-YesAreQuiet ps tables said = (i : ℕ)
+abbrev pub YesAreQuiet : Tables → List LoadedPackage → Tables → List Judged → Type 0
+YesAreQuiet declared ps tables said = (i : ℕ)
     → IsToldYes ps said i
-    → IsQuietProgram (program_of ps tables i)
+    → IsQuietProgram (program_of ps tables declared i)

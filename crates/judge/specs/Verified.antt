@@ -10,9 +10,11 @@ use Rattle.judge.specs.declared.verified.Verified.{Verified}
 use Rattle.judge.specs.declared.verified.Verified.TheVariants as verified
 use Rattle.judge.specs.declared.verified.VerifyFault.{VerifyFault}
 use Rattle.judge.specs.declared.verified.VerifyFault.TheVariants.{NotLoaded, TooOld}
-use Rattle.load.specs.GivenPackages.{IsLoad, IsLoadFault}
+use Rattle.load.specs.LoadedBeside.{IsLoadBeside, IsLoadFaultBeside}
+use Rattle.load.specs.declared.loaded.Loaded.{Loaded}
 use Rattle.load.specs.declared.packages.GivenPackage.{GivenPackage}
-use Rattle.meaning_reports.specs.Loaded.{LoadedPackage}
+use Rattle.meaning_reports.specs.Loaded.{LoadedPackage, Tables}
+use Rattle.outside_json.specs.Outside.{PackageEntry}
 use Rattle.table_json.specs.declared.table.Version.{Version}
 use Rattle.table_json.specs.declared.table.Version.TheVariants.{Older, Newer}
 use Rattle.verifier.specs.GivenViews.{given_of, package_in}
@@ -29,21 +31,27 @@ abbrev pub too_old : Version → List LoadedPackage → Option (List ℕ)
 too_old Older ps = first_with_causes ps
 too_old Newer ps = None
 
--- It is the report of the packages by the certificates, which are too old for none of them.
-pub record IsVerifiedReport (given : List GivenPackage) (certificates : Certificates) (report : Report) : Type 0 where
-  pub is_report : IsReportBy (by_certificates (given_in certificates)) given report
-  pub none_is_too_old_for : too_old certificates.version is_report.load.meant ≡ None
+-- It is the report of the packages by the certificates, which are too old for none of them, where that is declared of
+-- other packages.
+pub record IsVerifiedReport
+    (outside : List PackageEntry) (given : List GivenPackage) (certificates : Certificates) (report : Report)
+    : Type 0 where
+  pub is_report : IsReportBy (by_certificates (given_in certificates)) outside given report
+  pub none_is_too_old_for : too_old certificates.version is_report.load.load.meant ≡ None
 
--- The packages are loaded, and the certificates are too old for the one of that path.
-pub record AreTooOld (given : List GivenPackage) (certificates : Certificates) (path : List ℕ) : Type 0 where
-  pub packages : List KeptPackage
-  pub load : IsLoad given packages
-  pub is_first : too_old certificates.version load.meant ≡ Some path
+-- The packages are loaded, nothing is declared of any of them, and the certificates are too old for the one of that
+-- path.
+pub record AreTooOld
+    (outside : List PackageEntry) (given : List GivenPackage) (certificates : Certificates) (path : List ℕ)
+    : Type 0 where
+  pub loaded : Loaded
+  pub load : IsLoadBeside given outside loaded
+  pub is_first : too_old certificates.version load.load.meant ≡ Some path
 
 -- why packages are not judged by certificates
-abbrev pub IsVerifyFault : List GivenPackage → Certificates → VerifyFault → Type 0
-IsVerifyFault given certificates (NotLoaded fault) = IsLoadFault given fault
-IsVerifyFault given certificates (TooOld path) = AreTooOld given certificates (string_bytes path)
+abbrev pub IsVerifyFault : List PackageEntry → List GivenPackage → Certificates → VerifyFault → Type 0
+IsVerifyFault outside given certificates (NotLoaded fault) = IsLoadFaultBeside given outside fault
+IsVerifyFault outside given certificates (TooOld path) = AreTooOld outside given certificates (string_bytes path)
 
 -- What serves the proofs: the same of packages in memory
 
@@ -51,7 +59,8 @@ abbrev pub IsTooOldFor : List KeptPackage → Certificates → Option (List ℕ)
 IsTooOldFor kept certificates found =
     (ps : List LoadedPackage) → TellPackages ps kept → HaveDistinctPaths ps → found ≡ too_old certificates.version ps
 
-abbrev pub TellsVerified : List KeptPackage → Certificates → Verified → Type 0
-TellsVerified kept certificates (verified.Told report) =
-    IsTooOldFor kept certificates None × TellsReportBy (by_certificates (given_in certificates)) kept report
-TellsVerified kept certificates (verified.IsTooOld path) = IsTooOldFor kept certificates (Some (string_bytes path))
+abbrev pub TellsVerified : Tables → List KeptPackage → Certificates → Verified → Type 0
+TellsVerified declared kept certificates (verified.Told report) =
+    IsTooOldFor kept certificates None × TellsReportBy (by_certificates (given_in certificates) declared) kept report
+TellsVerified declared kept certificates (verified.IsTooOld path) =
+    IsTooOldFor kept certificates (Some (string_bytes path))

@@ -1,5 +1,5 @@
-//! Judges packages that are given by the bytes of their files: loads them, and tells what is to be said of them. What
-//! the report of given packages is says `specs/Reports.antt`.
+//! Judges packages that are given by the bytes of their files: loads them, and tells what is to be said of them, where
+//! something may be declared of others. What the report of given packages is says `specs/Reports.antt`.
 #![tactic(auto)]
 
 mod certified;

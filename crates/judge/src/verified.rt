@@ -2,13 +2,16 @@
 
 ghost use Rattle.std.specs.Prelude.{IfErr, IfOk, option_map};
 ghost use Rattle.all_packages.specs.Reports.{TellsReportBy};
+ghost use Rattle.declared_tables.specs.DeclaredTables.{declared_tables};
 ghost use Rattle.judge.specs.Verified.{given_in, IsTooOldFor, IsVerifiedReport, IsVerifyFault, TellsVerified};
+ghost use Rattle.outside_json.specs.Outside.{packages_of};
 ghost use Rattle.verifier.specs.Rules.{by_certificates};
 
 use all_packages::{Report, whole_report_by};
 use cause_mentions::first_with_causes;
 use certificate_json::Certificates;
-use load::{GivenPackage, LoadFault, load, release};
+use load::{GivenPackage, LoadFault, Loaded, load_beside};
+use outside_json::Outside;
 use std::alloc::{AllocError, Global};
 use table_json::Version;
 use verifier::ByCertificates;
@@ -45,64 +48,72 @@ fn too_old<'a>(
     }
 }
 
-/// The report of packages of different paths by certificates, whatever version these have.
+/// The report of packages of different paths by certificates, whatever version these have, where that is declared of
+/// others.
 fn told_by(
     alloc: Global,
     packages: &[LoadedPackage],
+    outside: &Outside,
     certificates: &Certificates,
 ) -> Result<Report, AllocError>
-    ensures { IfOk result (TellsReportBy (by_certificates (given_in certificates.now)) packages.now) }
+    ensures { IfOk result (TellsReportBy
+        (by_certificates (given_in certificates.now) (declared_tables (packages_of outside.now))) packages.now) }
 {
     let rules = ByCertificates::new(alloc, certificates)?;
-    whole_report_by(alloc, packages, &rules)
+    whole_report_by(alloc, packages, outside, &rules)
 }
 
 /// The report of packages of different paths by certificates, unless these are too old for one of them.
 fn told_unless_old(
     alloc: Global,
     packages: &[LoadedPackage],
+    outside: &Outside,
     certificates: &Certificates,
 ) -> Result<Verified, AllocError>
-    ensures { IfOk result (TellsVerified packages.now certificates.now) }
+    ensures { IfOk result
+        (TellsVerified (declared_tables (packages_of outside.now)) packages.now certificates.now) }
 {
     match too_old(alloc, packages, certificates)? {
         Some(path) => Ok(Verified::IsTooOld(String::from_str(alloc, path)?)),
-        None => Ok(Verified::Told(told_by(alloc, packages, certificates)?)),
+        None => Ok(Verified::Told(told_by(alloc, packages, outside, certificates)?)),
     }
 }
 
 /// The same of packages that are let go.
 fn verified_loaded(
     alloc: Global,
-    packages: Vec<LoadedPackage>,
+    loaded: Loaded,
     certificates: &Certificates,
 ) -> Result<Verified, AllocError>
-    ensures { IfOk result (TellsVerified packages.items certificates.now) }
+    ensures { IfOk result
+        (TellsVerified (declared_tables (packages_of loaded.outside)) loaded.packages.items certificates.now) }
 {
-    let told = told_unless_old(alloc, &packages, certificates);
-    release(packages);
+    let told = told_unless_old(alloc, &loaded.packages, &loaded.outside, certificates);
+    loaded.release();
     told
 }
 
-/// The report of these packages, in the order of their paths, by these certificates.
+/// The report of these packages, in the order of their paths, by these certificates, where that is declared of others.
+/// A yes says the same as one of `report_of`.
 ///
 /// # Errors
 ///
-/// The packages are not loaded, as for `report_of`; or the certificates are too old for one of them; or memory was
-/// refused.
+/// The packages are not loaded, as for `report_of`; after these faults, the certificates are too old for one of them;
+/// or memory was refused.
 pub fn verified_report_of(
     alloc: Global,
     given: Vec<GivenPackage>,
+    outside: Outside,
     certificates: &Certificates,
 ) -> Result<Report, VerifyFault>
-    ensures report { IfOk result (IsVerifiedReport given.items certificates.now) }
-    ensures fault { IfErr result (IsVerifyFault given.items certificates.now) }
+    ensures report { IfOk result (IsVerifiedReport (packages_of outside) given.items certificates.now) }
+    ensures fault { IfErr result (IsVerifyFault (packages_of outside) given.items certificates.now) }
 {
-    let packages = match load(alloc, given) {
-        Ok(packages) => packages,
+    let loaded = match load_beside(alloc, given, outside) {
+        Ok(loaded) => loaded,
         Err(fault) => return Err(VerifyFault::NotLoaded(fault)),
     };
-    match verified_loaded(alloc, packages, certificates) {
+    match verified_loaded(alloc, loaded, certificates) {
         Ok(Verified::Told(report)) => Ok(report),
         Ok(Verified::IsTooOld(path)) => Err(VerifyFault::TooOld(path)),
         Err(_) => Err(VerifyFault::NotLoaded(LoadFault::OutOfMemory)),

@@ -1,4 +1,5 @@
 mod FilesLoaded
+mod FirstGiven
 mod GivenLists
 pub mod OneOrder
 mod ReadAhead

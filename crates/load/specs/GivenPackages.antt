@@ -12,7 +12,7 @@ use Rattle.load.specs.FilesByName.{AreByName}
 use Rattle.load.specs.Readings.{AreReadingsOf, IsLoadedAs}
 use Rattle.load.specs.declared.packages.GivenPackage.{GivenPackage}
 use Rattle.load.specs.declared.packages.LoadFault.{LoadFault}
-use Rattle.load.specs.declared.packages.LoadFault.TheVariants.{TooMany, TwoPackages, OutOfMemory}
+use Rattle.load.specs.declared.packages.LoadFault.TheVariants.{TooMany, TwoPackages, NamesGiven, OutOfMemory}
 use Rattle.load.specs.declared.packages.TheConstants.{MOST_PACKAGES, MOST_FILES}
 
 abbrev pub Text : Type 0
@@ -46,7 +46,13 @@ abbrev pub IsLoadFault : List GivenPackage → LoadFault → Type 0
 IsLoadFault given TooMany = has_too_many given ≡ true
 IsLoadFault given (TwoPackages path) =
     (has_too_many given ≡ false) × (first_repeated [] (map path_of given) ≡ Some path)
+IsLoadFault given (NamesGiven path) = ⊥
 IsLoadFault given OutOfMemory = ⊤
+
+-- there are not too many of them, and no two have one path
+pub record AreLoadable (given : List GivenPackage) : Type 0 where
+  pub few : has_too_many given ≡ false
+  pub none_comes_again : first_repeated [] (map path_of given) ≡ None
 
 -- each of these was read so, and that is kept of it
 abbrev pub AreLoaded : List PathAndFiles → List LoadedPackage → List KeptPackage → Type 0
@@ -74,6 +80,7 @@ IsLoad given = IsLoadOf (map entry_of given)
 abbrev pub IsRepeated : List GivenPackage → LoadFault → Type 0
 IsRepeated given TooMany = ⊥
 IsRepeated given (TwoPackages path) = first_repeated [] (map path_of given) ≡ Some path
+IsRepeated given (NamesGiven path) = ⊥
 IsRepeated given OutOfMemory = ⊤
 
 -- the package has that path, and these files in the order of their names

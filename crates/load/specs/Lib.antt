@@ -1,7 +1,8 @@
--- For a reader of the contracts: in which order files are kept, what their bytes are to be read as, and what is loaded
--- of given packages.
+-- For a reader of the contracts: in which order files are kept, what their bytes are to be read as, what is loaded of
+-- given packages, and what is declared of others.
 pub mod FilesByName
 pub mod Readings
 pub mod GivenPackages
+pub mod LoadedBeside
 -- What serves the proofs
 pub mod Ahead

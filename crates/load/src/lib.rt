@@ -1,10 +1,12 @@
-//! Packages, by the bytes of their files. What a file's bytes are is said in `specs/Readings.antt`, and what is loaded
-//! of given packages in `specs/GivenPackages.antt`.
+//! Packages, by the bytes of their files. What a file's bytes are is said in `specs/Readings.antt`, what is loaded of
+//! given packages in `specs/GivenPackages.antt`, and what is declared of others in `specs/LoadedBeside.antt`.
 #![tactic(auto)]
 
 mod ahead;
+mod loaded;
 mod package;
 mod packages;
 mod source;
 
+pub use loaded::{Loaded, load_beside, load_beside_by};
 pub use packages::{GivenPackage, LoadFault, load, load_by, release};

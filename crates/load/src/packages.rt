@@ -1,10 +1,10 @@
 //! All packages of a run.
 
-ghost use Rattle.std.specs.Prelude.{◌≡◌, [], IfOk, IfErr, None, map};
+ghost use Rattle.std.specs.Prelude.{◌≡◌, [], IfOk, IfErr, None, OnOk, map};
 ghost use Rattle.std.specs.List.{list_any, AllZip};
 ghost use Rattle.std.specs.Vec.Iter.{into_iter_items};
 ghost use Rattle.load.specs.Ahead.{files_of, AreReadAhead};
-ghost use Rattle.load.specs.GivenPackages.{entry_of, first_repeated, has_many_files, has_too_many, path_of, AreInOrder, IsByName, IsLoad, IsLoadFault, IsReadAs, IsRepeated};
+ghost use Rattle.load.specs.GivenPackages.{entry_of, first_repeated, has_many_files, has_too_many, path_of, AreInOrder, AreLoadable, IsByName, IsLoad, IsLoadFault, IsReadAs, IsRepeated};
 
 use crate::ahead::{Ahead, nothing_ahead, read_ahead};
 use crate::package::{by_name, load_package};
@@ -35,6 +35,8 @@ pub enum LoadFault {
     TooMany,
     /// This is the first path that comes a second time.
     TwoPackages(String),
+    /// Something is declared of the package of this path, which is given. It is the first such path.
+    NamesGiven(String),
     /// Memory was refused.
     OutOfMemory,
 }
@@ -124,6 +126,7 @@ fn in_order(
 /// The same, unless there are too many or two of one path.
 fn ordered(alloc: Global, given: Vec<GivenPackage>) -> Result<Vec<GivenPackage>, LoadFault>
     ensures ordered { IfOk result (λ ordered. AreInOrder (map entry_of given.items) ordered.items) }
+    ensures can_be_loaded { OnOk result (AreLoadable given.items) }
     ensures fault { IfErr result (IsLoadFault given.items) }
 {
     if has_too_many(&given) {
@@ -164,6 +167,7 @@ fn load_all(
 /// was refused. This is the order in which it is looked for them.
 pub fn load(alloc: Global, given: Vec<GivenPackage>) -> Result<Vec<LoadedPackage>, LoadFault>
     ensures loaded { IfOk result (λ loaded. IsLoad given.items loaded.items) }
+    ensures can_be_loaded { OnOk result (AreLoadable given.items) }
     ensures fault { IfErr result (IsLoadFault given.items) }
 {
     let packages = ordered(alloc, given)?;
@@ -184,6 +188,7 @@ pub fn load_by<R: Threads + Sync>(
     workers: Workers,
 ) -> Result<Vec<LoadedPackage>, LoadFault>
     ensures loaded { IfOk result (λ loaded. IsLoad given.items loaded.items) }
+    ensures can_be_loaded { OnOk result (AreLoadable given.items) }
     ensures fault { IfErr result (IsLoadFault given.items) }
 {
     let packages = ordered(alloc, given)?;

@@ -87,4 +87,4 @@ path_sayings ps tables i x none said p is =
     of_this ps i p is h.loaded x.file judged.is_package (omega (arith, own, seen, trees, numbered, fewer, its))
 
 pub entries_are_of_files : EntriesAreOfFiles
-entries_are_of_files = entries_are_of_files_by by_paths path_sayings
+entries_are_of_files declared = entries_are_of_files_by (by_paths declared) path_sayings

@@ -136,7 +136,7 @@ module _ (ps : List LoadedPackage) where
 -- Packages without a rank
 
 -- where all that a package imports has ranks, it has one
-has_rank : (packages : List Package) (i j k : ℕ) → ((m : ℕ) → Imports packages i m → (HasRank packages m → ⊥) → ⊥)
+pub has_rank : (packages : List Package) (i j k : ℕ) → ((m : ℕ) → Imports packages i m → (HasRank packages m → ⊥) → ⊥)
     → Chain packages i j
     → Imports packages j k
     → Chain packages k j

@@ -5,3 +5,4 @@ pub mod NumberedTrees
 pub mod OneAnswer
 pub mod OneReport
 pub mod RanksGiven
+pub mod UnrankedFaults

@@ -19,7 +19,7 @@ use Rattle.meaning_reports.proofs.EntryOrder.{one_order}
 use Rattle.meaning_reports.proofs.ImportsOf.{has_path, no_place, in_lists, given_in_lists, names_first, cannot_be_unranked}
 use Rattle.meaning_reports.proofs.RanksGiven.{HasOrder, has_order}
 
-nothing_known : (t : PackageTable) → IsEmpty t → t ≡ no_table
+pub nothing_known : (t : PackageTable) → IsEmpty t → t ≡ no_table
 nothing_known t h = λ i. record { signatures = λ name. h.no_signature name i; calls = λ name k. h.no_flag name k i }
 
 both_empty : (t u : PackageTable) → IsEmpty t → IsEmpty u → t ≡ u
@@ -28,27 +28,35 @@ both_empty t u h k = nothing_known t h ∙ sym (nothing_known u k)
 -- Tables by any rule by which what is known of a package's imports determines its flags
 
 module _ (are_flags : FlagsRule) (determined : AreDetermined are_flags) (ps : List LoadedPackage) (one other : Tables)
-    (are : AreTablesBy are_flags ps one) (too : AreTablesBy are_flags ps other) where
+    (i : ℕ) (p : LoadedPackage) (is : slice_get ps i ≡ Some p) where
+  -- a package has one table by what is known of its imports
+  pub one_table : (HasNoWholeFault ps i → imported_tables p one ≡ imported_tables p other) → (t u : PackageTable)
+      → IsTableBy are_flags ps one i p t
+      → IsTableBy are_flags ps other i p u
+      → t ≡ u
+  one_table same t u (empty x fault h) (empty y again k) = both_empty t u h k
+  one_table same t u (empty x fault h) (full flags none its signatures calls) = absurd (none x fault)
+  one_table same t u (full flags none its signatures calls) (empty x fault h) = absurd (none x fault)
+  one_table same t u (full flags none its signatures calls) (full more too_none others known kept) =
+      let same_flags = determined ps one other i p flags more is none (same none) its others in
+      λ j. record {
+        signatures = λ name. (signatures name ∙ sym (known name)) j;
+        calls = λ name n. (calls name n ∙ (ap (λ (f : Flags). f name n) same_flags ∙ sym (kept name n))) j;
+      }
+
+module _ (are_flags : FlagsRule) (determined : AreDetermined are_flags) (declared : Tables) (ps : List LoadedPackage)
+    (one other : Tables) (are : AreTablesBy are_flags declared ps one) (too : AreTablesBy are_flags declared ps other) where
   abbrev lists : List Package
   lists = import_list ps
 
-  module _ (i : ℕ) (p : LoadedPackage) (is : slice_get ps i ≡ Some p) where
-    one_table : (HasNoWholeFault ps i → imported_tables p one ≡ imported_tables p other) → one p.path ≡ other p.path
-    one_table same = by (are.of_package i p is) (too.of_package i p is)
-      where
-        by : IsTableBy are_flags ps one i p (one p.path) → IsTableBy are_flags ps other i p (other p.path)
-            → one p.path ≡ other p.path
-        by (empty x fault h) (empty y again k) = both_empty (one p.path) (other p.path) h k
-        by (empty x fault h) (full flags none its signatures calls) = absurd (none x fault)
-        by (full flags none its signatures calls) (empty x fault h) = absurd (none x fault)
-        by (full flags none its signatures calls) (full more too_none others known kept) =
-            let same_flags = determined ps one other i p flags more is none (same none) its others in
-            λ j. record {
-              signatures = λ name. (signatures name ∙ sym (known name)) j;
-              calls = λ name n. (calls name n ∙ (ap (λ (f : Flags). f name n) same_flags ∙ sym (kept name n))) j;
-            }
+  own_table : (i : ℕ) (p : LoadedPackage) → slice_get ps i ≡ Some p
+      → (HasNoWholeFault ps i → imported_tables p one ≡ imported_tables p other)
+      → one p.path ≡ other p.path
+  own_table i p is same =
+      one_table are_flags determined ps one other i p is same (one p.path) (other p.path) (are.of_package i p is)
+      (too.of_package i p is)
 
-  -- the table of a path: that of the first package that has it, or none
+  -- the table of a path: that of the first package that has it, or what is declared there
   at_path : (path : List ℕ)
       → ((k : ℕ) (q : LoadedPackage) → slice_get ps k ≡ Some q → q.path ≡ path → place_from path lists 0 ≡ Some k → one q.path ≡ other q.path)
       → one path ≡ other path
@@ -58,7 +66,7 @@ module _ (are_flags : FlagsRule) (determined : AreDetermined are_flags) (ps : Li
       by None e =
           let none = λ (k : ℕ) (q : LoadedPackage) (is : slice_get ps k ≡ Some q) (its : q.path ≡ path).
           no_place path lists 0 e k (record { path = q.path; imports = imported_paths q }) (in_lists ps k q is) its in
-          both_empty (one path) (other path) (are.of_others path none) (too.of_others path none)
+          are.of_others path none ∙ sym (too.of_others path none)
       by (Some k) e =
           let first = first_there lists path k e in
           let q = given_in_lists ps k first.found first.is_found in
@@ -82,7 +90,7 @@ module _ (are_flags : FlagsRule) (determined : AreDetermined are_flags) (ps : Li
     ranked_below : (n i r : ℕ) (p : LoadedPackage) → slice_get ps i ≡ Some p → order.rank i ≡ Some r → r < n
         → one p.path ≡ other p.path
     ranked_below zero i r p is ranked l = absurd (omega (arith, l))
-    ranked_below (suc n) i r p is ranked l = one_table i p is λ none. imported_same i r p is ranked
+    ranked_below (suc n) i r p is ranked l = own_table i p is λ none. imported_same i r p is ranked
         λ k q below is_below rank m. ranked_below n k q below is_below rank (omega (arith, l, m))
 
     has_its_rank : (i : ℕ) (p : LoadedPackage) → slice_get ps i ≡ Some p → HasNoWholeFault ps i
@@ -96,7 +104,7 @@ module _ (are_flags : FlagsRule) (determined : AreDetermined are_flags) (ps : Li
             true≢false (sym ((order.is_order.ranks i).1 (within, rank)) ∙ ap is_some e))
 
     of_package : (i : ℕ) (p : LoadedPackage) → slice_get ps i ≡ Some p → one p.path ≡ other p.path
-    of_package i p is = one_table i p is λ none.
+    of_package i p is = own_table i p is λ none.
         let r = has_its_rank i p is none in
         imported_same i r.0 p is r.1 λ k q below is_below rank m. ranked_below (suc q) k q below is_below rank (omega arith)
 
@@ -117,7 +125,7 @@ same_lists (x ∷ xs) (y ∷ ys) long h =
     λ i. first i ∷ rest i
 
 module _ (rules : Rules) (ps : List LoadedPackage) (tables : Tables) (i : ℕ) where
-  one_finding : (xs ys : List Entry) → AreFindingsBy rules ps tables i xs → AreFindingsBy rules ps tables i ys → xs ≡ ys
+  pub one_finding : (xs ys : List Entry) → AreFindingsBy rules ps tables i xs → AreFindingsBy rules ps tables i ys → xs ≡ ys
   one_finding xs ys h k = one_order xs ys h.in_order k.in_order λ z. (
     λ c. (k.each z).1 ((h.each z).0 c),
     λ c. (h.each z).1 ((k.each z).0 c),
@@ -127,7 +135,7 @@ pub one_report_by : (rules : Rules) → AreDetermined rules.are_flags → OneRep
 one_report_by rules determined ps one other h k = same_lists one other (h.is_as_long ∙ sym k.is_as_long) each
   where
     tables : h.tables ≡ k.tables
-    tables = one_way rules.are_flags determined ps h.tables k.tables h.are_tables k.are_tables
+    tables = one_way rules.are_flags determined rules.declared ps h.tables k.tables h.are_tables k.are_tables
 
     said_of : (i : ℕ) (p : LoadedPackage) (x y : Said) → slice_get ps i ≡ Some p → slice_get one i ≡ Some x → slice_get other i ≡ Some y
         → x ≡ y
@@ -176,4 +184,4 @@ flags_by_paths ps one other i p flags more is none same first second =
     (subst (λ (known : Tables). AreMost others (λ path. (known path).calls) flags) same most) k.are_flags
 
 pub one_report : OneReport
-one_report = one_report_by by_paths flags_by_paths
+one_report declared = one_report_by (by_paths declared) flags_by_paths

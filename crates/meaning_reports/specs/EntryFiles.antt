@@ -31,4 +31,4 @@ EntriesAreOfFilesBy rules = (ps : List LoadedPackage) (report : List Said) (p : 
     → x.file < length p.files
 
 abbrev pub EntriesAreOfFiles : Type 0
-EntriesAreOfFiles = EntriesAreOfFilesBy by_paths
+EntriesAreOfFiles = (declared : Tables) → EntriesAreOfFilesBy (by_paths declared)

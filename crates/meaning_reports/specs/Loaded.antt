@@ -1,7 +1,7 @@
 -- Packages as they were read: each has a path and files, and of each file there is a tree, or else why there is none
 -- and where. What is known in a tree comes from all trees of its package, the names of all packages that were given,
 -- and the tables of those that the package imports.
-use Rattle.std.specs.Prelude.{ℕ, ◌+◌, Bool, false, if◌then◌else◌, List, [], ◌∷◌, map, flat_map, Option, Some, None}
+use Rattle.std.specs.Prelude.{ℕ, ◌+◌, ◌≡◌, Bool, false, if◌then◌else◌, List, [], ◌∷◌, map, flat_map, Option, Some, None, slice_get}
 use Rattle.std.specs.List.{list_any}
 use Rattle.std.specs.Str.{bytes_eq}
 use Rattle.tree.specs.Syntax.{ImportSpec, SourceFile}
@@ -26,6 +26,14 @@ pub data Reading : Type 0 where
 pub record LoadedPackage : Type 0 where
   pub path : List ℕ
   pub files : List Reading
+
+-- no two packages have one path
+pub record HaveDistinctPaths (ps : List LoadedPackage) : Type 0 where
+  pub same : (i j : ℕ) (p q : LoadedPackage)
+      → slice_get ps i ≡ Some p
+      → slice_get ps j ≡ Some q
+      → p.path ≡ q.path
+      → i ≡ j
 
 -- a tree, and the number of its file
 pub record NumberedTree : Type 0 where
@@ -96,6 +104,10 @@ no_table = record { signatures = λ name. None; calls = λ name k. false }
 -- for each path the table of that package
 abbrev pub Tables : Type 0
 Tables = List ℕ → PackageTable
+
+-- nothing is known of any package
+abbrev pub no_tables : Tables
+no_tables path = no_table
 
 abbrev pub is_imported : LoadedPackage → List ℕ → Bool
 is_imported p path = list_any (λ q. bytes_eq q path) (imported_paths p)

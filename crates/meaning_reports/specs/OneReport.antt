@@ -1,6 +1,6 @@
 -- Packages have one report: what is said of each, the tables and the order in which it is said are determined by the
--- packages as they were read. That they have a report is not said here; it is what the program computes, of packages of
--- different paths.
+-- packages as they were read, and by what is declared of others. That they have a report is not said here; it is what
+-- the program computes, of packages of different paths.
 use Rattle.std.specs.Prelude.{ℕ, ◌≡◌, List, Some, slice_get}
 use Rattle.meaning_packages.specs.CallsFlags.{Flags}
 use Rattle.meaning_reports.specs.Loaded.{LoadedPackage, Tables, imported_tables}
@@ -19,7 +19,7 @@ AreDetermined are_flags = (ps : List LoadedPackage) (one other : Tables) (i : �
     → are_flags ps other i p more
     → flags ≡ more
 
--- two reports of the same packages are equal
+-- two reports of the same packages are equal, by the same that is declared of others
 abbrev pub OneReportBy : Rules → Type 0
 OneReportBy rules = (ps : List LoadedPackage) (one other : List Said)
     → IsReportBy rules ps one
@@ -27,4 +27,4 @@ OneReportBy rules = (ps : List LoadedPackage) (one other : List Said)
     → one ≡ other
 
 abbrev pub OneReport : Type 0
-OneReport = OneReportBy by_paths
+OneReport = (declared : Tables) → OneReportBy (by_paths declared)

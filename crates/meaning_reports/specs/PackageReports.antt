@@ -26,10 +26,12 @@ use Rattle.meaning_reports.specs.PackageTables.{FlagsRule, AreTablesBy, IsJudged
 abbrev pub SayingRule : Type 1
 SayingRule = List LoadedPackage → Tables → ℕ → Entry → Type 0
 
--- by what a package without a fault of the whole package is judged
+-- by what a package without a fault of the whole package is judged, and for each path of no given package what is
+-- declared of its functions
 pub record Rules : Type 1 where
   pub are_flags : FlagsRule
   pub says : SayingRule
+  pub declared : Tables
 
 pub data IsFindingBy (rules : Rules) (ps : List LoadedPackage) (tables : Tables) : ℕ → Entry → Type 0 where
   of_whole : {i : ℕ} {x : Entry} → IsWholeFault ps i x → IsFindingBy rules ps tables i x
@@ -59,7 +61,7 @@ pub record Said : Type 0 where
 -- the report has for each package, in their order, what is to be said of it
 pub record IsReportBy (rules : Rules) (ps : List LoadedPackage) (report : List Said) : Type 0 where
   pub tables : Tables
-  pub are_tables : AreTablesBy rules.are_flags ps tables
+  pub are_tables : AreTablesBy rules.are_flags rules.declared ps tables
   pub is_as_long : length report ≡ length ps
   pub of_package : (i : ℕ) (p : LoadedPackage) (said : Said)
       → slice_get ps i ≡ Some p
@@ -121,17 +123,8 @@ pub record SaysByPaths (ps : List LoadedPackage) (tables : Tables) (i : ℕ) (x 
   pub is_of : IsFileOf ps tables i flags number file
   pub is_finding : IsFileFinding (calls_by flags (imported_flags is_of.loaded tables)) number file x
 
-abbrev pub by_paths : Rules
-by_paths = record { are_flags = AreFlagsByPaths; says = SaysByPaths }
+abbrev pub by_paths : Tables → Rules
+by_paths declared = record { are_flags = AreFlagsByPaths; says = SaysByPaths; declared = declared }
 
-abbrev pub IsFinding : List LoadedPackage → Tables → ℕ → Entry → Type 0
-IsFinding = IsFindingBy by_paths
-
-abbrev pub IsYes : List LoadedPackage → Tables → ℕ → Type 0
-IsYes = IsYesBy by_paths
-
-abbrev pub AreFindings : List LoadedPackage → Tables → ℕ → List Entry → Type 0
-AreFindings = AreFindingsBy by_paths
-
-abbrev pub IsReportOf : List LoadedPackage → List Said → Type 0
-IsReportOf = IsReportBy by_paths
+abbrev pub IsReportOf : Tables → List LoadedPackage → List Said → Type 0
+IsReportOf declared = IsReportBy (by_paths declared)

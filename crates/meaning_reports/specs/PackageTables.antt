@@ -33,14 +33,16 @@ pub data IsTableBy
       → ((name : List ℕ) (k : ℕ) → table.calls name k ≡ flags name k)
       → IsTableBy are_flags ps tables i p table
 
--- each given package has its table under its path, and other paths have none
-pub record AreTablesBy (are_flags : FlagsRule) (ps : List LoadedPackage) (tables : Tables) : Type 0 where
+-- Each given package has its table under its path. Another path has what is declared of its package: nothing, where
+-- nothing is declared of it.
+pub record AreTablesBy (are_flags : FlagsRule) (declared : Tables) (ps : List LoadedPackage) (tables : Tables)
+    : Type 0 where
   pub of_package : (i : ℕ) (p : LoadedPackage)
       → slice_get ps i ≡ Some p
       → IsTableBy are_flags ps tables i p (tables p.path)
   pub of_others : (path : List ℕ)
       → ((i : ℕ) (p : LoadedPackage) → slice_get ps i ≡ Some p → p.path ≡ path → ⊥)
-      → IsEmpty (tables path)
+      → tables path ≡ declared path
 
 -- By paths
 
@@ -72,5 +74,5 @@ pub record AreFlagsByPaths (ps : List LoadedPackage) (tables : Tables) (i : ℕ)
 abbrev pub IsTable : List LoadedPackage → Tables → ℕ → LoadedPackage → PackageTable → Type 0
 IsTable = IsTableBy AreFlagsByPaths
 
-abbrev pub AreTables : List LoadedPackage → Tables → Type 0
-AreTables = AreTablesBy AreFlagsByPaths
+abbrev pub AreTables : Tables → List LoadedPackage → Tables → Type 0
+AreTables declared = AreTablesBy AreFlagsByPaths declared

@@ -9,7 +9,7 @@ use Rattle.meaning.specs.Uses.{Callee, VariableAt, Event}
 use Rattle.meaning.proofs.Membership.{contains_here, contains_there, contains_cases, contains_nil}
 use Rattle.meaning_runs.specs.Bodies.{Program, Body}
 use Rattle.meaning_runs.specs.World.{Value, nothing, cancel_function, Place, Store, put_at, IsAny, any_nothing, any_function, with_new, calling, ending, with_member, waiting_for, Given, Passing, Saved, saved_call, saved_pass, saved_literal, saved_wait, Frame, World, with_stack, in_cell, held, held_group, with_cells, bound_cell, binding, new_frame, nothing_around}
-use Rattle.meaning_runs.specs.Steps.{WasCalled, MayJoin, evaluating, lending, Obtains, new_one, earlier_one, none_at_all, Makes, zero_group, with_context, HoldsOfCall, at_code, IsOutsideCall, at_once, saved_before, Begins, of_function, of_none, Acts, moves_on, does_other, obtains_one, clears_one, calls_one, saves_call, makes_group, tries_nothing, ends_wait, saves_wait, evaluates, evaluates_deferred, lends, makes_call, calls_outside, saves_pass, saves_literal, comes_to_return, runs_call, runs_pass, runs_literal, runs_wait, returns_now, ChangesMembers, starts_member, starts_stranger, starts_outside, leaves_group, Surrounds, starts, evaluates_literal, starts_literal, makes_one, ends_one, calls_any, makes_outside, joins_outside, Step, of_goroutine, of_members, of_environment}
+use Rattle.meaning_runs.specs.Steps.{WasCalled, MayJoin, evaluating, lending, Obtains, new_one, earlier_one, none_at_all, Makes, zero_group, with_context, DeclaredIsTrue, at_code, IsOutsideCall, at_once, saved_before, Begins, of_function, of_none, Acts, moves_on, does_other, obtains_one, clears_one, calls_one, saves_call, makes_group, tries_nothing, ends_wait, saves_wait, evaluates, evaluates_deferred, lends, makes_call, calls_outside, saves_pass, saves_literal, comes_to_return, runs_call, runs_pass, runs_literal, runs_wait, returns_now, ChangesMembers, starts_member, starts_stranger, starts_outside, starts_beside, leaves_group, Surrounds, starts, evaluates_literal, starts_literal, makes_one, ends_one, calls_any, makes_outside, joins_outside, Step, of_goroutine, of_members, of_environment}
 use Rattle.meaning_runs.specs.Runs.{Run, no_step, step_more}
 use Rattle.meaning_runs.specs.Laws.{GoesTo, Leads, stays, one_more, LeadsTo}
 use Rattle.meaning_runs.specs.CallSteps.{CallsHaveSteps}
@@ -287,6 +287,7 @@ by_members p w next (starts_member {f = f} {others = others} {rest = rest} {grou
 by_members p w next (starts_stranger {f = f} {others = others} {rest = rest} {group = group} g h d free) k =
     joined _ h (Some group) (goes_on w g f others rest d.is_running k)
 by_members p w next (starts_outside {group = group} g h at c lent is free) k = joined w h (Some group) k
+by_members p w next (starts_beside {group = group} g h member none free) k = joined w h (Some group) k
 by_members p w next (leaves_group g member none) k = joined w g None k
 
 by_environment : (p : Program) (w next : World) → Surrounds p w next → AreKept w → AreKept next
@@ -367,7 +368,7 @@ module _ (p : Program) (g : ℕ) (f : Frame) (others : List Frame) where
         record { last = rest.last; leads = one_more step rest.leads; at = rest.at; called = rest.called }
 
     comes_back : (w : World) → w.stacks g ≡ f ∷ others → (frame : Frame)
-        → ((s : Store) → HoldsOfCall p s passing → Acts p s (g, length others) f s (frame ∷ []))
+        → ((s : Store) → DeclaredIsTrue p s passing → Acts p s (g, length others) f s (frame ∷ []))
         → LeadsTo p w g (frame ∷ others)
     comes_back w at frame returns =
         let all = call_all w passing.given at (λ x i. i) (λ x i. inl i) in

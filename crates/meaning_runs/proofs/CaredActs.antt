@@ -209,7 +209,7 @@ module _ (p : Program) (used : BodiesAreWellUsed p) (kept : BodiesAreKept p) whe
           (cared_caller it cared passing b values groups way.waits is fits)
       acts_cared (makes_call {passing = passing} way now (of_none no_body holds)) =
           one (makes_call way now (of_none no_body holds)) (record f { waiting = None }) q (λ a x. x) (λ a x. x)
-          (cared_outside it cared passing way.waits no_body)
+          (cared_outside it cared passing way.waits no_body holds)
       acts_cared (calls_outside {x = x} way gets) =
           one (calls_outside way gets) f q (λ a y. y) (λ a y. y)
           (cared_argument it cared x.value)
@@ -233,7 +233,7 @@ module _ (p : Program) (used : BodiesAreWellUsed p) (kept : BodiesAreKept p) whe
           (cared_running_pass it cared r b values groups is fits)
       acts_cared (runs_pass {passing = passing} {left = left} r (of_none no_body holds)) =
           one (runs_pass r (of_none no_body holds)) (record f { saved = left }) q (λ a x. x) (λ a x. x)
-          (cared_running_outside it cared r no_body)
+          (cared_running_outside it cared r no_body holds)
       acts_cared (runs_literal {c = c} {left = left} values groups r foreign) =
           let apart = it.saved_literals c
           (subst (λ (l : List Saved). Contains l (saved_literal c)) (sym r.saved) (contains_here (saved_literal c) left)) in

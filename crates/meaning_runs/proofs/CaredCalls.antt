@@ -10,7 +10,7 @@ use Rattle.meaning.proofs.Membership.{contains_nil, contains_here, contains_ther
 use Rattle.meaning_packages.specs.PathFaults.{returns_open, OwesCall, ComesToReturn, paths_of, is_handed}
 use Rattle.meaning_runs.specs.Bodies.{Program, Body, IsFunction}
 use Rattle.meaning_runs.specs.World.{Value, nothing, cancel_function, nobody, frame_at, Place, Store, MayEndWait, calling, waiting_for, with_cells, Given, Passing, Closure, Saved, saved_call, saved_pass, saved_literal, saved_wait, exits, Frame, in_cell, group_in_cell, held, nothing_around}
-use Rattle.meaning_runs.specs.Steps.{DoesNext, RunsSaved, IsAtEnd, Fits, HasNoBody}
+use Rattle.meaning_runs.specs.Steps.{DoesNext, RunsSaved, IsAtEnd, Fits, HasNoBody, WasCalled, DeclaredIsTrue}
 use Rattle.meaning_runs.specs.Runs.{Owes}
 use Rattle.meaning_runs.specs.Duties.{TakesUp, IsWaitingFor, AreTakenUp}
 use Rattle.meaning_runs.proofs.CaredBindings.{captured_no_parameter}
@@ -46,11 +46,17 @@ must_of_call o s b passing values groups is fits x a h e takes =
       ap (λ c. cond c (values t.0.number) nothing) (flag_is_its b t.0 t.1) ∙ fits.same t.0 x t.1.is_of_body h t.2 ∙ e,
     )
 
--- a function that is known to call something has a body
-none_takes_up : {p : Program} {caller : Body} (passing : Passing) → HasNoBody p caller passing.callee → (k : ℕ)
-    → TakesUp p caller passing.callee k
-    → ⊥
-none_takes_up passing no_body k takes = no_body takes.body takes.is_function
+-- a function without a body that is known to call what it is given has done so when it returns: it is declared
+called_there : {p : Program} {caller : Body} (s : Store) (passing : Passing)
+    → HasNoBody p caller passing.callee
+    → DeclaredIsTrue p s passing
+    → (x : Given) (a : ℕ)
+    → Contains passing.given x
+    → x.value ≡ cancel_function a
+    → TakesUp p caller passing.callee x.position
+    → Contains s.called a
+called_there s passing no_body holds x a h e takes =
+    subst (WasCalled s) e (holds x h (takes.is_declared no_body))
 
 -- What a saved item sees to, by its kind
 
@@ -136,13 +142,20 @@ module _ {p : Program} {o : Origins} {s : Store} {place : Place} {q : Past} {f :
             must_of_call o s b passing values groups is fits x a (subst (λ (y : Passing). Contains y.given x) same h) e
             (subst (λ (y : Passing). TakesUp p f.body y.callee x.position) same t)
 
-    -- or of one without a body, of which it is not known that it calls anything
+    -- or of one without a body, which has called what it is declared to call
     pub cared_outside : (passing : Passing) → f.waiting ≡ Some passing → HasNoBody p f.body passing.callee
+        → DeclaredIsTrue p s passing
         → IsCared p o s Nothing q (record f { waiting = None })
-    cared_outside passing waits no_body =
+    cared_outside passing waits no_body holds =
         waits_no_more same_grows same_left f.saved (λ x h. h)
-        (λ r x a w h e t. absurd (none_takes_up passing no_body x.position
-        (subst (λ (y : Passing). TakesUp p f.body y.callee x.position) (same_Some r passing (sym w ∙ waits)) t)))
+        (λ r x a w h e t. was_called (its r x a (same_Some r passing (sym w ∙ waits)) h e t))
+      where
+        its : (r : Passing) (x : Given) (a : ℕ) → r ≡ passing → Contains r.given x → x.value ≡ cancel_function a
+            → TakesUp p f.body r.callee x.position
+            → Contains s.called a
+        its r x a same h e t =
+            called_there s passing no_body holds x a (subst (λ (y : Passing). Contains y.given x) same h) e
+            (subst (λ (y : Passing). TakesUp p f.body y.callee x.position) same t)
 
     pub cared_saving_pass : (passing : Passing) → f.waiting ≡ Some passing
         → IsCared p o s Nothing q (record f { waiting = None; saved = saved_pass passing ∷ f.saved })
@@ -212,12 +225,13 @@ module _ {p : Program} {o : Origins} {s : Store} {place : Place} {q : Past} {f :
 
     pub cared_running_outside : {passing : Passing} {left : List Saved} → RunsSaved f (saved_pass passing) left
         → HasNoBody p f.body passing.callee
+        → DeclaredIsTrue p s passing
         → IsCared p o s Nothing q (record f { saved = left })
-    cared_running_outside {passing} {left} r no_body =
+    cared_running_outside {passing} {left} r no_body holds =
         cared_popping same_grows same_left r (λ a c. its a c) (λ group a w l. elim w [ ])
       where
         its : (a : ℕ) → SavesCall p f.body o s a (saved_pass passing) → IsSeen p o s Nothing (record f { saved = left }) ⊥ a
-        its a (passes_it _ x h e t) = absurd (none_takes_up passing no_body x.position t)
+        its a (passes_it _ x h e t) = was_called (called_there s passing no_body holds x a h e t)
 
     pub cared_running_literal : {c : Closure} {left : List Saved} → RunsSaved f (saved_literal c) left
         → (values : ℕ → Value) (groups : ℕ → Option ℕ)

@@ -10,7 +10,7 @@ use Rattle.meaning.specs.BodyEvents.{Variable}
 use Rattle.meaning.specs.Classes.{Promises}
 use Rattle.meaning_runs.specs.Bodies.{Program, Body, IsOf, variables_in, is_captured_by}
 use Rattle.meaning_runs.specs.World.{Value, cancel_function, nobody, outside, Store, put_at, with_new, calling, ending, with_group, with_member, with_cells, Frame, World, with_stack, in_cell, held, held_group, new_frame, nothing_around}
-use Rattle.meaning_runs.specs.Steps.{at_code, IsFree, Starts, StartsWork, ChangesMembers, starts_member, starts_stranger, starts_outside, leaves_group, Surrounds, starts, evaluates_literal, starts_literal, makes_one, ends_one, calls_any, makes_outside, joins_outside, Step, of_goroutine, of_members, of_environment}
+use Rattle.meaning_runs.specs.Steps.{at_code, IsFree, Starts, StartsWork, ChangesMembers, starts_member, starts_stranger, starts_outside, starts_beside, leaves_group, Surrounds, starts, evaluates_literal, starts_literal, makes_one, ends_one, calls_any, makes_outside, joins_outside, Step, of_goroutine, of_members, of_environment}
 use Rattle.meaning_runs.specs.Duties.{IsCreditedWith, AreTakenUp}
 use Rattle.meaning_runs.proofs.CaredActs.{BodiesAreKept, CaresWell, acts_roots, acts_left, acts_cared}
 use Rattle.meaning_runs.proofs.CaredBindings.{captured_no_parameter, cared_new}
@@ -375,6 +375,7 @@ module _ (p : Program) (used : BodiesAreWellUsed p) (kept : BodiesAreKept p) whe
         still : LeftStill m.origins w.store (with_root m.origins h no_root) (with_member w.store h (Some a))
         still = joining_left m.origins w.store h a no_root free.is_no_member
     members_cared next (starts_outside {group = a} g h running call lent is free) = joins h a free
+    members_cared next (starts_beside {group = a} g h member empty free) = joins h a free
     members_cared next (leaves_group {group = a} g member empty) =
         apart m.origins (with_member w.store g None) (member_grows nobody m.origins w.store m.origins.root g None) still
         (λ k c x e must. cared.roots k c x (was k c e (cases_eq k g)) must)

@@ -219,4 +219,4 @@ path_sayings_lie ps i p texts is are tables x none said =
     record { text = text.0; is_file = ap (slice_get texts) low.0 ∙ text.1; within = low.1 }
 
 pub entries_lie_in_files : EntriesLieInFiles
-entries_lie_in_files = entries_lie_in_files_by by_paths path_sayings_lie
+entries_lie_in_files declared = entries_lie_in_files_by (by_paths declared) path_sayings_lie

@@ -6,7 +6,7 @@ use Rattle.meaning.specs.Uses.{Callee, Event}
 use Rattle.meaning.proofs.Membership.{contains_here}
 use Rattle.meaning_runs.specs.Bodies.{Program}
 use Rattle.meaning_runs.specs.World.{put_at, itself, held_group, new_frame, nothing_around, Value, nothing, cancel_function, any_nothing, outside_none, AreForeign, Place, Store, calling, ending, waiting_for, with_member, Frame, World, with_stack}
-use Rattle.meaning_runs.specs.Steps.{DoesNext, at_code, Starts, Obtains, new_one, earlier_one, none_at_all, Makes, zero_group, with_context, of_function, of_none, Acts, moves_on, does_other, obtains_one, clears_one, calls_one, saves_call, makes_group, tries_nothing, ends_wait, saves_wait, evaluates, evaluates_deferred, lends, makes_call, calls_outside, saves_pass, saves_literal, comes_to_return, runs_call, runs_pass, runs_literal, runs_wait, returns_now, IsFree, ChangesMembers, starts_member, starts_stranger, starts_outside, leaves_group, Surrounds, starts, evaluates_literal, starts_literal, makes_one, ends_one, calls_any, makes_outside, joins_outside, of_goroutine, of_members, of_environment}
+use Rattle.meaning_runs.specs.Steps.{DoesNext, at_code, Starts, Obtains, new_one, earlier_one, none_at_all, Makes, zero_group, with_context, of_function, of_none, Acts, moves_on, does_other, obtains_one, clears_one, calls_one, saves_call, makes_group, tries_nothing, ends_wait, saves_wait, evaluates, evaluates_deferred, lends, makes_call, calls_outside, saves_pass, saves_literal, comes_to_return, runs_call, runs_pass, runs_literal, runs_wait, returns_now, IsFree, ChangesMembers, starts_member, starts_stranger, starts_outside, starts_beside, leaves_group, Surrounds, starts, evaluates_literal, starts_literal, makes_one, ends_one, calls_any, makes_outside, joins_outside, of_goroutine, of_members, of_environment}
 use Rattle.meaning_runs.specs.Runs.{Run, no_step, step_more}
 use Rattle.meaning_runs.specs.Laws.{HasFreeGoroutine, IsThere, Joins, RunsLiteral, GoroutinesAreFree, GroupsGetMembers, MembersMayLeave, TheEnvironmentMay}
 use Rattle.meaning_runs.proofs.Contexts.{put_at-same, put_at-other}
@@ -104,6 +104,7 @@ by_members p w next (starts_member {f = f} {others = others} {rest = rest} {grou
 by_members p w next (starts_stranger {group = group} g k d free) h =
     (_, joined _ _ k (Some group) (stacked h.0 w w.store g _ refl h.1))
 by_members p w next (starts_outside {group = group} g k at c lent is free) h = (_, joined h.0 w k (Some group) h.1)
+by_members p w next (starts_beside {group = group} g k member none free) h = (_, joined h.0 w k (Some group) h.1)
 by_members p w next (leaves_group g member none) h = (_, joined h.0 w g None h.1)
 
 by_environment : (p : Program) (w next : World) → Surrounds p w next → SomeAreFree w → SomeAreFree next
@@ -214,5 +215,10 @@ the_environment_may p w = record {
     _,
     of_environment (joins_outside g group free made),
     put_at-same w.store.member g (Some group),
+  );
+  start_beside = λ g h group member none free. (
+    _,
+    of_members (starts_beside g h member none free),
+    put_at-same w.store.member h (Some group),
   );
 }

@@ -7,7 +7,7 @@ use Rattle.meaning.specs.Uses.{Event}
 use Rattle.meaning.proofs.Membership.{contains_nil, contains_here, contains_cases}
 use Rattle.meaning_runs.specs.Bodies.{Program, Body, IsOf, is_captured_by}
 use Rattle.meaning_runs.specs.World.{Value, cancel_function, nobody, outside, frame_at, Place, Store, put_at, with_new, calling, ending, with_group, IsOutside, outside_none, outside_group, with_member, with_cells, Lent, Passing, Saved, saved_pass, Frame, World, with_stack, group_in_cell, held_group, new_frame, nothing_around}
-use Rattle.meaning_runs.specs.Steps.{ComesTo, at_code, ComesToCall, at_once, saved_before, IsFree, StartsWork, ChangesMembers, starts_member, starts_stranger, starts_outside, leaves_group, Surrounds, starts, evaluates_literal, starts_literal, makes_one, ends_one, calls_any, makes_outside, joins_outside, Step, of_goroutine, of_members, of_environment}
+use Rattle.meaning_runs.specs.Steps.{ComesTo, at_code, ComesToCall, at_once, saved_before, IsFree, StartsWork, ChangesMembers, starts_member, starts_stranger, starts_outside, starts_beside, leaves_group, Surrounds, starts, evaluates_literal, starts_literal, makes_one, ends_one, calls_any, makes_outside, joins_outside, Step, of_goroutine, of_members, of_environment}
 use Rattle.meaning_runs.specs.Runs.{Run, no_step, step_more}
 use Rattle.meaning_runs.proofs.Contexts.{put_at-same, put_at-other}
 use Rattle.meaning_runs.proofs.GroupHomes.{home_in}
@@ -304,6 +304,8 @@ module _ (p : Program) (used : BodiesAreWellUsed p) where
       joined_held w m h a no_root free
       (source_is_there p m.origins w.store place q f holder a
       (lent_source p m.origins w.store place q f holder passing y a call.comes_to_it lent is)) it
+  members_held w next m (starts_beside {group = a} g h member none free) it =
+      joined_held w m h a no_root free (it.known.of_groups g a member) it
   members_held w next m (leaves_group {group = a} g member none) it = record {
     known = leaving_known w.store g it.known;
     escaped = λ c h. apart_grows nobody m.origins m.origins w.store (with_member w.store g None) grows p c

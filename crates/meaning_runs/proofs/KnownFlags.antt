@@ -1,5 +1,6 @@
 -- Where packages are well known, what is known of a function holds of each body that it has: the flags of its package
--- are consistent, and no other body of the package has its name.
+-- are consistent, and no other body of the package has its name. A function of a package that was not given has none,
+-- and what is known of it is declared.
 use Rattle.std.proofs.Common.{◌≡◌, ℕ, zero, suc, ◌+◌, ◌≤◌, Bool, true, false, ◌⊎◌, inl, inr, List, [], ◌∷◌, map, Option, Some, None, Contains, refl, sym, ap, ◌∙◌, subst, arith}
 use Rattle.std.specs.Prelude.{if◌then◌else◌, slice_get}
 use Rattle.std.specs.Str.{bytes_eq}
@@ -201,23 +202,40 @@ module _ (p : Program) (known : AreWellKnown p) where
     of_this q e =
         let h = has_flag b.home loaded of.is_below is f.name k e in
         record {
-          body = h.body;
-          is_function = record { is_of = h.of; is_of_package = subst (λ o. IsNamed p b.home o h.body.home) (sym q) h.home; has_name = h.named };
           each = λ c g. h.each c g.is_of (subst (λ o. IsNamed p b.home o c.home) q g.is_of_package) g.has_name;
+          is_declared = λ no_body. absurd (no_body h.body record {
+            is_of = h.of;
+            is_of_package = subst (λ o. IsNamed p b.home o h.body.home) (sym q) h.home;
+            has_name = h.named;
+          });
         }
 
+    -- no package has the path, so no function there has a body, and its flag is declared
+    of_declared : (path : List ℕ) → f.path ≡ Some path → (p.tables path).calls f.name k ≡ true → IsNone path p.packages → TakesUp p b f k
+    of_declared path q e none = record {
+      each = λ c g.
+          let n = subst (λ o. IsNamed p b.home o c.home) q g.is_of_package in
+          absurd (none c.home n.0 n.1 n.2);
+      is_declared = λ no_body.
+          ap (λ o. flag_of (λ name j. false) (λ x. (p.declared x).calls) o f.name k) q
+          ∙ (sym (ap (λ (t : PackageTable). t.calls f.name k) (known.of_others path none)) ∙ e);
+    }
+
     of_first : (path : List ℕ) → f.path ≡ Some path → is_imported loaded path ≡ true → (p.tables path).calls f.name k ≡ true → First path p.packages ⊎ IsNone path p.packages → TakesUp p b f k
-    of_first path q im e (inr none) = absurd (not_both ((known.of_others path none).no_flag f.name k) e)
+    of_first path q im e (inr none) = of_declared path q e none
     of_first path q im e (inl first) =
         let flag : (other : LoadedPackage) → other.path ≡ path → (p.tables other.path).calls f.name k ≡ true = λ other same. subst (λ x. (p.tables x).calls f.name k ≡ true) (sym same) e in
         let h = has_flag first.place first.found (one_more of.is_below (imports_first p.packages b.home loaded path is im first)) first.is_there f.name k (flag first.found first.same) in
         let its : IsNamed p b.home (Some path) h.body.home = (first.found, ap (λ n. slice_get p.packages n) h.home ∙ first.is_there, first.same) in
         record {
-          body = h.body;
-          is_function = record { is_of = h.of; is_of_package = subst (λ o. IsNamed p b.home o h.body.home) (sym q) its; has_name = h.named };
           each = λ c g.
               let n = subst (λ o. IsNamed p b.home o c.home) q g.is_of_package in
               (has_flag c.home n.0 g.is_of.is_below n.1 f.name k (flag n.0 n.2)).each c g.is_of refl g.has_name;
+          is_declared = λ no_body. absurd (no_body h.body record {
+            is_of = h.of;
+            is_of_package = subst (λ o. IsNamed p b.home o h.body.home) (sym q) its;
+            has_name = h.named;
+          });
         }
 
     of_path : (o : Option (List ℕ)) → f.path ≡ o → flag_of (p.tables loaded.path).calls (imported_flags loaded p.tables) o f.name k ≡ true → TakesUp p b f k

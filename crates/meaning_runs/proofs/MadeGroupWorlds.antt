@@ -8,7 +8,7 @@ use Rattle.meaning.specs.Uses.{Event}
 use Rattle.meaning.proofs.Membership.{contains_here, contains_nil}
 use Rattle.meaning_runs.specs.Bodies.{Program, Body}
 use Rattle.meaning_runs.specs.World.{Value, cancel_function, Maker, nobody, outside, frame_at, Place, Store, put_at, with_new, calling, ending, with_group, HasNoMember, with_member, with_cells, Lent, Passing, Saved, saved_pass, Frame, World, new_frame, nothing_around}
-use Rattle.meaning_runs.specs.Steps.{ComesToCall, at_once, saved_before, StartsWork, ChangesMembers, starts_member, starts_stranger, starts_outside, leaves_group, Surrounds, starts, evaluates_literal, starts_literal, makes_one, ends_one, calls_any, makes_outside, joins_outside, Step, of_goroutine, of_members, of_environment, at_code}
+use Rattle.meaning_runs.specs.Steps.{ComesToCall, at_once, saved_before, StartsWork, ChangesMembers, starts_member, starts_stranger, starts_outside, starts_beside, leaves_group, Surrounds, starts, evaluates_literal, starts_literal, makes_one, ends_one, calls_any, makes_outside, joins_outside, Step, of_goroutine, of_members, of_environment, at_code}
 use Rattle.meaning_runs.specs.Runs.{Run, no_step, step_more}
 use Rattle.meaning_runs.proofs.Contexts.{put_at-same, put_at-other}
 use Rattle.meaning_runs.proofs.OwnBindings.{BindsItsOwn}
@@ -210,6 +210,10 @@ module _ (p : Program) (used : BodiesAreWellUsed p) (binds_own : BindsItsOwn p) 
         (λ a other_one none. joined_none w.store h group a other_one none) (λ a r e. e)
     members_seen next (starts_outside {f = f} {others = others} {passing = passing} {y = y} {group = group} g h running call lent is free) =
         outside_seen g h running call.comes_to_it lent is
+    members_seen next (starts_beside {group = a} g h member empty free) = λ k.
+        stands p nobody m.origins (with_root m.origins h no_root) w.store (with_member w.store h (Some a)) k (w.stacks k) (m.pasts k)
+        (member_grows nobody m.origins w.store (put_at m.origins.root h no_root) h (Some a)) (λ i. frame-nobody (k, i))
+        (λ b i e none. joined_none w.store h a b (λ same. none g (member ∙ ap Some (sym same))) none) (λ b i e. e) (held.holders k) (seen k)
     members_seen next (leaves_group {group = group} g member none) =
         λ k. stands p nobody m.origins m.origins w.store (with_member w.store g None) k (w.stacks k) (m.pasts k)
         (member_grows nobody m.origins w.store m.origins.root g None) (λ i. frame-nobody (k, i)) (λ a i e. left_none w.store g a) (λ a i e. e) (held.holders k) (seen k)

@@ -32,7 +32,7 @@ AreKnownWell rules = (ps : List LoadedPackage) (tables : Tables) (i : ℕ) (q : 
     → IsWithoutFinding ps tables i q
 
 module _ (rules : Rules) (each : AreKnownWell rules) where
-  module _ (ps : List LoadedPackage) (tables : Tables) (are : AreTablesBy rules.are_flags ps tables) where
+  module _ (ps : List LoadedPackage) (tables : Tables) (are : AreTablesBy rules.are_flags rules.declared ps tables) where
     no_whole_fault : (i : ℕ) → IsYesBy rules ps tables i → HasNoWholeFault ps i
     no_whole_fault i said_none x h = said_none x (of_whole h)
 
@@ -59,14 +59,16 @@ module _ (rules : Rules) (each : AreKnownWell rules) where
             (λ x said. said_none x (of_files none said)) texts
 
     module _ (i : ℕ) (said_none : IsYesBy rules ps tables i) where
-      pub are_well_known : AreOfTexts (program_of ps tables i) → AreWellKnown (program_of ps tables i)
+      pub are_well_known : AreOfTexts (program_of ps tables rules.declared i)
+          → AreWellKnown (program_of ps tables rules.declared i)
       are_well_known texts = record {
         of_package = λ j q below is. (is_known j q is (yes_below i j below said_none) (texts j q below is)).known;
         of_texts = texts;
         of_others = are.of_others;
       }
 
-      pub have_no_findings : AreOfTexts (program_of ps tables i) → HaveNoFindings (program_of ps tables i)
+      pub have_no_findings : AreOfTexts (program_of ps tables rules.declared i)
+          → HaveNoFindings (program_of ps tables rules.declared i)
       have_no_findings texts = record {
         of_package = λ j q below is. is_known j q is (yes_below i j below said_none) (texts j q below is);
       }
@@ -81,7 +83,8 @@ module _ (rules : Rules) (each : AreKnownWell rules) where
       let h = is_yes ps report i is_report said_none in
       let tables = is_report.tables in
       let are = is_report.are_tables in
-      yes_is_quiet (program_of ps tables i) (are_well_known ps tables are i h texts) (have_no_findings ps tables are i h texts)
+      yes_is_quiet (program_of ps tables rules.declared i) (are_well_known ps tables are i h texts)
+      (have_no_findings ps tables are i h texts)
 
   pub yes_is_of_all_below_by : YesIsOfAllBelowBy rules
   yes_is_of_all_below_by ps report i is_report said_none texts =
@@ -95,8 +98,8 @@ are_fair seens files no_file = promise.no_file
 are_fair seens files (file_and {rest = rest} {files = others} same credits more) =
     promise.file_and same (record { each = λ literal number h. (credits.each literal number).0 h }) (are_fair rest others more)
 
-known_by_paths : AreKnownWell by_paths
-known_by_paths ps tables i q is none its signatures said_none texts =
+known_by_paths : (declared : Tables) → AreKnownWell (by_paths declared)
+known_by_paths declared ps tables i q is none its signatures said_none texts =
     let files = its.files in
     let here = its.is_judged in
     record {
@@ -117,7 +120,7 @@ known_by_paths ps tables i q is none its signatures said_none texts =
     }
 
 pub yes_of_a_package_is_quiet : YesOfAPackageIsQuiet
-yes_of_a_package_is_quiet = yes_of_a_package_is_quiet_by by_paths known_by_paths
+yes_of_a_package_is_quiet declared = yes_of_a_package_is_quiet_by (by_paths declared) (known_by_paths declared)
 
 pub yes_is_of_all_below : YesIsOfAllBelow
-yes_is_of_all_below = yes_is_of_all_below_by by_paths known_by_paths
+yes_is_of_all_below declared = yes_is_of_all_below_by (by_paths declared) (known_by_paths declared)

@@ -6,7 +6,7 @@ use Rattle.meaning.specs.Code.{Occurrence, Code}
 use Rattle.meaning.specs.Uses.{Event}
 use Rattle.meaning_runs.specs.Bodies.{Program, Body, is_parameter_of}
 use Rattle.meaning_runs.specs.World.{Value, nothing, Place, Maker, nobody, frame_at, Store, put_at, Passing, Frame, World, in_cell, group_in_cell, bound_cell, with_member, nothing_around, empty_world}
-use Rattle.meaning_runs.specs.Steps.{ComesTo, Begins, of_function, of_none, Acts, moves_on, does_other, obtains_one, clears_one, calls_one, saves_call, makes_group, tries_nothing, ends_wait, saves_wait, evaluates, evaluates_deferred, lends, makes_call, calls_outside, saves_pass, saves_literal, comes_to_return, runs_call, runs_pass, runs_literal, runs_wait, returns_now, ChangesMembers, starts_member, starts_stranger, starts_outside, leaves_group, Surrounds, starts, evaluates_literal, starts_literal, makes_one, ends_one, calls_any, makes_outside, joins_outside, Step, of_goroutine, of_members, of_environment}
+use Rattle.meaning_runs.specs.Steps.{ComesTo, Begins, of_function, of_none, Acts, moves_on, does_other, obtains_one, clears_one, calls_one, saves_call, makes_group, tries_nothing, ends_wait, saves_wait, evaluates, evaluates_deferred, lends, makes_call, calls_outside, saves_pass, saves_literal, comes_to_return, runs_call, runs_pass, runs_literal, runs_wait, returns_now, ChangesMembers, starts_member, starts_stranger, starts_outside, starts_beside, leaves_group, Surrounds, starts, evaluates_literal, starts_literal, makes_one, ends_one, calls_any, makes_outside, joins_outside, Step, of_goroutine, of_members, of_environment}
 use Rattle.meaning_runs.specs.Runs.{Run, no_step, step_more}
 use Rattle.meaning_runs.proofs.GroupDuties.{is_mentioned}
 
@@ -197,6 +197,8 @@ module _ {p : Program} {w : World} where
     pasts = put_at m.pasts g (pasts_behind (m.pasts g) work.does_next.comes_to);
   }
   memory_of_members (starts_outside g h running call lent is free) m =
+      record m { origins = with_root m.origins h no_root }
+  memory_of_members (starts_beside g h member none free) m =
       record m { origins = with_root m.origins h no_root }
   memory_of_members (leaves_group g member none) m = m
 

@@ -15,11 +15,12 @@ use Rattle.meaning_packages.specs.CallsFlags.{is_function}
 use Rattle.imports.specs.Ranks.{Chain}
 use Rattle.meaning_reports.specs.Loaded.{LoadedPackage, Tables, import_list, seen_files}
 
--- The packages that were given, what is known of their functions (which tells what variables their callers track), and
--- the place of the one that is looked at.
+-- The packages that were given, what is known of functions (which tells what variables their callers track), what is
+-- declared of packages that were not given, which is taken for true, and the place of the one that is looked at.
 pub record Program : Type 0 where
   pub packages : List LoadedPackage
   pub tables : Tables
+  pub declared : Tables
   pub looked_at : ℕ
 
 -- it is the place of the package that is looked at, or of one that this imports, at once or through others

@@ -9,6 +9,7 @@ use Rattle.meaning_packages.specs.Credits.{Credits, AreFairCredits, Settles, no_
 use Rattle.meaning_packages.specs.CallsFlags.{is_function, calls_by}
 use Rattle.meaning_reports.specs.Loaded.{LoadedPackage, imported_flags}
 use Rattle.meaning_runs.specs.Bodies.{Program, Body, variables_in, IsLiteralIn, IsFunction}
+use Rattle.meaning_runs.specs.Steps.{HasNoBody, is_declared_to_call}
 
 -- what the package of the body relies on of functions: its own flags, and those of what it imports
 abbrev pub calls_in : Program → LoadedPackage → Callee → ℕ → Bool
@@ -48,11 +49,11 @@ pub record IsWaitingFor (literal : Body) (g : Variable) : Type 0 where
   pub is_group_variable : g.kind ≡ group
   pub settles : Settles (paths_of literal.file (promises_in no_calls credits literal.place.at) literal.place) g
 
--- the function that the body names has a body, and each that it has is known to call that parameter
+-- The function that the body names is known to call that parameter: each body that it has is, and where it has none, so
+-- it is declared.
 pub record TakesUp (p : Program) (b : Body) (f : Callee) (k : ℕ) : Type 0 where
-  pub body : Body
-  pub is_function : IsFunction p b f body
   pub each : (c : Body) → IsFunction p b f c → (v : Variable) × IsFlagged p c v × (v.role ≡ own_parameter k)
+  pub is_declared : HasNoBody p b f → is_declared_to_call p f k ≡ true
 
 -- what is relied on of functions and of literals in the body holds of them
 pub record AreTakenUp (p : Program) (b : Body) (relies : Promises) : Type 0 where

@@ -26,4 +26,4 @@ EntriesLieInFilesBy rules = (ps : List LoadedPackage) (report : List Said) (p : 
     → StandsIn texts x
 
 abbrev pub EntriesLieInFiles : Type 0
-EntriesLieInFiles = EntriesLieInFilesBy by_paths
+EntriesLieInFiles = (declared : Tables) → EntriesLieInFilesBy (by_paths declared)

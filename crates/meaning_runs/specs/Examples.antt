@@ -3,7 +3,7 @@
 use Rattle.std.specs.Prelude.{ℕ, ◌+◌, false, List, [], ◌∷◌, None, Some, length, map, codes}
 use Rattle.tree.specs.Syntax.{Expression, function_literal, selector_expression, call_expression, no_expression, expression_and, no_parameter, named_and, signature_of, Statement, expression_statement, assignment, define_statement, defer_statement, Statements, no_statement, statement_and, Function, function_declaration, SourceFile}
 pub use Rattle.meaning.specs.TreeExamples.{from_to, node, doing, name, use_of}
-use Rattle.meaning_reports.specs.Loaded.{has_tree, LoadedPackage, no_table}
+use Rattle.meaning_reports.specs.Loaded.{has_tree, LoadedPackage, no_tables}
 use Rattle.meaning_runs.specs.Bodies.{Program}
 
 -- `context.member`
@@ -62,7 +62,7 @@ abbrev pub loaded_with : List Function → LoadedPackage
 loaded_with fs = record { path = codes "a"; files = has_tree (file_with fs) ∷ [] }
 
 abbrev pub program_with : List Function → Program
-program_with fs = record { packages = loaded_with fs ∷ []; tables = λ path. no_table; looked_at = 0 }
+program_with fs = record { packages = loaded_with fs ∷ []; tables = no_tables; declared = no_tables; looked_at = 0 }
 
 -- the call is saved for the return:
 --     func f(p context.Context) {

@@ -13,7 +13,7 @@ use Rattle.tree.specs.declared.operator.DeclKeyword.TheVariants.{Var}
 use Rattle.tree.specs.declared.operator.UnaryOperator.TheVariants.{Address}
 use Rattle.tree.specs.Syntax.{Expression, function_literal, selector_expression, call_expression, star_expression, unary_expression, binary_expression, no_expression, present_expression, Parameters, no_parameter, named_and, unnamed_and, signature_of, Statement, expression_statement, declaration_statement, assignment, define_statement, defer_statement, return_statement, if_statement, Statements, no_statement, statement_and, missing_statement, present_statement, declaration_of, no_spec, value_and, Function, function_declaration, SourceFile}
 use Rattle.meaning.specs.TreeExamples.{only}
-use Rattle.meaning_reports.specs.Loaded.{has_tree, LoadedPackage, no_table}
+use Rattle.meaning_reports.specs.Loaded.{has_tree, LoadedPackage, no_tables}
 use Rattle.meaning_runs.specs.Bodies.{Program}
 use Rattle.meaning_runs.specs.Examples.{from_to, node, doing, name, use_of, of_context, binding_at, call_at}
 use Rattle.meaning_runs.specs.LoudReturns.{test_at}
@@ -137,7 +137,7 @@ abbrev pub loaded_of : List Function → LoadedPackage
 loaded_of fs = record { path = codes "a"; files = has_tree (file_with fs) ∷ [] }
 
 abbrev pub program_of : List Function → Program
-program_of fs = record { packages = loaded_of fs ∷ []; tables = λ path. no_table; looked_at = 0 }
+program_of fs = record { packages = loaded_of fs ∷ []; tables = no_tables; declared = no_tables; looked_at = 0 }
 
 -- one with this function alone
 abbrev pub program_with : Function → Program

@@ -146,7 +146,8 @@ MembersMayLeave = (p : Program) (w : World) (g group : ℕ)
 
 -- What the environment may do at any moment: call any function, method or literal outside all functions, with any
 -- contents of its parameters that are not the program's; get any literal that escapes, and call it; end any context,
--- call any cancel function, and start work in any group that was made outside.
+-- call any cancel function, and start work in any group that was made outside, or that has a member of which nothing is
+-- known.
 pub record EnvironmentMay (p : Program) (w : World) : Type 0 where
   pub call_any : (g : ℕ) (b : Body) (values : ℕ → Value) (groups : ℕ → Option ℕ)
       → IsFree w g
@@ -171,6 +172,11 @@ pub record EnvironmentMay (p : Program) (w : World) : Type 0 where
       → IsFree w g
       → w.store.maker group ≡ outside
       → (next : World) × Step p w next × (next.store.member g ≡ Some group)
+  pub start_beside : (g h group : ℕ)
+      → w.store.member g ≡ Some group
+      → w.stacks g ≡ []
+      → IsFree w h
+      → (next : World) × Step p w next × (next.store.member h ≡ Some group)
 
 abbrev pub TheEnvironmentMay : Type 0
 TheEnvironmentMay = (p : Program) (w : World) → EnvironmentMay p w

@@ -1,5 +1,5 @@
 -- The promise, said of a report of packages: under the tables of the report, a package of which the report says nothing
--- is quiet.
+-- is quiet, in every run in which what is declared of packages that were not given is true.
 use Rattle.std.specs.Prelude.{◌≡◌, ℕ, List, [], Some, slice_get}
 use Rattle.meaning_reports.specs.Loaded.{LoadedPackage, Tables}
 use Rattle.meaning_reports.specs.PackageReports.{Rules, Said, IsReportBy, by_paths}
@@ -15,9 +15,10 @@ pub record IsYesIn (ps : List LoadedPackage) (report : List Said) (i : ℕ) : Ty
   pub is_said : slice_get report i ≡ Some said
   pub is_yes : said.entries ≡ []
 
--- these packages, what these tables know of their functions, and the one at that place, which is looked at
-abbrev pub program_of : List LoadedPackage → Tables → ℕ → Program
-program_of ps tables i = record { packages = ps; tables = tables; looked_at = i }
+-- These packages, what these tables know of functions, what is declared of packages that are not among these, and the
+-- package at that place, which is looked at.
+abbrev pub program_of : List LoadedPackage → Tables → Tables → ℕ → Program
+program_of ps tables declared i = record { packages = ps; tables = tables; declared = declared; looked_at = i }
 
 -- the trees of the packages that runs go through are those of texts
 abbrev pub AreOfTexts : Program → Type 0
@@ -27,19 +28,20 @@ abbrev pub YesOfAPackageIsQuietBy : Rules → Type 0
 YesOfAPackageIsQuietBy rules = (ps : List LoadedPackage) (report : List Said) (i : ℕ)
     → (is_report : IsReportBy rules ps report)
     → IsYesIn ps report i
-    → AreOfTexts (program_of ps is_report.tables i)
-    → IsQuietProgram (program_of ps is_report.tables i)
+    → AreOfTexts (program_of ps is_report.tables rules.declared i)
+    → IsQuietProgram (program_of ps is_report.tables rules.declared i)
 
+-- whatever is declared
 abbrev pub YesOfAPackageIsQuiet : Type 0
-YesOfAPackageIsQuiet = YesOfAPackageIsQuietBy by_paths
+YesOfAPackageIsQuiet = (declared : Tables) → YesOfAPackageIsQuietBy (by_paths declared)
 
 -- A yes is one of each given package below too: an import that isn't yes would be said. So none of these has a finding.
 abbrev pub YesIsOfAllBelowBy : Rules → Type 0
 YesIsOfAllBelowBy rules = (ps : List LoadedPackage) (report : List Said) (i : ℕ)
     → (is_report : IsReportBy rules ps report)
     → IsYesIn ps report i
-    → AreOfTexts (program_of ps is_report.tables i)
-    → HaveNoFindings (program_of ps is_report.tables i)
+    → AreOfTexts (program_of ps is_report.tables rules.declared i)
+    → HaveNoFindings (program_of ps is_report.tables rules.declared i)
 
 abbrev pub YesIsOfAllBelow : Type 0
-YesIsOfAllBelow = YesIsOfAllBelowBy by_paths
+YesIsOfAllBelow = (declared : Tables) → YesIsOfAllBelowBy (by_paths declared)

@@ -10,7 +10,6 @@ use Rattle.meaning_packages.specs.CallsFlags.{FileWithCredits, calls_by, AreCons
 use Rattle.report.specs.Entries.{Entry}
 use Rattle.meaning_reports.specs.Loaded.{LoadedPackage, Tables, imported_flags, signatures_of, trees_of, seen_files}
 use Rattle.meaning_reports.specs.WholeFaults.{HasNoWholeFault}
-use Rattle.meaning_reports.specs.PackageTables.{IsEmpty}
 use Rattle.meaning_reports.specs.PackageReports.{IsFileFinding}
 use Rattle.meaning_runs.specs.Bodies.{Program, IsBelow}
 use Rattle.meaning_runs.specs.Runs.{IsQuietProgram}
@@ -37,7 +36,7 @@ pub record IsWellKnown (ps : List LoadedPackage) (tables : Tables) (i : ℕ) (p 
 abbrev pub AreTreesOfTexts : LoadedPackage → Type 0
 AreTreesOfTexts q = (tree : SourceFile) → Contains (trees_of q) tree → (text : List ℕ) × IsTreeOf text tree
 
--- so it is of each package that runs go through; of others nothing is known
+-- so it is of each package that runs go through; of packages that were not given is known what is declared of them
 pub record AreWellKnown (p : Program) : Type 0 where
   pub of_package : (i : ℕ) (q : LoadedPackage)
       → IsBelow p i
@@ -46,7 +45,7 @@ pub record AreWellKnown (p : Program) : Type 0 where
   pub of_texts : (i : ℕ) (q : LoadedPackage) → IsBelow p i → slice_get p.packages i ≡ Some q → AreTreesOfTexts q
   pub of_others : (path : List ℕ)
       → ((i : ℕ) (q : LoadedPackage) → slice_get p.packages i ≡ Some q → q.path ≡ path → ⊥)
-      → IsEmpty (p.tables path)
+      → p.tables path ≡ p.declared path
 
 -- What is known of the package at that place holds, and nothing is to be said of its files, under some fair credits,
 -- perhaps others than those by which the flags of others are known.

@@ -13,7 +13,7 @@ use Rattle.meaning.specs.Uses.{Event, other, obtain, clear, call, defer_call, pa
 use Rattle.meaning.specs.BodyEvents.{bodies_of}
 use Rattle.meaning_runs.specs.Bodies.{Program, Body, IsOf, IsOutermost, is_parameter_of, code_of}
 use Rattle.meaning_runs.specs.World.{Place, put_at, Store, runs, exits, Frame, World}
-use Rattle.meaning_runs.specs.Steps.{ComesTo, HasNoBody, Acts, moves_on, does_other, obtains_one, clears_one, calls_one, saves_call, makes_group, tries_nothing, ends_wait, saves_wait, evaluates, evaluates_deferred, lends, makes_call, calls_outside, saves_pass, saves_literal, comes_to_return, runs_call, runs_pass, runs_literal, runs_wait, returns_now, Starts, ChangesMembers, starts_member, starts_stranger, starts_outside, leaves_group, Step, of_goroutine, of_members, of_environment}
+use Rattle.meaning_runs.specs.Steps.{ComesTo, HasNoBody, Acts, moves_on, does_other, obtains_one, clears_one, calls_one, saves_call, makes_group, tries_nothing, ends_wait, saves_wait, evaluates, evaluates_deferred, lends, makes_call, calls_outside, saves_pass, saves_literal, comes_to_return, runs_call, runs_pass, runs_literal, runs_wait, returns_now, Starts, ChangesMembers, starts_member, starts_stranger, starts_outside, starts_beside, leaves_group, Step, of_goroutine, of_members, of_environment}
 use Rattle.meaning_runs.specs.Laws.{IsThere}
 use Rattle.meaning_runs.specs.Runs.{Run, no_step, step_more}
 use Rattle.meaning_runs.specs.Doings.{Does, IsLeft}
@@ -56,6 +56,7 @@ abbrev pub events_of_change : {p : Program} {w next : World} → ChangesMembers 
 events_of_change (starts_member g h b values groups d free is_in is_at foreign) = event_of d.does_next.comes_to ∷ []
 events_of_change (starts_stranger g h d free) = event_of d.does_next.comes_to ∷ []
 events_of_change (starts_outside g h at c lent is free) = []
+events_of_change (starts_beside g h member none free) = []
 events_of_change (leaves_group g member done) = []
 
 abbrev pub events_of_step : {p : Program} {w next : World} → Step p w next → List (Occurrence Event)

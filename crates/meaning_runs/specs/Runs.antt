@@ -29,7 +29,10 @@ pub record IsQuiet (w : World) (f : Frame) : Type 0 where
   pub ended : (group : ℕ) → Contains f.made group → HasNoMember w.store group
   pub groups_done : (group a : ℕ) → Contains f.made group → w.store.group_context group ≡ Some a → IsDone w.store a
 
--- in every run each return of a frame of the package that is looked at is quiet
+-- In every run each return of a frame of the package that is looked at is quiet. Runs have two premises on functions
+-- without a body. What is declared of one is true when it returns (`DeclaredIsTrue`). And it starts work in a group
+-- that it was lent only before it returns (`IsOutsideCall`), while what it started there may start more
+-- (`starts_beside`).
 abbrev pub IsQuietProgram : Program → Type 0
 IsQuietProgram p = (w : World) (f : Frame)
     → Run p w

@@ -11,6 +11,7 @@ use Rattle.meaning.specs.FunctionFacts.{context_path}
 use Rattle.meaning.specs.Tracked.{plain_makers, cause_makers, GroupState, idle, live}
 use Rattle.meaning.specs.Uses.{Callee, VariableAt, Handed, Event, other, obtain, clear, call, defer_call, pass, defer_pass, lend, start, try, wait, defer_wait, make, defer_literal, return_event}
 use Rattle.meaning.specs.BodyEvents.{Variable, own_parameter}
+use Rattle.meaning_packages.specs.CallsFlags.{calls_by}
 use Rattle.meaning_runs.specs.Bodies.{Program, Body, IsOf, variables_in, IsOutermost, IsLiteralIn, Escapes, IsFunction}
 use Rattle.meaning_runs.specs.World.{Value, nothing, cancel_function, Place, outside, frame_at, Store, IsEarlier, with_new, calling, IsAny, with_group, IsOutside, with_member, MayEndWait, waiting_for, Given, Lent, Passing, Closure, Saved, saved_call, saved_pass, saved_literal, saved_wait, runs, exits, Frame, World, with_stack, held, held_group, with_cells, AreForeign, binding, binding_group, binds, new_frame, nothing_around}
 use Rattle.meaning_runs.specs.Moves.{Moves}
@@ -140,22 +141,19 @@ pub record Fits
 abbrev pub HasNoBody : Program → Body → Callee → Type 0
 HasNoBody p caller f = (b : Body) → IsFunction p caller f b → ⊥
 
--- What is declared of a function of another package: that it has called its argument at that position when it returns.
--- The table of its package says so; as long as nothing is declared, that of a package that was not given is empty.
+-- what is declared of a function of a package that was not given: that it has called its argument at that position when
+-- it returns
 abbrev pub is_declared_to_call : Program → Callee → ℕ → Bool
-is_declared_to_call p f position = of_path f.path
-  where
-    of_path : Option (List ℕ) → Bool
-    of_path None = false
-    of_path (Some path) = (p.tables path).calls f.name position
+is_declared_to_call p f position = calls_by (λ name k. false) (λ path. (p.declared path).calls) f position
 
 abbrev pub WasCalled : Store → Value → Type 0
 WasCalled s nothing = Unit {0}
 WasCalled s (cancel_function a) = Contains s.called a
 
--- what is declared of the function that is called holds at its return
-abbrev pub HoldsOfCall : Program → Store → Passing → Type 0
-HoldsOfCall p s passing = (x : Given)
+-- What is declared of the function that is called is true at its return. This is a premise: a function without a body
+-- comes back in no other store, so where what is declared is false there is no run.
+abbrev pub DeclaredIsTrue : Program → Store → Passing → Type 0
+DeclaredIsTrue p s passing = (x : Given)
     → Contains passing.given x
     → is_declared_to_call p passing.callee x.position ≡ true
     → WasCalled s x.value
@@ -167,7 +165,7 @@ pub data Begins (p : Program) (s : Store) (f : Frame) (passing : Passing) : Stor
       → IsFunction p f.body passing.callee b
       → Fits s b passing values groups
       → Begins p s f passing (with_cells s values groups) (new_frame s b nothing_around ∷ [])
-  of_none : HasNoBody p f.body passing.callee → HoldsOfCall p s passing → Begins p s f passing s []
+  of_none : HasNoBody p f.body passing.callee → DeclaredIsTrue p s passing → Begins p s f passing s []
 
 -- the frame goes through its body, and its call is under way
 pub record IsUnderWay (f : Frame) (code : Code Event) (passing : Passing) : Type 0 where
@@ -330,6 +328,13 @@ pub data ChangesMembers (p : Program) (w : World) : World → Type 0 where
       → IsOutsideCall p f passing
       → Contains passing.lent y
       → y.group ≡ Some group
+      → IsFree w h
+      → ChangesMembers p w (record w { store = with_member w.store h (Some group) })
+  -- A member of which nothing is known starts another in its group. (One whose literal has returned may do so too, as
+  -- long as it has not left, which gives more runs.)
+  starts_beside : {group : ℕ} (beside h : ℕ)
+      → w.store.member beside ≡ Some group
+      → w.stacks beside ≡ []
       → IsFree w h
       → ChangesMembers p w (record w { store = with_member w.store h (Some group) })
   -- A member's function has returned; a stranger's may at any moment. Where it returns an error the group's context

@@ -82,7 +82,7 @@ pub fn members_may_leave()
 {}
 
 /// In every world the environment may call any function, method or literal that it can get, end any context, call any
-/// cancel function, and start work in any group that was made outside.
+/// cancel function, and start work in any group that was made outside, or that has a member of which nothing is known.
 pub fn the_environment_may()
     ensures { TheEnvironmentMay }
 {}
@@ -113,8 +113,9 @@ pub fn yes_is_quiet()
     ensures { YesIsQuiet }
 {}
 
-/// So it is by a report of packages. Where it says nothing of a package, its tables know what holds of that package and
-/// of all given ones below it, and none of these has a finding; so each return of the package is quiet, in every run.
+/// So it is by a report of packages, whatever is declared of packages that were not given. Where it says nothing of a
+/// package, its tables know what holds of that package and of all given ones below it, and none of these has a finding;
+/// so each return of the package is quiet, in every run in which what is declared is true.
 pub fn yes_of_a_package_is_quiet()
     ensures { YesOfAPackageIsQuiet }
 {}

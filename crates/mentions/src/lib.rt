@@ -1,16 +1,13 @@
-//! Where the names of a file stand: as the callee of a call, an argument, an item of a return list, on a left side, or
-//! elsewhere (the Go specification, "Calls", "Statements"). Nothing is known here of what a name means.
+//! What the place of a name asks of it: as the callee of a call, an argument, an item of a return list, on a left side,
+//! or elsewhere (the Go specification, "Calls", "Statements"). Nothing is known here of what a name means.
 #![tactic(auto)]
 
 mod around;
-mod file;
 pub mod mark;
-mod named;
-mod parts;
-mod walk;
+pub mod named;
+pub mod parts;
 
 pub use around::is_body;
-pub use file::{expression_marks, file_marks};
 pub use mark::{
     BodyPlace, Call, CallPlace, LiteralUse, Mark, Mention, Named, Role, Row, RowForm, Spot,
     Standing,

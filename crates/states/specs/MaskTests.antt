@@ -1,8 +1,7 @@
 -- How the program goes over the classes in a mask. That these tests say what `Masks.antt` says is proved.
-use Rattle.std.specs.Prelude.{ℕ, ◌+◌, ◌^◌, ◌==◌, Bool, true, false, not, ◌&&◌, ◌||◌, List, [], ◌∷◌, Option, Some, None, nat_lt}
-use Rattle.meaning.specs.Classes.{CancelClass, unset, opened, safe, pending, GroupClass, unmade, in_state, awaited}
+use Rattle.std.specs.Prelude.{ℕ, ◌+◌, ◌^◌, ◌==◌, Bool, false, ◌&&◌, ◌||◌, List, [], ◌∷◌, Option, Some, None, nat_lt}
+use Rattle.meaning.specs.Classes.{CancelClass, unset, opened, safe, pending, GroupClass}
 use Rattle.meaning.specs.FunctionFacts.{VariableKind, cancel, group}
-use Rattle.meaning.specs.Tracked.{idle, live}
 use Rattle.states.specs.declared.bits.TheConstants.{FIRST_PENDING, CANCEL_CLASSES, GROUP_CLASSES}
 use Rattle.states.specs.Bits.{cancel_bit, group_bit}
 use Rattle.states.specs.Masks.{is_set}
@@ -34,33 +33,3 @@ may_be_cancel groups mask (pending g) = may_be_pending g mask FIRST_PENDING grou
 
 abbrev pub may_be_group : ℕ → GroupClass → Bool
 may_be_group mask k = is_set mask (group_bit k)
-
--- What a change makes of each class is in a mask
-
--- if the bit is set
-abbrev pub goes_if_set : ℕ → ℕ → Bool → Bool
-goes_if_set mask bit goes = not (is_set mask bit) || goes
-
--- of what is pending in these groups, where the first has that bit
-abbrev pub pending_go : (CancelClass → Bool) → ℕ → ℕ → List ℕ → Bool
-pending_go goes mask bit [] = true
-pending_go goes mask bit (g ∷ gs) = goes_if_set mask bit (goes (pending g)) && pending_go goes mask (bit + 1) gs
-
--- of each class in the mask
-abbrev pub cancels_go : List ℕ → (CancelClass → Bool) → ℕ → Bool
-cancels_go groups goes mask =
-    goes_if_set mask 0 (goes unset)
-    && (goes_if_set mask 1 (goes opened)
-    && (goes_if_set mask 2 (goes safe) && pending_go goes mask FIRST_PENDING groups))
-
-abbrev pub groups_go : (GroupClass → Bool) → ℕ → Bool
-groups_go goes mask =
-    goes_if_set mask 0 (goes unmade)
-    && (goes_if_set mask 1 (goes (in_state idle))
-    && (goes_if_set mask 2 (goes (in_state live)) && goes_if_set mask 3 (goes awaited)))
-
-abbrev pub cancel_goes_into : List ℕ → (CancelClass → CancelClass) → ℕ → ℕ → Bool
-cancel_goes_into groups change before after = cancels_go groups (λ k. has (cancel_bit groups) after (change k)) before
-
-abbrev pub group_goes_into : (GroupClass → GroupClass) → ℕ → ℕ → Bool
-group_goes_into change before after = groups_go (λ k. may_be_group after (change k)) before

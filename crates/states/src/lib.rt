@@ -21,10 +21,7 @@ pub use bits::{
 pub use cancels::{CancelClass, change_cancel, entry_cancel};
 pub use changes::{Change, cancel_bit_after, group_bit_after};
 pub use groups::{GroupClass, change_group, entry_group};
-pub use masks::{
-    cancel_goes_into, group_goes_into, has_cancel, has_known_bits, may_be_cancel, may_be_group,
-    with_bit,
-};
+pub use masks::{has_cancel, has_known_bits, may_be_cancel, may_be_group, with_bit};
 pub use promises::Promises;
 pub use state::{
     CANCEL_BITS, CANCELS_BEGIN, GROUPS_BEGIN, STATE_WORDS, State, StateVariables, WORD_BITS,

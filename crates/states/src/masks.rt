@@ -2,20 +2,16 @@
 
 ghost use Rattle.std.specs.Prelude.{◌≡◌, ◌<◌, ◌^◌, ◌↔◌, ◌||◌, ℕ, IsTrue, nat_eq};
 ghost use Rattle.facts.specs.FactViews.{kind_view};
-ghost use Rattle.meaning.specs.Classes.{change_cancel, change_group};
 ghost use Rattle.states.specs.declared.bits.TheConstants.{FIRST_PENDING};
-ghost use Rattle.states.specs.Bits.{cancel_bit, cancel_class, group_bit, group_class};
-ghost use Rattle.states.specs.ClassViews.{cancel_class_view, group_class_view, done_view};
-ghost use Rattle.states.specs.Masks.{is_set, HasKnownBits, bit_of_group, Has, MayBe, GoesInto};
-ghost use Rattle.states.specs.MaskTests.{has_known_bits, has, may_be_pending, may_be_cancel, may_be_group, goes_if_set, pending_go, cancel_goes_into, group_goes_into};
+ghost use Rattle.states.specs.Bits.{cancel_bit, cancel_class, group_class};
+ghost use Rattle.states.specs.ClassViews.{cancel_class_view, group_class_view};
+ghost use Rattle.states.specs.Masks.{is_set, HasKnownBits, Has, MayBe};
+ghost use Rattle.states.specs.MaskTests.{has_known_bits, has, may_be_pending, may_be_cancel, may_be_group};
 
 use crate::bits::{CANCEL_CLASSES, FIRST_PENDING, GROUP_CLASSES, cancel_bit, group_bit};
 use crate::cancels::CancelClass;
-use crate::changes::Change;
 use crate::groups::GroupClass;
-use crate::promises::Promises;
 use facts::VariableKind;
-use tracked_rows::GroupState;
 
 /// Whether the bit of that number is set.
 pub fn is_set(mask: u16, bit: usize) -> bool
@@ -87,83 +83,4 @@ pub fn may_be_group(mask: u16, class: GroupClass) -> bool
     ensures test { result ≡ may_be_group mask (group_class_view class) }
 {
     is_set(mask, group_bit(class))
-}
-
-/// Whether the mask has what the change makes of the class.
-fn class_goes_into<P: Promises>(
-    change: &Change<'_, '_, '_, P>,
-    groups: &[u32],
-    class: CancelClass,
-    after: u16,
-) -> bool
-    ensures { result ≡ has (cancel_bit groups.now) after (change_cancel (P.promises change.now.promises.now)
-        change.now.variable (done_view change.now.event) (cancel_class_view class)) }
-{
-    has_cancel(after, change.cancel(class), groups)
-}
-
-/// Whether the second mask has what the change makes of each class that is pending in a group and in the first mask.
-fn pending_go_into<P: Promises>(
-    change: &Change<'_, '_, '_, P>,
-    groups: &[u32],
-    before: u16,
-    after: u16,
-) -> bool
-    ensures { result ≡ pending_go (λ k. has (cancel_bit groups.now) after (change_cancel
-        (P.promises change.now.promises.now) change.now.variable (done_view change.now.event) k)) before FIRST_PENDING
-        groups.now }
-{
-    for (place, group) in groups.iter().enumerate() {
-        if is_set(before, FIRST_PENDING + place)
-            && !class_goes_into(change, groups, CancelClass::Pending(*group), after)
-        {
-            return false;
-        }
-    }
-    true
-}
-
-/// Whether what the change makes of each class of a cancel variable that the first mask has is in the second.
-pub fn cancel_goes_into<P: Promises>(
-    change: &Change<'_, '_, '_, P>,
-    groups: &[u32],
-    before: u16,
-    after: u16,
-) -> bool
-    ensures goes { IsTrue result ↔ GoesInto (cancel_class groups.now) (cancel_bit groups.now) (change_cancel
-        (P.promises change.now.promises.now) change.now.variable (done_view change.now.event)) before after }
-    ensures test { result ≡ cancel_goes_into groups.now (change_cancel (P.promises change.now.promises.now)
-        change.now.variable (done_view change.now.event)) before after }
-{
-    (!is_set(before, 0) || class_goes_into(change, groups, CancelClass::Unset, after))
-        && (!is_set(before, 1) || class_goes_into(change, groups, CancelClass::Opened, after))
-        && (!is_set(before, 2) || class_goes_into(change, groups, CancelClass::Safe, after))
-        && pending_go_into(change, groups, before, after)
-}
-
-/// Whether the second mask has what the change makes of the class, if the first has the class.
-fn group_class_goes<P: Promises>(
-    change: &Change<'_, '_, '_, P>,
-    class: GroupClass,
-    before: u16,
-    after: u16,
-) -> bool
-    ensures { result ≡ goes_if_set before (group_bit (group_class_view class)) (may_be_group after (change_group
-        (P.promises change.now.promises.now) change.now.variable (done_view change.now.event)
-        (group_class_view class))) }
-{
-    !may_be_group(before, class) || may_be_group(after, change.group(class))
-}
-
-/// Whether what the change makes of each class of a group that the first mask has is in the second.
-pub fn group_goes_into<P: Promises>(change: &Change<'_, '_, '_, P>, before: u16, after: u16) -> bool
-    ensures goes { IsTrue result ↔ GoesInto group_class bit_of_group (change_group
-        (P.promises change.now.promises.now) change.now.variable (done_view change.now.event)) before after }
-    ensures test { result ≡ group_goes_into (change_group (P.promises change.now.promises.now) change.now.variable
-        (done_view change.now.event)) before after }
-{
-    group_class_goes(change, GroupClass::Unmade, before, after)
-        && group_class_goes(change, GroupClass::InState(GroupState::Idle), before, after)
-        && group_class_goes(change, GroupClass::InState(GroupState::Live), before, after)
-        && group_class_goes(change, GroupClass::Awaited, before, after)
 }

@@ -11,7 +11,8 @@ ghost use Rattle.meaning.specs.Tracked.{placed};
 
 use allowed_uses::literal_at;
 use facts::VariableKind;
-use mentions::{BodyPlace, Mark, expression_marks};
+use marks::expression_marks;
+use mentions::{BodyPlace, Mark};
 use std::alloc::{AllocError, Global};
 use tracked::{Seen, enter, tracked_kind, variable_of};
 use tree::Expr;

@@ -13,7 +13,7 @@ use Rattle.meaning.specs.Uses.{Event}
 use Rattle.meaning_packages.specs.CallsFlags.{FileWithCredits, calls_by}
 use Rattle.meaning_packages.specs.Credits.{AreFairCredits}
 use Rattle.meaning_packages.specs.PathFaults.{paths_of}
-use Rattle.meaning_reports.specs.Loaded.{imported_flags, seen_files, trees_of, known_in}
+use Rattle.meaning_reports.specs.Loaded.{Tables, imported_flags, seen_files, trees_of, known_in}
 use Rattle.meaning_runs.proofs.EntryPlaces.{tree_seen}
 use Rattle.meaning_runs.proofs.OccurrencePlaces.{occurrences_have_places}
 use Rattle.meaning_runs.proofs.PackageYes.{AreKnownWell, yes_of_a_package_is_quiet_by}
@@ -58,8 +58,8 @@ all_fair (f ∷ fs) fair =
 -- Packages
 
 module _ (leaves : LeavesNoFault) (keeps : KeepsClaims) (settles : SettlesWhatItSays) (given : GivenByPath) where
-  known_by_certificates : AreKnownWell (by_certificates given)
-  known_by_certificates ps tables i q is none its signatures said_none texts =
+  known_by_certificates : (declared : Tables) → AreKnownWell (by_certificates given declared)
+  known_by_certificates declared ps tables i q is none its signatures said_none texts =
       let files = its.files in
       let flags = (tables q.path).calls in
       let verified = its.is_verified in
@@ -108,5 +108,6 @@ module _ (leaves : LeavesNoFault) (keeps : KeepsClaims) (settles : SettlesWhatIt
       })
 
 pub yes_of_verified_is_quiet : LeavesNoFault → KeepsClaims → SettlesWhatItSays → YesOfVerifiedIsQuiet
-yes_of_verified_is_quiet leaves keeps settles given =
-    yes_of_a_package_is_quiet_by (by_certificates given) (known_by_certificates leaves keeps settles given)
+yes_of_verified_is_quiet leaves keeps settles given declared =
+    yes_of_a_package_is_quiet_by (by_certificates given declared)
+    (known_by_certificates leaves keeps settles given declared)

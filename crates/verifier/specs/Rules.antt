@@ -1,5 +1,6 @@
 -- `verify` as rules by which a report is made of packages (`meaning_reports/specs/PackageReports.antt`): which flags a
--- package has, and what is said of its files, by the certificates that are given for it.
+-- package has, and what is said of its files, by the certificates that are given for it. What is declared of packages
+-- that were not given is taken for true, as by `check`: certificates say nothing of it.
 use Rattle.std.specs.Prelude.{ℕ, ◌≡◌, List, map, Some, slice_get}
 use Rattle.meaning_packages.specs.CallsFlags.{Flags, FileWithCredits, calls_by}
 use Rattle.meaning_reports.specs.Loaded.{LoadedPackage, Tables, imported_flags, seen_files}
@@ -42,5 +43,9 @@ pub record SaysByCertificates (given : GivenByPath) (ps : List LoadedPackage) (t
   pub is_file : slice_get files number ≡ Some file
   pub is_said : IsSaid (given loaded.path) flags (calls_by flags (imported_flags loaded tables)) number file x
 
-abbrev pub by_certificates : GivenByPath → Rules
-by_certificates given = record { are_flags = AreFlagsByCertificates given; says = SaysByCertificates given }
+abbrev pub by_certificates : GivenByPath → Tables → Rules
+by_certificates given declared = record {
+  are_flags = AreFlagsByCertificates given;
+  says = SaysByCertificates given;
+  declared = declared;
+}

@@ -9,6 +9,7 @@ use Rattle.meaning.specs.Uses.{Callee, Seen}
 use Rattle.meaning_packages.specs.CallsFlags.{Flags, FileWithCredits, calls_by, AreConsistent}
 use Rattle.meaning_packages.specs.Credits.{AreFairCredits}
 use Rattle.meaning_packages.specs.PathFaults.{paths_of}
+use Rattle.meaning_reports.specs.Loaded.{Tables}
 use Rattle.meaning_reports.specs.OneReport.{AreDetermined}
 use Rattle.meaning_reports.specs.PackageReports.{IsFileFinding}
 use Rattle.meaning_runs.specs.PackageYes.{YesOfAPackageIsQuietBy}
@@ -54,6 +55,7 @@ CreditsAreFair = (given : Given) (own : Flags) (calls : Callee → ℕ → Bool)
 abbrev pub FlagsAreDetermined : Type 0
 FlagsAreDetermined = (given : GivenByPath) → AreDetermined (AreFlagsByCertificates given)
 
--- the promise, by certificates
+-- the promise, by certificates, whatever is declared of packages that were not given
 abbrev pub YesOfVerifiedIsQuiet : Type 0
-YesOfVerifiedIsQuiet = (given : GivenByPath) → YesOfAPackageIsQuietBy (by_certificates given)
+YesOfVerifiedIsQuiet =
+    (given : GivenByPath) (declared : Tables) → YesOfAPackageIsQuietBy (by_certificates given declared)

@@ -1,5 +1,6 @@
 //! The rules of `verify` for the files of a package.
 
+ghost use Rattle.all_packages.specs.Certified.{no_certificates};
 ghost use Rattle.verifier.specs.GivenViews.{given_by};
 ghost use Rattle.verifier.specs.Rules.{by_certificates};
 
@@ -15,6 +16,8 @@ use whole_packages::LoadedPackage;
 
 impl FileRules for ByCertificates<'_> {
     ghost rules = { λ by. by_certificates (given_by by) };
+
+    ghost certificates = { λ by. no_certificates };
 
     fn find<'a>(
         &self,
@@ -34,6 +37,9 @@ impl FileRules for ByCertificates<'_> {
         Ok(FoundFiles {
             diagnostics,
             called,
+            certificates: Vec::new(alloc),
         })
     }
+
+    fn are_determined(&self) {}
 }

@@ -1,5 +1,4 @@
 mod KeptPackages
 mod NumberedTrees
 mod SecondPlaces
-pub mod UnrankedFaults
 mod WholeOf

@@ -3,6 +3,7 @@ use Rattle.std.specs.Prelude.{ℕ, ◌≡◌, List, [], ◌∷◌, flat_map, len
 use Rattle.tree.specs.Syntax.{SourceFile}
 use Rattle.tree.specs.View.{file_syntax}
 use Rattle.imports.specs.Ranks.{Package}
+pub use Rattle.meaning_reports.specs.Loaded.{HaveDistinctPaths}
 use Rattle.meaning_reports.specs.Loaded.{Reading, has_tree, has_text_fault, has_tree_fault, LoadedPackage, NumberedTree, trees_of, imports_of}
 use Rattle.whole_packages.specs.declared.loaded_package.Reading.{Reading as KeptReading}
 use Rattle.whole_packages.specs.declared.loaded_package.Reading.TheVariants.{Tree, NoTokens, NoTree}
@@ -32,14 +33,6 @@ pub record TellPackages (ps : List LoadedPackage) (kept : List KeptPackage) : Ty
       → slice_get ps i ≡ Some p
       → slice_get kept i ≡ Some k
       → TellsPackage p k
-
--- no two packages have one path
-pub record HaveDistinctPaths (ps : List LoadedPackage) : Type 0 where
-  pub same : (i j : ℕ) (p q : LoadedPackage)
-      → slice_get ps i ≡ Some p
-      → slice_get ps j ≡ Some q
-      → p.path ≡ q.path
-      → i ≡ j
 
 -- what it imports
 abbrev pub kept_list : KeptPackage → Package

@@ -1,6 +1,6 @@
 //! What is to be said of imports.
 
-ghost use Rattle.std.specs.Prelude.{◌≡◌, ◌++◌, OnOk, flat_map, map, slice_get};
+ghost use Rattle.std.specs.Prelude.{◌≡◌, ◌++◌, ℕ, Bool, List, OnOk, flat_map, map, slice_get};
 ghost use Rattle.imports.specs.Views.{at_path};
 ghost use Rattle.whole_packages.specs.LoadedViews.{numbered_view};
 ghost use Rattle.whole_packages.specs.WholeEntries.{is_marked, is_set, spec_entries, tree_entries};
@@ -13,6 +13,15 @@ use indexmap::IndexMap;
 use report::{Diagnostic, DiagnosticCode};
 use std::alloc::AllocError;
 use tree::{ImportDecl, ImportSpec};
+
+/// Some packages, told by their paths.
+pub trait Picks {
+    ghost picked: { Self → List ℕ → Bool };
+
+    /// Whether the package of that path is one of them.
+    fn picks(&self, path: &str) -> bool
+        ensures { result ≡ picked self.now path.now };
+}
 
 /// Some of the given packages: for each path the place of its package, and whether the package of a place is one of
 /// them.
@@ -31,27 +40,28 @@ fn is_set(marks: &[bool], place: usize) -> bool
     }
 }
 
-/// Whether the package of that path is one of them.
-fn is_marked(marked: Marked<'_, '_>, path: &str) -> bool
-    ensures { result ≡ is_marked (at_path marked.entry.places.now) marked.entry.marks.now path.now }
-{
-    match marked.places.get(path) {
-        Some(place) => is_set(marked.marks, *place),
-        None => false,
+impl Picks for Marked<'_, '_> {
+    ghost picked = { λ marked. is_marked (at_path marked.places.now) marked.marks.now };
+
+    fn picks(&self, path: &str) -> bool {
+        match self.places.get(path) {
+            Some(place) => is_set(self.marks, *place),
+            None => false,
+        }
     }
 }
 
-fn add_spec<'a>(
-    marked: Marked<'_, '_>,
+fn add_spec<'a, P: Picks>(
+    picked: &P,
     code: DiagnosticCode,
     file: usize,
     spec: &'a ImportSpec,
     diagnostics: &mut Vec<Diagnostic<'a>>,
 ) -> Result<(), AllocError>
     ensures { OnOk result (map entry_of diagnostics.new.items ≡ map entry_of diagnostics.old.items ++ spec_entries
-        (is_marked (at_path marked.entry.places.now) marked.entry.marks.now) code file (import_spec_syntax spec.now)) }
+        (P.picked picked.now) code file (import_spec_syntax spec.now)) }
 {
-    if is_marked(marked, spec.path.as_str()) {
+    if picked.picks(spec.path.as_str()) {
         diagnostics.push(Diagnostic {
             file,
             offset: spec.path_span.start,
@@ -62,54 +72,54 @@ fn add_spec<'a>(
     Ok(())
 }
 
-fn add_specs<'a>(
-    marked: Marked<'_, '_>,
+fn add_specs<'a, P: Picks>(
+    picked: &P,
     code: DiagnosticCode,
     file: usize,
     specs: &'a [ImportSpec],
     diagnostics: &mut Vec<Diagnostic<'a>>,
 ) -> Result<(), AllocError>
     ensures { OnOk result (map entry_of diagnostics.new.items ≡ map entry_of diagnostics.old.items ++ flat_map
-        (spec_entries (is_marked (at_path marked.entry.places.now) marked.entry.marks.now) code file)
+        (spec_entries (P.picked picked.now) code file)
         (map import_spec_syntax specs.now)) }
 {
     for spec in specs {
-        add_spec(marked, code, file, spec, diagnostics)?;
+        add_spec(picked, code, file, spec, diagnostics)?;
     }
     Ok(())
 }
 
-fn add_declarations<'a>(
-    marked: Marked<'_, '_>,
+fn add_declarations<'a, P: Picks>(
+    picked: &P,
     code: DiagnosticCode,
     file: usize,
     declarations: &'a [ImportDecl],
     diagnostics: &mut Vec<Diagnostic<'a>>,
 ) -> Result<(), AllocError>
     ensures { OnOk result (map entry_of diagnostics.new.items ≡ map entry_of diagnostics.old.items ++ flat_map
-        (spec_entries (is_marked (at_path marked.entry.places.now) marked.entry.marks.now) code file)
+        (spec_entries (P.picked picked.now) code file)
         (specs_of (map import_syntax declarations.now))) }
 {
     for declaration in declarations {
-        add_specs(marked, code, file, &declaration.specs, diagnostics)?;
+        add_specs(picked, code, file, &declaration.specs, diagnostics)?;
     }
     Ok(())
 }
 
-/// Adds for each import of one of the marked packages, in these files, a diagnostic of that code at its path.
-pub fn add_imports<'a>(
-    marked: Marked<'_, '_>,
+/// Adds for each import of one of the picked packages, in these files, a diagnostic of that code at its path.
+pub fn add_imports<'a, P: Picks>(
+    picked: &P,
     code: DiagnosticCode,
     trees: &[NumberedTree<'a>],
     diagnostics: &mut Vec<Diagnostic<'a>>,
 ) -> Result<(), AllocError>
     ensures { OnOk result (map entry_of diagnostics.new.items ≡ map entry_of diagnostics.old.items ++ flat_map
-        (tree_entries (is_marked (at_path marked.entry.places.now) marked.entry.marks.now) code)
+        (tree_entries (P.picked picked.now) code)
         (map numbered_view trees.now)) }
 {
     for numbered in trees {
         add_declarations(
-            marked,
+            picked,
             code,
             numbered.file,
             &numbered.tree.imports,

@@ -9,7 +9,7 @@ mod loaded_package;
 mod numbered;
 mod whole;
 
-pub use import_entries::{Marked, add_imports};
+pub use import_entries::{Marked, Picks, add_imports};
 pub use imported::import_lists;
 pub use loaded_package::{LoadedPackage, Reading};
 pub use numbered::{NumberedTree, numbered_trees};

@@ -103,7 +103,7 @@ pub fn whole_faults<'a>(
     add_failures(&loaded.readings, &mut diagnostics)?;
     add_second(&trees, second, &mut diagnostics)?;
     add_imports(
-        unranked,
+        &unranked,
         DiagnosticCode::ImportHasNoRank,
         &trees,
         &mut diagnostics,

@@ -1,6 +1,7 @@
 //! How many threads share some work.
 
 ghost use Rattle.std.specs.Prelude.{◌≡◌, ◌<◌, ◌≤◌, ◌⊎◌, IfNone, IfSome};
+ghost use Rattle.workers.specs.declared.count.TheConstants.{MOST_WORKERS};
 
 /// The most threads that share some work.
 pub const MOST_WORKERS: usize = 64;
@@ -10,7 +11,7 @@ pub const MOST_WORKERS: usize = 64;
 pub struct Workers {
     count: usize,
     ghost some: { 1 ≤ count },
-    ghost few: { count ≤ 64 },
+    ghost few: { count ≤ MOST_WORKERS },
 }
 
 impl Workers {
@@ -26,7 +27,7 @@ impl Workers {
     /// So many, where there may be so many.
     pub fn new(count: usize) -> Option<Workers>
         ensures some { IfSome result (λ workers. count_of workers ≡ count) }
-        ensures none { IfNone result ((count < 1) ⊎ (64 < count)) }
+        ensures none { IfNone result ((count < 1) ⊎ (MOST_WORKERS < count)) }
     {
         if 1 <= count && count <= MOST_WORKERS {
             Some(Workers { count })
@@ -39,7 +40,7 @@ impl Workers {
     pub fn count(self) -> usize
         ensures count { result ≡ count_of self }
         ensures some { 1 ≤ result }
-        ensures few { result ≤ 64 }
+        ensures few { result ≤ MOST_WORKERS }
     {
         self.count
     }

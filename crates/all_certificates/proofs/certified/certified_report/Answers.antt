@@ -1,28 +1,25 @@
-use Rattle.std.proofs.Common.{subst}
-use Rattle.all_packages.proofs.AllPackages.{are_tables}
-use Rattle.all_packages.specs.JudgedPackages.{tables_in}
-use Rattle.all_packages.specs.Progress.{judged_in, marks_in}
-use Rattle.all_packages.specs.Reports.{TellsReport}
-use Rattle.meaning_reports.specs.PackageReports.{by_paths}
-use Rattle.whole_packages.specs.LoadedViews.{TellPackages}
+use Rattle.std.proofs.Common.{◌∙◌, subst}
+use Rattle.all_certificates.proofs.AllCertified.{all_certified}
+use Rattle.all_packages.specs.Reports.{AreTold}
+use Rattle.certificate_json.specs.Certificates.{packages_of}
+use Rattle.declared_tables.specs.DeclaredTables.{declared_tables}
+use Rattle.outside_json.specs.Outside.{packages_of as declared_of}
 use Rattle.all_certificates.proofs.certified.certified_report.Goals as goal
 
 pub returns : goal.returns
 returns c =
-    let all = c.in_ok-all.all in
+    let judged = c.in_ok-judged.judged.items in
+    let declared = declared_tables (declared_of c.args.outside.now) in
     record {
-      tells_report =
-          subst (λ kept. TellsReport kept c.in_ok-report.report) c.in_ok-all.ensures.packages
-          (c.in_ok-report.ensures
-          (λ ps tell distinct.
-          c.in_ok-all.ensures.judged ps (subst (TellPackages ps) c.in_ok-all.ensures.packages tell) distinct));
+      tells_report = record {
+        said = judged;
+        are_reports = c.in_ok-judged.ensures.reports;
+        told =
+            subst (λ reports. AreTold reports c.in_ok-report.report)
+            (c.deref.ensures.value ∙ c.in_ok-reports.ensures.reports) c.in_ok-report.ensures;
+      };
       are_certificates = λ ps tell distinct.
-          let judged = c.in_ok-all.ensures.judged ps tell distinct in
-          record {
-            tables = tables_in all;
-            are_tables =
-                are_tables by_paths ps all.given.packages.now (judged_in all.progress) (marks_in all.progress)
-                judged.are_judged;
-            are_certificates = c.in_ok-certificates.ensures.packages ps tell judged;
-          };
+          all_certified declared ps c.args.packages.now tell judged (c.in_ok-judged.ensures.reports ps tell distinct)
+          (c.in_ok-judged.ensures.certified ps tell distinct)
+          (packages_of c.in_ok-reports.field-0.certificates) c.in_ok-reports.ensures.certified;
     }

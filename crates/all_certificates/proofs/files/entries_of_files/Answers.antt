@@ -1,8 +1,7 @@
 use Rattle.std.proofs.Common.{◌+◌, ◌<◌, length, map, refl, drop, sym, ap, arith, subst}
 use Rattle.std.proofs.lemmas.List.{drop_all}
 use Rattle.std.proofs.lemmas.Option.{slice_get_read}
-use Rattle.all_certificates.proofs.AddedEntries.{files_first, files_next, files_all}
-use Rattle.all_certificates.proofs.AllCertified.{rest_from}
+use Rattle.all_certificates.proofs.AddedEntries.{files_first, files_next, files_all, rest_from}
 use Rattle.all_certificates.specs.AddedEntries.{Adds}
 use Rattle.all_certificates.specs.CertifiedBodies.{AreOfBody, InTurn}
 use Rattle.bodies.specs.Bodies.{TellBodies}

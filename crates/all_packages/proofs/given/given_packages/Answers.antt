@@ -1,6 +1,6 @@
 use Rattle.std.proofs.Common.{◌≡◌, ℕ, List, length, sym, ap, ◌∙◌, subst}
 use Rattle.imports.specs.Ranks.{IsOrder}
-use Rattle.imports.specs.Settling.{place_from}
+use Rattle.imports.specs.Settling.{given_imports, place_from}
 use Rattle.imports.specs.Views.{at_path, packages_view, rank_of, ranked_of}
 use Rattle.meaning_reports.specs.Loaded.{import_list}
 use Rattle.all_packages.proofs.AllReports.{order_so}
@@ -18,10 +18,11 @@ returns-clause-given c = λ ps tell distinct.
     record {
       tell = tell;
       are_lists = lists;
+      are_imports = c.in_ok-imports.ensures ∙ ap given_imports (ap packages_view c.deref-3.ensures.value ∙ lists);
       is_ranked = order;
       are_places = are_places;
       is_order = order_so ps rank ranked order (length c.args.packages.now) (sym tell.are_as_many)
           c.in_ok-unranked.unranked.items c.in_ok-unranked.ensures.marks places are_places;
-      are_marks = c.in_ok-unranked.ensures.count ∙ sym tell.are_as_many;
       are_names = c.in_ok-names.ensures ps tell distinct;
+      are_declared = c.in_ok-declared.ensures;
     }

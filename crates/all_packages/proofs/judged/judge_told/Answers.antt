@@ -4,8 +4,8 @@ use Rattle.meaning_reports.specs.PackageTables.{full}
 use Rattle.all_packages.proofs.judged.judge_told.Goals as goal
 
 pub returns-clause-judged : goal.returns-clause-judged
-returns-clause-judged g c = λ ps tables i p is_p tells around marked none told.
-    let found = c.in_ok-diagnostics.ensures ps tables i p is_p tells around marked told none in
+returns-clause-judged g c = λ declared ps tables i p is_p tells around not_yes none told.
+    let found = c.in_ok-diagnostics.ensures.found declared ps tables i p is_p tells around not_yes told none in
     record {
       is_table = full (is_called c.in_ok-diagnostics.field-0.called) none found.are_flags told.are_signatures (λ name k. refl);
       are_findings = record {
@@ -16,3 +16,9 @@ returns-clause-judged g c = λ ps tables i p is_p tells around marked none told.
         );
       };
     }
+
+pub returns-clause-certified : goal.returns-clause-certified
+returns-clause-certified g c = λ ps tables i p is_p tells around none told. record {
+  of_bodies = λ no_fault. c.in_ok-diagnostics.ensures.certified ps tables i p is_p tells around told none;
+  are_none = λ x fault. absurd (none x fault);
+}

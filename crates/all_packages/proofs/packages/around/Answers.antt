@@ -6,8 +6,8 @@ use Rattle.all_packages.proofs.ImportedTables.{around_so}
 use Rattle.all_packages.proofs.packages.around.Goals as goal
 
 pub returns-clause-known : goal.returns-clause-known
-returns-clause-known c = λ ps tables i p judged given is_p ready agrees knows.
+returns-clause-known c = λ declared ps tables p js given knows have.
     let places = at_path c.args.given.now.places in
-    around_so ps judged i p is_p ready tables agrees (names_by_path c.args.given.now.names) places c.deref.result.now
+    around_so ps tables p c.args.given.now js have (names_by_path c.args.given.now.names) places c.deref.result.now
     c.args.imports.now.signatures c.args.imports.now.calls given.are_names
     (subst (TellsOrder ps places) (sym c.deref.ensures.value) given.is_order) knows.are_signatures knows.are_calls

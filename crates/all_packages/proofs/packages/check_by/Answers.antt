@@ -1,18 +1,34 @@
 use Rattle.std.proofs.Common.{subst}
 use Rattle.std.proofs.lemmas.Result.{IfOk-weaker}
-use Rattle.all_packages.specs.Progress.{judged_in, marks_in, AreAllJudged}
-use Rattle.all_packages.proofs.AllReports.{in_order_so}
+use Rattle.declared_tables.specs.DeclaredTables.{declared_tables}
+use Rattle.outside_json.specs.Outside.{packages_of}
+use Rattle.all_packages.specs.JudgedPackages.{tables_in}
+use Rattle.all_packages.specs.Progress.{slots_in, AreAllJudged}
+use Rattle.all_packages.proofs.AllReports.{certified_so, reports_so}
 use Rattle.all_packages.proofs.packages.check_by.Goals as goal
 
-pub returns : goal.returns
-returns g c =
-    IfOk-weaker c.in_their_order.result _ _
+pub returns-clause-reports : goal.returns-clause-reports
+returns-clause-reports g c =
+    IfOk-weaker c.into_judged.result _ _
     (λ found same ps tell distinct.
-    let rules = g.R.FileRules.rules c.args.rules.now in
-    let kept = c.args.packages.now in
-    let marks = marks_in c.in_ok-progress.field-0.progress in
-    let judged = judged_in c.in_ok-progress.field-0.progress in
-    let all = subst (λ ks. AreAllJudged rules ps ks judged marks) c.in_ok-progress.ensures.packages
-    (c.in_ok-progress.ensures.judged ps tell distinct).are_judged in
-    in_order_so rules ps kept tell distinct judged marks all found.items same)
-    c.in_their_order.ensures
+    let rules = g.R.FileRules.rules c.args.rules.now (declared_tables (packages_of c.args.outside.now)) in
+    let rule = g.R.FileRules.certificates c.args.rules.now in
+    let own = c.in_ok-progress.field-0 in
+    let slots = slots_in own.progress in
+    let all = c.in_ok-progress.ensures.judged ps tell distinct in
+    let judged = subst (λ ks. AreAllJudged rules rule ps ks slots) c.in_ok-progress.ensures.packages all.are_judged in
+    reports_so rules ps c.args.packages.now tell slots judged (tables_in own) all.are_tables found.items same)
+    c.into_judged.ensures
+
+pub returns-clause-certified : goal.returns-clause-certified
+returns-clause-certified g c =
+    IfOk-weaker c.into_judged.result _ _
+    (λ found same ps tell distinct.
+    let rules = g.R.FileRules.rules c.args.rules.now (declared_tables (packages_of c.args.outside.now)) in
+    let rule = g.R.FileRules.certificates c.args.rules.now in
+    let own = c.in_ok-progress.field-0 in
+    let slots = slots_in own.progress in
+    let all = c.in_ok-progress.ensures.judged ps tell distinct in
+    let judged = subst (λ ks. AreAllJudged rules rule ps ks slots) c.in_ok-progress.ensures.packages all.are_judged in
+    certified_so rules ps c.args.packages.now tell slots judged (tables_in own) all.are_tables found.items same)
+    c.into_judged.ensures

@@ -1,41 +1,64 @@
-use Rattle.std.proofs.Common.{length, refl, sym, ap, ◌∙◌}
+use Rattle.std.proofs.Common.{◌≡◌, length, refl, sym, ap, ◌∙◌, subst, filter_map}
 use Rattle.std.specs.Prelude.{slice_get}
 use Rattle.std.proofs.lemmas.Option.{slice_get_read}
-use Rattle.facts.proofs.FactParts.{on_ok}
-use Rattle.all_packages.specs.Progress.{judged_in, marks_in}
-use Rattle.all_packages.proofs.KeptNext.{on_both, here, imports_here, judged_already, none_before, kept_next}
+use Rattle.gathering.specs.Results.{FollowsFrom}
+use Rattle.gathering.proofs.Results.{have_results, what_follows_is_a_result_by}
+use Rattle.all_packages.specs.Certified.{AreCertified, CertificatesFollow}
+use Rattle.all_packages.specs.Progress.{slots_in, slot_at, imports_at, IsNext}
+use Rattle.all_packages.specs.Reports.{said_view}
+use Rattle.all_packages.specs.Results.{results_by, AreImported}
+use Rattle.all_packages.proofs.FoundPackages.{imports_so, list_so}
+use Rattle.all_packages.proofs.ImportedRows.{are_imported, results_so}
+use Rattle.all_packages.proofs.KeptPackages.{package_of}
+use Rattle.all_packages.proofs.NextPackage.{goes_next, stays, seen_some}
 use Rattle.all_packages.proofs.packages.judge_next.Goals as goal
 
-pub returns-then-contains_key : goal.returns-then-contains_key
-returns-then-contains_key g c = λ ps given distinct ready right.
-    let packages = c.args.given.now.packages.now in
-    let is = slice_get_read packages (length packages) c.args.place c.in-Some-Some.loaded.now refl
-    c.in-Some-Some.ensures.lookup.3.0 c.in-Some-Some.ensures.lookup.1 in
-    judged_already ps c.args.given.now given c.args.place c.in-Some-Some.loaded.now is (g.R.FileRules.rules c.args.rules.now) c.as_str.result.now c.as_str.ensures.value
-    (judged_in c.args.progress.now) (marks_in c.args.progress.now) right (sym c.contains_key.ensures ∙ c.if-contains_key.true)
+pub returns-then-is_some : goal.returns-then-is_some
+returns-then-is_some g c = λ declared ps given distinct ready right.
+    let slots = slots_in c.args.progress.now in
+    stays (g.R.FileRules.rules c.args.rules.now declared) ps c.args.given.now.packages.now slots c.args.place right
+    (λ p is. sym (seen_some c.at.result (slot_at slots c.args.place) c.at.ensures) ∙ (sym c.is_some.ensures ∙ c.if-is_some.true))
 
 pub returns : goal.returns
-returns g c =
-    on_ok c.keep.result (λ kept ps given distinct ready right.
-    let rules = g.R.FileRules.rules c.args.rules.now in
-    let packages = c.args.given.now.packages.now in
-    let lists = c.deref.result.now in
+returns g c = λ declared ps given distinct ready right.
+    let rules = g.R.FileRules.rules c.args.rules.now declared in
+    let rule = g.R.FileRules.certificates c.args.rules.now in
+    let own = c.args.given.now in
+    let packages = own.packages.now in
     let place = c.args.place in
-    let loaded = c.in-Some-Some.loaded.now in
-    let before = judged_in c.args.progress.now in
-    let marks = marks_in c.args.progress.now in
-    let is = slice_get_read packages (length packages) place loaded refl c.in-Some-Some.ensures.lookup.3.0
-    c.in-Some-Some.ensures.lookup.1 in
+    let loaded = c.in-Some-Some-Some.loaded.now in
+    let lists = c.deref.result.now in
+    let list = c.in-Some-Some-Some.list.now in
+    let rows = c.deref-2.result.now in
+    let row = c.in-Some-Some-Some.places.now in
+    let slots = slots_in c.args.progress.now in
+    let judged = c.in_ok-judged.judged in
+    let is = slice_get_read packages (length packages) place loaded refl c.in-Some-Some-Some.ensures.lookup.3.0
+    c.in-Some-Some-Some.ensures.lookup.1 in
     let is_list = ap (λ ls. slice_get ls place) (sym c.deref.ensures.value)
-    ∙ slice_get_read lists (length lists) place c.in-Some-Some.list.now refl
-    c.in-Some-Some.ensures'.lookup.3.0 c.in-Some-Some.ensures'.lookup.1 in
-    let own = here ps c.args.given.now given place loaded is in
-    let new = sym c.contains_key.ensures ∙ c.if-contains_key.false in
-    let judgment = c.in_ok-judged.ensures.judged ps place own.meant given own.is_there own.tells
-    (imports_here ps c.args.given.now given place loaded is c.in-Some-Some.list.now is_list) ready right in
-    let told = c.in_ok-judged.ensures.told in
-    kept_next ps c.args.given.now given place loaded is rules c.as_str.result.now c.as_str.ensures.value before marks right distinct new
-    c.in_ok-judged.judged told judgment (judged_in c.keep.new.self) (marks_in c.keep.new.self)
-    (kept.0 (none_before ps c.args.given.now given place loaded is rules c.as_str.result.now c.as_str.ensures.value before marks right
-    distinct new c.in_ok-judged.judged told judgment)) kept.1)
-    (on_both _ _ c.keep.result c.keep.ensures.judged c.keep.ensures.marks)
+    ∙ slice_get_read lists (length lists) place list refl c.in-Some-Some-Some.ensures'.lookup.3.0
+    c.in-Some-Some-Some.ensures'.lookup.1 in
+    let is_row = ap (λ rs. slice_get rs place) (sym c.deref-2.ensures.value)
+    ∙ slice_get_read rows (length rows) place row refl c.in-Some-Some-Some.ensures''.lookup.3.0
+    c.in-Some-Some-Some.ensures''.lookup.1 in
+    let it = package_of ps packages given.tell place loaded is in
+    let same : c.as_slice.result.now ≡ imports_at ps place =
+    c.as_slice.ensures.value ∙ imports_so declared ps own given place row is_row in
+    let names = list_so declared ps own given place it.meant it.is_there list is_list in
+    let determined = c.are_determined.ensures.flags declared in
+    let follows = subst (λ places. AreImported ps place (filter_map (slot_at slots) places)
+    → FollowsFrom rules ps place it.meant (results_by ps (filter_map (slot_at slots) places)) (said_view judged)) same
+    (c.in_ok-judged.ensures.follows declared ps place it.meant given it.is_there it.tells names) in
+    let too = subst (λ places. AreImported ps place (filter_map (slot_at slots) places)
+    → CertificatesFollow rules rule ps place it.meant (results_by ps (filter_map (slot_at slots) places)) judged) same
+    (c.in_ok-judged.ensures.certified declared ps place it.meant given it.is_there it.tells names) in
+    let results = results_by ps (filter_map (slot_at slots) (imports_at ps place)) in
+    let are_results = results_so rules ps packages given.tell slots right place distinct in
+    let imported = are_imported rules ps packages given.tell slots right place ready in
+    let result = what_follows_is_a_result_by rules determined ps place it.meant results (said_view judged)
+    it.is_there are_results (follows imported) in
+    let certified : AreCertified rules rule ps place it.meant judged = λ tables below.
+    too imported tables (have_results rules determined ps tables place results below are_results) in
+    subst (λ after. IsNext rules rule ps packages slots after place) (sym c.keep.ensures)
+    (goes_next rules ps packages slots right place it.meant loaded it.is_there is judged c.in_ok-judged.ensures.told result
+    certified)

@@ -1,15 +1,17 @@
 use Rattle.std.proofs.Common.{ℕ, List, Option, drop}
 use Rattle.imports.specs.Ranks.{IsOrder}
 use Rattle.whole_packages.specs.LoadedViews.{HaveDistinctPaths}
-use Rattle.meaning_reports.specs.Loaded.{LoadedPackage, import_list}
-use Rattle.all_packages.specs.Progress.{judged_in, marks_in, AreRight, TellsGiven}
+use Rattle.meaning_reports.specs.Loaded.{LoadedPackage, Tables, import_list}
+use Rattle.all_packages.specs.Progress.{slots_in, AreRight, TellsGiven}
 use Rattle.all_packages.proofs.AllPackages.{GoOn}
 use Rattle.all_packages.proofs.packages.judge_ranked.Given as goal
 
 -- those before are judged, and these are left
 abbrev pub invariant-loop-place : goal.invariant-loop-place
 invariant-loop-place g l =
-    (ps : List LoadedPackage) → TellsGiven ps l.given → HaveDistinctPaths ps
+    (declared : Tables) (ps : List LoadedPackage) → TellsGiven declared ps l.given → HaveDistinctPaths ps
     → (rank : ℕ → Option ℕ) → IsOrder (import_list ps) rank l.ranked
-    → AreRight (g.R.FileRules.rules l.rules) ps l.given.packages.now (judged_in l.initial.progress) (marks_in l.initial.progress)
-    → GoOn (g.R.FileRules.rules l.rules) ps l.given.packages.now l.ranked (drop l.place-index l.ranked) (judged_in l.progress) (marks_in l.progress)
+    → AreRight (g.R.FileRules.rules l.rules declared) (g.R.FileRules.certificates l.rules) ps l.given.packages.now
+    (slots_in l.initial.progress)
+    → GoOn (g.R.FileRules.rules l.rules declared) (g.R.FileRules.certificates l.rules) ps l.given.packages.now l.ranked
+    (drop l.place-index l.ranked) (slots_in l.progress)

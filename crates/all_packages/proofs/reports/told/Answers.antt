@@ -1,11 +1,10 @@
-use Rattle.std.proofs.Common.{ap, ◌∙◌}
-use Rattle.std.specs.List.{list_all}
-use Rattle.report.specs.ReportText.{report_text}
-use Rattle.all_packages.specs.Reports.{is_yes}
+use Rattle.std.proofs.Common.{◌∙◌, subst}
+use Rattle.all_packages.specs.Reports.{AreTold}
+use Rattle.std.proofs.lemmas.Result.{IfOk-weaker}
 use Rattle.all_packages.proofs.reports.told.Goals as goal
 
 pub returns : goal.returns
-returns c = record {
-  is_text = c.in_ok-text.ensures ∙ ap report_text (c.deref.ensures.value ∙ c.in_ok-reports.ensures);
-  verdict = c.are_yes-yes.ensures ∙ ap (list_all is_yes) (c.deref-2.ensures.value ∙ c.in_ok-reports.ensures);
-}
+returns c =
+    IfOk-weaker c.report_from.result _ _
+    (λ report told. subst (λ reports. AreTold reports report) (c.deref.ensures.value ∙ c.in_ok-reports.ensures) told)
+    c.report_from.ensures

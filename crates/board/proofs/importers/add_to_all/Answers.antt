@@ -15,8 +15,8 @@ loop-import-preserved c end h =
     let P : List ℕ → Type 0 = λ l. AddsImporter l c.args.importer old end in
     c.loop-import.invariant end (
     subst P (sym (drop_more c.args.imports.now i 0 (omega arith))) (
-    adds_next (get_or c.args.imports.now i 0) c.args.importer old (rows_view c.add.new.importers.items)
-    c.in_ok-add.ensures (drop (i + 1) c.args.imports.now) end h))
+    adds_next (get_or c.args.imports.now i 0) c.args.importer old (rows_view c.push_at.new.rows.items)
+    c.in_ok-push_at.ensures (drop (i + 1) c.args.imports.now) end h))
 
 pub returns : goal.returns
 returns c =

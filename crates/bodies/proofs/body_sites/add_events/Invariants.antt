@@ -1,5 +1,5 @@
 use Rattle.std.proofs.Common.{drop}
-use Rattle.code.specs.SiteViews.{sites_view}
+use Rattle.body_code.specs.SiteViews.{sites_view}
 use Rattle.bodies.proofs.SitesAdded.{EventsLeft}
 use Rattle.bodies.proofs.body_sites.add_events.Given as goal
 

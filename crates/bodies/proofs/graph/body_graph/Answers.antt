@@ -1,6 +1,6 @@
 use Rattle.tree.specs.View.{statements_syntax}
 use Rattle.code.specs.CodeViews.{block_of, code_view}
-use Rattle.code.specs.SiteViews.{sites_view}
+use Rattle.body_code.specs.SiteViews.{sites_view}
 use Rattle.bodies.proofs.WholeGraph.{of_built}
 use Rattle.bodies.proofs.graph.body_graph.Goals as goal
 

@@ -1,33 +1,51 @@
 use Rattle.std.proofs.Common.{◌≡◌, IsErrAnd, refl, rules, string_bytes, subst, sym}
 use Rattle.std.specs.Io.KnownBytes.{Appends}
-use Rattle.command_line.specs.Words.{texts_of}
+use Rattle.command_line.specs.Words.{option_texts, texts_of}
 use Rattle.folders.specs.declared.fault.Fault.TheVariants.{CannotWrite}
 use Rattle.judge.specs.Certified.{IsCertifiedReport}
+use Rattle.outside_json.specs.Outside.{packages_of}
 use Rattle.driver.specs.Faults.{IsCertifyFault}
-use Rattle.driver.specs.Packages.{AreGiven, AreNamed, AreRead}
+use Rattle.driver.specs.Packages.{AreGiven, AreNamed}
 use Rattle.driver.specs.Printing.{AppendsFront}
 use Rattle.driver.proofs.FaultsOfCommands.{of_check}
-use Rattle.driver.proofs.ReadGiven.{handed_on, none_bad, of_reading, on_err}
+use Rattle.driver.proofs.ReadGiven.{are_given, handed_on, none_bad, of_reading, of_report, on_err}
 use Rattle.driver.proofs.certify.certify.Goals as goal
 
-pub returns-in_err-given-clause-fault : goal.returns-in_err-given-clause-fault
-returns-in_err-given-clause-fault g c =
+pub returns-in_err-input-clause-fault : goal.returns-in_err-input-clause-fault
+returns-in_err-input-clause-fault g c =
     let packages = c.in_ok-packages.packages.items in
     let words = texts_of c.args.asked.now.packages.items in
+    let facts = option_texts c.args.asked.now.facts in
     let named : AreNamed words packages
     = subst (λ ws. AreNamed (texts_of ws) packages) c.deref.ensures.value c.in_ok-packages.ensures.named in
-    let fault = c.in_err-given.field-0.0 in
-    handed_on c.from_residual-in_err-given.result fault (IsCertifyFault words) c.from_residual-in_err-given.ensures.1
-    (of_check words fault (of_reading words packages fault named c.in_err-given.ensures.fault))
+    let fault = c.in_err-input.field-0.0 in
+    handed_on c.from_residual-in_err-input.result fault (IsCertifyFault words facts) c.from_residual-in_err-input.ensures.1
+    (of_check words facts fault (of_reading words facts packages fault named c.in_err-input.ensures.fault))
+
+pub returns-in_err-told-clause-fault : goal.returns-in_err-told-clause-fault
+returns-in_err-told-clause-fault g c =
+    let packages = c.in_ok-packages.packages.items in
+    let words = texts_of c.args.asked.now.packages.items in
+    let facts = option_texts c.args.asked.now.facts in
+    let input = c.in_ok-input.input in
+    let named : AreNamed words packages
+    = subst (λ ws. AreNamed (texts_of ws) packages) c.deref.ensures.value c.in_ok-packages.ensures.named in
+    let are : AreGiven words input.given.items
+    = are_given words packages _ input.given.items named c.deref-2.ensures.value c.in_ok-input.ensures.given in
+    let fault = c.in_err-told.field-0.0 in
+    handed_on c.from_residual-in_err-told.result fault (IsCertifyFault words facts) c.from_residual-in_err-told.ensures.1
+    (of_check words facts fault (of_report words facts input.given.items input.facts input.outside are
+    c.in_ok-input.ensures.declared fault c.in_err-told.ensures.fault))
 
 pub returns-in_err-print-clause-fault : goal.returns-in_err-print-clause-fault
 returns-in_err-print-clause-fault g c =
     let packages = c.in_ok-packages.packages.items in
     let words = texts_of c.args.asked.now.packages.items in
+    let facts = option_texts c.args.asked.now.facts in
     let named : AreNamed words packages
     = subst (λ ws. AreNamed (texts_of ws) packages) c.deref.ensures.value c.in_ok-packages.ensures.named in
     let told : IsErrAnd c.from_residual-in_err-print.result (λ fault. fault ≡ CannotWrite) = search rules in
-    handed_on c.from_residual-in_err-print.result CannotWrite (IsCertifyFault words) told (none_bad words packages named)
+    handed_on c.from_residual-in_err-print.result CannotWrite (IsCertifyFault words facts) told (none_bad words packages named)
 
 pub returns-in_err-print-clause-begun : goal.returns-in_err-print-clause-begun
 returns-in_err-print-clause-begun g c =
@@ -35,22 +53,22 @@ returns-in_err-print-clause-begun g c =
     let words = texts_of c.args.asked.now.packages.items in
     let named : AreNamed words packages
     = subst (λ ws. AreNamed (texts_of ws) packages) c.deref.ensures.value c.in_ok-packages.ensures.named in
-    let given = c.in_ok-given.given.items in
+    let input = c.in_ok-input.input in
+    let given = input.given.items in
     let are : AreGiven words given
-    = record {
-      packages = packages;
-      are_named = named;
-      are_read = subst (λ ps. AreRead ps given) c.deref-2.ensures.value c.in_ok-given.ensures.read;
-    } in
+    = are_given words packages _ given named c.deref-2.ensures.value c.in_ok-input.ensures.given in
     let told = c.in_ok-told.told in
     let old = g.W.Write.contents c.args.out.now in
     let new = g.W.Write.contents c.print.new.out in
     on_err c.from_residual-in_err-print.result
     (λ fault e. (
+      input.facts,
       string_bytes told.certificates,
       record {
         given = given;
         are_given = are;
+        outside = input.outside;
+        are_declared = c.in_ok-input.ensures.declared;
         report = told.report;
         is_report = c.in_ok-told.ensures.report;
         so = subst (AppendsFront old new) c.deref-3.ensures.value c.in_err-print.ensures.begun;
@@ -61,11 +79,12 @@ pub returns-in_err-file-2-clause-fault : goal.returns-in_err-file-2-clause-fault
 returns-in_err-file-2-clause-fault g c =
     let packages = c.in_ok-packages.packages.items in
     let words = texts_of c.args.asked.now.packages.items in
+    let facts = option_texts c.args.asked.now.facts in
     let named : AreNamed words packages
     = subst (λ ws. AreNamed (texts_of ws) packages) c.deref.ensures.value c.in_ok-packages.ensures.named in
     let fault = c.in_err-file-2.field-0.0 in
-    handed_on c.from_residual-in_err-file-2.result fault (IsCertifyFault words) c.from_residual-in_err-file-2.ensures.1
-    (subst (IsCertifyFault words) (sym c.in_err-file-2.ensures.fault) (none_bad words packages named))
+    handed_on c.from_residual-in_err-file-2.result fault (IsCertifyFault words facts) c.from_residual-in_err-file-2.ensures.1
+    (subst (IsCertifyFault words facts) (sym c.in_err-file-2.ensures.fault) (none_bad words packages named))
 
 pub returns-in_err-file-2-clause-whole : goal.returns-in_err-file-2-clause-whole
 returns-in_err-file-2-clause-whole g c =
@@ -73,23 +92,23 @@ returns-in_err-file-2-clause-whole g c =
     let words = texts_of c.args.asked.now.packages.items in
     let named : AreNamed words packages
     = subst (λ ws. AreNamed (texts_of ws) packages) c.deref.ensures.value c.in_ok-packages.ensures.named in
-    let given = c.in_ok-given.given.items in
+    let input = c.in_ok-input.input in
+    let given = input.given.items in
     let are : AreGiven words given
-    = record {
-      packages = packages;
-      are_named = named;
-      are_read = subst (λ ps. AreRead ps given) c.deref-2.ensures.value c.in_ok-given.ensures.read;
-    } in
+    = are_given words packages _ given named c.deref-2.ensures.value c.in_ok-input.ensures.given in
     let told = c.in_ok-told.told in
     let old = g.W.Write.contents c.args.out.now in
     let new = g.W.Write.contents c.print.new.out in
     on_err c.from_residual-in_err-file-2.result
     (λ fault name e. (
       told.report.yes,
+      input.facts,
       string_bytes told.certificates,
       record {
         given = given;
         are_given = are;
+        outside = input.outside;
+        are_declared = c.in_ok-input.ensures.declared;
         report = told.report;
         is_report = c.in_ok-told.ensures.report;
         so = (refl, subst (Appends old new) c.deref-3.ensures.value c.in_ok-print.ensures.written);
@@ -102,13 +121,10 @@ returns-clause-written g c =
     let words = texts_of c.args.asked.now.packages.items in
     let named : AreNamed words packages
     = subst (λ ws. AreNamed (texts_of ws) packages) c.deref.ensures.value c.in_ok-packages.ensures.named in
-    let given = c.in_ok-given.given.items in
+    let input = c.in_ok-input.input in
+    let given = input.given.items in
     let are : AreGiven words given
-    = record {
-      packages = packages;
-      are_named = named;
-      are_read = subst (λ ps. AreRead ps given) c.deref-2.ensures.value c.in_ok-given.ensures.read;
-    } in
+    = are_given words packages _ given named c.deref-2.ensures.value c.in_ok-input.ensures.given in
     let told = c.in_ok-told.told in
     let old = g.W.Write.contents c.args.out.now in
     let new = g.W.Write.contents c.print.new.out in
@@ -118,9 +134,12 @@ returns-clause-written g c =
       record {
         given = given;
         are_given = are;
+        outside = input.outside;
+        are_declared = c.in_ok-input.ensures.declared;
         report = told.report;
         is_report =
-            subst (λ text. IsCertifiedReport given told.report (string_bytes text)) (sym is_text) c.in_ok-told.ensures.report;
+            subst (λ text. IsCertifiedReport (packages_of input.outside) given told.report (string_bytes text)) (sym is_text)
+            c.in_ok-told.ensures.report;
         so = (refl, subst (Appends old new) c.deref-3.ensures.value c.in_ok-print.ensures.written);
       },
     )

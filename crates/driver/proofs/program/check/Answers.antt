@@ -1,71 +1,99 @@
-use Rattle.std.proofs.Common.{◌≡◌, subst}
-use Rattle.command_line.specs.Words.{texts_of}
-use Rattle.driver.specs.Faults.{IsCheckFault}
+use Rattle.std.proofs.Common.{◌≡◌, IsErrAnd, refl, rules, subst}
+use Rattle.std.specs.Io.KnownBytes.{Appends}
+use Rattle.command_line.specs.Words.{option_texts, texts_of}
 use Rattle.folders.specs.declared.fault.Fault.TheVariants.{CannotWrite}
-use Rattle.driver.specs.Packages.{AreGiven, AreNamed, AreRead}
-use Rattle.driver.specs.WrittenReport.{IsBegun, OfReport}
-use Rattle.driver.proofs.ReadGiven.{handed_on, of_judging, of_reading}
+use Rattle.driver.specs.Faults.{IsCheckFault}
+use Rattle.driver.specs.Packages.{AreGiven, AreNamed}
+use Rattle.driver.specs.Printing.{AppendsFront}
+use Rattle.driver.proofs.ReadGiven.{are_given, handed_on, none_bad, of_reading, of_report, on_err}
 use Rattle.driver.proofs.program.check.Goals as goal
 
-pub returns-in_err-given-clause-fault : goal.returns-in_err-given-clause-fault
-returns-in_err-given-clause-fault g c =
+pub returns-in_err-input-clause-fault : goal.returns-in_err-input-clause-fault
+returns-in_err-input-clause-fault g c =
     let packages = c.in_ok-packages.packages.items in
     let words = texts_of c.args.asked.now.packages.items in
+    let facts = option_texts c.args.asked.now.facts in
     let named : AreNamed words packages
     = subst (λ ws. AreNamed (texts_of ws) packages) c.deref.ensures.value c.in_ok-packages.ensures.named in
-    let fault = c.in_err-given.field-0.0 in
-    handed_on c.from_residual-in_err-given.result fault (IsCheckFault words) c.from_residual-in_err-given.ensures.1
-    (of_reading words packages fault named c.in_err-given.ensures.fault)
+    let fault = c.in_err-input.field-0.0 in
+    handed_on c.from_residual-in_err-input.result fault (IsCheckFault words facts)
+    c.from_residual-in_err-input.ensures.1
+    (of_reading words facts packages fault named c.in_err-input.ensures.fault)
 
-pub returns-in_err-status-clause-fault : goal.returns-in_err-status-clause-fault
-returns-in_err-status-clause-fault g c =
+pub returns-in_err-report-clause-fault : goal.returns-in_err-report-clause-fault
+returns-in_err-report-clause-fault g c =
     let packages = c.in_ok-packages.packages.items in
     let words = texts_of c.args.asked.now.packages.items in
+    let facts = option_texts c.args.asked.now.facts in
+    let input = c.in_ok-input.input in
     let named : AreNamed words packages
     = subst (λ ws. AreNamed (texts_of ws) packages) c.deref.ensures.value c.in_ok-packages.ensures.named in
-    let given = c.in_ok-given.given.items in
-    let fault = c.in_err-status.field-0.0 in
-    let are : AreGiven words given
-    = record {
-      packages = packages;
-      are_named = named;
-      are_read = subst (λ ps. AreRead ps given) c.deref-2.ensures.value c.in_ok-given.ensures.read;
-    } in
-    handed_on c.from_residual-in_err-status.result fault (IsCheckFault words) c.from_residual-in_err-status.ensures.1
-    (of_judging words given fault are c.in_err-status.ensures.fault)
+    let are : AreGiven words input.given.items
+    = are_given words packages _ input.given.items named c.deref-2.ensures.value c.in_ok-input.ensures.given in
+    let fault = c.in_err-report.field-0.0 in
+    handed_on c.from_residual-in_err-report.result fault (IsCheckFault words facts)
+    c.from_residual-in_err-report.ensures.1
+    (of_report words facts input.given.items input.facts input.outside are c.in_ok-input.ensures.declared fault
+    c.in_err-report.ensures.fault)
 
-pub returns-in_err-status-clause-begun : goal.returns-in_err-status-clause-begun
-returns-in_err-status-clause-begun g c =
+pub returns-in_err-print-clause-fault : goal.returns-in_err-print-clause-fault
+returns-in_err-print-clause-fault g c =
     let packages = c.in_ok-packages.packages.items in
     let words = texts_of c.args.asked.now.packages.items in
+    let facts = option_texts c.args.asked.now.facts in
     let named : AreNamed words packages
     = subst (λ ws. AreNamed (texts_of ws) packages) c.deref.ensures.value c.in_ok-packages.ensures.named in
-    let given = c.in_ok-given.given.items in
+    let told : IsErrAnd c.from_residual-in_err-print.result (λ fault. fault ≡ CannotWrite) = search rules in
+    handed_on c.from_residual-in_err-print.result CannotWrite (IsCheckFault words facts) told
+    (none_bad words packages named)
+
+pub returns-in_err-print-clause-begun : goal.returns-in_err-print-clause-begun
+returns-in_err-print-clause-begun g c =
+    let packages = c.in_ok-packages.packages.items in
+    let words = texts_of c.args.asked.now.packages.items in
+    let input = c.in_ok-input.input in
+    let named : AreNamed words packages
+    = subst (λ ws. AreNamed (texts_of ws) packages) c.deref.ensures.value c.in_ok-packages.ensures.named in
+    let are : AreGiven words input.given.items
+    = are_given words packages _ input.given.items named c.deref-2.ensures.value c.in_ok-input.ensures.given in
+    let report = c.in_ok-report.report in
     let old = g.W.Write.contents c.args.out.now in
-    let new = g.W.Write.contents c.report.new.out in
-    let are : AreGiven words given
-    = record {
-      packages = packages;
-      are_named = named;
-      are_read = subst (λ ps. AreRead ps given) c.deref-2.ensures.value c.in_ok-given.ensures.read;
-    } in
-    handed_on c.from_residual-in_err-status.result c.in_err-status.field-0.0 (λ f. f ≡ CannotWrite → OfReport words (IsBegun old new))
-    c.from_residual-in_err-status.ensures.1
-    (λ e. let begun = c.in_err-status.ensures.begun e in
-    record { given = given; are_given = are; report = begun.0; is_report = begun.1; so = begun.2 })
+    let new = g.W.Write.contents c.print.new.out in
+    on_err c.from_residual-in_err-print.result
+    (λ fault e. (
+      input.facts,
+      record {
+        given = input.given.items;
+        are_given = are;
+        outside = input.outside;
+        are_declared = c.in_ok-input.ensures.declared;
+        report = report;
+        is_report = c.in_ok-report.ensures.report;
+        so = subst (AppendsFront old new) c.deref-3.ensures.value c.in_err-print.ensures.begun;
+      },
+    ))
 
 pub returns-clause-written : goal.returns-clause-written
 returns-clause-written g c =
     let packages = c.in_ok-packages.packages.items in
     let words = texts_of c.args.asked.now.packages.items in
+    let input = c.in_ok-input.input in
     let named : AreNamed words packages
     = subst (λ ws. AreNamed (texts_of ws) packages) c.deref.ensures.value c.in_ok-packages.ensures.named in
-    let given = c.in_ok-given.given.items in
-    let told = c.in_ok-status.ensures.written in
-    let are : AreGiven words given
-    = record {
-      packages = packages;
-      are_named = named;
-      are_read = subst (λ ps. AreRead ps given) c.deref-2.ensures.value c.in_ok-given.ensures.read;
-    } in
-    (told.0, told.1, record { given = given; are_given = are; report = told.2; is_report = told.3; so = told.4 })
+    let are : AreGiven words input.given.items
+    = are_given words packages _ input.given.items named c.deref-2.ensures.value c.in_ok-input.ensures.given in
+    let report = c.in_ok-report.report in
+    let old = g.W.Write.contents c.args.out.now in
+    let new = g.W.Write.contents c.print.new.out in (
+      report.yes,
+      c.of_verdict.ensures,
+      record {
+        given = input.given.items;
+        are_given = are;
+        outside = input.outside;
+        are_declared = c.in_ok-input.ensures.declared;
+        report = report;
+        is_report = c.in_ok-report.ensures.report;
+        so = (refl, subst (Appends old new) c.deref-3.ensures.value c.in_ok-print.ensures.written);
+      },
+    )

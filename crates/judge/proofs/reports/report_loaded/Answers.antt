@@ -1,7 +1,11 @@
 use Rattle.std.proofs.Common.{IfOk, subst}
 use Rattle.all_packages.specs.Reports.{TellsReport}
+use Rattle.declared_tables.specs.DeclaredTables.{declared_tables}
+use Rattle.outside_json.specs.Outside.{packages_of}
 use Rattle.judge.proofs.reports.report_loaded.Goals as goal
 
 pub returns : goal.returns
 returns c =
-    subst (λ kept. IfOk c.whole_report-told.result (TellsReport kept)) c.deref.ensures.value c.whole_report-told.ensures
+    let declared = declared_tables (packages_of c.args.loaded.outside) in
+    subst (λ kept. IfOk c.whole_report-told.result (TellsReport declared kept)) c.deref.ensures.value
+    c.whole_report-told.ensures

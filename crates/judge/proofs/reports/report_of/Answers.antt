@@ -1,7 +1,8 @@
 use Rattle.judge.proofs.Loads.{is_report}
+use Rattle.outside_json.specs.Outside.{packages_of}
 use Rattle.judge.proofs.reports.report_of.Goals as goal
 
 pub returns-clause-report : goal.returns-clause-report
 returns-clause-report c =
-    is_report c.args.given.items c.in_ok-packages.packages.items c.in_ok-report_loaded.field-0
-    c.in_ok-packages.ensures.loaded c.in_ok-report_loaded.ensures
+    is_report (packages_of c.args.outside) c.args.given.items c.in_ok-loaded.loaded c.in_ok-report_loaded.field-0
+    c.in_ok-loaded.ensures.loaded c.in_ok-report_loaded.ensures

@@ -1,16 +1,26 @@
 use Rattle.std.proofs.Common.{subst}
+use Rattle.declared_tables.specs.DeclaredTables.{declared_tables}
+use Rattle.outside_json.specs.Outside.{packages_of}
 use Rattle.judge.specs.Verified.{TellsVerified}
-use Rattle.judge.proofs.VerifiedReports.{is_verified, are_too_old}
+use Rattle.judge.proofs.VerifiedReports.{told_beside, is_verified, are_too_old}
 use Rattle.judge.proofs.verified.verified_report_of.Goals as goal
 
 pub returns-in-Ok-Told-clause-report : goal.returns-in-Ok-Told-clause-report
 returns-in-Ok-Told-clause-report c =
-    is_verified c.args.given.items c.in-Ok.packages.items c.args.certificates.now c.in-Ok-Told.report
-    c.in-Ok.ensures.loaded
-    (subst (TellsVerified c.in-Ok.packages.items c.args.certificates.now) c.in-Ok-Told.field-0-is c.in-Ok-Told.ensures)
+    let outside = packages_of c.args.outside in
+    let given = c.args.given.items in
+    let loaded = c.in-Ok.loaded in
+    let certificates = c.args.certificates.now in
+    is_verified outside given loaded certificates c.in-Ok-Told.report c.in-Ok.ensures.loaded
+    (subst (TellsVerified (declared_tables outside) loaded.packages.items certificates) c.in-Ok-Told.field-0-is
+    (told_beside outside given loaded certificates _ c.in-Ok.ensures.loaded c.in-Ok-Told.ensures))
 
 pub returns-in-Ok-IsTooOld-clause-fault : goal.returns-in-Ok-IsTooOld-clause-fault
 returns-in-Ok-IsTooOld-clause-fault c =
-    are_too_old c.args.given.items c.in-Ok.packages.items c.args.certificates.now c.in-Ok-IsTooOld.path
-    c.in-Ok.ensures.loaded
-    (subst (TellsVerified c.in-Ok.packages.items c.args.certificates.now) c.in-Ok-IsTooOld.field-0-is c.in-Ok-IsTooOld.ensures)
+    let outside = packages_of c.args.outside in
+    let given = c.args.given.items in
+    let loaded = c.in-Ok.loaded in
+    let certificates = c.args.certificates.now in
+    are_too_old outside given loaded certificates c.in-Ok-IsTooOld.path c.in-Ok.ensures.loaded
+    (subst (TellsVerified (declared_tables outside) loaded.packages.items certificates) c.in-Ok-IsTooOld.field-0-is
+    (told_beside outside given loaded certificates _ c.in-Ok.ensures.loaded c.in-Ok-IsTooOld.ensures))

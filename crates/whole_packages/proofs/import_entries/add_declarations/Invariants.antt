@@ -1,7 +1,6 @@
 use Rattle.std.proofs.Common.{◌≡◌, ◌++◌, map, drop}
 use Rattle.std.specs.Prelude.{flat_map}
-use Rattle.imports.specs.Views.{at_path}
-use Rattle.whole_packages.specs.WholeEntries.{is_marked, spec_entries}
+use Rattle.whole_packages.specs.WholeEntries.{spec_entries}
 use Rattle.meaning.specs.OuterBlocks.{specs_of}
 use Rattle.report.specs.Entries.{entry_of}
 use Rattle.tree.specs.View.{import_syntax}
@@ -9,8 +8,8 @@ use Rattle.whole_packages.proofs.import_entries.add_declarations.Given as goal
 
 -- what was added, with what is left, is the whole
 abbrev pub invariant-loop-declaration : goal.invariant-loop-declaration
-invariant-loop-declaration l =
-    let gives = spec_entries (is_marked (at_path l.marked.places.now) l.marked.marks.now) l.code l.file in
+invariant-loop-declaration g l =
+    let gives = spec_entries (g.P.Picks.picked l.picked) l.code l.file in
     map entry_of l.diagnostics.items
     ++ flat_map gives (specs_of (map import_syntax (drop l.declaration-index l.declarations)))
     ≡ map entry_of l.initial.diagnostics.items ++ flat_map gives (specs_of (map import_syntax l.declarations))

@@ -1,14 +1,13 @@
 use Rattle.std.proofs.Common.{◌≡◌, ◌++◌, map, drop}
 use Rattle.std.specs.Prelude.{flat_map}
-use Rattle.imports.specs.Views.{at_path}
 use Rattle.whole_packages.specs.LoadedViews.{numbered_view}
-use Rattle.whole_packages.specs.WholeEntries.{is_marked, tree_entries}
+use Rattle.whole_packages.specs.WholeEntries.{tree_entries}
 use Rattle.report.specs.Entries.{entry_of}
 use Rattle.whole_packages.proofs.import_entries.add_imports.Given as goal
 
 -- what was added, with what is left, is the whole
 abbrev pub invariant-loop-numbered : goal.invariant-loop-numbered
-invariant-loop-numbered l =
-    let gives = tree_entries (is_marked (at_path l.marked.places.now) l.marked.marks.now) l.code in
+invariant-loop-numbered g l =
+    let gives = tree_entries (g.P.Picks.picked l.picked) l.code in
     map entry_of l.diagnostics.items ++ flat_map gives (map numbered_view (drop l.numbered-index l.trees))
     ≡ map entry_of l.initial.diagnostics.items ++ flat_map gives (map numbered_view l.trees)

@@ -9,8 +9,8 @@ use Rattle.verifier.proofs.FoundPackages.{have_facts, are_flags, each}
 use Rattle.verifier.specs.GivenViews.{given_by, given_of, package_by, TellsGiven}
 use Rattle.verifier.proofs.rules.ByCertificatesFileRules.find.Goals as goal
 
-pub returns : goal.returns
-returns c = λ ps tables i p is_p loaded around told none.
+pub returns-clause-files : goal.returns-clause-files
+returns-clause-files c = λ declared ps tables i p is_p loaded around told none.
     let by = given_by c.args.self.now in
     let seens = seen_files ps tables p in
     let are_files = subst (TellAllSeen seens) (sym c.deref.ensures.value) told.are_files in

@@ -1,0 +1,46 @@
+//! The files of a package by the paths of their bodies, each of which gets its certificate.
+
+ghost use Rattle.all_certificates.specs.CertifiedPackages.{are_of_bodies};
+ghost use Rattle.meaning_reports.specs.PackageReports.{by_paths};
+
+use crate::files::entries_of_files;
+use all_packages::{Around, FileRules, FoundFiles, JudgedBodies, ToldPackage, judge_bodies};
+use calls_flags::KnownCalls;
+use std::alloc::{AllocError, Global};
+use whole_packages::LoadedPackage;
+
+/// Files are judged by the paths of their bodies. Each body gets its least certificate while it is there.
+#[derive(Clone, Copy)]
+pub struct Certifying;
+
+impl FileRules for Certifying {
+    ghost rules = { λ all. by_paths };
+
+    ghost certificates = { λ all. are_of_bodies };
+
+    fn find<'a>(
+        &self,
+        alloc: Global,
+        _loaded: &'a LoadedPackage,
+        told: &ToldPackage<'a>,
+        around: Around<'_, 'a>,
+    ) -> Result<FoundFiles<'a>, AllocError> {
+        let JudgedBodies {
+            files,
+            diagnostics,
+            called,
+        } = judge_bodies(alloc, told, around)?;
+        let calls = KnownCalls {
+            own: &called,
+            imported: around.calls,
+        };
+        let certificates = entries_of_files(alloc, calls, &files)?;
+        Ok(FoundFiles {
+            diagnostics,
+            called,
+            certificates,
+        })
+    }
+
+    fn are_determined(&self) {}
+}

@@ -1,0 +1,27 @@
+use Rattle.std.proofs.Common.{option_map}
+use Rattle.std.proofs.lemmas.List.{get_or_default}
+use Rattle.calls_flags.specs.KnownCalls.{called_by_path}
+use Rattle.declared_tables.specs.declared.tables.PackageTable.{PackageTable as KeptTable}
+use Rattle.facts.specs.FactViews.{table_by_path}
+use Rattle.imports.specs.Views.{text_views}
+use Rattle.meaning.specs.OuterBlocks.{or_else}
+use Rattle.all_packages.specs.Results.{declared_among}
+use Rattle.all_packages.proofs.DeclaredImports.{one_more}
+use Rattle.all_packages.proofs.known_imports.add_outside.Goals as goal
+
+pub loop-path-preserved : goal.loop-path-preserved
+loop-path-preserved c =
+    let given = c.args.given.now in
+    let paths = c.args.paths.now in
+    let i = c.loop-path.path-index in
+    let test = c.loop-path-test.true in
+    let others = declared_among given (text_views paths) in (
+      one_more given (λ (t : KeptTable). t.signatures) paths i _ test (get_or_default paths i _ _ test)
+          (table_by_path c.loop-path.signatures) (table_by_path c.add_declared.new.signatures)
+          (λ path. or_else (table_by_path c.args.signatures.now path) (option_map (λ t. t.signatures) (others path)))
+          c.in_ok-add_declared.ensures.signatures c.loop-path.invariant.0,
+      one_more given (λ (t : KeptTable). t.called) paths i _ test (get_or_default paths i _ _ test)
+          (called_by_path c.loop-path.calls) (called_by_path c.add_declared.new.calls)
+          (λ path. or_else (called_by_path c.args.calls.now path) (option_map (λ t. t.called) (others path)))
+          c.in_ok-add_declared.ensures.calls c.loop-path.invariant.1,
+    )

@@ -1,0 +1,3 @@
+pub mod SpecEvents
+pub mod CaseLists
+pub mod Bodies

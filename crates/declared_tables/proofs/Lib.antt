@@ -1,0 +1,2 @@
+mod AddedCalls
+mod AddedTables

@@ -1,0 +1,89 @@
+//! The tables of packages of which something is declared.
+
+ghost use Rattle.std.specs.Prelude.{◌≡◌, ℕ, List, IfOk, OnOk, map, option_map};
+ghost use Rattle.declared_tables.specs.DeclaredTables.{declared_tables, declared_view, table_of, table_view};
+ghost use Rattle.meaning.specs.OuterBlocks.{or_else};
+ghost use Rattle.names.specs.Answers.{at_name};
+ghost use Rattle.names.specs.Maps.{only_at};
+ghost use Rattle.outside_json.specs.Outside.{function_of, package_of, packages_of};
+
+use crate::functions::add_function;
+use calls_flags::Called;
+use facts::Table;
+use indexmap::IndexMap;
+use outside_json::{Outside, OutsideFunction, OutsidePackage};
+use std::alloc::{AllocError, Global};
+
+/// What is known of the functions of a package.
+#[derive(Drop)]
+pub struct PackageTable<'a> {
+    /// What their signatures say.
+    pub signatures: Table<'a>,
+    /// Which of their parameters they are known to call.
+    pub called: Called<'a>,
+}
+
+/// What is declared of these functions. Of several of one name the first counts.
+fn table_of<'a>(
+    alloc: Global,
+    functions: &'a [OutsideFunction],
+) -> Result<PackageTable<'a>, AllocError>
+    ensures { IfOk result (λ table. table_view table ≡ table_of (map function_of functions.now)) }
+{
+    let mut signatures = Table::new(alloc);
+    let mut called = Called::new(alloc);
+    for function in functions {
+        add_function(alloc, function, &mut signatures, &mut called)?;
+    }
+    Ok(PackageTable { signatures, called })
+}
+
+/// Adds what is declared of a package, unless something is of its path.
+fn add_package<'a>(
+    alloc: Global,
+    outside: &'a OutsidePackage,
+    packages: &mut IndexMap<&'a str, PackageTable<'a>>,
+) -> Result<(), AllocError>
+    ensures { OnOk result ((path : List ℕ) → option_map table_view (at_name packages.new path)
+        ≡ or_else (option_map table_view (at_name packages.old path))
+        (only_at (package_of outside.now).path (table_of (package_of outside.now).functions) path)) }
+{
+    let path = outside.path.as_str();
+    if packages.contains_key(path) {
+        return Ok(());
+    }
+    let table = table_of(alloc, &outside.functions)?;
+    packages.insert(path, table)?;
+    Ok(())
+}
+
+/// What is declared of packages, by their paths. Of several of one path the first counts.
+#[derive(Drop)]
+pub struct DeclaredTables<'a> {
+    packages: IndexMap<&'a str, PackageTable<'a>>,
+}
+
+impl<'a> DeclaredTables<'a> {
+    /// The tables of the packages of which something is declared.
+    ///
+    /// # Errors
+    ///
+    /// Memory was refused.
+    pub fn of(alloc: Global, outside: &'a Outside) -> Result<Self, AllocError>
+        ensures { IfOk result (λ kept. (path : List ℕ)
+            → declared_view kept path ≡ declared_tables (packages_of outside.now) path) }
+    {
+        let mut packages = IndexMap::new(alloc);
+        for one in &outside.packages {
+            add_package(alloc, one, &mut packages)?;
+        }
+        Ok(DeclaredTables { packages })
+    }
+
+    /// What is declared of the package of that path, if anything is.
+    pub fn get(&self, path: &str) -> Option<&PackageTable<'a>>
+        ensures { option_map (λ table. table.now) result ≡ at_name self.now.packages path.now }
+    {
+        self.packages.get(path)
+    }
+}

@@ -1,0 +1,45 @@
+-- The declared facts that are read from a file, and why none are. Which bytes a file has, no contract can say.
+use Rattle.std.specs.Prelude.{◌≡◌, ◌⊎◌, ⊤, ℕ, List, [], ◌∷◌, Option, Some, None}
+use Rattle.std.specs.Str.{IsUtf8}
+use Rattle.outside_json.specs.Outside.{packages_of, reserved_text}
+use Rattle.outside_json.specs.OutsideTexts.{IsOutsideFault, IsOutsideText}
+use Rattle.outside_json.specs.declared.fault.OutsideFault.TheVariants as outside_fault
+use Rattle.outside_json.specs.declared.outside.Outside.{Outside}
+use Rattle.outside_json.specs.declared.reserved.ReservedPath.{ReservedPath}
+use Rattle.folders.specs.ReadFiles.{bytes_read, name_read}
+use Rattle.folders.specs.declared.fault.Fault.{Fault}
+use Rattle.folders.specs.declared.fault.Fault.TheVariants.{CannotRead, FactsNotJson, FactsWrongShape, FactsWrongVersion, FactsReserved, OutOfMemory}
+use Rattle.folders.specs.declared.whole_files.ReadFile.{ReadFile}
+
+-- Where words name a file of declared facts, it was read, and what is declared is what its bytes say. Where they name
+-- none, nothing is declared.
+abbrev pub AreDeclaredBy : List (List ℕ) → Option ReadFile → Outside → Type 0
+AreDeclaredBy [] None outside = packages_of outside ≡ []
+AreDeclaredBy [] (Some file) outside = ⊥
+AreDeclaredBy (name ∷ []) None outside = ⊥
+AreDeclaredBy (name ∷ []) (Some file) outside =
+    (name_read file ≡ name) × IsOutsideText (bytes_read file) (packages_of outside)
+AreDeclaredBy (name ∷ another ∷ more) file outside = ⊥
+
+-- why these bytes are the text of none; what is not UTF-8 is no JSON
+abbrev pub IsFactsFault : List ℕ → Fault → Type 0
+IsFactsFault bytes FactsNotJson = (IsUtf8 bytes → ⊥) ⊎ IsOutsideFault bytes outside_fault.NotJson
+IsFactsFault bytes FactsWrongShape = IsOutsideFault bytes outside_fault.WrongShape
+IsFactsFault bytes FactsWrongVersion = IsOutsideFault bytes outside_fault.WrongVersion
+IsFactsFault bytes (FactsReserved text) =
+    (path : ReservedPath) × (text.now ≡ reserved_text path) × IsOutsideFault bytes (outside_fault.Reserved path)
+IsFactsFault bytes OutOfMemory = ⊤
+IsFactsFault bytes _ = ⊥
+
+-- words name one file of declared facts, and some bytes, those of the file, have this fault
+pub record HaveFactsFault (facts : List (List ℕ)) (fault : Fault) : Type 0 where
+  pub name : List ℕ
+  pub is_named : facts ≡ name ∷ []
+  pub bytes : List ℕ
+  pub is_fault : IsFactsFault bytes fault
+
+-- the fault of what is read for a report: of the file of declared facts that words name, and of folders
+abbrev pub IsReadFactsFault : List (List ℕ) → Fault → Type 0
+IsReadFactsFault facts (CannotRead name) = ⊤
+IsReadFactsFault facts OutOfMemory = ⊤
+IsReadFactsFault facts fault = HaveFactsFault facts fault

@@ -1,0 +1,3 @@
+pub mod OuterMarks
+pub mod WalkLists
+pub mod WalkSteps

@@ -1,0 +1,657 @@
+use Rattle.std.proofs.Common.{[], ◌∷◌, ◌+◌, drop, map, refl, sym, ap, ◌∙◌, true, false, Bor, option_map}
+use Rattle.tree.specs.declared.expression.Expr.{Expr}
+use Rattle.tree.specs.declared.span.Identifier.{Identifier}
+use Rattle.tree.specs.View.{identifier_syntax, expression_syntax, expressions_syntax, parameters_syntax, fields_syntax, statements_syntax, cases_syntax, communications_syntax, specs_syntax}
+use Rattle.tree.proofs.Depths.{drop_item, drop_past}
+use Rattle.tree.proofs.Views.{expression_form-Name, expression_form-BasicLit, expression_form-FuncLit, expression_form-CompositeLit, expression_form-LiteralValue, expression_form-KeyValue, expression_form-Paren, expression_form-Selector, expression_form-Index, expression_form-Slice, expression_form-TypeAssert, expression_form-Call, expression_form-Star, expression_form-Unary, expression_form-Binary, expression_form-ArrayType, expression_form-EllipsisArrayType, expression_form-SliceType, expression_form-MapType, expression_form-ChanType, expression_form-FuncType, expression_form-StructType, expression_form-InterfaceType, statement_form-Empty, statement_form-Decl, statement_form-Labeled, statement_form-Expr, statement_form-Send, statement_form-Increment, statement_form-Decrement, statement_form-Assign, statement_form-AssignOp, statement_form-Define, statement_form-Go, statement_form-Defer, statement_form-Return, statement_form-Break, statement_form-Continue, statement_form-Block, statement_form-If, statement_form-For, statement_form-RangeAssign, statement_form-RangeDefine, statement_form-Switch, statement_form-TypeSwitch, statement_form-Select, block_statements-out, parameter_and-Named, parameter_and-Unnamed, parameter_and-NameAlone, field_and-Named, field_and-Embedded, field_and-Method, spec_and-Value, spec_and-Type}
+use Rattle.mentions.specs.MarkViews.{named_view, place_view, call_view, role_view, row_view, spot_view, standing_view, use_view}
+use Rattle.meaning.specs.Mentions.{bare, addressed, as_bare, as_statement, argument, argument_at, argument_or, argument_use, callee_use, deferral, deferred, left, named_or, names_type, place_in, return_item, as_named, select_from, call_of, mention, elsewhere, part_of, whole, expression_marks, form_marks, expressions_marks, optional_marks, arguments_marks, items_marks, lefts_marks, names_type_marks, signature_marks, parameters_marks, fields_marks, statement_marks, statement_form_marks, statements_marks, optional_statement_marks, cases_marks, communications_marks, specs_marks}
+use Rattle.mentions.proofs.Adding.{adds_nothing, adds_same, adds_pushed, adds_next, adds_all, then_adds, same_adds, three_adds, four_adds, alone_adds, then_alone_adds}
+use Rattle.marks.proofs.WalkLists.{adds_case, adds_communication, adds_body, parameters_more, fields_more, specs_more, cases_more, communications_more, literal_marks, guard_same}
+use Rattle.marks.proofs.WalkSteps.{at_spot, all_at_spot, adds_at_spot, named_at_spot, named_adds, call_adds, assignment_adds, definition_adds, spec_adds, return_adds, no_operator, operator_argument, argument_first, item_first, left_first, used_at, alone_adds_argument}
+use Rattle.marks.proofs.walk.+marks.Goals as goal
+
+pub expression_form-returns-in-Name : goal.expression_form-returns-in-Name
+unfolding form_marks
+expression_form-returns-in-Name t c =
+    rw (c.in-Name.is, expression_form-Name)
+    (same_adds _ _ _ _ _ (λ i. mention c.args.spot.site (c.name_role.ensures i) (bare (c.as_str.ensures.value i) c.args.span.start) ∷ []) c.mention.ensures)
+
+pub expression_form-returns-in-BasicLit : goal.expression_form-returns-in-BasicLit
+unfolding form_marks
+expression_form-returns-in-BasicLit t c = rw (c.in-BasicLit.is, expression_form-BasicLit) (adds_nothing _)
+
+pub expression_form-returns-in-FuncLit : goal.expression_form-returns-in-FuncLit
+unfolding form_marks
+expression_form-returns-in-FuncLit t c =
+    rw (c.in-FuncLit.is, expression_form-FuncLit, ← c.deref.ensures)
+    c.function_literal.ensures
+
+pub expression_form-returns-in_ok-part-in-CompositeLit : goal.expression_form-returns-in_ok-part-in-CompositeLit
+unfolding form_marks
+expression_form-returns-in_ok-part-in-CompositeLit t c =
+    rw (c.in-CompositeLit.is, expression_form-CompositeLit, ← c.deref-in-CompositeLit.ensures, ← c.deref-in-CompositeLit-2.ensures.value)
+    (then_adds _ _ _ _ _ (expressions_marks (part_of c.args.spot.site) (expressions_syntax c.deref-in-CompositeLit-2.result.now))
+    c.in_ok-part-in-CompositeLit.ensures
+    (all_at_spot c.expressions.result c.part.new.marks.items c.expressions.new.marks.items (spot_view c.part_of.result)
+    (part_of c.args.spot.site) (expressions_syntax c.deref-in-CompositeLit-2.result.now) c.part_of.ensures c.expressions.ensures))
+
+pub expression_form-returns-in-LiteralValue : goal.expression_form-returns-in-LiteralValue
+unfolding form_marks
+expression_form-returns-in-LiteralValue t c =
+    rw (c.in-LiteralValue.is, expression_form-LiteralValue, ← c.deref-in-LiteralValue.ensures.value)
+    (all_at_spot c.expressions-in-LiteralValue.result c.args.marks.now.items c.expressions-in-LiteralValue.new.marks.items
+    (spot_view c.part_of-in-LiteralValue.result) (part_of c.args.spot.site) (expressions_syntax c.deref-in-LiteralValue.result.now)
+    c.part_of-in-LiteralValue.ensures c.expressions-in-LiteralValue.ensures)
+
+pub expression_form-returns-in_ok-part-in-KeyValue : goal.expression_form-returns-in_ok-part-in-KeyValue
+unfolding form_marks
+expression_form-returns-in_ok-part-in-KeyValue t c =
+    rw (c.in-KeyValue.is, expression_form-KeyValue, ← c.deref-in-KeyValue.ensures, ← c.deref-in-KeyValue-2.ensures)
+    (then_adds _ _ _ _ _ _ c.in_ok-part-in-KeyValue.ensures c.part-in-KeyValue-2.ensures)
+
+pub expression_form-returns-in-Paren : goal.expression_form-returns-in-Paren
+unfolding form_marks
+expression_form-returns-in-Paren t c =
+    rw (c.in-Paren.is, expression_form-Paren, ← c.deref-in-Paren.ensures)
+    c.part-in-Paren.ensures
+
+pub expression_form-returns-in-Selector : goal.expression_form-returns-in-Selector
+unfolding form_marks
+expression_form-returns-in-Selector t c =
+    rw (c.in-Selector.is, expression_form-Selector, ← c.deref-in-Selector.ensures)
+    (named_adds c.named_or.result c.args.marks.now.items c.named_or.new.marks.items (option_map named_view c.select_from-named.result)
+    (select_from (as_bare (expression_syntax c.deref-in-Selector.result.now)) (identifier_syntax c.in-Selector.member)) c.args.spot.site
+    elsewhere (expression_marks (part_of c.args.spot.site) (expression_syntax c.deref-in-Selector-2.result.now))
+    (expression_marks (part_of c.args.spot.site) (expression_syntax c.deref-in-Selector.result.now))
+    (c.select_from-named.ensures ∙ ap (λ n. select_from n (identifier_syntax c.in-Selector.member)) c.as_bare.ensures)
+    (ap (λ (e : Expr). expression_marks (part_of c.args.spot.site) (expression_syntax e)) (c.deref-in-Selector-2.ensures ∙ sym c.deref-in-Selector.ensures))
+    c.named_or.ensures)
+
+pub expression_form-returns-in_ok-part-in-Index : goal.expression_form-returns-in_ok-part-in-Index
+unfolding form_marks
+expression_form-returns-in_ok-part-in-Index t c =
+    rw (c.in-Index.is, expression_form-Index, ← c.deref-in-Index.ensures, ← c.deref-in-Index-2.ensures)
+    (then_adds _ _ _ _ _ _ c.in_ok-part-in-Index.ensures c.part-in-Index-2.ensures)
+
+pub expression_form-returns-in_ok-optional-in-Slice-2 : goal.expression_form-returns-in_ok-optional-in-Slice-2
+unfolding form_marks
+expression_form-returns-in_ok-optional-in-Slice-2 t c =
+    rw (c.in-Slice.is, expression_form-Slice, ← c.deref-in-Slice.ensures)
+    (four_adds _ _ _ _ _ _ _ _ _ _ c.in_ok-part-in-Slice.ensures c.in_ok-optional-in-Slice.ensures c.in_ok-optional-in-Slice-2.ensures
+    c.optional-in-Slice-2.ensures)
+
+pub expression_form-returns-in_ok-part-in-TypeAssert : goal.expression_form-returns-in_ok-part-in-TypeAssert
+unfolding form_marks
+expression_form-returns-in_ok-part-in-TypeAssert t c =
+    rw (c.in-TypeAssert.is, expression_form-TypeAssert, ← c.deref-in-TypeAssert.ensures, ← c.deref-in-TypeAssert-2.ensures)
+    (then_adds _ _ _ _ _ _ c.in_ok-part-in-TypeAssert.ensures c.part-in-TypeAssert-2.ensures)
+
+pub expression_form-returns-in_ok-callee_or-in-Call : goal.expression_form-returns-in_ok-callee_or-in-Call
+unfolding form_marks
+expression_form-returns-in_ok-callee_or-in-Call t c =
+    rw (c.in-Call.is, expression_form-Call, ← c.deref-in-Call-3.ensures, ← c.deref-in-Call-4.ensures.value)
+    (call_adds c.all_arguments.result c.args.marks.now.items c.callee_or.new.marks.items c.all_arguments.new.marks.items c.args.spot.site
+    (option_map call_view c.call_of-call.result)
+    (call_of (place_view c.args.spot.place) (expression_syntax c.deref-in-Call-3.result.now)
+    (expressions_syntax c.deref-in-Call-4.result.now) c.in-Call.has_ellipsis)
+    (use_view c.callee_use.result) (callee_use (place_view c.args.spot.place))
+    (expression_syntax c.deref-in-Call-3.result.now) (expressions_syntax c.deref-in-Call-4.result.now)
+    (c.call_of-call.ensures
+    ∙ (λ i. call_of (place_view c.args.spot.place) (expression_syntax ((c.deref-in-Call.ensures ∙ sym c.deref-in-Call-3.ensures) i))
+    (expressions_syntax ((c.deref-in-Call-2.ensures.value ∙ sym c.deref-in-Call-4.ensures.value) i)) c.in-Call.has_ellipsis))
+    c.callee_use.ensures c.in_ok-callee_or-in-Call.ensures c.all_arguments.ensures)
+
+pub expression_form-returns-in-Star : goal.expression_form-returns-in-Star
+unfolding form_marks
+expression_form-returns-in-Star t c =
+    rw (c.in-Star.is, expression_form-Star, ← c.deref-in-Star.ensures)
+    c.part-in-Star.ensures
+
+pub expression_form-returns-in-Unary : goal.expression_form-returns-in-Unary
+unfolding form_marks
+expression_form-returns-in-Unary t c =
+    rw (c.in-Unary.is, expression_form-Unary, ← c.deref-in-Unary.ensures)
+    c.unary.ensures
+
+pub expression_form-returns-in_ok-part-in-Binary : goal.expression_form-returns-in_ok-part-in-Binary
+unfolding form_marks
+expression_form-returns-in_ok-part-in-Binary t c =
+    rw (c.in-Binary.is, expression_form-Binary, ← c.deref-in-Binary.ensures, ← c.deref-in-Binary-2.ensures)
+    (then_adds _ _ _ _ _ _ c.in_ok-part-in-Binary.ensures c.part-in-Binary-2.ensures)
+
+pub expression_form-returns-in_ok-part-in-ArrayType : goal.expression_form-returns-in_ok-part-in-ArrayType
+unfolding form_marks
+expression_form-returns-in_ok-part-in-ArrayType t c =
+    rw (c.in-ArrayType.is, expression_form-ArrayType, ← c.deref-in-ArrayType.ensures, ← c.deref-in-ArrayType-2.ensures)
+    (then_adds _ _ _ _ _ _ c.in_ok-part-in-ArrayType.ensures c.part-in-ArrayType-2.ensures)
+
+pub expression_form-returns-in-EllipsisArrayType : goal.expression_form-returns-in-EllipsisArrayType
+unfolding form_marks
+expression_form-returns-in-EllipsisArrayType t c =
+    rw (c.in-EllipsisArrayType.is, expression_form-EllipsisArrayType, ← c.deref-in-EllipsisArrayType.ensures)
+    c.part-in-EllipsisArrayType.ensures
+
+pub expression_form-returns-in-SliceType : goal.expression_form-returns-in-SliceType
+unfolding form_marks
+expression_form-returns-in-SliceType t c =
+    rw (c.in-SliceType.is, expression_form-SliceType, ← c.deref-in-SliceType.ensures)
+    c.part-in-SliceType.ensures
+
+pub expression_form-returns-in_ok-part-in-MapType : goal.expression_form-returns-in_ok-part-in-MapType
+unfolding form_marks
+expression_form-returns-in_ok-part-in-MapType t c =
+    rw (c.in-MapType.is, expression_form-MapType, ← c.deref-in-MapType.ensures, ← c.deref-in-MapType-2.ensures)
+    (then_adds _ _ _ _ _ _ c.in_ok-part-in-MapType.ensures c.part-in-MapType-2.ensures)
+
+pub expression_form-returns-in-ChanType : goal.expression_form-returns-in-ChanType
+unfolding form_marks
+expression_form-returns-in-ChanType t c =
+    rw (c.in-ChanType.is, expression_form-ChanType, ← c.deref-in-ChanType.ensures)
+    c.part-in-ChanType.ensures
+
+pub expression_form-returns-in-FuncType : goal.expression_form-returns-in-FuncType
+unfolding form_marks
+expression_form-returns-in-FuncType t c =
+    rw (c.in-FuncType.is, expression_form-FuncType, ← c.deref-in-FuncType.ensures)
+    c.signature.ensures
+
+pub expression_form-returns-in-StructType : goal.expression_form-returns-in-StructType
+unfolding form_marks
+expression_form-returns-in-StructType t c =
+    rw (c.in-StructType.is, expression_form-StructType, ← c.deref-in-StructType.ensures.value)
+    c.fields.ensures
+
+pub expression_form-returns-in-InterfaceType : goal.expression_form-returns-in-InterfaceType
+unfolding form_marks
+expression_form-returns-in-InterfaceType t c =
+    rw (c.in-InterfaceType.is, expression_form-InterfaceType, ← c.deref-in-InterfaceType.ensures.value)
+    c.fields-in-InterfaceType.ensures
+
+pub statement_form-returns-in-Empty : goal.statement_form-returns-in-Empty
+unfolding statement_form_marks
+statement_form-returns-in-Empty t c = rw (c.in-Empty.is, statement_form-Empty) (adds_nothing _)
+
+pub statement_form-returns-in-Decl : goal.statement_form-returns-in-Decl
+unfolding statement_form_marks
+statement_form-returns-in-Decl t c =
+    rw (c.in-Decl.is, statement_form-Decl, ← c.deref.ensures.value)
+    c.specs.ensures
+
+pub statement_form-returns-in-Labeled : goal.statement_form-returns-in-Labeled
+unfolding statement_form_marks
+statement_form-returns-in-Labeled t c =
+    rw (c.in-Labeled.is, statement_form-Labeled, ← c.deref-in-Labeled.ensures)
+    c.statement.ensures
+
+pub statement_form-returns-in-Expr : goal.statement_form-returns-in-Expr
+unfolding statement_form_marks
+statement_form-returns-in-Expr t c =
+    rw (c.in-Expr.is, statement_form-Expr)
+    (at_spot c.expression.result c.args.marks.now.items c.expression.new.marks.items (spot_view c.whole.result)
+    (whole (place_in (standing_view c.args.standing) as_statement) c.args.at) (expression_syntax c.in-Expr.value)
+    (c.whole.ensures ∙ ap (λ p. whole p c.args.at) c.place_in-place.ensures) c.expression.ensures)
+
+pub statement_form-returns-in_ok-part-in-Send : goal.statement_form-returns-in_ok-part-in-Send
+unfolding statement_form_marks
+statement_form-returns-in_ok-part-in-Send t c =
+    rw (c.in-Send.is, statement_form-Send)
+    (then_adds _ _ _ _ _ _ c.in_ok-part-in-Send.ensures c.part-in-Send.ensures)
+
+pub statement_form-returns-in-Increment : goal.statement_form-returns-in-Increment
+unfolding statement_form_marks
+statement_form-returns-in-Increment t c =
+    rw (c.in-Increment.is, statement_form-Increment)
+    c.part-in-Increment.ensures
+
+pub statement_form-returns-in-Decrement : goal.statement_form-returns-in-Decrement
+unfolding statement_form_marks
+statement_form-returns-in-Decrement t c =
+    rw (c.in-Decrement.is, statement_form-Decrement)
+    c.part-in-Decrement.ensures
+
+pub statement_form-returns-in_ok-expressions-in-Assign : goal.statement_form-returns-in_ok-expressions-in-Assign
+unfolding statement_form_marks
+statement_form-returns-in_ok-expressions-in-Assign t c =
+    rw (c.in-Assign.is, statement_form-Assign)
+    (assignment_adds _ _ _ _ _ _ _ _ _ _ _ _ _ c.deref-in-Assign.ensures.value c.deref-in-Assign-2.ensures.value c.deref-in-Assign-3.ensures.value
+    c.deref-in-Assign-4.ensures.value c.value_spot.ensures c.in_ok-expressions-in-Assign.ensures c.lefts.ensures)
+
+pub statement_form-returns-in_ok-part-in-AssignOp : goal.statement_form-returns-in_ok-part-in-AssignOp
+unfolding statement_form_marks
+statement_form-returns-in_ok-part-in-AssignOp t c =
+    rw (c.in-AssignOp.is, statement_form-AssignOp)
+    (then_adds _ _ _ _ _ _ c.in_ok-part-in-AssignOp.ensures c.part-in-AssignOp-2.ensures)
+
+pub statement_form-returns-in_ok-expressions-in-Define : goal.statement_form-returns-in_ok-expressions-in-Define
+unfolding statement_form_marks
+statement_form-returns-in_ok-expressions-in-Define t c =
+    rw (c.in-Define.is, statement_form-Define)
+    (definition_adds _ _ _ _ _ _ _ _ _ _ _ _ _ c.deref-in-Define.ensures.value c.deref-in-Define-2.ensures.value c.deref-in-Define-3.ensures.value
+    c.deref-in-Define-4.ensures.value c.value_spot-in-Define.ensures c.in_ok-expressions-in-Define.ensures c.left_names.ensures)
+
+pub statement_form-returns-in-Go : goal.statement_form-returns-in-Go
+unfolding statement_form_marks
+statement_form-returns-in-Go t c =
+    rw (c.in-Go.is, statement_form-Go)
+    c.part-in-Go.ensures
+
+pub statement_form-returns-in-Defer : goal.statement_form-returns-in-Defer
+unfolding statement_form_marks
+statement_form-returns-in-Defer t c =
+    rw (c.in-Defer.is, statement_form-Defer)
+    (at_spot c.expression-in-Defer.result c.args.marks.now.items c.expression-in-Defer.new.marks.items (spot_view c.whole-in-Defer.result)
+    (whole deferred c.args.at) (expression_syntax c.in-Defer.call) c.whole-in-Defer.ensures c.expression-in-Defer.ensures)
+
+pub statement_form-returns-in_ok-push-in-Return : goal.statement_form-returns-in_ok-push-in-Return
+unfolding statement_form_marks
+statement_form-returns-in_ok-push-in-Return t c =
+    rw (c.in-Return.is, statement_form-Return)
+    (return_adds _ _ _ _ _ _ _ c.deref-in-Return.ensures.value c.deref-in-Return-2.ensures.value c.in_ok-items-in-Return.ensures
+    (adds_pushed _ _ _ c.in_ok-push-in-Return.ensures.items))
+
+pub statement_form-returns-in-Break : goal.statement_form-returns-in-Break
+unfolding statement_form_marks
+statement_form-returns-in-Break t c = rw (c.in-Break.is, statement_form-Break) (adds_nothing _)
+
+pub statement_form-returns-in-Continue : goal.statement_form-returns-in-Continue
+unfolding statement_form_marks
+statement_form-returns-in-Continue t c = rw (c.in-Continue.is, statement_form-Continue) (adds_nothing _)
+
+pub statement_form-returns-in-Block : goal.statement_form-returns-in-Block
+unfolding statement_form_marks
+statement_form-returns-in-Block t c =
+    rw (c.in-Block.is, statement_form-Block, block_statements-out, ← c.deref-in-Block.ensures.value)
+    c.statements.ensures
+
+pub statement_form-returns-in_ok-statements-in-If : goal.statement_form-returns-in_ok-statements-in-If
+unfolding statement_form_marks
+statement_form-returns-in_ok-statements-in-If t c =
+    rw (c.in-If.is, statement_form-If, block_statements-out, ← c.deref-in-If.ensures, ← c.deref-in-If-2.ensures.value)
+    (four_adds _ _ _ _ _ _ _ _ _ _ c.in_ok-optional_statement-in-If.ensures c.in_ok-part-in-If.ensures c.in_ok-statements-in-If.ensures
+    c.optional_statement-in-If.ensures)
+
+pub statement_form-returns-in_ok-optional_statement-in-For-2 : goal.statement_form-returns-in_ok-optional_statement-in-For-2
+unfolding statement_form_marks
+statement_form-returns-in_ok-optional_statement-in-For-2 t c =
+    rw (c.in-For.is, statement_form-For, block_statements-out, ← c.deref-in-For.ensures.value)
+    (four_adds _ _ _ _ _ _ _ _ _ _ c.in_ok-optional_statement-in-For.ensures c.in_ok-optional-in-For.ensures
+    c.in_ok-optional_statement-in-For-2.ensures c.statements-in-For.ensures)
+
+pub statement_form-returns-in_ok-part-in-RangeAssign : goal.statement_form-returns-in_ok-part-in-RangeAssign
+unfolding statement_form_marks
+statement_form-returns-in_ok-part-in-RangeAssign t c =
+    rw (
+      c.in-RangeAssign.is,
+      statement_form-RangeAssign,
+      block_statements-out,
+      ← c.deref-in-RangeAssign.ensures.value,
+      ← c.deref-in-RangeAssign-2.ensures,
+      ← c.deref-in-RangeAssign-3.ensures.value,
+    )
+    (three_adds _ _ _ _ _ _ _ _ (adds_at_spot c.args.marks.now.items c.expressions-in-RangeAssign.new.marks.items (spot_view c.part_of.result)
+    (part_of c.args.at) (expressions_syntax c.deref-in-RangeAssign.result.now) c.part_of.ensures c.in_ok-expressions-in-RangeAssign.ensures)
+    c.in_ok-part-in-RangeAssign.ensures c.statements-in-RangeAssign.ensures)
+
+pub statement_form-returns-in_ok-declared_elsewhere-in-RangeDefine : goal.statement_form-returns-in_ok-declared_elsewhere-in-RangeDefine
+unfolding statement_form_marks
+statement_form-returns-in_ok-declared_elsewhere-in-RangeDefine t c =
+    rw (
+      c.in-RangeDefine.is,
+      statement_form-RangeDefine,
+      block_statements-out,
+      ← c.deref-in-RangeDefine.ensures,
+      ← c.deref-in-RangeDefine-2.ensures.value,
+      ← c.deref-in-RangeDefine-3.ensures.value,
+    )
+    (three_adds _ _ _ _ _ _ _ _ c.in_ok-part-in-RangeDefine.ensures c.in_ok-declared_elsewhere-in-RangeDefine.ensures c.statements-in-RangeDefine.ensures)
+
+pub statement_form-returns-in_ok-optional-in-Switch : goal.statement_form-returns-in_ok-optional-in-Switch
+unfolding statement_form_marks
+statement_form-returns-in_ok-optional-in-Switch t c =
+    rw (c.in-Switch.is, statement_form-Switch, ← c.deref-in-Switch.ensures.value)
+    (three_adds _ _ _ _ _ _ _ _ c.in_ok-optional_statement-in-Switch.ensures c.in_ok-optional-in-Switch.ensures c.cases.ensures)
+
+pub statement_form-returns-in_ok-part-in-TypeSwitch : goal.statement_form-returns-in_ok-part-in-TypeSwitch
+unfolding statement_form_marks
+statement_form-returns-in_ok-part-in-TypeSwitch t c =
+    rw (
+      c.in-TypeSwitch.is,
+      statement_form-TypeSwitch,
+      ← c.deref-in-TypeSwitch.ensures,
+      ← c.deref-in-TypeSwitch-2.ensures.value,
+      ← guard_same _ _ c.as_ref.ensures.value,
+    )
+    (three_adds _ _ _ _ _ _ _ _ c.in_ok-optional_statement-in-TypeSwitch.ensures c.in_ok-part-in-TypeSwitch.ensures c.cases-in-TypeSwitch.ensures)
+
+pub statement_form-returns-in-Select : goal.statement_form-returns-in-Select
+unfolding statement_form_marks
+statement_form-returns-in-Select t c =
+    rw (c.in-Select.is, statement_form-Select, ← c.deref-in-Select.ensures.value)
+    c.communications.ensures
+
+pub expression-returns : goal.expression-returns
+unfolding expression_marks
+expression-returns t c = c.expression_form.ensures
+
+pub statement-returns : goal.statement-returns
+unfolding statement_marks
+statement-returns t c = c.statement_form.ensures
+
+pub part-returns : goal.part-returns
+part-returns t c =
+    rw (← c.part_of.ensures) c.expression.ensures
+
+pub named_or-returns : goal.named_or-returns
+named_or-returns t c =
+    named_at_spot c.named_at.result c.args.marks.now.items c.named_at.new.marks.items (option_map named_view c.args.named)
+    (role_view c.args.role) (spot_view c.part_of.result) (part_of c.args.site) (expression_syntax c.args.other.now)
+    c.part_of.ensures c.named_at.ensures
+
+pub named_at-returns-in-Some : goal.named_at-returns-in-Some
+named_at-returns-in-Some t c =
+    rw c.in-Some.is c.mention.ensures
+
+pub named_at-returns-in-None : goal.named_at-returns-in-None
+named_at-returns-in-None t c =
+    rw c.in-None.is c.expression.ensures
+
+pub function_literal-returns-in_ok-push-in-DeferredCall : goal.function_literal-returns-in_ok-push-in-DeferredCall
+function_literal-returns-in_ok-push-in-DeferredCall t c =
+    rw (literal_marks, ← c.deref-list.ensures.value)
+    (adds_body c.args.marks.now.items _ _ _ _ _ _ _ _ (deferral (use_view c.args.spot.literal) c.args.spot.site c.args.span.start)
+    (adds_pushed _ _ _ c.in_ok-push.ensures.items) c.in_ok-signature.ensures
+    c.in_ok-statements.ensures
+    (adds_pushed _ _ _ c.in_ok-push-2.ensures.items)
+    (adds_same _ _ _ _ (ap (λ u. deferral (use_view u) c.args.spot.site c.args.span.start) (sym c.in-DeferredCall.is)) (adds_pushed _ _ _ c.in_ok-push-in-DeferredCall.ensures.items)))
+
+pub function_literal-returns-in-Other : goal.function_literal-returns-in-Other
+function_literal-returns-in-Other t c =
+    rw (literal_marks, ← c.deref-list.ensures.value)
+    (adds_body c.args.marks.now.items _ _ _ _ _ _ _ _ (deferral (use_view c.args.spot.literal) c.args.spot.site c.args.span.start)
+    (adds_pushed _ _ _ c.in_ok-push.ensures.items) c.in_ok-signature.ensures
+    c.in_ok-statements.ensures
+    (adds_pushed _ _ _ c.in_ok-push-2.ensures.items)
+    (adds_same _ _ _ _ (ap (λ u. deferral (use_view u) c.args.spot.site c.args.span.start) (sym c.in-Other.is)) (adds_nothing c.push-2.new.self.items)))
+
+pub function_literal-returns-in-StartedBy : goal.function_literal-returns-in-StartedBy
+function_literal-returns-in-StartedBy t c =
+    rw (literal_marks, ← c.deref-list.ensures.value)
+    (adds_body c.args.marks.now.items _ _ _ _ _ _ _ _ (deferral (use_view c.args.spot.literal) c.args.spot.site c.args.span.start)
+    (adds_pushed _ _ _ c.in_ok-push.ensures.items) c.in_ok-signature.ensures
+    c.in_ok-statements.ensures
+    (adds_pushed _ _ _ c.in_ok-push-2.ensures.items)
+    (adds_same _ _ _ _ (ap (λ u. deferral (use_view u) c.args.spot.site c.args.span.start) (sym c.in-StartedBy.is)) (adds_nothing c.push-2.new.self.items)))
+
+pub unary-returns-in-OnlyValue : goal.unary-returns-in-OnlyValue
+unary-returns-in-OnlyValue t c =
+    rw c.in-OnlyValue.is (named_adds _ _ _ _ _ _ _ _ _ c.as_new_literal-named.ensures refl c.named_or.ensures)
+
+pub callee_or-returns-in-Some : goal.callee_or-returns-in-Some
+callee_or-returns-in-Some t c =
+    rw c.in-Some.is c.mention.ensures
+
+pub callee_or-returns-in-None : goal.callee_or-returns-in-None
+callee_or-returns-in-None t c =
+    rw c.in-None.is (named_adds _ _ _ _ _ _ _ _ _ c.as_bracketed-named.ensures refl c.named_at.ensures)
+
+pub optional-returns-in-Some : goal.optional-returns-in-Some
+unfolding optional_marks
+optional-returns-in-Some t c = rw (c.in-Some.is, ← c.deref.ensures) c.part.ensures
+
+pub optional-returns-in-None : goal.optional-returns-in-None
+unfolding optional_marks
+optional-returns-in-None t c = rw c.in-None.is (adds_nothing _)
+
+pub names_type-returns-in-Some : goal.names_type-returns-in-Some
+unfolding names_type_marks
+names_type-returns-in-Some t c =
+    rw (c.in-Some.is, ← c.deref.ensures)
+    (named_adds c.named_or.result c.args.marks.now.items c.named_or.new.marks.items (option_map named_view c.as_named.result)
+    (as_named (expression_syntax c.deref.result.now)) c.args.site (names_type (row_view c.args.row))
+    (expression_marks (part_of c.args.site) (expression_syntax c.deref-in-Some.result.now))
+    (expression_marks (part_of c.args.site) (expression_syntax c.deref.result.now)) c.as_named.ensures
+    (ap (λ (e : Expr). expression_marks (part_of c.args.site) (expression_syntax e)) (c.deref-in-Some.ensures ∙ sym c.deref.ensures))
+    c.named_or.ensures)
+
+pub names_type-returns-in-None : goal.names_type-returns-in-None
+unfolding names_type_marks
+names_type-returns-in-None t c =
+    rw c.in-None.is (adds_nothing _)
+
+pub optional_statement-returns-in-Some : goal.optional_statement-returns-in-Some
+unfolding optional_statement_marks
+optional_statement-returns-in-Some t c = rw (c.in-Some.is, ← c.deref.ensures) c.statement.ensures
+
+pub optional_statement-returns-in-None : goal.optional_statement-returns-in-None
+unfolding optional_statement_marks
+optional_statement-returns-in-None t c = rw c.in-None.is (adds_nothing _)
+
+pub signature-returns : goal.signature-returns
+unfolding signature_marks
+signature-returns t c =
+    rw (← c.deref.ensures.value, ← c.deref-2.ensures.value)
+    (then_adds _ _ _ _ _ _ c.in_ok-parameters.ensures c.parameters-2.ensures)
+
+pub parameter-returns-in-Named : goal.parameter-returns-in-Named
+unfolding parameters_marks
+parameter-returns-in-Named t c =
+    rw (c.in-Named.is, parameter_and-Named, ← c.is_plain_type.ensures) (alone_adds _ _ _ _ c.parameter_type.ensures)
+
+pub parameter-returns-in-Unnamed : goal.parameter-returns-in-Unnamed
+unfolding parameters_marks
+parameter-returns-in-Unnamed t c =
+    rw (c.in-Unnamed.is, parameter_and-Unnamed, ← c.is_plain_type-in-Unnamed.ensures) (alone_adds _ _ _ _ c.parameter_type-in-Unnamed.ensures)
+
+pub parameter-returns-in-NameAlone : goal.parameter-returns-in-NameAlone
+unfolding parameters_marks
+parameter-returns-in-NameAlone t c = rw (c.in-NameAlone.is, parameter_and-NameAlone) (adds_nothing _)
+
+pub field-returns-in-Named : goal.field-returns-in-Named
+unfolding fields_marks
+field-returns-in-Named t c = rw (c.in-Named.is, field_and-Named) (alone_adds _ _ _ _ c.part.ensures)
+
+pub field-returns-in-Embedded : goal.field-returns-in-Embedded
+unfolding fields_marks
+field-returns-in-Embedded t c = rw (c.in-Embedded.is, field_and-Embedded) (same_adds _ _ _ _ _ (λ i. mention c.args.site elsewhere (c.embedded.ensures i) ∷ []) c.mention.ensures)
+
+pub field-returns-in-Method : goal.field-returns-in-Method
+unfolding fields_marks
+field-returns-in-Method t c = rw (c.in-Method.is, field_and-Method) (alone_adds _ _ _ _ c.signature.ensures)
+
+pub spec-returns-in_ok-expressions-in-Value : goal.spec-returns-in_ok-expressions-in-Value
+unfolding specs_marks
+spec-returns-in_ok-expressions-in-Value t c =
+    rw (c.in-Value.is, spec_and-Value)
+    (spec_adds _ _ _ _ _ _ _ _ _ _ _ _ _ _ _ _ c.deref.ensures.value c.deref-in-Value.ensures.value c.deref-in-Value-2.ensures.value
+    c.deref-in-Value-3.ensures.value c.value_spot.ensures c.in_ok-names_type-in-Value.ensures c.in_ok-expressions-in-Value.ensures c.left_names.ensures)
+
+pub spec-returns-in_ok-declare_elsewhere-in-Type : goal.spec-returns-in_ok-declare_elsewhere-in-Type
+unfolding specs_marks
+spec-returns-in_ok-declare_elsewhere-in-Type t c =
+    rw (c.in-Type.is, spec_and-Type, ← c.deref-in-Type.ensures)
+    (then_alone_adds _ _ _ _ _ _ c.in_ok-declare_elsewhere-in-Type.ensures c.part.ensures)
+
+pub expressions-loop-item-preserved : goal.expressions-loop-item-preserved
+unfolding expressions_marks
+expressions-loop-item-preserved t c =
+    let items = drop_item c.args.list.now c.loop-item.item-index c.item-item.result c.loop-item-test.true c.item-item.is in
+    adds_next _ _ _ _ _ _ c.loop-item.invariant (ap (λ l. expressions_marks (spot_view c.args.spot) (expressions_syntax l)) items) c.in_ok-expression.ensures
+
+pub expressions-returns : goal.expressions-returns
+unfolding expressions_marks
+expressions-returns t c =
+    let nothing = drop_past c.args.list.now c.loop-item.item-index c.loop-item-test.false in
+    adds_all c.args.marks.now.items _ _ (expressions_marks (spot_view c.args.spot) (expressions_syntax c.args.list.now)) c.loop-item.invariant
+    (ap (λ l. expressions_marks (spot_view c.args.spot) (expressions_syntax l)) nothing)
+
+pub statements-loop-item-preserved : goal.statements-loop-item-preserved
+unfolding statements_marks
+statements-loop-item-preserved t c =
+    let items = drop_item c.args.list.now c.loop-item.item-index c.item-item.result c.loop-item-test.true c.item-item.is in
+    adds_next _ _ _ _ _ _ c.loop-item.invariant (ap (λ l. statements_marks (statements_syntax l)) items) c.in_ok-statement.ensures
+
+pub statements-returns : goal.statements-returns
+unfolding statements_marks
+statements-returns t c =
+    let nothing = drop_past c.args.list.now c.loop-item.item-index c.loop-item-test.false in
+    adds_all c.args.marks.now.items _ _ (statements_marks (statements_syntax c.args.list.now)) c.loop-item.invariant
+    (ap (λ l. statements_marks (statements_syntax l)) nothing)
+
+pub parameters-loop-item-preserved : goal.parameters-loop-item-preserved
+unfolding parameters_marks
+parameters-loop-item-preserved t c =
+    let items = drop_item c.args.list.now c.loop-item.item-index c.item-item.result c.loop-item-test.true c.item-item.is in
+    adds_next _ _ _ _ _ _ c.loop-item.invariant (ap (λ l. parameters_marks c.args.are_parameters c.args.site (parameters_syntax l)) items ∙ parameters_more _ _ _ _) c.in_ok-parameter.ensures
+
+pub parameters-returns : goal.parameters-returns
+unfolding parameters_marks
+parameters-returns t c =
+    let nothing = drop_past c.args.list.now c.loop-item.item-index c.loop-item-test.false in
+    adds_all c.args.marks.now.items _ _ (parameters_marks c.args.are_parameters c.args.site (parameters_syntax c.args.list.now)) c.loop-item.invariant
+    (ap (λ l. parameters_marks c.args.are_parameters c.args.site (parameters_syntax l)) nothing)
+
+pub fields-loop-item-preserved : goal.fields-loop-item-preserved
+unfolding fields_marks
+fields-loop-item-preserved t c =
+    let items = drop_item c.args.list.now c.loop-item.item-index c.item-item.result c.loop-item-test.true c.item-item.is in
+    adds_next _ _ _ _ _ _ c.loop-item.invariant (ap (λ l. fields_marks c.args.site (fields_syntax l)) items ∙ fields_more _ _ _) c.in_ok-field.ensures
+
+pub fields-returns : goal.fields-returns
+unfolding fields_marks
+fields-returns t c =
+    let nothing = drop_past c.args.list.now c.loop-item.item-index c.loop-item-test.false in
+    adds_all c.args.marks.now.items _ _ (fields_marks c.args.site (fields_syntax c.args.list.now)) c.loop-item.invariant
+    (ap (λ l. fields_marks c.args.site (fields_syntax l)) nothing)
+
+pub specs-loop-item-preserved : goal.specs-loop-item-preserved
+unfolding specs_marks
+specs-loop-item-preserved t c =
+    let items = drop_item c.args.list.now c.loop-item.item-index c.item-item.result c.loop-item-test.true c.item-item.is in
+    adds_next _ _ _ _ _ _ c.loop-item.invariant (ap (λ l. specs_marks c.args.keyword c.args.at (specs_syntax l)) items ∙ specs_more _ _ _ _)
+    c.in_ok-spec.ensures
+
+pub specs-returns : goal.specs-returns
+unfolding specs_marks
+specs-returns t c =
+    let nothing = drop_past c.args.list.now c.loop-item.item-index c.loop-item-test.false in
+    adds_all c.args.marks.now.items _ _ (specs_marks c.args.keyword c.args.at (specs_syntax c.args.list.now)) c.loop-item.invariant
+    (ap (λ l. specs_marks c.args.keyword c.args.at (specs_syntax l)) nothing)
+
+pub cases-loop-clause-preserved : goal.cases-loop-clause-preserved
+cases-loop-clause-preserved t c =
+    let guard = option_map (λ (n : Bor Identifier). identifier_syntax n.now) c.args.guard in
+    let items = drop_item c.args.clauses.now c.loop-clause.clause-index c.clause-item.result c.loop-clause-test.true c.clause-item.is in
+    adds_next _ _ _ _ _ _ c.loop-clause.invariant (ap (λ l. cases_marks c.args.at guard (cases_syntax l)) items ∙ cases_more c.args.at guard c.clause-item.result _)
+    (adds_case c.args.at guard c.clause-item.result _ _ _ _ _ _ c.in_ok-guard_in_clause.ensures c.deref.ensures.value
+    (adds_at_spot _ _ _ _ _ c.part_of.ensures c.in_ok-expressions.ensures) c.deref-in-loop-clause.ensures.value c.in_ok-statements.ensures)
+
+pub cases-returns : goal.cases-returns
+unfolding cases_marks
+cases-returns t c =
+    let guard = option_map (λ (n : Bor Identifier). identifier_syntax n.now) c.args.guard in
+    let nothing = drop_past c.args.clauses.now c.loop-clause.clause-index c.loop-clause-test.false in
+    adds_all c.args.marks.now.items _ _ (cases_marks c.args.at guard (cases_syntax c.args.clauses.now)) c.loop-clause.invariant
+    (ap (λ l. cases_marks c.args.at guard (cases_syntax l)) nothing)
+
+pub communications-loop-clause-preserved : goal.communications-loop-clause-preserved
+communications-loop-clause-preserved t c =
+    let items = drop_item c.args.clauses.now c.loop-clause.clause-index c.clause-item.result c.loop-clause-test.true c.clause-item.is in
+    adds_next _ _ _ _ _ _ c.loop-clause.invariant (ap (λ l. communications_marks (communications_syntax l)) items ∙ communications_more c.clause-item.result _)
+    (adds_communication c.clause-item.result _ _ _ _ c.in_ok-optional_statement.ensures c.deref.ensures.value c.in_ok-statements.ensures)
+
+pub communications-returns : goal.communications-returns
+unfolding communications_marks
+communications-returns t c =
+    let nothing = drop_past c.args.clauses.now c.loop-clause.clause-index c.loop-clause-test.false in
+    adds_all c.args.marks.now.items _ _ (communications_marks (communications_syntax c.args.clauses.now)) c.loop-clause.invariant
+    (ap (λ l. communications_marks (communications_syntax l)) nothing)
+
+pub all_arguments-loop-index-preserved : goal.all_arguments-loop-index-preserved
+all_arguments-loop-index-preserved t c =
+    let e = c.index-list-index.result in
+    let items = drop_item c.args.list.now c.loop-index.index e c.loop-index-test.true c.index-list-index.is in
+    let rest = expressions_syntax (drop (c.loop-index.index + 1) c.args.list.now) in
+    let call = option_map call_view c.args.call in
+    adds_next _ _ _
+    (argument_at call c.args.site c.loop-index.index c.is_last.result (expression_syntax e)
+    (expression_marks (used_at (argument_use call) c.args.site) (expression_syntax e)))
+    (arguments_marks call c.args.site (c.loop-index.index + 1) rest) _ c.loop-index.invariant
+    (ap (λ l. arguments_marks call c.args.site c.loop-index.index (expressions_syntax l)) items
+    ∙ argument_first call c.args.site c.loop-index.index c.is_last.result (expression_syntax e) rest c.is_last.ensures)
+    c.in_ok-argument.ensures
+
+pub all_arguments-returns : goal.all_arguments-returns
+unfolding arguments_marks
+all_arguments-returns t c =
+    let nothing = drop_past c.args.list.now c.loop-index.index c.loop-index-test.false in
+    adds_all c.args.marks.now.items _ _ (arguments_marks (option_map call_view c.args.call) c.args.site 0 (expressions_syntax c.args.list.now)) c.loop-index.invariant
+    (ap (λ l. arguments_marks (option_map call_view c.args.call) c.args.site c.loop-index.index (expressions_syntax l)) nothing)
+
+pub items-loop-index-preserved : goal.items-loop-index-preserved
+items-loop-index-preserved t c =
+    let e = c.index-list-index.result in
+    let items = drop_item c.args.list.now c.loop-index.index e c.loop-index-test.true c.index-list-index.is in
+    let rest = expressions_syntax (drop (c.loop-index.index + 1) c.args.list.now) in
+    adds_next _ _ _ (expression_marks (whole (return_item c.loop-index.index) c.args.site) (expression_syntax e))
+    (items_marks c.args.site (c.loop-index.index + 1) rest) _ c.loop-index.invariant
+    (ap (λ l. items_marks c.args.site c.loop-index.index (expressions_syntax l)) items
+    ∙ item_first c.args.site c.loop-index.index (expression_syntax e) rest)
+    (adds_same c.loop-index.marks.items c.expression.new.marks.items (expression_marks (spot_view c.whole.result) (expression_syntax e))
+    (expression_marks (whole (return_item c.loop-index.index) c.args.site) (expression_syntax e))
+    (ap (λ s. expression_marks s (expression_syntax e)) c.whole.ensures) c.in_ok-expression.ensures)
+
+pub items-returns : goal.items-returns
+unfolding items_marks
+items-returns t c =
+    let nothing = drop_past c.args.list.now c.loop-index.index c.loop-index-test.false in
+    adds_all c.args.marks.now.items _ _ (items_marks c.args.site 0 (expressions_syntax c.args.list.now)) c.loop-index.invariant
+    (ap (λ l. items_marks c.args.site c.loop-index.index (expressions_syntax l)) nothing)
+
+pub lefts-loop-index-preserved : goal.lefts-loop-index-preserved
+lefts-loop-index-preserved t c =
+    let e = c.index-list-index.result in
+    let items = drop_item c.args.list.now c.loop-index.index e c.loop-index-test.true c.index-list-index.is in
+    let rest = expressions_syntax (drop (c.loop-index.index + 1) c.args.list.now) in
+    let row = row_view c.args.row in
+    let marks = expression_marks (part_of c.args.site) (expression_syntax e) in
+    adds_next _ _ _ (named_or (as_bare (expression_syntax e)) c.args.site (left c.loop-index.index row) marks)
+    (lefts_marks row c.args.site (c.loop-index.index + 1) rest) _ c.loop-index.invariant
+    (ap (λ l. lefts_marks row c.args.site c.loop-index.index (expressions_syntax l)) items
+    ∙ left_first row c.args.site c.loop-index.index (expression_syntax e) rest)
+    (adds_same c.loop-index.marks.items c.named_or.new.marks.items
+    (named_or (option_map named_view c.as_bare.result) c.args.site (left c.loop-index.index row) marks)
+    (named_or (as_bare (expression_syntax e)) c.args.site (left c.loop-index.index row) marks)
+    (ap (λ n. named_or n c.args.site (left c.loop-index.index row) marks) c.as_bare.ensures) c.in_ok-named_or.ensures)
+
+pub lefts-returns : goal.lefts-returns
+unfolding lefts_marks
+lefts-returns t c =
+    let nothing = drop_past c.args.list.now c.loop-index.index c.loop-index-test.false in
+    adds_all c.args.marks.now.items _ _ (lefts_marks (row_view c.args.row) c.args.site 0 (expressions_syntax c.args.list.now)) c.loop-index.invariant
+    (ap (λ l. lefts_marks (row_view c.args.row) c.args.site c.loop-index.index (expressions_syntax l)) nothing)
+
+pub argument-returns-in-None : goal.argument-returns-in-None
+argument-returns-in-None t c =
+    alone_adds_argument _ _ _ _ _ _ _ _ _ (ap (option_map call_view) c.in-None.is) c.argument_use.ensures c.expression-in-None.ensures
+
+pub argument_of-returns-in-Unary : goal.argument_of-returns-in-Unary
+argument_of-returns-in-Unary t c =
+    let marks = expression_marks (spot_view c.args.spot) (expression_syntax c.args.argument.now) in
+    same_adds c.named_at.result c.args.marks.now.items c.named_at.new.marks.items
+    (named_or (option_map named_view c.addressed.result) c.args.spot.site (argument c.args.index true (call_view c.args.call)) marks)
+    (argument_or (call_view c.args.call) c.args.spot.site c.args.index (expression_syntax c.args.argument.now) marks)
+    (operator_argument c.args.argument.now.kind c.in-Unary.operator c.in-Unary.operand c.args.argument.now.span (call_view c.args.call)
+    c.args.spot.site c.args.index (option_map named_view c.addressed.result) marks c.in-Unary.is
+    (c.addressed.ensures ∙ ap (λ (e : Expr). addressed c.in-Unary.operator (expression_syntax e)) c.deref.ensures))
+    c.named_at.ensures
+
+pub argument_of-returns-in_default : goal.argument_of-returns-in_default
+argument_of-returns-in_default t c =
+    let marks = expression_marks (spot_view c.args.spot) (expression_syntax c.args.argument.now) in
+    same_adds c.named_at-in_default.result c.args.marks.now.items c.named_at-in_default.new.marks.items
+    (named_or (option_map named_view c.as_named.result) c.args.spot.site (argument c.args.index false (call_view c.args.call)) marks)
+    (argument_or (call_view c.args.call) c.args.spot.site c.args.index (expression_syntax c.args.argument.now) marks)
+    (ap (λ n. named_or n c.args.spot.site (argument c.args.index false (call_view c.args.call)) marks) c.as_named.ensures
+    ∙ no_operator c.args.argument.now.kind c.args.argument.now.span (call_view c.args.call) c.args.spot.site c.args.index marks c.in_default.not-Unary)
+    c.named_at-in_default.ensures

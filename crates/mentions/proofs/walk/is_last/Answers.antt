@@ -1,5 +1,0 @@
-use Rattle.mentions.proofs.WalkSteps.{none_left}
-use Rattle.mentions.proofs.walk.is_last.Goals as goal
-
-pub returns : goal.returns
-returns c = none_left c.args.list.now c.args.index c.requires
