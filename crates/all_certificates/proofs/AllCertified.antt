@@ -1,5 +1,5 @@
 -- What is made of packages that were judged are their certificates.
-use Rattle.std.proofs.Common.{◌≡◌, ℕ, ◌+◌, List, [], length, Some, option_map, sym, ap, ◌∙◌, subst, arith}
+use Rattle.std.proofs.Common.{◌≡◌, ℕ, ◌+◌, List, Some, option_map, sym, ap, ◌∙◌, subst, arith}
 use Rattle.std.specs.Prelude.{slice_get}
 use Rattle.std.proofs.lemmas.List.{length-map}
 use Rattle.std.proofs.lemmas.Option.{slice_get-map}
@@ -7,11 +7,11 @@ use Rattle.all_certificates.proofs.MadeCertificates.{as_many, made_there}
 use Rattle.all_certificates.specs.CertifiedPackages.{are_of_bodies, AreCertificatesOfAll, IsCertificateOf}
 use Rattle.all_certificates.specs.KeptCertificates.{AreMadeFrom, IsMadeAt}
 use Rattle.all_packages.proofs.KeptPackages.{kept_of}
-use Rattle.all_packages.specs.Certified.{certificates_in, AreAllCertified}
-use Rattle.all_packages.specs.Judgments.{table_view}
-use Rattle.all_packages.specs.Reports.{said_view, AreReports}
+use Rattle.one_package.specs.Certified.{certificates_in}
+use Rattle.all_packages.specs.Reports.{AreAllCertified, AreReports}
+use Rattle.one_package.specs.Judgments.{table_view, said_view}
 use Rattle.all_packages.specs.Tables.{IsPlain}
-use Rattle.all_packages.specs.declared.judged.Judged.{Judged}
+use Rattle.one_package.specs.declared.judged.Judged.{Judged}
 use Rattle.certificate_json.specs.Certificates.{PackageEntry}
 use Rattle.gathering.proofs.Results.{below_each}
 use Rattle.meaning_reports.specs.Loaded.{LoadedPackage, PackageTable, Tables}

@@ -1,9 +1,9 @@
 -- Certificates that are made of packages that were judged, one after the other, and whose these are.
-use Rattle.std.proofs.Common.{◌≡◌, ℕ, zero, suc, ◌+◌, ◌<◌, List, [], ◌∷◌, ◌++◌, length, Option, Some, None, refl, sym, ap, ◌∙◌, subst, arith}
+use Rattle.std.proofs.Common.{◌≡◌, ℕ, zero, suc, ◌+◌, List, [], ◌∷◌, ◌++◌, length, Some, refl, sym, ap, ◌∙◌, subst, arith}
 use Rattle.std.specs.Prelude.{slice_get}
 use Rattle.std.proofs.lemmas.List.{append-nil, append_assoc, length-append}
 use Rattle.std.proofs.lemmas.Option.{none-some, same_Some}
-use Rattle.all_packages.specs.declared.judged.Judged.{Judged}
+use Rattle.one_package.specs.declared.judged.Judged.{Judged}
 use Rattle.certificate_json.specs.Certificates.{PackageEntry}
 use Rattle.whole_packages.specs.declared.loaded_package.LoadedPackage.{LoadedPackage as KeptPackage}
 use Rattle.all_certificates.specs.KeptCertificates.{AddsPackage, AreMadeFrom, IsMadeAt}

@@ -1,9 +1,9 @@
 -- What serves the proofs: certificates that are made of packages that were judged, one after the other.
 use Rattle.std.specs.Prelude.{ℕ, ◌+◌, ◌≡◌, List, [], ◌∷◌, ◌++◌, length, Some, slice_get, ⊤}
-use Rattle.all_packages.specs.Certified.{certificates_in}
-use Rattle.all_packages.specs.Judgments.{table_view}
+use Rattle.one_package.specs.Certified.{certificates_in}
+use Rattle.one_package.specs.Judgments.{table_view}
 use Rattle.all_packages.specs.Tables.{IsPlain}
-use Rattle.all_packages.specs.declared.judged.Judged.{Judged}
+use Rattle.one_package.specs.declared.judged.Judged.{Judged}
 use Rattle.certificate_json.specs.Certificates.{PackageEntry}
 use Rattle.meaning_reports.specs.Loaded.{LoadedPackage, Tables}
 use Rattle.meaning_reports.specs.PackageTables.{IsTable}

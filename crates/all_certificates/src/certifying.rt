@@ -1,15 +1,17 @@
 //! The files of a package by the paths of their bodies, each of which gets its certificate.
 
+ghost use Rattle.std.specs.Prelude.{true};
 ghost use Rattle.all_certificates.specs.CertifiedPackages.{are_of_bodies};
 ghost use Rattle.meaning_reports.specs.PackageReports.{by_paths};
 
 use crate::files::entries_of_files;
-use all_packages::{Around, FileRules, FoundFiles, JudgedBodies, ToldPackage, judge_bodies};
 use calls_flags::KnownCalls;
+use one_package::{Around, FileRules, FoundFiles, JudgedBodies, ToldPackage, judge_bodies};
 use std::alloc::{AllocError, Global};
 use whole_packages::LoadedPackage;
 
-/// Files are judged by the paths of their bodies. Each body gets its least certificate while it is there.
+/// Files are judged by the paths of their bodies. Each body gets its least certificate while it is there, also where
+/// nothing is to be found in it: so all files have to be told of.
 #[derive(Clone, Copy)]
 pub struct Certifying;
 
@@ -17,6 +19,8 @@ impl FileRules for Certifying {
     ghost rules = { λ all. by_paths };
 
     ghost certificates = { λ all. are_of_bodies };
+
+    ghost tells_all = { λ all. true };
 
     fn find<'a>(
         &self,
@@ -40,6 +44,10 @@ impl FileRules for Certifying {
             called,
             certificates,
         })
+    }
+
+    fn tells_all(&self) -> bool {
+        true
     }
 
     fn are_determined(&self) {}

@@ -11,9 +11,9 @@ use Rattle.imports.proofs.GivenImports.{imported_there}
 use Rattle.whole_packages.specs.declared.loaded_package.LoadedPackage.{LoadedPackage as KeptPackage}
 use Rattle.meaning_reports.specs.Loaded.{LoadedPackage, import_list}
 use Rattle.meaning_reports.specs.PackageReports.{Rules}
-use Rattle.all_packages.specs.Certified.{CertificateRule}
+use Rattle.one_package.specs.Certified.{CertificateRule}
 use Rattle.all_packages.specs.Progress.{Slots, AreRight, WasJudged, IsReady, IsNext, AreRankedJudged, AreAllJudged}
-use Rattle.all_packages.proofs.FirstJudged.{some_from}
+use Rattle.one_package.proofs.FirstJudged.{some_from}
 
 -- Places in lists
 

@@ -1,26 +1,30 @@
 -- Before the first package is judged, and after the last.
-use Rattle.std.proofs.Common.{◌≡◌, ℕ, zero, suc, ◌<◌, Bool, true, List, [], ◌∷◌, map, length, replicate, Option, Some, None, option_map, is_some, refl, sym, ap, ◌∙◌, subst, arith}
-use Rattle.std.specs.Prelude.{◌↔◌, slice_get}
+use Rattle.std.proofs.Common.{◌≡◌, ℕ, zero, suc, ◌<◌, true, List, [], ◌∷◌, map, length, replicate, Option, Some, None, option_map, is_some, refl, sym, ap, ◌∙◌, subst, arith}
+use Rattle.std.specs.Prelude.{slice_get}
 use Rattle.std.proofs.lemmas.Bool.{false≢true}
 use Rattle.std.proofs.lemmas.List.{length-map, length-replicate}
 use Rattle.std.proofs.lemmas.Option.{none-some, same_Some, slice_get-map}
-use Rattle.imports.specs.Ranks.{Package, HasRank, IsOrder}
+use Rattle.imports.specs.Ranks.{Package}
 use Rattle.imports.specs.Settling.{place_from}
 use Rattle.imports.proofs.GivenImports.{first_there, there_first}
 use Rattle.whole_packages.specs.declared.loaded_package.LoadedPackage.{LoadedPackage as KeptPackage}
 use Rattle.whole_packages.specs.LoadedViews.{HaveDistinctPaths, TellPackages}
-use Rattle.whole_packages.specs.WholeEntries.{is_set, TellsOrder}
 use Rattle.meaning_reports.proofs.ImportsOf.{list_item, in_lists, given_in_lists}
 use Rattle.meaning_reports.specs.Loaded.{LoadedPackage, Tables, import_list, no_table}
 use Rattle.meaning_reports.specs.OneReport.{AreDetermined}
 use Rattle.meaning_reports.specs.PackageReports.{Rules, Said}
 use Rattle.gathering.specs.Results.{IsNotGiven, AreOfAll, AreTablesOf, HaveTables}
 use Rattle.gathering.proofs.Gathered.{results_say_the_tables_by}
-use Rattle.all_packages.specs.declared.judged.Judged.{Judged}
-use Rattle.all_packages.specs.Certified.{CertificateRule, AreAllCertified}
+use Rattle.declared_tables.specs.DeclaredTables.{declared_view}
+use Rattle.imports.specs.Views.{at_path}
+use Rattle.one_package.specs.declared.given.Given.{Given}
+use Rattle.one_package.specs.declared.judged.Judged.{Judged}
+use Rattle.one_package.specs.Given.{TellsGiven}
+use Rattle.one_package.specs.Certified.{CertificateRule}
+use Rattle.all_packages.specs.Reports.{AreAllCertified, AreReportsBy}
 use Rattle.all_packages.specs.Progress.{Slots, slot_at, judged_of, results_of, table_there, tables_of, AreRight, AreAllJudged}
-use Rattle.all_packages.specs.Reports.{said_view, AreReportsBy}
-use Rattle.all_packages.specs.Results.{table_or}
+use Rattle.one_package.specs.Judgments.{said_view}
+use Rattle.one_package.specs.Results.{table_or}
 use Rattle.all_packages.proofs.KeptPackages.{package_of, is_within}
 
 -- Nothing was judged
@@ -44,32 +48,6 @@ none_right rules rule ps kept slots count same as_many = record {
   where
     none : (i : ℕ) → slot_at slots i ≡ None
     none i = ap (λ (s : Slots). slot_at s i) same ∙ all_none count i
-
--- the packages that the order gives no rank have none
-pub order_so : (ps : List LoadedPackage) (rank : ℕ → Option ℕ) (ranked : List ℕ) → IsOrder (import_list ps) rank ranked
-    → (count : ℕ) → count ≡ length ps
-    → (marks : List Bool)
-    → ((j : ℕ) → (is_set (slice_get marks j) ≡ true) ↔ ((j < count) × (rank j ≡ None)))
-    → (places : List ℕ → Option ℕ)
-    → ((path : List ℕ) → places path ≡ place_from path (import_list ps) 0)
-    → TellsOrder ps places marks
-order_so ps rank ranked order count same marks are places are_places = record {
-  are_places = are_places;
-  are_unranked = λ j. (
-    λ m.
-        let h = (are j).0 m in (
-          subst (λ n. j < n) same h.0,
-          λ has.
-              false≢true (ap is_some (sym h.1)
-              ∙ (order.ranks j).1 (subst (λ n. j < n) (same ∙ sym (length-map ps (list_item ps))) h.0, has)),
-        ),
-    λ h. (are j).1 (subst (λ n. j < n) (sym same) h.0, by j h.1 (rank j) refl),
-  );
-}
-  where
-    by : (j : ℕ) → (HasRank (import_list ps) j → ⊥) → (o : Option ℕ) → rank j ≡ o → o ≡ None
-    by j none None e = refl
-    by j none (Some r) e = absurd (none ((order.ranks j).0 (ap is_some e)).1)
 
 -- The tables of all packages
 
@@ -131,6 +109,19 @@ module _ (rules : Rules) {rule : CertificateRule} (ps : List LoadedPackage) (kep
     all_tables determined =
         results_say_the_tables_by rules determined ps (results_of slots) tables distinct all.are_right.are_results of_all have_tables
 
+-- so what is declared of the packages that were given is in them
+pub tables_given : (rules : Rules) {rule : CertificateRule} (declared : Tables) (ps : List LoadedPackage) (given : Given)
+    (slots : Slots)
+    → rules.declared ≡ declared
+    → AreDetermined rules.are_flags
+    → TellsGiven declared ps given
+    → HaveDistinctPaths ps
+    → AreAllJudged rules rule ps given.packages.now slots
+    → AreTablesOf rules ps (results_of slots) (tables_of (declared_view given.declared) (at_path given.places) slots)
+tables_given rules declared ps given slots same determined tells distinct judged =
+    all_tables rules ps given.packages.now slots judged (at_path given.places) tells.are_places (declared_view given.declared)
+    (λ path. tells.are_declared path ∙ sym (ap (λ (d : Tables). d path) same)) distinct determined
+
 -- The report
 
 -- where each was judged, what was judged stands at its place
@@ -186,3 +177,21 @@ module _ (rules : Rules) {rule : CertificateRule} (ps : List LoadedPackage) (kep
 
   pub certified_so : (found : List Judged) → found ≡ judged_of slots → AreAllCertified rules rule ps found
   certified_so found same = subst (AreAllCertified rules rule ps) (sym same) certified_here
+
+-- What is given
+
+module _ (rules : Rules) {rule : CertificateRule} (declared : Tables) (ps : List LoadedPackage) (given : Given)
+    (slots : Slots) (same : rules.declared ≡ declared) (determined : AreDetermined rules.are_flags)
+    (tells : TellsGiven declared ps given) (distinct : HaveDistinctPaths ps)
+    (judged : AreAllJudged rules rule ps given.packages.now slots) (found : List Judged) (is : found ≡ judged_of slots) where
+  pub given_reports : AreReportsBy rules ps given.packages.now found
+  given_reports =
+      reports_so rules ps given.packages.now tells.tell slots judged
+      (tables_of (declared_view given.declared) (at_path given.places) slots)
+      (tables_given rules declared ps given slots same determined tells distinct judged) found is
+
+  pub given_certified : AreAllCertified rules rule ps found
+  given_certified =
+      certified_so rules ps given.packages.now tells.tell slots judged
+      (tables_of (declared_view given.declared) (at_path given.places) slots)
+      (tables_given rules declared ps given slots same determined tells distinct judged) found is

@@ -12,16 +12,16 @@ use Rattle.meaning_reports.proofs.ImportsOf.{given_in_lists}
 use Rattle.meaning_reports.specs.Loaded.{LoadedPackage, Tables, import_list}
 use Rattle.meaning_reports.specs.PackageReports.{Rules}
 use Rattle.gathering.specs.Results.{IsResult, AreResults, AreTablesOf}
-use Rattle.all_packages.specs.declared.given.Given.{Given}
-use Rattle.all_packages.specs.declared.judged.Judged.{Judged}
-use Rattle.all_packages.specs.Certified.{CertificateRule}
-use Rattle.all_packages.specs.Judgments.{table_view}
-use Rattle.all_packages.specs.Progress.{Slots, slot_at, results_of, imports_at, AreRight, WasJudged, IsReady, TellsGiven}
-use Rattle.all_packages.specs.Reports.{said_view}
-use Rattle.all_packages.specs.Results.{judged_at, said_at, results_by, AreImported, HaveTheirTables}
-use Rattle.all_packages.proofs.ImportedTables.{tables_so}
+use Rattle.one_package.specs.declared.given.Given.{Given}
+use Rattle.one_package.specs.declared.judged.Judged.{Judged}
+use Rattle.one_package.specs.Certified.{CertificateRule}
+use Rattle.one_package.specs.Judgments.{table_view, said_view}
+use Rattle.all_packages.specs.Progress.{Slots, slot_at, results_of, imports_at, AreRight, WasJudged, IsReady}
+use Rattle.one_package.specs.Given.{TellsGiven}
+use Rattle.one_package.specs.Results.{judged_at, said_at, results_by, AllMarked, AreImported, HaveTheirTables}
+use Rattle.one_package.proofs.ImportedTables.{tables_so}
 use Rattle.all_packages.proofs.KeptPackages.{kept_of}
-use Rattle.all_packages.proofs.FirstJudged.{found_at, is_found, some_from}
+use Rattle.one_package.proofs.FirstJudged.{found_at, is_found, some_from}
 
 -- it was judged, and is of a package that is imported
 record WasThere (ps : List LoadedPackage) (slots : Slots) (i : ℕ) (j : Judged) : Type 0 where
@@ -58,6 +58,13 @@ module _ (rules : Rules) {rule : CertificateRule} (ps : List LoadedPackage) (kep
           is_path = slot_path row.0 q.0 j q.1 row.2;
         }
 
+    -- their tables have the flags of their givers
+    pub are_marked : AllMarked js
+    are_marked j h =
+        let w = was_there j h in
+        let k = kept_of ps kept tell w.place w.found w.is_there in
+        (right.are_told w.place w.found k.0 j w.is_there k.1 w.is_slot).is_marked
+
     in_row : (k : ℕ) (q : LoadedPackage) → Imports (import_list ps) i k → slice_get ps k ≡ Some q
         → is_some (slot_at slots k) ≡ true
         → is_some (judged_at js q.path) ≡ true
@@ -72,6 +79,7 @@ module _ (rules : Rules) {rule : CertificateRule} (ps : List LoadedPackage) (kep
           let w = was_there j h in
           record { place = w.place; imported = w.found; is_there = w.is_there; imports = w.imports; is_path = w.is_path };
       are_all = λ k q im is rank. in_row k q im is (ready k im rank q is);
+      are_marked = are_marked;
     }
 
     pub results_so : HaveDistinctPaths ps → AreResults rules ps (results_by ps js)

@@ -1,17 +1,9 @@
 pub mod AllPackages
 mod AllReports
-mod DeclaredImports
-mod FirstJudged
-mod FollowsSo
-mod FoundPackages
+pub mod FoundPackages
 mod ImportedRows
-mod ImportedTables
-mod ImportsNotYes
-pub mod JudgedFiles
+mod JudgedImports
 pub mod KeptPackages
 mod NextPackage
-mod PackageNames
 mod PlainNames
 mod PlainTables
-mod Verdicts
-mod WholeOnly

@@ -8,11 +8,10 @@ use Rattle.whole_packages.specs.declared.loaded_package.LoadedPackage.{LoadedPac
 use Rattle.meaning_reports.specs.Loaded.{LoadedPackage}
 use Rattle.meaning_reports.specs.PackageReports.{Rules, Said}
 use Rattle.gathering.specs.Results.{IsResult}
-use Rattle.all_packages.specs.declared.judged.Judged.{Judged}
-use Rattle.all_packages.specs.Certified.{CertificateRule, AreCertified}
-use Rattle.all_packages.specs.Judgments.{TellsSources}
+use Rattle.one_package.specs.declared.judged.Judged.{Judged}
+use Rattle.one_package.specs.Certified.{CertificateRule, AreCertified}
+use Rattle.one_package.specs.Judgments.{TellsSources, said_view}
 use Rattle.all_packages.specs.Progress.{Slots, slot_at, AreRight, WasJudged, IsNext}
-use Rattle.all_packages.specs.Reports.{said_view}
 
 -- what is there is there when it is lent
 pub seen_some : (o : Option (Bor Judged)) (m : Option Judged) → option_map (λ j. j.now) o ≡ m → is_some o ≡ is_some m

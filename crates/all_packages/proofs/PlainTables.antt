@@ -12,9 +12,9 @@ use Rattle.table_json.specs.Tables.{Entry, entries_of}
 use Rattle.tree.specs.View.{file_syntax}
 use Rattle.meaning_reports.specs.Loaded.{LoadedPackage, PackageTable, Tables, means_in, trees_of}
 use Rattle.meaning_reports.specs.PackageTables.{IsTable, empty, full}
-use Rattle.all_packages.specs.declared.judged.Judged.{Judged}
-use Rattle.all_packages.specs.Judgments.{table_view}
-use Rattle.all_packages.specs.Reports.{said_view, AreReports}
+use Rattle.one_package.specs.declared.judged.Judged.{Judged}
+use Rattle.one_package.specs.Judgments.{table_view, said_view}
+use Rattle.all_packages.specs.Reports.{AreReports}
 use Rattle.all_packages.specs.Tables.{declared_names, names_of_kept, AreTablesFrom, IsPlain, IsTableAt, TellsNames, TellsTables}
 use Rattle.all_packages.proofs.PlainNames.{known_is_declared}
 

@@ -8,10 +8,11 @@ use Rattle.gathering.specs.Results.{AreTablesOf}
 use Rattle.imports.specs.Views.{at_path}
 use Rattle.all_packages.specs.declared.packages.JudgedBy.{JudgedBy}
 use Rattle.all_packages.specs.declared.packages.JudgedPackages.{JudgedPackages}
-use Rattle.all_packages.specs.Certified.{CertificateRule, no_certificates}
-use Rattle.all_packages.specs.Judgments.{table_view, IsJudgment}
-use Rattle.all_packages.specs.Progress.{slots_in, results_of, tables_of, AreAllJudged, TellsGiven}
-use Rattle.all_packages.specs.ToldPackages.{IsToldIf}
+use Rattle.one_package.specs.Certified.{CertificateRule, no_certificates}
+use Rattle.one_package.specs.Judgments.{table_view, IsJudgment}
+use Rattle.all_packages.specs.Progress.{slots_in, results_of, tables_of, AreAllJudged}
+use Rattle.one_package.specs.Given.{TellsGiven}
+use Rattle.one_package.specs.ToldPackages.{IsToldIf}
 
 -- the tables of all packages by their paths, and for other paths what is declared
 abbrev pub tables_in : JudgedPackages → Tables

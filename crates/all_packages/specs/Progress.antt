@@ -1,25 +1,15 @@
 -- What serves the proofs: what is known while packages are judged one after another.
-use Rattle.std.specs.Prelude.{ℕ, ◌≡◌, true, if◌then◌else◌, List, [], ◌∷◌, map, length, Option, Some, None, option_map, is_some, slice_get, slice_index_or, string_bytes, Contains}
-use Rattle.std.specs.Str.{bytes_eq}
-use Rattle.meaning.specs.OuterBlocks.{or_else}
-use Rattle.tree.specs.View.{file_syntax}
-use Rattle.imports.specs.Ranks.{HasRank, Imports, IsOrder}
-use Rattle.imports.specs.Settling.{given_imports, place_from}
-use Rattle.declared_tables.specs.DeclaredTables.{declared_view}
-use Rattle.imports.specs.Views.{at_path, packages_view, rank_of, ranked_of, rows_view}
-use Rattle.names.specs.Answers.{names_by_path}
+use Rattle.std.specs.Prelude.{ℕ, ◌≡◌, true, List, [], ◌∷◌, length, Option, Some, None, option_map, is_some, slice_get, slice_index_or, Contains}
+use Rattle.imports.specs.Ranks.{HasRank, Imports}
+use Rattle.imports.specs.Settling.{given_imports}
 use Rattle.whole_packages.specs.declared.loaded_package.LoadedPackage.{LoadedPackage as KeptPackage}
-use Rattle.whole_packages.specs.LoadedViews.{TellPackages}
-use Rattle.whole_packages.specs.WholeEntries.{TellsOrder}
-use Rattle.meaning_reports.specs.Loaded.{LoadedPackage, PackageTable, Tables, import_list, name_in, package_names, no_table}
+use Rattle.meaning_reports.specs.Loaded.{LoadedPackage, PackageTable, Tables, import_list, no_table}
 use Rattle.meaning_reports.specs.PackageReports.{Rules}
 use Rattle.gathering.specs.Results.{Results, AreResults}
-use Rattle.all_packages.specs.Certified.{CertificateRule, AreCertified}
-use Rattle.all_packages.specs.Judgments.{TellsSources}
-use Rattle.all_packages.specs.Reports.{said_view}
-use Rattle.all_packages.specs.Results.{table_or}
-use Rattle.all_packages.specs.declared.judged.Judged.{Judged}
-use Rattle.all_packages.specs.declared.given.Given.{Given}
+use Rattle.one_package.specs.Certified.{CertificateRule, AreCertified}
+use Rattle.one_package.specs.Judgments.{TellsSources, said_view}
+use Rattle.one_package.specs.Results.{table_or}
+use Rattle.one_package.specs.declared.judged.Judged.{Judged}
 use Rattle.all_packages.specs.declared.progress.Progress.{Progress as KeptProgress}
 
 -- what is said of each package that was judged, by its place
@@ -99,17 +89,6 @@ slots_in progress = progress.results.items
 abbrev pub judged_in : KeptProgress → ℕ → Option Judged
 judged_in progress = slot_at (slots_in progress)
 
--- what is given is those packages, what is known of them, and what is declared of others
-pub record TellsGiven (declared : Tables) (ps : List LoadedPackage) (given : Given) : Type 0 where
-  pub tell : TellPackages ps given.packages.now
-  pub are_lists : packages_view given.lists.items ≡ import_list ps
-  pub are_imports : rows_view given.imports.items ≡ given_imports (import_list ps)
-  pub is_ranked : IsOrder (import_list ps) (rank_of given.order) (ranked_of given.order)
-  pub are_places : (path : List ℕ) → at_path given.places path ≡ place_from path (import_list ps) 0
-  pub is_order : TellsOrder ps (at_path given.places) given.unranked.items
-  pub are_names : (path : List ℕ) → names_by_path given.names path ≡ package_names ps path
-  pub are_declared : (path : List ℕ) → declared_view given.declared path ≡ declared path
-
 -- the tables of the packages that were judged, by their places, and where there is none what is declared
 abbrev pub table_there : PackageTable → Slots → Option ℕ → PackageTable
 table_there declared slots None = declared
@@ -117,12 +96,3 @@ table_there declared slots (Some i) = table_or no_table (slot_at slots i)
 
 abbrev pub tables_of : Tables → (List ℕ → Option ℕ) → Slots → Tables
 tables_of declared places slots path = table_there (declared path) slots (places path)
-
--- Names
-
-abbrev pub kept_name : KeptPackage → List ℕ → Option (List ℕ)
-kept_name k path = if bytes_eq (string_bytes k.path) path then name_in (map file_syntax k.trees.items) else None
-
-abbrev pub names_from : List KeptPackage → List ℕ → Option (List ℕ)
-names_from [] path = None
-names_from (k ∷ ks) path = or_else (kept_name k path) (names_from ks path)

@@ -1,26 +1,19 @@
 -- What the program says of packages, and what it stands for.
-use Rattle.std.specs.Prelude.{ℕ, ◌≡◌, Bool, true, false, List, [], ◌∷◌, map, Some, slice_get}
+use Rattle.std.specs.Prelude.{ℕ, ◌≡◌, List, map, Some, slice_get}
 use Rattle.std.specs.List.{list_all}
 use Rattle.whole_packages.specs.declared.loaded_package.LoadedPackage.{LoadedPackage as KeptPackage}
 use Rattle.meaning_reports.specs.Loaded.{LoadedPackage, Tables}
-use Rattle.meaning_reports.specs.PackageReports.{Rules, Said, IsReportBy, by_paths}
+use Rattle.meaning_reports.specs.PackageReports.{Rules, IsReportBy, by_paths}
 use Rattle.whole_packages.specs.LoadedViews.{TellPackages, HaveDistinctPaths}
-use Rattle.report.specs.declared.diagnostics.Diagnostic.{Diagnostic}
 use Rattle.report.specs.declared.diagnostics.PackageReport.{PackageReport}
 use Rattle.report.specs.ReportText.{report_text}
-use Rattle.all_packages.specs.declared.judged.Judged.{Judged}
+use Rattle.one_package.specs.declared.judged.Judged.{Judged}
 use Rattle.all_packages.specs.declared.reports.Report.{Report}
-use Rattle.all_packages.specs.Judgments.{table_view, entries_of, TellsSources}
+use Rattle.one_package.specs.Certified.{CertificateRule, AreCertified}
+use Rattle.one_package.specs.Judgments.{is_yes, said_view, TellsSources}
 
 abbrev pub report_in : Judged → PackageReport
 report_in judged = judged.report
-
-abbrev pub said_view : Judged → Said
-said_view judged = record {
-  path = judged.report.path.now;
-  entries = entries_of judged;
-  table = table_view judged;
-}
 
 -- what is said is the report of the packages, each with its sources
 pub record AreReportsBy (rules : Rules) (ps : List LoadedPackage) (kept : List KeptPackage) (said : List Judged)
@@ -29,16 +22,15 @@ pub record AreReportsBy (rules : Rules) (ps : List LoadedPackage) (kept : List K
   pub are_told : (i : ℕ) (k : KeptPackage) (j : Judged) → slice_get kept i ≡ Some k → slice_get said i ≡ Some j
       → TellsSources k j
 
+-- the certificates of each package, in their order, are as the rule says
+abbrev pub AreAllCertified : Rules → CertificateRule → List LoadedPackage → List Judged → Type 0
+AreAllCertified rules rule ps said = (i : ℕ) (p : LoadedPackage) (judged : Judged)
+    → slice_get ps i ≡ Some p
+    → slice_get said i ≡ Some judged
+    → AreCertified rules rule ps i p judged
+
 abbrev pub AreReports : Tables → List LoadedPackage → List KeptPackage → List Judged → Type 0
 AreReports declared = AreReportsBy (by_paths declared)
-
--- there is nothing to say of the package
-abbrev pub says_nothing : List Diagnostic → Bool
-says_nothing [] = true
-says_nothing (d ∷ ds) = false
-
-abbrev pub is_yes : PackageReport → Bool
-is_yes report = says_nothing report.diagnostics.items
 
 -- the text is that of what is said, and `yes` tells whether nothing is to be said of any package
 pub record AreTold (reports : List PackageReport) (report : Report) : Type 0 where

@@ -12,8 +12,8 @@ use Rattle.table_json.specs.declared.table.Table.{Table}
 use Rattle.table_json.specs.Tables.{Entry, by_bytes, entries_of}
 use Rattle.table_json.specs.TableValues.{if_fits}
 use Rattle.meaning_reports.specs.Loaded.{LoadedPackage, PackageTable, Tables}
-use Rattle.all_packages.specs.declared.judged.Judged.{Judged}
-use Rattle.all_packages.specs.Judgments.{table_view}
+use Rattle.one_package.specs.declared.judged.Judged.{Judged}
+use Rattle.one_package.specs.Judgments.{table_view}
 use Rattle.all_packages.specs.Reports.{AreReports}
 
 abbrev pub as_list : {A : Type 0} → Option A → List A

@@ -1,13 +1,14 @@
 //! All packages, one after another.
 
 ghost use Rattle.std.specs.Prelude.{◌≡◌, ℕ, List, Option, IfOk, OnOk, Some, filter_map, slice_get};
-ghost use Rattle.all_packages.specs.Certified.{AreAllCertified, CertificatesFollow};
+ghost use Rattle.all_packages.specs.Reports.{AreAllCertified, AreReports, AreReportsBy};
+ghost use Rattle.one_package.specs.Certified.{CertificatesFollow};
 ghost use Rattle.all_packages.specs.JudgedPackages.{AreAll, AreAllBy, IsFoundBy, IsJudgedBy};
-ghost use Rattle.all_packages.specs.Judgments.{TellsAround, TellsSources};
-ghost use Rattle.all_packages.specs.Progress.{imports_at, judged_in, slots_in, AreRight, AreRankedJudged, AreAllJudged, IsNext, IsReady, TellsGiven};
-ghost use Rattle.all_packages.specs.Reports.{said_view, AreReports, AreReportsBy};
-ghost use Rattle.all_packages.specs.Results.{results_by, AreImported, HaveTheirTables, KnowsImports};
-ghost use Rattle.all_packages.specs.declared.judged.Judged.{Judged};
+ghost use Rattle.one_package.specs.Judgments.{TellsSources, said_view};
+ghost use Rattle.all_packages.specs.Progress.{imports_at, judged_in, slots_in, AreRight, AreRankedJudged, AreAllJudged, IsNext, IsReady};
+ghost use Rattle.one_package.specs.Given.{TellsGiven};
+ghost use Rattle.one_package.specs.Results.{results_by, AreImported};
+ghost use Rattle.one_package.specs.declared.judged.Judged.{Judged};
 ghost use Rattle.declared_tables.specs.DeclaredTables.{declared_tables};
 ghost use Rattle.gathering.specs.Results.{FollowsFrom};
 ghost use Rattle.imports.specs.Ranks.{IsOrder};
@@ -16,67 +17,17 @@ ghost use Rattle.outside_json.specs.Outside.{packages_of};
 ghost use Rattle.whole_packages.specs.LoadedViews.{HaveDistinctPaths, TellPackages, TellsPackage};
 ghost use Rattle.meaning_reports.specs.Loaded.{LoadedPackage as MeantPackage, Tables, import_list, imported_paths};
 
-use crate::by_paths::ByPaths;
-use crate::file_rules::FileRules;
-use crate::given::{Given, given_packages};
-use crate::grounds::told_of;
-use crate::judged::{Around, Judged, judge};
-use crate::known_imports::{KnownImports, known_imports};
+use crate::known_imports::known_imports;
 use crate::progress::Progress;
-use crate::told_package::ToldPackage;
 use calls_flags::ImportedCalls;
 use imports::ImportList;
+use one_package::{
+    ByPaths, FileRules, Given, Judged, KnownImports, ToldPackage, around, given_packages,
+    judge_package, told_of,
+};
 use outside_json::Outside;
 use std::alloc::{AllocError, Global};
-use whole_packages::{LoadedPackage, Marked};
-
-/// What is known around a package of which this is known of its imports.
-fn around<'k, 't, 'a>(given: &'k Given<'a>, imports: &'k KnownImports<'a, 't>) -> Around<'k, 'a>
-    ensures known { (declared : Tables) (ps : List MeantPackage) (tables : Tables) (p : MeantPackage)
-        (js : List Judged) → TellsGiven declared ps given.now
-        → KnowsImports given.now (imported_paths p) js imports.now → HaveTheirTables given.now p tables js
-        → TellsAround ps tables p result }
-    ensures not_yes { result.not_yes.now ≡ imports.now.not_yes }
-{
-    Around {
-        names: &given.names,
-        signatures: &imports.signatures,
-        calls: &imports.calls,
-        unranked: Marked {
-            places: &given.places,
-            marks: &given.unranked,
-        },
-        not_yes: &imports.not_yes,
-    }
-}
-
-/// Judges a package by what is known of its imports, whoever found that, and by what is declared of those that were not
-/// given. Of those without a rank nothing need be known.
-///
-/// # Errors
-///
-/// Memory was refused.
-pub fn judge_package<'a, R: FileRules>(
-    alloc: Global,
-    given: &Given<'a>,
-    loaded: &'a LoadedPackage,
-    imports: &KnownImports<'a, '_>,
-    rules: &R,
-) -> Result<Judged<'a>, AllocError>
-    ensures told { IfOk result (TellsSources loaded.now) }
-    ensures follows { IfOk result (λ judged. (declared : Tables) (ps : List MeantPackage) (i : ℕ) (p : MeantPackage)
-        (js : List Judged) → TellsGiven declared ps given.now → slice_get ps i ≡ Some p → TellsPackage p loaded.now
-        → KnowsImports given.now (imported_paths p) js imports.now → AreImported ps i js
-        → FollowsFrom (R.rules rules.now declared) ps i p (results_by ps js) (said_view judged)) }
-    ensures certified { IfOk result (λ judged. (declared : Tables) (ps : List MeantPackage) (i : ℕ) (p : MeantPackage)
-        (js : List Judged) → TellsGiven declared ps given.now → slice_get ps i ≡ Some p → TellsPackage p loaded.now
-        → KnowsImports given.now (imported_paths p) js imports.now → AreImported ps i js
-        → CertificatesFollow (R.rules rules.now declared) (R.certificates rules.now) ps i p (results_by ps js)
-        judged) }
-{
-    rules.are_determined();
-    judge(alloc, loaded, around(&*given, &*imports), rules)
-}
+use whole_packages::LoadedPackage;
 
 /// A package, what it imports, and the places of those that were given.
 #[derive(Clone, Copy)]
@@ -198,21 +149,24 @@ fn judge_rest<'a, R: FileRules>(
     Ok(())
 }
 
-/// Judges all packages: what each imports before it.
+/// Judges all packages that were not judged: what each imports before it.
 fn judge_all<'a, R: FileRules>(
     alloc: Global,
     given: &Given<'a>,
+    progress: Progress<'a>,
     rules: &R,
 ) -> Result<Progress<'a>, AllocError>
-    ensures { IfOk result (λ progress. (declared : Tables) (ps : List MeantPackage)
+    ensures { IfOk result (λ all. (declared : Tables) (ps : List MeantPackage)
         → TellsGiven declared ps given.now → HaveDistinctPaths ps
+        → AreRight (R.rules rules.now declared) (R.certificates rules.now) ps given.now.packages.now
+        (slots_in progress.entry)
         → AreAllJudged (R.rules rules.now declared) (R.certificates rules.now) ps given.now.packages.now
-        (slots_in progress)) }
+        (slots_in all)) }
 {
-    let mut progress = Progress::new(alloc, given.packages.len())?;
-    judge_ranked(alloc, given, given.order.ranked(), &mut progress, rules)?;
-    judge_rest(alloc, given, &mut progress, rules)?;
-    Ok(progress)
+    let mut all = progress;
+    judge_ranked(alloc, given, given.order.ranked(), &mut all, rules)?;
+    judge_rest(alloc, given, &mut all, rules)?;
+    Ok(all)
 }
 
 /// Packages that were judged.
@@ -240,7 +194,8 @@ pub fn judge_packages_by<'a, R: FileRules>(
         → AreAllBy (R.rules rules.now (declared_tables (packages_of outside.now))) (R.certificates rules.now) ps all) }
 {
     let given = given_packages(alloc, packages, outside)?;
-    let progress = judge_all(alloc, &given, rules)?;
+    let none = Progress::new(alloc, packages.len())?;
+    let progress = judge_all(alloc, &given, none, rules)?;
     rules.are_determined();
     Ok(JudgedPackages { given, progress })
 }
@@ -339,6 +294,35 @@ impl<'a> JudgedPackages<'a> {
     }
 }
 
+/// Judges the packages that were not judged, and tells what is said of all, in their order: what is to be said of
+/// each, what is known of its functions, and the certificates of its bodies, if the rules make some. Who judged the
+/// others does not matter, if what is said of each is right.
+///
+/// # Errors
+///
+/// Memory was refused.
+pub fn judge_left<'a, R: FileRules>(
+    alloc: Global,
+    given: &Given<'a>,
+    progress: Progress<'a>,
+    rules: &R,
+) -> Result<Vec<Judged<'a>>, AllocError>
+    ensures reports { IfOk result (λ found. (declared : Tables) (ps : List MeantPackage)
+        → TellsGiven declared ps given.now → HaveDistinctPaths ps
+        → AreRight (R.rules rules.now declared) (R.certificates rules.now) ps given.now.packages.now
+        (slots_in progress.entry)
+        → AreReportsBy (R.rules rules.now declared) ps given.now.packages.now found.items) }
+    ensures certified { IfOk result (λ found. (declared : Tables) (ps : List MeantPackage)
+        → TellsGiven declared ps given.now → HaveDistinctPaths ps
+        → AreRight (R.rules rules.now declared) (R.certificates rules.now) ps given.now.packages.now
+        (slots_in progress.entry)
+        → AreAllCertified (R.rules rules.now declared) (R.certificates rules.now) ps found.items) }
+{
+    let all = judge_all(alloc, given, progress, rules)?;
+    rules.are_determined();
+    all.into_judged(alloc)
+}
+
 /// Judges packages of different paths, and their files by these rules, where this is declared of packages that are not
 /// given: what is to be said of each, in their order, what is known of its functions, and the certificates of its
 /// bodies, if the rules make some.
@@ -360,8 +344,9 @@ pub fn check_by<'a, R: FileRules>(
         → AreAllCertified (R.rules rules.now (declared_tables (packages_of outside.now))) (R.certificates rules.now) ps
         found.items) }
 {
-    let JudgedPackages { progress, .. } = judge_packages_by(alloc, packages, outside, rules)?;
-    progress.into_judged(alloc)
+    let given = given_packages(alloc, packages, outside)?;
+    let none = Progress::new(alloc, packages.len())?;
+    judge_left(alloc, &given, none, rules)
 }
 
 /// The same by the paths of bodies.

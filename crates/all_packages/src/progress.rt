@@ -3,7 +3,7 @@
 ghost use Rattle.std.specs.Prelude.{◌≡◌, IfOk, Some, None, option_map, replicate, slice_set};
 ghost use Rattle.all_packages.specs.Progress.{judged_in, judged_of, slots_in};
 
-use crate::judged::Judged;
+use one_package::Judged;
 use std::alloc::{AllocError, Global};
 use std::mem::replace;
 

@@ -1,16 +1,15 @@
 //! What is said of packages that were judged, and its text.
 
-ghost use Rattle.std.specs.Prelude.{◌≡◌, List, IfOk, map};
+ghost use Rattle.std.specs.Prelude.{◌≡◌, IfOk, map};
 ghost use Rattle.std.specs.List.{list_all};
-ghost use Rattle.all_packages.specs.Reports.{is_yes, report_in, AreTold, IsTold, TellsReport, TellsReportBy};
+ghost use Rattle.one_package.specs.Judgments.{is_yes};
+ghost use Rattle.all_packages.specs.Reports.{report_in, AreTold, IsTold, TellsReport, TellsReportBy};
 ghost use Rattle.declared_tables.specs.DeclaredTables.{declared_tables};
 ghost use Rattle.outside_json.specs.Outside.{packages_of};
 ghost use Rattle.report.specs.ReportText.{report_text};
 
-use crate::by_paths::ByPaths;
-use crate::file_rules::FileRules;
-use crate::judged::Judged;
 use crate::packages::check_by;
+use one_package::{ByPaths, FileRules, Judged, is_yes};
 use outside_json::Outside;
 use report::{PackageReport, PutFault, Sink, write_text};
 use std::alloc::{AllocError, Global};
@@ -65,13 +64,6 @@ fn text_of(alloc: Global, reports: &[PackageReport]) -> Result<Vec<u8>, AllocErr
     }
 }
 
-/// Whether nothing is to be said of the package.
-pub fn is_yes(report: &PackageReport) -> bool
-    ensures { result ≡ is_yes report.now }
-{
-    report.is_yes()
-}
-
 /// Whether each package is yes.
 fn are_yes(reports: &[PackageReport]) -> bool
     ensures { result ≡ list_all is_yes reports.now }
@@ -104,8 +96,12 @@ pub fn report_from(alloc: Global, reports: &[PackageReport]) -> Result<Report, A
     Ok(Report { text, yes })
 }
 
-/// The same without what is known of the packages' functions.
-fn told(alloc: Global, judged: Vec<Judged<'_>>) -> Result<Report, AllocError>
+/// The report of packages that were judged so.
+///
+/// # Errors
+///
+/// Memory was refused.
+pub fn told(alloc: Global, judged: Vec<Judged<'_>>) -> Result<Report, AllocError>
     ensures { IfOk result (IsTold judged.entry.items) }
 {
     let reports = reports_of(alloc, judged)?;

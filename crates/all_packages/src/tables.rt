@@ -1,7 +1,7 @@
 //! What is known of the functions of packages, as plain values. What it says is in `specs/Tables.antt`.
 
 ghost use Rattle.std.specs.Prelude.{◌≡◌, ◌++◌, ℕ, List, IfOk, OnOk, flat_map, map};
-ghost use Rattle.all_packages.specs.Judgments.{table_view};
+ghost use Rattle.one_package.specs.Judgments.{table_view};
 ghost use Rattle.all_packages.specs.Tables.{as_list, declared_name, declared_names, entries_for, entry_told, if_told, is_none_of, parameter_kept, parameter_told, result_told, AreInOrder, AreTablesFrom, IsPlain, IsTableAt, TellsNames, TellsTables};
 ghost use Rattle.declared_tables.specs.DeclaredTables.{declared_tables};
 ghost use Rattle.facts.specs.FactViews.{cancel_result_view, facts_view, parameter_view, tracked_type_view, type_view};
@@ -14,10 +14,10 @@ ghost use Rattle.table_json.specs.Tables.{entries_of, entry_of};
 ghost use Rattle.tree.specs.View.{file_syntax, top_level_syntax};
 ghost use Rattle.whole_packages.specs.LoadedViews.{TellsPackage};
 
-use crate::judged::Judged;
 use crate::packages::check;
 use calls_flags::Called;
 use facts::{CancelResult, CancelType, FunctionFacts, TrackedParameter, TrackedType};
+use one_package::Judged;
 use outside_json::Outside;
 use std::alloc::{AllocError, Global};
 use table_json::{Function, Parameter, Table, if_fits};

@@ -1,5 +1,5 @@
 -- What a board answers, by what is kept.
-use Rattle.std.proofs.Common.{◌≡◌, ℕ, ◌⊎◌, Bool, true, false, List, Contains, Option, Some, None, inl, inr, refl, sym, ap, ◌∙◌, subst, length, arith, slice_get, slice_set}
+use Rattle.std.proofs.Common.{◌≡◌, ℕ, ◌⊎◌, Bool, true, false, List, [], ◌∷◌, Contains, Option, Some, None, inl, inr, refl, sym, ap, ◌∙◌, subst, length, map, arith, slice_get, slice_set}
 use Rattle.std.specs.Prelude.{replicate, ◌==◌, if◌then◌else◌, IsSome, IfSome}
 use Rattle.std.specs.Borrow.{Bor}
 use Rattle.std.specs.Option.{option_copied}
@@ -241,3 +241,28 @@ module _ {X : Type 0} (packages : List Package) (rank : ℕ → Option ℕ) (pla
       let R : List ℕ → Type 0 = λ l. Contains l j in
       let there : Contains (row (given_imports packages) p) j = subst Q is.are_rows (subst R is_row c) in
       subst P (sym same) (in_is_kept j (are j (table_imports packages p j there)))
+
+  at_place : (p : ℕ) (k : X) → Some k ≡ kept_at b.outcomes p → place_of k ≡ p
+  at_place p k e = (kept_is p k (sym e)).0
+
+  -- what came of the packages at these places, in their order, is of these places
+  pub kept_places : (places : List ℕ) (found : List X) → map (λ one. Some one) found ≡ map (kept_at b.outcomes) places
+      → map place_of found ≡ places
+  kept_places [] [] e = refl
+  kept_places [] (k ∷ ks) e = cc
+  kept_places (p ∷ ps) [] e = cc
+  kept_places (p ∷ ps) (k ∷ ks) e =
+      let first : place_of k ≡ p = at_place p k cc in
+      let rest : map place_of ks ≡ ps = kept_places ps ks cc in
+      cc (first, rest)
+
+  pub imported_places : (p : ℕ) (outcomes : List (Option X)) (imports : List ℕ) → outcomes ≡ b.outcomes
+      → imports ≡ row b.rows p → (found : List X) → map (λ one. Some one) found ≡ map (kept_at outcomes) imports
+      → map place_of found ≡ row (given_imports packages) p
+  imported_places p outcomes imports same is_row found e =
+      kept_places imports found (e ∙ ap (λ (l : List (Option X)). map (kept_at l) imports) same) ∙ is_row
+      ∙ ap (λ (rows : List (List ℕ)). row rows p) is.are_rows
+
+  -- what came of a package is of its place
+  pub outcome_is : (p : ℕ) (k : X) → slice_get b.outcomes p ≡ Some (Some k) → place_of k ≡ p
+  outcome_is p k e = (kept_is p k (ap flat e)).0

@@ -185,10 +185,23 @@ impl<'k, R: Outcome> Core<'k, R> {
     /// Memory was refused.
     pub fn imported(&self, alloc: Global, place: usize) -> Result<Vec<R>, AllocError>
         requires { AreImportsIn R.packages (state_in R.packages self.now).phases place }
-        ensures { IfOk result (λ found. map (λ one. Some one) found.items
+        ensures is { IfOk result (λ found. map (λ one. Some one) found.items
             ≡ map (outcome_in self.now) (slice_index_or (given_imports R.packages) place [])) }
+        ensures places { IfOk result (λ found. map R.place_of found.items
+            ≡ slice_index_or (given_imports R.packages) place []) }
     {
         outcomes_of(alloc, &self.outcomes, row_at(self.imports, place))
+    }
+
+    /// What came of each package, by its place.
+    pub fn into_outcomes(self) -> Vec<Option<R>>
+        ensures is { result.items ≡ self.entry.outcomes }
+        ensures as_many { length result.items ≡ length R.packages }
+        ensures places { (place : ℕ) (found : R) → slice_get result.items place ≡ Some (Some found)
+            → R.place_of found ≡ place }
+    {
+        let Core { outcomes, .. } = self;
+        outcomes
     }
 
     /// Whether a package was given back.

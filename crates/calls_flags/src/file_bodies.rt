@@ -1,6 +1,7 @@
 //! The bodies of each file of a package.
 
 ghost use Rattle.std.specs.Prelude.{List, IfOk};
+ghost use Rattle.bodies.specs.Bodies.{TellBodies};
 ghost use Rattle.calls_flags.specs.FilesBodies.{HasBodies, HaveBodies};
 ghost use Rattle.calls_flags.specs.ToldFiles.{TellsSeen, TellAllSeen};
 ghost use Rattle.meaning.specs.Uses.{Seen};
@@ -21,7 +22,26 @@ pub struct FileBodies<'e, 'a> {
     pub credits: Credits,
 }
 
-/// The bodies of the file of that number.
+/// The bodies of the file of that number that was told of: none, where its variables were not sought.
+///
+/// # Errors
+///
+/// Memory was refused.
+pub fn told_bodies<'e, 'a>(
+    alloc: Global,
+    number: usize,
+    file: &'e ToldFile<'a>,
+) -> Result<Vec<Body<'e, 'a>>, AllocError>
+    ensures { IfOk result (λ bodies. (seen : Seen) → TellsSeen seen file.now
+        → TellBodies number seen bodies.items) }
+{
+    match &file.variables {
+        Some(variables) => bodies(alloc, number, &file.told, variables),
+        None => Ok(Vec::new(alloc)),
+    }
+}
+
+/// The file of that number with its bodies and credits.
 fn bodies_of_file<'e, 'a>(
     alloc: Global,
     number: usize,
@@ -29,7 +49,7 @@ fn bodies_of_file<'e, 'a>(
 ) -> Result<FileBodies<'e, 'a>, AllocError>
     ensures { IfOk result (λ made. (seen : Seen) → TellsSeen seen file.now → HasBodies number seen made) }
 {
-    let bodies = bodies(alloc, number, &file.told, &file.variables)?;
+    let bodies = told_bodies(alloc, number, file)?;
     let credits = find_credits(alloc, &bodies)?;
     Ok(FileBodies {
         told: &file.told,

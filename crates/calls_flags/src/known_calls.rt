@@ -46,10 +46,12 @@ impl<'a> Called<'a> {
     ///
     /// # Errors
     ///
-    /// Memory was refused.
+    /// Memory was refused; nothing has changed then.
     pub fn add(&mut self, parameter: FunctionParameter<'a>) -> Result<(), AllocError>
-        ensures { OnOk result ((name : List ℕ) (k : ℕ) → is_called self.new name k
+        ensures ok { OnOk result ((name : List ℕ) (k : ℕ) → is_called self.new name k
             ≡ (is_called self.old name k || is_parameter name k parameter.entry)) }
+        ensures err { OnErr result ((name : List ℕ) (k : ℕ) → is_called self.new name k
+            ≡ is_called self.old name k) }
     {
         self.parameters.insert(parameter)?;
         Ok(())

@@ -10,7 +10,7 @@ mod rounds;
 mod told_file;
 
 pub use claims::{Claim, find_claims, function_name};
-pub use file_bodies::{FileBodies, bodies_of_files};
+pub use file_bodies::{FileBodies, bodies_of_files, told_bodies};
 pub use known_calls::{Called, FunctionParameter, ImportedCalls, KnownCalls};
 pub use rounds::{called_by, find_called};
 pub use told_file::{ToldFile, tell_files};

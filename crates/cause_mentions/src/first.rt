@@ -7,8 +7,8 @@ ghost use Rattle.names.specs.Answers.{names_by_path};
 ghost use Rattle.whole_packages.specs.LoadedViews.{HaveDistinctPaths, TellPackages};
 
 use crate::mentioned::trees_mention;
-use all_packages::names_of_packages;
 use names::PackageNames;
+use one_package::names_of_packages;
 use std::alloc::{AllocError, Global};
 use whole_packages::LoadedPackage;
 

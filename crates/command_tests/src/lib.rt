@@ -1,13 +1,9 @@
 //! Tests of the program's commands: their words, folders of real files, several packages, certificates and declared
-//! facts; and of its outside by what stands in for the system.
+//! facts; of its outside by what stands in for the system; and of packages that several workers judge.
 #![tactic(auto)]
 
 #[cfg(test)]
-mod certificate_files;
-#[cfg(test)]
 mod certificate_runs;
-#[cfg(test)]
-mod declared_facts;
 #[cfg(test)]
 mod packages;
 #[cfg(test)]
@@ -18,6 +14,7 @@ mod refusals;
 mod runs;
 #[cfg(test)]
 mod stand_in;
+#[cfg(test)]
 #[cfg(test)]
 mod transcripts;
 #[cfg(test)]

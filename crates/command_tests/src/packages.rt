@@ -1,8 +1,9 @@
 //! Several packages in one run.
 
-use crate::real_folders::{FolderEntry, new_folder};
+use crate::real_folders::new_folder;
 use crate::runs::expect_transcript;
 use driver::{Fault, GivenPackage, report_of};
+use evidence_rows::FolderEntry;
 use std::alloc::{AllocError, Global};
 use std::fs;
 use std::test::Fail;

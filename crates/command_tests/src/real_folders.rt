@@ -1,24 +1,11 @@
 //! Folders of real files. Links stand for files without rights, which a superuser would read.
 
 use crate::runs::expect_check;
+use evidence_rows::FolderEntry;
 use std::fs::File;
 use std::os::unix::fs::symlink;
 use std::test::Fail;
 use std::{env, fs, process};
-
-/// What stands in a folder under a name.
-#[derive(Clone, Copy)]
-pub enum FolderEntry {
-    Text(&'static str),
-    Bytes(&'static [u8]),
-    /// So many NUL bytes, which take no room on the disk.
-    Sparse(u64),
-    Folder,
-    /// A folder with a file `x.go` of this text.
-    Package(&'static str),
-    /// A link to this path.
-    Link(&'static str),
-}
 
 /// An empty folder of this process, for a test of this name.
 pub fn new_folder(rt: &HostRuntime, name: &str) -> Result<String, Fail> {

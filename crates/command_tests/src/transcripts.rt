@@ -1,8 +1,9 @@
 //! Transcripts of runs over folders of real files.
 
+use crate::packages;
 use crate::real_folders::{NAMED, NAMED_TRANSCRIPT, folder_with};
 use crate::runs::expect_transcript;
-use crate::{certificate_files, declared_facts, packages};
+use evidence_rows::{certificate_files, declared_facts};
 use std::fs;
 use std::test::Fail;
 

@@ -1,6 +1,7 @@
 //! Files that are written whole: in real folders, and on a disk that fails.
 
-use crate::real_folders::{FolderEntry, folder_with};
+use crate::real_folders::folder_with;
+use evidence_rows::FolderEntry;
 use folders::{UnwrittenFile, write_file};
 use std::alloc::{Allocator, Global};
 use std::cell::Cell;

@@ -1,5 +1,5 @@
 -- Tables of packages, added one by one: the first package of a path counts.
-use Rattle.std.proofs.Common.{◌≡◌, ℕ, ◌+◌, ◌<◌, Bool, true, false, if◌then◌else◌, List, ◌∷◌, drop, get_or, length, map, Option, Some, None, option_map, is_some, bytes_eq, refl, sym, ap, ◌∙◌}
+use Rattle.std.proofs.Common.{◌≡◌, ℕ, ◌+◌, ◌<◌, Bool, true, false, if◌then◌else◌, List, drop, get_or, length, map, Option, Some, None, option_map, is_some, bytes_eq, refl, sym, ap, ◌∙◌}
 use Rattle.std.proofs.lemmas.Bool.{false≢true}
 use Rattle.std.proofs.lemmas.Slice.Eq.{bytes_eq-Decides}
 use Rattle.meaning.specs.OuterBlocks.{or_else}
@@ -7,7 +7,7 @@ use Rattle.meaning_reports.specs.Loaded.{PackageTable}
 use Rattle.names.specs.Maps.{only_at}
 use Rattle.names.proofs.Adding.{or_else-none}
 use Rattle.outside_json.specs.declared.outside.OutsidePackage.{OutsidePackage}
-use Rattle.outside_json.specs.Outside.{FunctionEntry, PackageEntry, package_of, table_at}
+use Rattle.outside_json.specs.Outside.{FunctionEntry, package_of, table_at}
 use Rattle.declared_tables.specs.declared.tables.PackageTable.{PackageTable as KeptTable}
 use Rattle.declared_tables.specs.DeclaredTables.{table_declared, table_if_any, table_of, table_view}
 use Rattle.declared_tables.proofs.AddedCalls.{item_next}

@@ -1,2 +1,3 @@
 mod AddedCalls
 mod AddedTables
+mod Givers

@@ -1,7 +1,9 @@
 //! The tables of packages of which something is declared.
 
 ghost use Rattle.std.specs.Prelude.{◌≡◌, ℕ, List, IfOk, OnOk, map, option_map};
+ghost use Rattle.std.specs.List.{list_any};
 ghost use Rattle.declared_tables.specs.DeclaredTables.{declared_tables, declared_view, table_of, table_view};
+ghost use Rattle.declared_tables.specs.MarkedGivers.{AllMarkGivers, AreMarked, MarksGivers, is_giver};
 ghost use Rattle.meaning.specs.OuterBlocks.{or_else};
 ghost use Rattle.names.specs.Answers.{at_name};
 ghost use Rattle.names.specs.Maps.{only_at};
@@ -21,6 +23,26 @@ pub struct PackageTable<'a> {
     pub signatures: Table<'a>,
     /// Which of their parameters they are known to call.
     pub called: Called<'a>,
+    /// Whether one of them may give a cancel function: false only where none does.
+    pub gives: bool,
+}
+
+/// Whether the function is declared to give a cancel function, of whatever type.
+fn is_giver(function: &OutsideFunction) -> bool
+    ensures { result ≡ is_giver (function_of function.now) }
+{
+    0 < function.facts.gives.len() || 0 < function.facts.causes.len()
+}
+
+fn any_is_giver(functions: &[OutsideFunction]) -> bool
+    ensures { result ≡ list_any is_giver (map function_of functions.now) }
+{
+    for function in functions {
+        if is_giver(function) {
+            return true;
+        }
+    }
+    false
 }
 
 /// What is declared of these functions. Of several of one name the first counts.
@@ -28,14 +50,19 @@ fn table_of<'a>(
     alloc: Global,
     functions: &'a [OutsideFunction],
 ) -> Result<PackageTable<'a>, AllocError>
-    ensures { IfOk result (λ table. table_view table ≡ table_of (map function_of functions.now)) }
+    ensures table { IfOk result (λ table. table_view table ≡ table_of (map function_of functions.now)) }
+    ensures marks { IfOk result MarksGivers }
 {
     let mut signatures = Table::new(alloc);
     let mut called = Called::new(alloc);
     for function in functions {
         add_function(alloc, function, &mut signatures, &mut called)?;
     }
-    Ok(PackageTable { signatures, called })
+    Ok(PackageTable {
+        signatures,
+        called,
+        gives: any_is_giver(functions),
+    })
 }
 
 /// Adds what is declared of a package, unless something is of its path.
@@ -44,9 +71,10 @@ fn add_package<'a>(
     outside: &'a OutsidePackage,
     packages: &mut IndexMap<&'a str, PackageTable<'a>>,
 ) -> Result<(), AllocError>
-    ensures { OnOk result ((path : List ℕ) → option_map table_view (at_name packages.new path)
+    ensures table { OnOk result ((path : List ℕ) → option_map table_view (at_name packages.new path)
         ≡ or_else (option_map table_view (at_name packages.old path))
         (only_at (package_of outside.now).path (table_of (package_of outside.now).functions) path)) }
+    ensures marks { OnOk result (AreMarked packages.old → AreMarked packages.new) }
 {
     let path = outside.path.as_str();
     if packages.contains_key(path) {
@@ -70,8 +98,9 @@ impl<'a> DeclaredTables<'a> {
     ///
     /// Memory was refused.
     pub fn of(alloc: Global, outside: &'a Outside) -> Result<Self, AllocError>
-        ensures { IfOk result (λ kept. (path : List ℕ)
+        ensures tables { IfOk result (λ kept. (path : List ℕ)
             → declared_view kept path ≡ declared_tables (packages_of outside.now) path) }
+        ensures marks { IfOk result AllMarkGivers }
     {
         let mut packages = IndexMap::new(alloc);
         for one in &outside.packages {

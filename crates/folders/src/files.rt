@@ -160,7 +160,10 @@ fn read_bytes<R: Files + AllocGlobal>(rt: &R, name: &str) -> io::Result<Option<V
     if !kind.is_file() {
         return Err(io::Error::from(io::ErrorKind::InvalidInput));
     }
+    // Room for what the file has now, and for one byte more, by which its end is seen. A size that is wrong does no
+    // harm: no more is taken in advance than may be read, and a file that grows meanwhile is read all the same.
     let mut bytes = Vec::new(rt.alloc());
+    bytes.reserve_exact(kind.len().min(MOST_READ) as usize + 1)?;
     fs::open(rt, name)?.take(MOST_READ).read_to_end(&mut bytes)?;
     Ok(Some(bytes))
 }

@@ -1,5 +1,6 @@
 -- What is written to rows in memory.
-use Rattle.std.proofs.Common.{◌≡◌, ℕ, ◌<◌, List, [], length, get_or, set, ap, ◌∙◌, sym}
+use Rattle.std.proofs.Common.{◌≡◌, ℕ, ◌<◌, List, [], length, get_or, set, Result, Ok, Err, OnErr, ap, ◌∙◌, sym}
+use Rattle.std.proofs.Math.Seq.{map-set_same}
 use Rattle.std.proofs.lemmas.List.{map-set, get_or-map}
 use Rattle.std.specs.declared.alloc.Global.{Global}
 use Rattle.std.specs.declared.vec.Vec.{Vec as VecIn}
@@ -18,3 +19,12 @@ pub row_read : (rows : List (Vec ℕ)) (i : ℕ) (row : Vec ℕ)
     → row ≡ get_or rows i row
     → row.items ≡ get_or (rows_view rows) i []
 row_read rows i row l e = ap (λ (r : Vec ℕ). r.items) e ∙ sym (get_or-map (λ (r : Vec ℕ). r.items) rows i row [] l)
+
+-- a row of the same items takes the place of one
+pub row_kept : {T E : Type 0} (r : Result T E) (rows : List (Vec ℕ)) (i : ℕ) (row written : Vec ℕ)
+    → row ≡ get_or rows i row
+    → written.items ≡ row.items
+    → OnErr r (rows_view (set rows i written) ≡ rows_view rows)
+row_kept (Ok value) rows i row written e same = tt
+row_kept (Err error) rows i row written e same =
+    map-set_same (λ (r : Vec ℕ). r.items) rows i written row (same ∙ ap (λ (r : Vec ℕ). r.items) e)

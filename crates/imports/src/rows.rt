@@ -1,6 +1,6 @@
 //! Rows of numbers.
 
-ghost use Rattle.std.specs.Prelude.{◌≡◌, [], ◌∷◌, ◌++◌, IfOk, OnOk, slice_set, slice_index_or, replicate};
+ghost use Rattle.std.specs.Prelude.{◌≡◌, [], ◌∷◌, ◌++◌, IfOk, OnOk, OnErr, slice_set, slice_index_or, replicate};
 ghost use Rattle.imports.specs.Views.{rows_view, slices_view};
 
 use std::alloc::{AllocError, Global};
@@ -45,14 +45,15 @@ pub fn set_slice<'a>(slices: &mut Vec<&'a [usize]>, place: usize, slice: &'a [us
     }
 }
 
-/// Adds the item to the row at that place, if there is one.
+/// Adds the item to the row at that place, if there is one. Where memory is refused, no row changes.
 ///
 /// # Errors
 ///
 /// Memory was refused.
 pub fn push_at(rows: &mut Vec<Vec<usize>>, place: usize, item: usize) -> Result<(), AllocError>
-    ensures { OnOk result (rows_view rows.new.items ≡ slice_set (rows_view rows.old.items) place
+    ensures ok { OnOk result (rows_view rows.new.items ≡ slice_set (rows_view rows.old.items) place
         (slice_index_or (rows_view rows.old.items) place [] ++ item ∷ [])) }
+    ensures err { OnErr result (rows_view rows.new.items ≡ rows_view rows.old.items) }
 {
     if place < rows.len() {
         rows[place].push(item)?;

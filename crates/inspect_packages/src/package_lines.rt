@@ -3,8 +3,9 @@
 use crate::body_lines::push_body;
 use crate::page::{Classes, FilePage, place_of};
 use crate::use_fault_lines::push_outer;
-use all_packages::{JudgedBy, ToldPackage, judge_packages};
+use all_packages::{JudgedBy, judge_packages};
 use calls_flags::{KnownCalls, bodies_of_files};
+use one_package::ToldPackage;
 use outside_json::Outside;
 use report::PackageReport;
 use std::alloc::{AllocError, Global};

@@ -38,6 +38,6 @@ fn tell_known<'k, 't, 'a>(
     own: &'k Table<'a>,
     imported: &'k Imported<'a, 't>,
 ) -> Result<(), AllocError> {
-    tell_files(alloc, files, names, own, imported)?;
+    tell_files(alloc, files, names, own, imported, &[])?;
     Ok(())
 }

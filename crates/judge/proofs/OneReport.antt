@@ -17,9 +17,9 @@ use Rattle.whole_packages.specs.declared.loaded_package.LoadedPackage.{LoadedPac
 use Rattle.load.specs.declared.packages.GivenPackage.{GivenPackage}
 use Rattle.load.specs.Readings.{IsReadingOf}
 use Rattle.load.specs.GivenPackages.{PathAndFiles, entry_of as path_and_files, AreLoaded, IsLoad}
-use Rattle.all_packages.specs.declared.judged.Judged.{Judged}
-use Rattle.all_packages.specs.Judgments.{table_view}
-use Rattle.all_packages.specs.Reports.{report_in, said_view, says_nothing, is_yes}
+use Rattle.one_package.specs.declared.judged.Judged.{Judged}
+use Rattle.one_package.specs.Judgments.{table_view, said_view, says_nothing, is_yes}
+use Rattle.all_packages.specs.Reports.{report_in}
 use Rattle.declared_tables.specs.DeclaredTables.{declared_tables}
 use Rattle.outside_json.specs.Outside.{PackageEntry}
 use Rattle.judge.specs.Reports.{Report, IsReport}

@@ -12,9 +12,9 @@ use Rattle.meaning_reports.specs.PackageReports.{Rules, IsReportBy}
 use Rattle.whole_packages.specs.declared.loaded_package.LoadedPackage.{LoadedPackage as KeptPackage}
 use Rattle.load.specs.Readings.{AreReadingsOf}
 use Rattle.load.specs.GivenPackages.{PathAndFiles, AreLoaded}
-use Rattle.all_packages.specs.declared.judged.Judged.{Judged}
+use Rattle.one_package.specs.declared.judged.Judged.{Judged}
 use Rattle.report.specs.Entries.{entry_of}
-use Rattle.all_packages.specs.Reports.{says_nothing, said_view}
+use Rattle.one_package.specs.Judgments.{says_nothing, said_view}
 use Rattle.meaning_runs.specs.Promise.{AreTreesOfTexts}
 use Rattle.meaning_runs.specs.PackageYes.{YesOfAPackageIsQuietBy}
 use Rattle.judge.specs.QuietYes.{YesAreQuiet}

@@ -18,8 +18,9 @@ use Rattle.meaning_reports.specs.Loaded.{Reading, has_tree, has_text_fault, has_
 use Rattle.whole_packages.specs.declared.loaded_package.LoadedPackage.{LoadedPackage as KeptPackage}
 use Rattle.load.specs.GivenPackages.{PathAndFiles, AreLoaded}
 use Rattle.load.specs.Readings.{IsUnreadable, IsReadingOf, AreReadingsOf}
-use Rattle.all_packages.specs.declared.judged.Judged.{Judged}
-use Rattle.all_packages.specs.Reports.{said_view, AreReportsBy}
+use Rattle.one_package.specs.declared.judged.Judged.{Judged}
+use Rattle.one_package.specs.Judgments.{said_view}
+use Rattle.all_packages.specs.Reports.{AreReportsBy}
 use Rattle.meaning_reports.specs.PackageReports.{Rules}
 use Rattle.meaning_runs.specs.FilePlaces.{Fits, AreTextsOf}
 use Rattle.meaning_runs.proofs.BodyOffsetsTokens.{mark_there}

@@ -5,8 +5,8 @@
 -- what it started there may start more.
 use Rattle.std.specs.Prelude.{ℕ, ◌≡◌, true, List, Some, slice_get}
 use Rattle.meaning_reports.specs.Loaded.{LoadedPackage, Tables}
-use Rattle.all_packages.specs.declared.judged.Judged.{Judged}
-use Rattle.all_packages.specs.Reports.{is_yes}
+use Rattle.one_package.specs.declared.judged.Judged.{Judged}
+use Rattle.one_package.specs.Judgments.{is_yes}
 use Rattle.meaning_runs.specs.PackageYes.{program_of}
 use Rattle.meaning_runs.specs.Runs.{IsQuietProgram}
 

@@ -7,7 +7,7 @@ use Rattle.declared_tables.specs.DeclaredTables.{declared_tables}
 use Rattle.load.specs.declared.loaded.Loaded.{Loaded}
 use Rattle.load.specs.declared.packages.GivenPackage.{GivenPackage}
 use Rattle.load.specs.LoadedBeside.{IsLoadBeside}
-use Rattle.all_packages.specs.declared.judged.Judged.{Judged}
+use Rattle.one_package.specs.declared.judged.Judged.{Judged}
 use Rattle.all_packages.specs.Reports.{AreReportsBy, IsTold}
 pub use Rattle.all_packages.specs.declared.reports.Report.{Report}
 use Rattle.meaning_reports.specs.Loaded.{Tables}

@@ -3,7 +3,7 @@
 use Rattle.std.specs.Prelude.{ℕ, ◌≡◌, ◌≤◌, List, length, Some, slice_get, Contains}
 use Rattle.lexer.specs.declared.source.Source.{Source}
 use Rattle.report.specs.declared.diagnostics.Diagnostic.{Diagnostic}
-use Rattle.all_packages.specs.declared.judged.Judged.{Judged}
+use Rattle.one_package.specs.declared.judged.Judged.{Judged}
 
 pub record StandsInSource (sources : List Source) (d : Diagnostic) : Type 0 where
   pub source : Source

@@ -1,5 +1,6 @@
 -- The files of a package, one after the other.
-use Rattle.std.proofs.Common.{◌≡◌, ℕ, ◌+◌, List, [], ◌∷◌, ◌++◌, map, length, string_bytes, refl, sym, ap, ◌∙◌, subst, arith}
+use Rattle.std.proofs.Common.{◌≡◌, ℕ, zero, suc, ◌+◌, List, [], ◌∷◌, ◌++◌, map, length, slice_get, Some, None, string_bytes, refl, sym, ap, ◌∙◌, subst, arith}
+use Rattle.std.proofs.lemmas.Option.{same_Some}
 use Rattle.std.proofs.lemmas.List.{append-nil, append_assoc, map-append, length-append}
 use Rattle.lexer.specs.declared.source.Source.{Source}
 use Rattle.tree.specs.Syntax.{SourceFile}
@@ -127,6 +128,20 @@ are_files all left readings trees so =
     ∙ (sym (so.completes [] [])
     ∙ λ i. readings_of (append-nil readings i) (append-nil (map file_syntax trees) i))
 
+-- what became of a file, by its place
+reading_at : (sources : List Source) (files : List Reading) → AreReadingsOf sources files
+    → (i : ℕ) (s : Source) (r : Reading)
+    → slice_get sources i ≡ Some s
+    → slice_get files i ≡ Some r
+    → IsReadingOf s.bytes.items r
+reading_at [] files are i s r is_source is_file = let bad : None ≡ Some s = is_source in cc
+reading_at (x ∷ sources) [] are i s r is_source is_file = absurd are
+reading_at (x ∷ sources) (f ∷ files) are zero s r is_source is_file =
+    subst (λ (y : Source). IsReadingOf y.bytes.items r) (same_Some x s is_source)
+    (subst (IsReadingOf x.bytes.items) (same_Some f r is_file) are.0)
+reading_at (x ∷ sources) (f ∷ files) are (suc i) s r is_source is_file =
+    reading_at sources files are.1 i s r is_source is_file
+
 -- so that is kept of the package
 pub is_read : (given : GivenPackage) (kept : KeptPackage) (sources left : List Source)
     → sources ≡ given.sources.items
@@ -135,16 +150,21 @@ pub is_read : (given : GivenPackage) (kept : KeptPackage) (sources left : List S
     → left ≡ []
     → LoadsSo sources left kept.readings.items kept.trees.items
     → IsReadAs given kept
-is_read given kept sources left lent same is_path none so = record {
-  meant = record { path = string_bytes given.path; files = so.files };
-  tells = record {
-    is_path = ap string_bytes (sym is_path);
-    are_files = are_files sources left kept.readings.items kept.trees.items so;
-    are_trees = so.are_trees 0;
-    are_readings = so.are_as_many;
-  };
-  is_path = refl;
-  same_files = same;
-  are_files =
-      subst (λ ss. AreReadingsOf ss so.files) lent (all_files sources left kept.readings.items kept.trees.items none so);
-}
+is_read given kept sources left lent same is_path none so =
+    let read = subst (λ ss. AreReadingsOf ss so.files) lent
+    (all_files sources left kept.readings.items kept.trees.items none so) in
+    record {
+      meant = record { path = string_bytes given.path; files = so.files };
+      tells = record {
+        is_path = ap string_bytes (sym is_path);
+        are_files = are_files sources left kept.readings.items kept.trees.items so;
+        are_trees = so.are_trees 0;
+        are_readings = so.are_as_many;
+        are_of_texts = λ i s tree is_source is_file.
+            reading_at kept.sources.items so.files (subst (λ ss. AreReadingsOf ss so.files) (sym same) read) i s (has_tree tree)
+            is_source is_file;
+      };
+      is_path = refl;
+      same_files = same;
+      are_files = read;
+    }

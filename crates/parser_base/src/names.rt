@@ -112,6 +112,8 @@ pub fn identifiers(source: SourceTokens<'_>, place: TokenPlace) -> Read<Vec<Iden
 {
     let mut names = Vec::new(source.alloc);
     let (first, mut rest) = identifier(source, place)?;
+    // Most lists have one name.
+    names.reserve_exact(1)?;
     names.push(first)?;
     for _ in 0..source.steps(rest) {
         if !source.stands(rest, TokenKind::Comma) {

@@ -53,6 +53,7 @@ pub fn names_of(
     let mut left = list;
     left.reverse();
     let mut names = Vec::new(source.alloc);
+    holding!(expressions: left; memory names.reserve_exact(left.len()));
     while let Some(item) = left.pop() {
         let name = holding!(expressions: left; name_of(source, item, place));
         holding!(expressions: left; memory names.push(name));

@@ -5,6 +5,9 @@ ghost use Rattle.std.specs.Prelude.{◌≡◌, ◌++◌, ◌∷◌, [], IfOk};
 use std::alloc::AllocError;
 use tree::{CaseClause, CommClause, Expr, Field, Param, Spec, Stmt, TopLevelDecl};
 
+/// Most lists of a tree have one part or two. So long a list has no room to spare.
+const MOST_EXACT: usize = 2;
+
 /// A list, and a part after it.
 ///
 /// # Errors
@@ -13,6 +16,9 @@ use tree::{CaseClause, CommClause, Expr, Field, Param, Spec, Stmt, TopLevelDecl}
 fn with_part<T: Drop>(mut list: Vec<T>, part: T) -> Result<Vec<T>, AllocError>
     ensures { IfOk result (λ longer. longer.items ≡ list.items ++ (part ∷ [])) }
 {
+    if list.len() < MOST_EXACT {
+        list.reserve_exact(1)?;
+    }
     list.push(part)?;
     Ok(list)
 }

@@ -5,8 +5,7 @@ ghost use Rattle.calls_flags.specs.ToldFiles.{TellsSeen, TellAllSeen};
 ghost use Rattle.meaning.specs.Uses.{Seen};
 ghost use Rattle.verifier.specs.BareFiles.{IsBare, AreBare};
 
-use bodies::bodies;
-use calls_flags::{FileBodies, ToldFile};
+use calls_flags::{FileBodies, ToldFile, told_bodies};
 use credits::Credits;
 use std::alloc::{AllocError, Global};
 
@@ -18,7 +17,7 @@ fn bare_file<'e, 'a>(
 ) -> Result<FileBodies<'e, 'a>, AllocError>
     ensures { IfOk result (λ made. (seen : Seen) → TellsSeen seen file.now → IsBare number seen made) }
 {
-    let bodies = bodies(alloc, number, &file.told, &file.variables)?;
+    let bodies = told_bodies(alloc, number, file)?;
     Ok(FileBodies {
         told: &file.told,
         bodies,

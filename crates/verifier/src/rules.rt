@@ -1,6 +1,7 @@
 //! The rules of `verify` for the files of a package.
 
-ghost use Rattle.all_packages.specs.Certified.{no_certificates};
+ghost use Rattle.std.specs.Prelude.{true};
+ghost use Rattle.one_package.specs.Certified.{no_certificates};
 ghost use Rattle.verifier.specs.GivenViews.{given_by};
 ghost use Rattle.verifier.specs.Rules.{by_certificates};
 
@@ -9,8 +10,8 @@ use crate::by_certificates::ByCertificates;
 use crate::claimed::find_claimed;
 use crate::given::given_package;
 use crate::said::find_said;
-use all_packages::{Around, FileRules, FoundFiles, ToldPackage};
 use calls_flags::KnownCalls;
+use one_package::{Around, FileRules, FoundFiles, ToldPackage};
 use std::alloc::{AllocError, Global};
 use whole_packages::LoadedPackage;
 
@@ -18,6 +19,8 @@ impl FileRules for ByCertificates<'_> {
     ghost rules = { λ by. by_certificates (given_by by) };
 
     ghost certificates = { λ by. no_certificates };
+
+    ghost tells_all = { λ by. true };
 
     fn find<'a>(
         &self,
@@ -39,6 +42,11 @@ impl FileRules for ByCertificates<'_> {
             called,
             certificates: Vec::new(alloc),
         })
+    }
+
+    /// Each body has to have its certificate.
+    fn tells_all(&self) -> bool {
+        true
     }
 
     fn are_determined(&self) {}

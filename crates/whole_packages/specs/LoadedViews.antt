@@ -1,7 +1,9 @@
 -- What the program keeps of packages as they were read, and what it stands for.
 use Rattle.std.specs.Prelude.{ℕ, ◌≡◌, List, [], ◌∷◌, flat_map, length, map, Some, slice_get, string_bytes}
+use Rattle.lexer.specs.declared.source.Source.{Source}
 use Rattle.tree.specs.Syntax.{SourceFile}
 use Rattle.tree.specs.View.{file_syntax}
+use Rattle.meaning.specs.TreeOfText.{IsTreeOf}
 use Rattle.imports.specs.Ranks.{Package}
 pub use Rattle.meaning_reports.specs.Loaded.{HaveDistinctPaths}
 use Rattle.meaning_reports.specs.Loaded.{Reading, has_tree, has_text_fault, has_tree_fault, LoadedPackage, NumberedTree, trees_of, imports_of}
@@ -26,6 +28,11 @@ pub record TellsPackage (p : LoadedPackage) (kept : KeptPackage) : Type 0 where
   pub are_trees : trees_of p ≡ map file_syntax kept.trees.items
   -- and that of readings
   pub are_readings : length p.files ≡ length kept.readings.items
+  -- each tree is that of its file's text
+  pub are_of_texts : (i : ℕ) (s : Source) (tree : SourceFile)
+      → slice_get kept.sources.items i ≡ Some s
+      → slice_get p.files i ≡ Some (has_tree tree)
+      → IsTreeOf s.bytes.items tree
 
 pub record TellPackages (ps : List LoadedPackage) (kept : List KeptPackage) : Type 0 where
   pub are_as_many : length ps ≡ length kept

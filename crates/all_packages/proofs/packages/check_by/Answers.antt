@@ -1,34 +1,35 @@
-use Rattle.std.proofs.Common.{subst}
+use Rattle.std.proofs.Common.{length, sym, subst}
 use Rattle.std.proofs.lemmas.Result.{IfOk-weaker}
 use Rattle.declared_tables.specs.DeclaredTables.{declared_tables}
 use Rattle.outside_json.specs.Outside.{packages_of}
-use Rattle.all_packages.specs.JudgedPackages.{tables_in}
-use Rattle.all_packages.specs.Progress.{slots_in, AreAllJudged}
-use Rattle.all_packages.proofs.AllReports.{certified_so, reports_so}
+use Rattle.all_packages.specs.Progress.{slots_in}
+use Rattle.all_packages.specs.Reports.{AreReportsBy}
+use Rattle.all_packages.proofs.AllReports.{none_right}
 use Rattle.all_packages.proofs.packages.check_by.Goals as goal
 
 pub returns-clause-reports : goal.returns-clause-reports
 returns-clause-reports g c =
-    IfOk-weaker c.into_judged.result _ _
-    (λ found same ps tell distinct.
-    let rules = g.R.FileRules.rules c.args.rules.now (declared_tables (packages_of c.args.outside.now)) in
+    IfOk-weaker c.judge_left.result _ _
+    (λ found are ps tell distinct.
+    let declared = declared_tables (packages_of c.args.outside.now) in
+    let rules = g.R.FileRules.rules c.args.rules.now declared in
     let rule = g.R.FileRules.certificates c.args.rules.now in
-    let own = c.in_ok-progress.field-0 in
-    let slots = slots_in own.progress in
-    let all = c.in_ok-progress.ensures.judged ps tell distinct in
-    let judged = subst (λ ks. AreAllJudged rules rule ps ks slots) c.in_ok-progress.ensures.packages all.are_judged in
-    reports_so rules ps c.args.packages.now tell slots judged (tables_in own) all.are_tables found.items same)
-    c.into_judged.ensures
+    let given = c.in_ok-given.ensures.given ps tell distinct in
+    let none = none_right rules rule ps c.in_ok-given.given.packages.now (slots_in c.in_ok-none.none)
+    (length c.args.packages.now) c.in_ok-none.ensures (sym tell.are_as_many) in
+    subst (λ ks. AreReportsBy rules ps ks found.items) c.in_ok-given.ensures.packages
+    (are declared ps given distinct none))
+    c.judge_left.ensures.reports
 
 pub returns-clause-certified : goal.returns-clause-certified
 returns-clause-certified g c =
-    IfOk-weaker c.into_judged.result _ _
-    (λ found same ps tell distinct.
-    let rules = g.R.FileRules.rules c.args.rules.now (declared_tables (packages_of c.args.outside.now)) in
+    IfOk-weaker c.judge_left.result _ _
+    (λ found are ps tell distinct.
+    let declared = declared_tables (packages_of c.args.outside.now) in
+    let rules = g.R.FileRules.rules c.args.rules.now declared in
     let rule = g.R.FileRules.certificates c.args.rules.now in
-    let own = c.in_ok-progress.field-0 in
-    let slots = slots_in own.progress in
-    let all = c.in_ok-progress.ensures.judged ps tell distinct in
-    let judged = subst (λ ks. AreAllJudged rules rule ps ks slots) c.in_ok-progress.ensures.packages all.are_judged in
-    certified_so rules ps c.args.packages.now tell slots judged (tables_in own) all.are_tables found.items same)
-    c.into_judged.ensures
+    let given = c.in_ok-given.ensures.given ps tell distinct in
+    let none = none_right rules rule ps c.in_ok-given.given.packages.now (slots_in c.in_ok-none.none)
+    (length c.args.packages.now) c.in_ok-none.ensures (sym tell.are_as_many) in
+    are declared ps given distinct none)
+    c.judge_left.ensures.certified

@@ -3,10 +3,10 @@ use Rattle.std.specs.Prelude.{slice_get}
 use Rattle.std.proofs.lemmas.Option.{slice_get_read}
 use Rattle.gathering.specs.Results.{FollowsFrom}
 use Rattle.gathering.proofs.Results.{have_results, what_follows_is_a_result_by}
-use Rattle.all_packages.specs.Certified.{AreCertified, CertificatesFollow}
+use Rattle.one_package.specs.Certified.{AreCertified, CertificatesFollow}
 use Rattle.all_packages.specs.Progress.{slots_in, slot_at, imports_at, IsNext}
-use Rattle.all_packages.specs.Reports.{said_view}
-use Rattle.all_packages.specs.Results.{results_by, AreImported}
+use Rattle.one_package.specs.Judgments.{said_view}
+use Rattle.one_package.specs.Results.{results_by, AreImported}
 use Rattle.all_packages.proofs.FoundPackages.{imports_so, list_so}
 use Rattle.all_packages.proofs.ImportedRows.{are_imported, results_so}
 use Rattle.all_packages.proofs.KeptPackages.{package_of}

@@ -2,7 +2,7 @@ use Rattle.std.proofs.Common.{filter_map, ap, subst, ◌∙◌}
 use Rattle.std.proofs.lemmas.Result.{IfOk-weaker}
 use Rattle.imports.specs.Views.{text_views}
 use Rattle.all_packages.specs.Progress.{judged_in}
-use Rattle.all_packages.specs.Results.{KnowsImports}
+use Rattle.one_package.specs.Results.{KnowsImports}
 use Rattle.all_packages.proofs.packages.judge_one.Goals as goal
 
 pub returns-clause-follows : goal.returns-clause-follows

@@ -2,7 +2,8 @@ use Rattle.std.proofs.Common.{ℕ, List, Option, drop}
 use Rattle.imports.specs.Ranks.{IsOrder}
 use Rattle.whole_packages.specs.LoadedViews.{HaveDistinctPaths}
 use Rattle.meaning_reports.specs.Loaded.{LoadedPackage, Tables, import_list}
-use Rattle.all_packages.specs.Progress.{slots_in, AreRight, TellsGiven}
+use Rattle.all_packages.specs.Progress.{slots_in, AreRight}
+use Rattle.one_package.specs.Given.{TellsGiven}
 use Rattle.all_packages.proofs.AllPackages.{GoOn}
 use Rattle.all_packages.proofs.packages.judge_ranked.Given as goal
 

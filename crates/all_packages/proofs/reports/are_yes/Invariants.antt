@@ -1,6 +1,6 @@
 use Rattle.std.proofs.Common.{◌≡◌, drop}
 use Rattle.std.specs.List.{list_all}
-use Rattle.all_packages.specs.Reports.{is_yes}
+use Rattle.one_package.specs.Judgments.{is_yes}
 use Rattle.all_packages.proofs.reports.are_yes.Given as goal
 
 -- the test of those that are left is that of all

@@ -2,7 +2,7 @@ use Rattle.std.proofs.Common.{◌≡◌, ◌++◌, map, drop}
 use Rattle.std.specs.Prelude.{flat_map}
 use Rattle.imports.specs.Views.{text_views}
 use Rattle.table_json.specs.Tables.{entry_of}
-use Rattle.all_packages.specs.Judgments.{table_view}
+use Rattle.one_package.specs.Judgments.{table_view}
 use Rattle.all_packages.specs.Tables.{entries_for}
 use Rattle.all_packages.proofs.tables.functions_of.Given as goal
 

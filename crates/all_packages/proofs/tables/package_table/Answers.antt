@@ -2,7 +2,7 @@ use Rattle.std.proofs.Common.{map, subst}
 use Rattle.std.proofs.lemmas.Result.{IfOk-weaker}
 use Rattle.tree.specs.View.{file_syntax}
 use Rattle.table_json.specs.Tables.{entries_of}
-use Rattle.all_packages.specs.Judgments.{table_view}
+use Rattle.one_package.specs.Judgments.{table_view}
 use Rattle.all_packages.specs.Tables.{declared_names, TellsNames}
 use Rattle.all_packages.proofs.PlainTables.{is_plain}
 use Rattle.all_packages.proofs.tables.package_table.Goals as goal

@@ -3,7 +3,7 @@ use Rattle.std.proofs.lemmas.Option.{slice_get_read, slice_get_past}
 use Rattle.std.proofs.lemmas.Result.{IfOk-weaker}
 use Rattle.tree.specs.View.{file_syntax}
 use Rattle.table_json.specs.Tables.{entry_of, entries_of}
-use Rattle.all_packages.specs.Judgments.{table_view}
+use Rattle.one_package.specs.Judgments.{table_view}
 use Rattle.all_packages.specs.Tables.{declared_names, names_of_kept, TellsNames}
 use Rattle.all_packages.proofs.PlainTables.{none_told}
 use Rattle.all_packages.proofs.tables.table_at.Goals as goal

@@ -1,7 +1,7 @@
 use Rattle.std.proofs.Common.{ap, ◌∙◌}
 use Rattle.std.specs.Prelude.{flat_map}
 use Rattle.imports.specs.Views.{text_views}
-use Rattle.all_packages.specs.Judgments.{table_view}
+use Rattle.one_package.specs.Judgments.{table_view}
 use Rattle.all_packages.specs.Tables.{entries_for}
 use Rattle.all_packages.proofs.tables.table_of.Goals as goal
 

@@ -16,7 +16,7 @@ loop-import-preserved c end h =
     c.loop-import.invariant end (
     subst P (sym (drop_more c.args.imports.now i 0 (omega arith))) (
     adds_next (get_or c.args.imports.now i 0) c.args.importer old (rows_view c.push_at.new.rows.items)
-    c.in_ok-push_at.ensures (drop (i + 1) c.args.imports.now) end h))
+    c.in_ok-push_at.ensures.ok (drop (i + 1) c.args.imports.now) end h))
 
 pub returns : goal.returns
 returns c =

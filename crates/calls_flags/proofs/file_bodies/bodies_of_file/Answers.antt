@@ -4,7 +4,7 @@ use Rattle.calls_flags.proofs.file_bodies.bodies_of_file.Goals as goal
 
 pub returns : goal.returns
 returns c = λ seen tells.
-    let told = c.in_ok-bodies.ensures seen tells.tells tells.are_variables in
+    let told = c.in_ok-bodies.ensures seen tells in
     record {
       tells = record { tells = tells.tells; are_bodies = told; are_credits = refl };
       are_full = c.in_ok-credits.ensures c.args.number seen

@@ -5,6 +5,7 @@ use Rattle.facts.specs.FactViews.{facts_by_name}
 use Rattle.outside_json.specs.Outside.{function_of}
 use Rattle.declared_tables.specs.DeclaredTables.{calls_in, facts_of, function_in}
 use Rattle.declared_tables.proofs.AddedCalls.{call_last, fact_first, fact_last, fact_next, flag_first, flag_next}
+use Rattle.declared_tables.proofs.Givers.{marked}
 use Rattle.declared_tables.proofs.tables.table_of.Goals as goal
 
 pub loop-function-init : goal.loop-function-init
@@ -29,8 +30,8 @@ loop-function-preserved c =
           (c.loop-function.invariant.1 name k),
     )
 
-pub returns : goal.returns
-returns c i =
+pub returns-clause-table : goal.returns-clause-table
+returns-clause-table c i =
     let left = map function_of (drop c.loop-function.function-index c.args.functions.now) in
     let none = ap (map function_of)
     (drop_all c.loop-function.function-index c.args.functions.now c.loop-function-test.false) in
@@ -43,3 +44,13 @@ returns c i =
           (calls_in (function_in left name) k) _ (ap (λ fs. calls_in (function_in fs name) k) none)
           (c.loop-function.invariant.1 name k) i;
     }
+
+pub returns-clause-marks : goal.returns-clause-marks
+returns-clause-marks c =
+    marked (map function_of c.args.functions.now)
+    (record {
+      signatures = c.loop-function.signatures;
+      called = c.loop-function.called;
+      gives = c.any_is_giver.result;
+    })
+    (returns-clause-table c) c.any_is_giver.ensures

@@ -11,7 +11,7 @@ returns-in_err-first c =
 
 pub loop-init : goal.loop-init
 loop-init c =
-    rw (c.in_ok-push.ensures.items, c.new-names.ensures.items) (names-start _ _ _ c.in_ok-first.first _ c.in_ok-first.ensures c.steps-end.ensures)
+    rw (c.in_ok-push.ensures.items, c.reserve_exact.ensures.items, c.new-names.ensures.items) (names-start _ _ _ c.in_ok-first.first _ c.in_ok-first.ensures c.steps-end.ensures)
 
 pub returns-then-not-stands : goal.returns-then-not-stands
 returns-then-not-stands c = names-end-here _ c.loop.names.items _ c.loop.counter _ _ c.loop.invariant c.loop-test.true (sym c.stands.ensures ∙ c.if-not-stands.true)

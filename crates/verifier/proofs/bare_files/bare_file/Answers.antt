@@ -5,6 +5,6 @@ pub returns : goal.returns
 returns c = λ seen tells.
     record {
       tells = tells.tells;
-      are_bodies = c.in_ok-bodies.ensures seen tells.tells tells.are_variables;
+      are_bodies = c.in_ok-bodies.ensures seen tells;
       are_credits = refl;
     }

@@ -5,10 +5,10 @@ use Rattle.meaning_reports.specs.Loaded.{imported_paths}
 use Rattle.meaning_reports.specs.PackageReports.{by_paths}
 use Rattle.all_packages.specs.JudgedPackages.{tables_in}
 use Rattle.all_packages.specs.Progress.{slots_in, slot_at, imports_at}
-use Rattle.all_packages.specs.Reports.{said_view}
-use Rattle.all_packages.specs.Results.{KnowsImports}
-use Rattle.all_packages.proofs.ImportedRows.{tables_of_all}
-use Rattle.all_packages.proofs.ImportedTables.{calls_so}
+use Rattle.one_package.specs.Judgments.{said_view}
+use Rattle.one_package.specs.Results.{KnowsImports}
+use Rattle.all_packages.proofs.ImportedRows.{are_marked, tables_of_all}
+use Rattle.one_package.proofs.ImportedTables.{calls_so}
 use Rattle.all_packages.proofs.packages.JudgedPackages.by_imports.Goals as goal
 
 pub returns : goal.returns
@@ -28,7 +28,8 @@ returns c = λ declared ps i p are is_p tells names row judged.
     record {
       is_judgment = record { is_table = its.1.is_table; are_findings = its.1.are_findings };
       is_table = sym its.0;
-      is_told = c.in_ok-told.ensures ps tables i p is_p tells (c.around.ensures.known declared ps tables p js given knows have);
+      is_told = c.in_ok-told.ensures ps tables i p is_p tells (c.around.ensures.known declared ps tables p js given knows have
+          (are_marked (by_paths declared) ps all.given.packages.now given.tell slots are.are_judged.are_right i));
       are_calls = λ path name k.
           ap (λ t. is_called_in t name k) (knows.are_calls path) ∙ calls_so ps tables p all.given js have path name k;
     }

@@ -1,10 +1,11 @@
-use Rattle.std.proofs.Common.{sym, ap, ◌∙◌, subst}
+use Rattle.std.proofs.Common.{refl, sym, ap, ◌∙◌, subst}
 use Rattle.calls_flags.proofs.KeptFiles.{as_seen, tell_all}
 use Rattle.calls_flags.specs.FilesBodies.{TellAll, with_all_credits}
 use Rattle.calls_flags.specs.ToldFiles.{TellAllSeen}
 use Rattle.calls_flags.specs.KnownCalls.{is_called, flags_by_path}
 use Rattle.facts.specs.FactViews.{facts_by_name}
 use Rattle.meaning_reports.specs.Loaded.{seen_files}
+use Rattle.silent_files.proofs.WalkedFiles.{walks_are_enough}
 use Rattle.verifier.proofs.FoundPackages.{have_facts, are_flags, each}
 use Rattle.verifier.specs.GivenViews.{given_by, given_of, package_by, TellsGiven}
 use Rattle.verifier.proofs.rules.ByCertificatesFileRules.find.Goals as goal
@@ -13,7 +14,10 @@ pub returns-clause-files : goal.returns-clause-files
 returns-clause-files c = λ declared ps tables i p is_p loaded around told none.
     let by = given_by c.args.self.now in
     let seens = seen_files ps tables p in
-    let are_files = subst (TellAllSeen seens) (sym c.deref.ensures.value) told.are_files in
+    let walked = walks_are_enough.all ps tables p told.walked (told.all refl) in
+    let are_files =
+    subst (TellAllSeen seens) (sym c.deref.ensures.value)
+    (subst (λ ss. TellAllSeen ss c.args.told.now.files.items) walked told.are_files) in
     let bare = c.in_ok-files.ensures seens are_files in
     let fs = with_all_credits seens c.in_ok-files.files.items in
     let seen = as_seen seens c.in_ok-files.files.items bare.are_as_many in

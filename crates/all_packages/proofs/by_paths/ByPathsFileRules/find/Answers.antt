@@ -1,6 +1,0 @@
-use Rattle.all_packages.proofs.by_paths.ByPathsFileRules.find.Goals as goal
-
-pub returns-clause-files : goal.returns-clause-files
-returns-clause-files c = λ declared ps tables i p is_p tells around told none.
-    let found = c.in_ok-diagnostics.ensures ps tables i p is_p around told none in
-    record { are_flags = found.are_flags; each = found.each }

@@ -1,0 +1,11 @@
+use Rattle.std.proofs.Common.{◌≡◌, drop, map}
+use Rattle.std.specs.List.{list_any}
+use Rattle.outside_json.specs.Outside.{function_of}
+use Rattle.declared_tables.specs.MarkedGivers.{is_giver}
+use Rattle.declared_tables.proofs.tables.any_is_giver.Given as goal
+
+-- the test of those that are left is that of all
+abbrev pub invariant-loop-function : goal.invariant-loop-function
+invariant-loop-function l =
+    list_any is_giver (map function_of (drop l.function-index l.functions))
+    ≡ list_any is_giver (map function_of l.functions)

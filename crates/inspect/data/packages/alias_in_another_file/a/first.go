@@ -1,0 +1,5 @@
+package a
+
+import "context"
+
+type Stop = context.CancelFunc

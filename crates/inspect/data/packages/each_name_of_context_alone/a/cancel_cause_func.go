@@ -1,0 +1,7 @@
+package a
+
+import "context"
+
+func a8(stop context.CancelCauseFunc) {
+	use(stop)
+}

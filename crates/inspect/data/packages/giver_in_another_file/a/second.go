@@ -1,0 +1,9 @@
+package a
+
+func f(done bool) {
+	stop := start()
+	if done {
+		return
+	}
+	stop()
+}

@@ -1,0 +1,9 @@
+package b
+
+func f(done bool) {
+	stop := start()
+	if done {
+		return
+	}
+	stop()
+}

@@ -1,0 +1,5 @@
+package a
+
+func finish(stop func()) {
+	stop()
+}

@@ -1,0 +1,8 @@
+package a
+
+func g() {
+	defer func() {
+		recover()
+	}()
+	work()
+}

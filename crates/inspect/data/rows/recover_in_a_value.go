@@ -1,0 +1,3 @@
+package a
+
+var handler = /* want LC02 - left out: recover */recover

@@ -1,0 +1,8 @@
+package a
+
+func f() {
+	recover()
+}
+
+func recover() {
+}

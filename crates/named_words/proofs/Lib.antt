@@ -1,0 +1,6 @@
+mod WordRules
+mod NoMarks
+mod WordParts
+mod WordsSpelled
+mod SoughtWords
+pub mod NamedWords

@@ -1,0 +1,19 @@
+//! The names of a file are words of its text: definitions and laws. And whether a text has one of some words as a name.
+#![tactic(auto)]
+
+mod words;
+
+ghost use Rattle.named_words.specs.NamedWords.{NamesAreWords, LackedWordsAreNoNames};
+
+pub use words::names_one;
+
+/// In the tree of a text each name that a mark mentions is the text of an identifier token, and so are the other
+/// names that it is looked at by.
+pub fn names_are_words()
+    ensures { NamesAreWords }
+{}
+
+/// No word of the tokens is one that the text lacks.
+pub fn lacked_words_are_no_names()
+    ensures { LackedWordsAreNoNames }
+{}

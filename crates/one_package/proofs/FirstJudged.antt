@@ -1,0 +1,73 @@
+-- What is known by the first of several that were judged, of each path.
+use Rattle.std.proofs.Common.{◌≡◌, ℕ, Bool, true, false, if◌then◌else◌, inl, inr, List, [], ◌∷◌, ◌++◌, Contains, Option, Some, None, option_map, is_some, bytes_eq, refl, sym, ap, ◌∙◌, subst}
+use Rattle.std.proofs.lemmas.Bool.{false≢true}
+use Rattle.std.proofs.lemmas.Option.{none-some, same_Some}
+use Rattle.std.proofs.lemmas.Slice.Eq.{bytes_eq-Decides}
+use Rattle.meaning.proofs.Membership.{contains_nil, contains_here, contains_there, contains_cases}
+use Rattle.meaning.specs.OuterBlocks.{or_else}
+use Rattle.names.specs.Maps.{only_at}
+use Rattle.names.proofs.Adding.{or_else-none, or_else-assoc}
+use Rattle.one_package.specs.declared.judged.Judged.{Judged}
+use Rattle.one_package.specs.Results.{given_by, first_at, judged_at}
+
+pub some_from : {A : Type 0} (o : Option A) → is_some o ≡ true → (a : A) × (o ≡ Some a)
+some_from None e = absurd (false≢true e)
+some_from (Some a) e = (a, refl)
+
+-- One after the other
+
+-- one more comes after these
+pub first_more : {V : Type 0} (f : Judged → V) (js : List Judged) (j : Judged) (path : List ℕ)
+    → or_else (first_at f js path) (only_at j.report.path.now (f j) path) ≡ first_at f (js ++ j ∷ []) path
+first_more f [] j path = sym (or_else-none (only_at j.report.path.now (f j) path))
+first_more f (k ∷ js) j path =
+    or_else-assoc (given_by f (Some k) path) (first_at f js path) (only_at j.report.path.now (f j) path)
+    ∙ ap (or_else (given_by f (Some k) path)) (first_more f js j path)
+
+-- By paths
+
+-- what it has is what the first of that path has
+pub first_is : {V : Type 0} (f : Judged → V) (js : List Judged) (path : List ℕ)
+    → first_at f js path ≡ option_map f (judged_at js path)
+first_is f [] path = refl
+first_is f (j ∷ js) path = by (bytes_eq j.report.path.now path) (first_is f js path)
+  where
+    by : (b : Bool) → first_at f js path ≡ option_map f (judged_at js path)
+        → or_else (if b then Some (f j) else None) (first_at f js path)
+        ≡ option_map f (or_else (if b then Some j else None) (judged_at js path))
+    by true rest = refl
+    by false rest = rest
+
+-- it is one of them, of that path
+pub found_at : (js : List Judged) (path : List ℕ) (j : Judged) → judged_at js path ≡ Some j
+    → Contains js j × (j.report.path.now ≡ path)
+found_at [] path j e = absurd (none-some j e)
+found_at (k ∷ js) path j e = by (bytes_eq k.report.path.now path) refl (found_at js path j) e
+  where
+    by : (b : Bool) → bytes_eq k.report.path.now path ≡ b
+        → (judged_at js path ≡ Some j → Contains js j × (j.report.path.now ≡ path))
+        → or_else (if b then Some k else None) (judged_at js path) ≡ Some j
+        → Contains (k ∷ js) j × (j.report.path.now ≡ path)
+    by true same rest is =
+        let own = same_Some k j is in (
+          subst (Contains (k ∷ js)) own (contains_here k js),
+          ap (λ (m : Judged). m.report.path.now) (sym own) ∙ (bytes_eq-Decides k.report.path.now path).0 same,
+        )
+    by false same rest is = let w = rest is in (contains_there k j js w.0, w.1)
+
+-- one of that path is found
+pub is_found : (js : List Judged) (j : Judged) → Contains js j → (path : List ℕ) → j.report.path.now ≡ path
+    → is_some (judged_at js path) ≡ true
+is_found [] j h path same = absurd (contains_nil j h)
+is_found (k ∷ js) j h path same = by (bytes_eq k.report.path.now path) refl λ later. is_found js j later path same
+  where
+    by : (b : Bool) → bytes_eq k.report.path.now path ≡ b
+        → (Contains js j → is_some (judged_at js path) ≡ true)
+        → is_some (or_else (if b then Some k else None) (judged_at js path)) ≡ true
+    by true e rest = refl
+    by false e rest = elim (contains_cases k j js h) [
+      | inl here ↦
+          absurd (false≢true (sym e ∙ (bytes_eq-Decides k.report.path.now path).1
+          (ap (λ (m : Judged). m.report.path.now) here ∙ same)))
+      | inr later ↦ rest later
+    ]

@@ -1,0 +1,12 @@
+mod DeclaredImports
+pub mod FirstJudged
+mod FollowsSo
+mod GivenOrder
+pub mod ImportedTables
+mod ImportsNotYes
+pub mod JudgedFiles
+mod NothingSaid
+mod OwnGivers
+mod PackageNames
+mod SkippedFiles
+mod WholeOnly

@@ -1,0 +1,10 @@
+-- Nothing is to be said of a package where there is no diagnostic.
+use Rattle.std.proofs.Common.{◌≡◌, ◌↔◌, Bool, true, false, IsTrue, List, [], ◌∷◌, true≢false, refl, sym}
+use Rattle.report.specs.declared.diagnostics.Diagnostic.{Diagnostic}
+use Rattle.one_package.specs.Judgments.{says_nothing}
+
+pub says_is : (b : Bool) (ds : List Diagnostic) → (IsTrue b ↔ (ds ≡ [])) → b ≡ says_nothing ds
+says_is true [] h = refl
+says_is false [] h = absurd (true≢false (sym (h.1 refl)))
+says_is true (d ∷ ds) h = let none : d ∷ ds ≡ [] = h.0 refl in cc
+says_is false (d ∷ ds) h = refl

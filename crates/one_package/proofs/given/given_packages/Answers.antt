@@ -1,0 +1,38 @@
+use Rattle.std.proofs.Common.{◌≡◌, ℕ, List, length, sym, ap, ◌∙◌, subst}
+use Rattle.imports.specs.Ranks.{IsOrder}
+use Rattle.imports.specs.Settling.{given_imports, place_from}
+use Rattle.imports.specs.Views.{at_path, packages_view, rank_of, ranked_of}
+use Rattle.meaning_reports.specs.Loaded.{import_list}
+use Rattle.one_package.proofs.GivenOrder.{order_so}
+use Rattle.one_package.proofs.given.given_packages.Goals as goal
+
+pub returns-clause-given : goal.returns-clause-given
+returns-clause-given c = λ ps tell distinct.
+    let lists = c.in_ok-lists.ensures ps tell in
+    let rank = rank_of c.in_ok-order.order in
+    let ranked = ranked_of c.in_ok-order.order in
+    let places = at_path c.in_ok-places.places in
+    let order = subst (λ ls. IsOrder ls rank ranked) (ap packages_view c.deref.ensures.value ∙ lists) c.in_ok-order.ensures in
+    let are_places : (path : List ℕ) → places path ≡ place_from path (import_list ps) 0 = λ path.
+    c.in_ok-places.ensures path ∙ ap (λ ls. place_from path ls 0) (ap packages_view c.deref-2.ensures.value ∙ lists) in
+    record {
+      tell = tell;
+      are_lists = lists;
+      are_imports = c.in_ok-imports.ensures ∙ ap given_imports (ap packages_view c.deref-3.ensures.value ∙ lists);
+      is_ranked = order;
+      are_places = are_places;
+      is_order = order_so ps rank ranked order (length c.args.packages.now) (sym tell.are_as_many)
+          c.in_ok-unranked.unranked.items c.in_ok-unranked.ensures.marks places are_places;
+      are_names = c.in_ok-names.ensures ps tell distinct;
+      are_declared = c.in_ok-declared.ensures.tables;
+      are_marked = c.in_ok-declared.ensures.marks;
+    }
+
+pub returns-clause-rows : goal.returns-clause-rows
+returns-clause-rows c =
+    c.in_ok-imports.ensures ∙ ap given_imports (ap packages_view c.deref-3.ensures.value)
+
+pub returns-clause-order : goal.returns-clause-order
+returns-clause-order c =
+    subst (λ ls. IsOrder (packages_view ls) (rank_of c.in_ok-order.order) (ranked_of c.in_ok-order.order))
+    c.deref.ensures.value c.in_ok-order.ensures

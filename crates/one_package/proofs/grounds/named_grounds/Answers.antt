@@ -1,0 +1,20 @@
+use Rattle.std.proofs.Common.{map, sym, arith}
+use Rattle.one_package.proofs.WholeOnly.{some_entry, none_whole, not_empty, is_empty}
+use Rattle.report.specs.Entries.{entry_of}
+use Rattle.one_package.proofs.grounds.named_grounds.Goals as goal
+
+pub returns-then-not-is_empty-clause-grounds : goal.returns-then-not-is_empty-clause-grounds
+returns-then-not-is_empty-clause-grounds c = λ ps tables i p is_p tells around means none.
+    let are = c.in_ok-faults.ensures ps i p is_p tells (sym none) around.is_order in
+    let size = c.in_ok-faults.faults.ok in
+    let one = some_entry (map entry_of c.in_ok-faults.faults.items)
+    (not_empty entry_of c.in_ok-faults.faults.items _ (omega (arith, size.0, size.1)) c.if-not-is_empty.ensures) in
+    record { each = are; one = (one.0, (are one.0).0 one.1) }
+
+pub returns-clause-grounds : goal.returns-clause-grounds
+returns-clause-grounds c = λ ps tables i p is_p tells around means none.
+    let size = c.in_ok-faults.faults.ok in
+    let whole = none_whole ps i (map entry_of c.in_ok-faults.faults.items)
+    (c.in_ok-faults.ensures ps i p is_p tells (sym none) around.is_order)
+    (is_empty entry_of c.in_ok-faults.faults.items _ (omega (arith, size.0, size.1)) c.if-not-is_empty.ensures) in
+    (whole, c.in_ok-told.ensures.told ps tables i p is_p tells around whole means)

@@ -1,0 +1,31 @@
+use Rattle.std.proofs.Common.{refl}
+use Rattle.calls_flags.specs.KnownCalls.{is_called}
+use Rattle.meaning_reports.specs.PackageTables.{full}
+use Rattle.one_package.proofs.judged.judge_told.Goals as goal
+
+pub returns-clause-told : goal.returns-clause-told
+returns-clause-told g c = λ marked. record {
+  is_path = c.report_of.ensures.path;
+  are_sources = c.report_of.ensures.sources;
+  is_marked = marked;
+}
+
+pub returns-clause-judged : goal.returns-clause-judged
+returns-clause-judged g c = λ declared ps tables i p is_p tells around not_yes none told.
+    let found = c.in_ok-diagnostics.ensures.found declared ps tables i p is_p tells around not_yes told none in
+    record {
+      is_table = full (is_called c.in_ok-diagnostics.field-0.called) none found.are_flags told.are_signatures (λ name k. refl);
+      are_findings = record {
+        in_order = c.report_of.ensures.sorted;
+        each = λ x. (
+          λ h. (found.each x).0 ((c.report_of.ensures.same x).0 h),
+          λ h. (c.report_of.ensures.same x).1 ((found.each x).1 h),
+        );
+      };
+    }
+
+pub returns-clause-certified : goal.returns-clause-certified
+returns-clause-certified g c = λ ps tables i p is_p tells around none told. record {
+  of_bodies = λ no_fault. c.in_ok-diagnostics.ensures.certified ps tables i p is_p tells around told none;
+  are_none = λ x fault. absurd (none x fault);
+}

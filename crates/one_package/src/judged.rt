@@ -1,0 +1,205 @@
+//! One package.
+
+ghost use Rattle.std.specs.Prelude.{◌≡◌, ◌↔◌, ℕ, List, [], IfOk, Some, map, slice_get, Contains, string_bytes};
+ghost use Rattle.std.specs.List.{AllPairs};
+ghost use Rattle.one_package.specs.Certified.{certificates_in, HasCertificates};
+ghost use Rattle.one_package.specs.Judgments.{IsJudgment, IsWholeOnly, PicksNotYes, TellsAround, TellsSources};
+ghost use Rattle.one_package.specs.ToldPackages.{IsMarked, IsToldPackage, IsFoundPackage};
+ghost use Rattle.calls_flags.specs.KnownCalls.{is_called};
+ghost use Rattle.certificate_json.specs.Certificates.{body_of};
+ghost use Rattle.whole_packages.specs.LoadedViews.{TellsPackage};
+ghost use Rattle.report.specs.Entries.{Entry, Precedes, entry_of};
+ghost use Rattle.meaning_reports.specs.Loaded.{LoadedPackage as MeantPackage, Tables};
+ghost use Rattle.meaning_reports.specs.WholeFaults.{HasNoWholeFault};
+
+use crate::file_rules::{FileRules, FoundFiles};
+use crate::givers::Givers;
+use crate::grounds::{Grounds, find_grounds};
+use crate::known_imports::NotYes;
+use crate::told_package::ToldPackage;
+use calls_flags::{Called, ImportedCalls};
+use certificate_json::Body;
+use declared_tables::PackageTable;
+use facts::{Imported, Table};
+use names::PackageNames;
+use report::{Diagnostic, DiagnosticCode, PackageReport, in_order};
+use std::alloc::{AllocError, Global};
+use whole_packages::{LoadedPackage, Marked, add_imports, numbered_trees};
+
+/// What is known of the packages around the one that is judged.
+#[derive(Clone, Copy)]
+pub struct Around<'k, 'a> {
+    /// The names of the given packages.
+    pub names: &'k PackageNames<'a>,
+    /// What the signatures of its imports' functions say.
+    pub signatures: &'k Imported<'a, 'k>,
+    /// Which of their parameters its imports' functions are known to call.
+    pub calls: &'k ImportedCalls<'a, 'k>,
+    /// Its imports that may have a function that gives.
+    pub givers: &'k Givers<'a>,
+    /// The given packages that have no rank.
+    pub unranked: Marked<'k, 'a>,
+    /// Its imports that are not yes.
+    pub not_yes: &'k NotYes<'a>,
+}
+
+/// What is to be said of a package, in no order, and which of their parameters its functions are known to call.
+#[derive(Drop)]
+struct FoundPackage<'a> {
+    diagnostics: Vec<Diagnostic<'a>>,
+    called: Called<'a>,
+    certificates: Vec<Body>,
+}
+
+/// What is said of a package, and what is known of its functions.
+#[derive(Drop)]
+pub struct Judged<'a> {
+    pub report: PackageReport<'a>,
+    pub table: PackageTable<'a>,
+    /// Certificates of its bodies, by rules that make some.
+    pub certificates: Vec<Body>,
+}
+
+/// The report of a package of which this was found.
+fn report_of<'a>(loaded: &'a LoadedPackage, found: Vec<Diagnostic<'a>>) -> PackageReport<'a>
+    ensures path { result.path.now ≡ string_bytes loaded.now.path }
+    ensures sources { result.sources.now ≡ loaded.now.sources.items }
+    ensures sorted { AllPairs Precedes (map entry_of result.diagnostics.items) }
+    ensures same { (x : Entry)
+        → Contains (map entry_of result.diagnostics.items) x ↔ Contains (map entry_of found.entry.items) x }
+{
+    PackageReport {
+        path: loaded.path.as_str(),
+        sources: &loaded.sources,
+        diagnostics: in_order(found),
+    }
+}
+
+/// A package of which nothing is to be said but these faults, and of whose functions nothing is known.
+fn whole_only<'a>(
+    alloc: Global,
+    loaded: &'a LoadedPackage,
+    faults: Vec<Diagnostic<'a>>,
+) -> Judged<'a>
+    ensures only { IsWholeOnly (map entry_of faults.entry.items) result }
+    ensures told { TellsSources loaded.now result }
+    ensures certified { certificates_in result ≡ [] }
+{
+    Judged {
+        report: report_of(loaded, faults),
+        table: PackageTable {
+            signatures: Table::new(alloc),
+            called: Called::new(alloc),
+            gives: false,
+        },
+        certificates: Vec::new(alloc),
+    }
+}
+
+/// Finds what is to be said of a package that has no fault as a whole and was told of, and which of their parameters
+/// its functions are known to call.
+fn find_in_package<'a, R: FileRules>(
+    alloc: Global,
+    loaded: &'a LoadedPackage,
+    told: &ToldPackage<'a>,
+    around: Around<'_, 'a>,
+    rules: &R,
+) -> Result<FoundPackage<'a>, AllocError>
+    ensures found { IfOk result (λ found. (declared : Tables) (ps : List MeantPackage) (tables : Tables) (i : ℕ)
+        (p : MeantPackage) → slice_get ps i ≡ Some p → TellsPackage p loaded.now → TellsAround ps tables p around.entry
+        → PicksNotYes (R.rules rules.now declared) ps tables i around.entry
+        → IsToldPackage ps tables p (R.tells_all rules.now) told.now
+        → HasNoWholeFault ps i
+        → IsFoundPackage (R.rules rules.now declared) ps tables i p found) }
+    ensures certified { IfOk result (λ found. (ps : List MeantPackage) (tables : Tables) (i : ℕ) (p : MeantPackage)
+        → slice_get ps i ≡ Some p → TellsPackage p loaded.now → TellsAround ps tables p around.entry
+        → IsToldPackage ps tables p (R.tells_all rules.now) told.now
+        → HasNoWholeFault ps i
+        → R.certificates rules.now ps tables p (is_called found.called) (map body_of found.certificates.items)) }
+{
+    let FoundFiles {
+        mut diagnostics,
+        called,
+        certificates,
+    } = rules.find(alloc, loaded, told, around)?;
+    let trees = numbered_trees(alloc, loaded)?;
+    add_imports(
+        around.not_yes,
+        DiagnosticCode::ImportIsNotYes,
+        &trees,
+        &mut diagnostics,
+    )?;
+    Ok(FoundPackage {
+        diagnostics,
+        called,
+        certificates,
+    })
+}
+
+/// Judges a package that has no fault as a whole and was told of.
+fn judge_told<'a, R: FileRules>(
+    alloc: Global,
+    loaded: &'a LoadedPackage,
+    told: ToldPackage<'a>,
+    around: Around<'_, 'a>,
+    rules: &R,
+) -> Result<Judged<'a>, AllocError>
+    ensures told { IfOk result (λ judged. IsMarked told.entry → TellsSources loaded.now judged) }
+    ensures judged { IfOk result (λ judged. (declared : Tables) (ps : List MeantPackage) (tables : Tables)
+        (i : ℕ) (p : MeantPackage) → slice_get ps i ≡ Some p → TellsPackage p loaded.now
+        → TellsAround ps tables p around.entry
+        → PicksNotYes (R.rules rules.now declared) ps tables i around.entry
+        → HasNoWholeFault ps i → IsToldPackage ps tables p (R.tells_all rules.now) told.entry
+        → IsJudgment (R.rules rules.now declared) ps tables i p judged) }
+    ensures certified { IfOk result (λ judged. (ps : List MeantPackage) (tables : Tables) (i : ℕ) (p : MeantPackage)
+        → slice_get ps i ≡ Some p → TellsPackage p loaded.now → TellsAround ps tables p around.entry
+        → HasNoWholeFault ps i → IsToldPackage ps tables p (R.tells_all rules.now) told.entry
+        → HasCertificates (R.certificates rules.now) ps tables i p judged) }
+{
+    let FoundPackage {
+        diagnostics,
+        called,
+        certificates,
+    } = find_in_package(alloc, loaded, &told, around, rules)?;
+    let ToldPackage {
+        signatures,
+        gives,
+        ..
+    } = told;
+    Ok(Judged {
+        report: report_of(loaded, diagnostics),
+        table: PackageTable {
+            signatures,
+            called,
+            gives,
+        },
+        certificates,
+    })
+}
+
+/// Judges a package.
+///
+/// # Errors
+///
+/// Memory was refused.
+pub fn judge<'a, R: FileRules>(
+    alloc: Global,
+    loaded: &'a LoadedPackage,
+    around: Around<'_, 'a>,
+    rules: &R,
+) -> Result<Judged<'a>, AllocError>
+    ensures told { IfOk result (TellsSources loaded.now) }
+    ensures judged { IfOk result (λ judged. (declared : Tables) (ps : List MeantPackage) (tables : Tables)
+        (i : ℕ) (p : MeantPackage) → slice_get ps i ≡ Some p → TellsPackage p loaded.now
+        → TellsAround ps tables p around.entry
+        → (HasNoWholeFault ps i → PicksNotYes (R.rules rules.now declared) ps tables i around.entry)
+        → IsJudgment (R.rules rules.now declared) ps tables i p judged) }
+    ensures certified { IfOk result (λ judged. (ps : List MeantPackage) (tables : Tables) (i : ℕ) (p : MeantPackage)
+        → slice_get ps i ≡ Some p → TellsPackage p loaded.now → TellsAround ps tables p around.entry
+        → HasCertificates (R.certificates rules.now) ps tables i p judged) }
+{
+    match find_grounds(alloc, loaded, around, rules.tells_all())? {
+        Grounds::WholeFaults(faults) => Ok(whole_only(alloc, loaded, faults)),
+        Grounds::Told(told) => judge_told(alloc, loaded, told, around, rules),
+    }
+}

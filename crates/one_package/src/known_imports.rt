@@ -1,0 +1,182 @@
+//! What is known of a package's imports by what is said of them, and by what is declared of those that are not given.
+
+ghost use Rattle.std.specs.Prelude.{◌≡◌, ◌++◌, ◌∷◌, ℕ, List, [], OnOk, None, option_map};
+ghost use Rattle.calls_flags.specs.KnownCalls.{called_by_path};
+ghost use Rattle.facts.specs.FactViews.{table_by_path};
+ghost use Rattle.imports.specs.Views.{text_views};
+ghost use Rattle.meaning.specs.OuterBlocks.{or_else};
+ghost use Rattle.names.specs.Maps.{only_at};
+ghost use Rattle.one_package.specs.Judgments.{giver_by_path, is_picked, mark_by_path};
+ghost use Rattle.one_package.specs.Results.{declared_among, declared_if, KnowsImports, KnowsJudged};
+ghost use Rattle.one_package.specs.declared.judged.Judged.{Judged};
+
+use crate::given::Given;
+use crate::givers::Givers;
+use crate::judged::Judged;
+use crate::verdicts::is_yes;
+use calls_flags::ImportedCalls;
+use facts::Imported;
+use indexmap::IndexMap;
+use std::alloc::{AllocError, Global};
+use whole_packages::Picks;
+
+/// The packages that are not yes, among those that were judged.
+#[derive(Drop)]
+pub struct NotYes<'a> {
+    packages: IndexMap<&'a str, bool>,
+}
+
+impl<'a> NotYes<'a> {
+    /// No package.
+    fn new(alloc: Global) -> Self
+        ensures { (path : List ℕ) → mark_by_path result path ≡ None }
+    {
+        NotYes {
+            packages: IndexMap::new(alloc),
+        }
+    }
+
+    /// Keeps whether something is to be said of the package of that path, unless that is known.
+    ///
+    /// # Errors
+    ///
+    /// Memory was refused.
+    fn insert(&mut self, path: &'a str, is_not_yes: bool) -> Result<(), AllocError>
+        ensures { OnOk result ((other : List ℕ) → mark_by_path self.new other
+            ≡ or_else (mark_by_path self.old other) (only_at path.now is_not_yes other)) }
+    {
+        if !self.packages.contains_key(path) {
+            self.packages.insert(path, is_not_yes)?;
+        }
+        Ok(())
+    }
+}
+
+impl Picks for NotYes<'_> {
+    ghost picked = { is_picked };
+
+    fn picks(&self, path: &str) -> bool {
+        match self.packages.get(path) {
+            Some(mark) => *mark,
+            None => false,
+        }
+    }
+}
+
+/// What is known of a package's imports.
+#[derive(Drop)]
+pub struct KnownImports<'a, 'k> {
+    /// What the signatures of their functions say.
+    pub signatures: Imported<'a, 'k>,
+    /// Which of their parameters their functions are known to call.
+    pub calls: ImportedCalls<'a, 'k>,
+    /// Those that may have a function that gives.
+    pub givers: Givers<'a>,
+    /// Those that are not yes.
+    pub not_yes: NotYes<'a>,
+}
+
+/// Adds what is declared of the package of that path, unless it was given, or something is known of its path.
+fn add_declared<'a, 'k>(
+    given: &'k Given<'a>,
+    path: &'a str,
+    signatures: &mut Imported<'a, 'k>,
+    calls: &mut ImportedCalls<'a, 'k>,
+    givers: &mut Givers<'a>,
+) -> Result<(), AllocError>
+    ensures signatures { OnOk result ((other : List ℕ) → table_by_path signatures.new other
+        ≡ or_else (table_by_path signatures.old other)
+        (option_map (λ t. t.signatures) (declared_if given.now path.now other))) }
+    ensures calls { OnOk result ((other : List ℕ) → called_by_path calls.new other
+        ≡ or_else (called_by_path calls.old other)
+        (option_map (λ t. t.called) (declared_if given.now path.now other))) }
+    ensures givers { OnOk result ((other : List ℕ) → giver_by_path givers.new other
+        ≡ or_else (giver_by_path givers.old other)
+        (option_map (λ t. t.gives) (declared_if given.now path.now other))) }
+{
+    if given.places.contains_key(path) {
+        return Ok(());
+    }
+    match given.declared.get(path) {
+        Some(table) => {
+            signatures.insert(path, &table.signatures)?;
+            calls.insert(path, &table.called)?;
+            givers.insert(path, table.gives)
+        }
+        None => Ok(()),
+    }
+}
+
+/// Adds what is declared of the packages of these paths, as far as they were not given, and nothing is known of them.
+fn add_all_declared<'a, 'k>(
+    given: &'k Given<'a>,
+    paths: &[&'a str],
+    signatures: &mut Imported<'a, 'k>,
+    calls: &mut ImportedCalls<'a, 'k>,
+    givers: &mut Givers<'a>,
+) -> Result<(), AllocError>
+    ensures signatures { OnOk result ((other : List ℕ) → table_by_path signatures.new other
+        ≡ or_else (table_by_path signatures.old other)
+        (option_map (λ t. t.signatures) (declared_among given.now (text_views paths.now) other))) }
+    ensures calls { OnOk result ((other : List ℕ) → called_by_path calls.new other
+        ≡ or_else (called_by_path calls.old other)
+        (option_map (λ t. t.called) (declared_among given.now (text_views paths.now) other))) }
+    ensures givers { OnOk result ((other : List ℕ) → giver_by_path givers.new other
+        ≡ or_else (giver_by_path givers.old other)
+        (option_map (λ t. t.gives) (declared_among given.now (text_views paths.now) other))) }
+{
+    for path in paths {
+        add_declared(given, path, signatures, calls, givers)?;
+    }
+    Ok(())
+}
+
+impl<'a, 'k> KnownImports<'a, 'k> {
+    /// Nothing is known.
+    pub fn new(alloc: Global) -> Self
+        ensures { KnowsJudged [] result }
+    {
+        KnownImports {
+            signatures: Imported::new(alloc),
+            calls: ImportedCalls::new(alloc),
+            givers: Givers::new(alloc),
+            not_yes: NotYes::new(alloc),
+        }
+    }
+
+    /// Adds what is said of a package, unless something is known of its path.
+    ///
+    /// # Errors
+    ///
+    /// Memory was refused.
+    pub fn add(&mut self, one: &'k Judged<'a>) -> Result<(), AllocError>
+        ensures { OnOk result ((js : List Judged) → KnowsJudged js self.old
+            → KnowsJudged (js ++ one.now ∷ []) self.new) }
+    {
+        let path = one.report.path;
+        self.signatures.insert(path, &one.table.signatures)?;
+        self.calls.insert(path, &one.table.called)?;
+        self.givers.insert(path, one.table.gives)?;
+        self.not_yes.insert(path, !is_yes(&one.report))?;
+        Ok(())
+    }
+
+    /// Adds what is declared of the packages of these paths, as far as they were not given, and nothing is known of
+    /// them. It comes after all that is said of packages.
+    ///
+    /// # Errors
+    ///
+    /// Memory was refused.
+    pub fn add_outside(&mut self, given: &'k Given<'a>, paths: &[&'a str]) -> Result<(), AllocError>
+        ensures { OnOk result ((js : List Judged) → KnowsJudged js self.old
+            → KnowsImports given.now (text_views paths.now) js self.new) }
+    {
+        add_all_declared(
+            given,
+            paths,
+            &mut self.signatures,
+            &mut self.calls,
+            &mut self.givers,
+        )
+    }
+}

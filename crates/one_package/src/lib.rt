@@ -1,0 +1,29 @@
+//! What is to be said of one package by what is known of its imports. The rules are those of
+//! `meaning_reports/specs/PackageReports.antt` and `meaning_reports/specs/PackageTables.antt`.
+#![tactic(auto)]
+
+mod by_paths;
+mod file_rules;
+mod given;
+mod givers;
+mod grounds;
+mod judged;
+mod judging;
+mod known_imports;
+mod package_names;
+mod skipping;
+mod told_package;
+mod verdicts;
+mod words;
+
+pub use by_paths::{ByPaths, JudgedBodies, judge_bodies};
+pub use file_rules::{FileRules, FoundFiles};
+pub use given::{Given, given_packages};
+pub use givers::Givers;
+pub use grounds::told_of;
+pub use judged::{Around, Judged};
+pub use judging::{around, judge_package};
+pub use known_imports::{KnownImports, NotYes};
+pub use package_names::names_of_packages;
+pub use told_package::ToldPackage;
+pub use verdicts::is_yes;

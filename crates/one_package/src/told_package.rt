@@ -1,0 +1,105 @@
+//! What is told of a package without a fault as a whole, and the bodies of its files.
+
+ghost use Rattle.std.specs.Prelude.{◌≡◌, ◌||◌, ℕ, Bool, List, IfOk, Some, slice_get};
+ghost use Rattle.one_package.specs.Judgments.{TellsAround};
+ghost use Rattle.one_package.specs.ToldPackages.{IsMarked, IsToldPackage, HasPackageBodies};
+ghost use Rattle.calls_flags.specs.KnownCalls.{flags_by_path};
+ghost use Rattle.whole_packages.specs.LoadedViews.{TellsPackage};
+ghost use Rattle.names.specs.Answers.{declared_at};
+ghost use Rattle.meaning_reports.specs.WholeFaults.{HasNoWholeFault};
+ghost use Rattle.meaning_reports.specs.Loaded.{LoadedPackage as MeantPackage, Tables, imported_flags, means_in};
+
+use crate::judged::Around;
+use crate::skipping::{gives_some, walked_files};
+use calls_flags::{
+    Called, FileBodies, ImportedCalls, ToldFile, bodies_of_files, find_called, tell_files,
+};
+use facts::{Table, signatures};
+use names::Names;
+use std::alloc::{AllocError, Global};
+use whole_packages::LoadedPackage;
+
+/// A package that was told of.
+#[derive(Drop)]
+pub struct ToldPackage<'a> {
+    /// What the signatures of its functions say.
+    pub signatures: Table<'a>,
+    /// Whether one of its functions may give a cancel function.
+    pub gives: bool,
+    /// What was told of its files. Of files without anything to find nothing need be.
+    pub files: Vec<ToldFile<'a>>,
+}
+
+/// The bodies of a package's files, and which of their parameters its functions are known to call.
+#[derive(Drop)]
+pub struct PackageBodies<'e, 'a> {
+    pub files: Vec<FileBodies<'e, 'a>>,
+    pub called: Called<'a>,
+}
+
+/// Whether all files are walked: where some function of the package gives a cancel function, each may call it.
+fn needs_all(tells_all: bool, gives: bool) -> bool
+    ensures { result ≡ (tells_all || gives) }
+{
+    tells_all || gives
+}
+
+/// Tells of a package without a fault as a whole, where the uses in it mean this: of all its files, or of those in
+/// which something may be found.
+///
+/// # Errors
+///
+/// Memory was refused.
+pub fn tell_package<'a>(
+    alloc: Global,
+    loaded: &'a LoadedPackage,
+    names: &Names<'a>,
+    around: Around<'_, 'a>,
+    tells_all: bool,
+) -> Result<ToldPackage<'a>, AllocError>
+    ensures told { IfOk result (λ told. (ps : List MeantPackage) (tables : Tables) (i : ℕ) (p : MeantPackage)
+        → slice_get ps i ≡ Some p → TellsPackage p loaded.now → TellsAround ps tables p around.entry
+        → HasNoWholeFault ps i
+        → ((file at : ℕ) → declared_at names.now file at ≡ means_in ps p file at)
+        → IsToldPackage ps tables p tells_all told) }
+    ensures marked { IfOk result IsMarked }
+{
+    let table = signatures(alloc, &loaded.trees, names)?;
+    let gives = gives_some(&table, &loaded.trees);
+    let all = needs_all(tells_all, gives);
+    let walked = walked_files(alloc, loaded, around.givers, all)?;
+    let files = tell_files(
+        alloc,
+        &loaded.trees,
+        names,
+        &table,
+        around.signatures,
+        &walked,
+    )?;
+    Ok(ToldPackage {
+        signatures: table,
+        gives,
+        files,
+    })
+}
+
+/// Makes the bodies of a package that was told of, and finds which of their parameters its functions are known to call,
+/// where this is known of its imports.
+///
+/// # Errors
+///
+/// Memory was refused.
+pub fn package_bodies<'e, 'a>(
+    alloc: Global,
+    told: &'e ToldPackage<'a>,
+    imported: &ImportedCalls<'a, '_>,
+) -> Result<PackageBodies<'e, 'a>, AllocError>
+    ensures { IfOk result (λ bodies. (ps : List MeantPackage) (tables : Tables) (p : MeantPackage) (all : Bool)
+        (is : IsToldPackage ps tables p all told.now)
+        → ((path name : List ℕ) (k : ℕ) → flags_by_path imported.now path name k ≡ imported_flags p tables path name k)
+        → HasPackageBodies ps tables p is.walked bodies) }
+{
+    let files = bodies_of_files(alloc, &told.files)?;
+    let called = find_called(alloc, &told.signatures, &files, imported)?;
+    Ok(PackageBodies { files, called })
+}

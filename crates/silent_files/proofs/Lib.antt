@@ -1,0 +1,6 @@
+pub mod SilentFiles
+pub mod SilentPackages
+pub mod SilentSignatures
+pub mod DeclaredGivers
+pub mod WalkedFiles
+pub mod SilentWords

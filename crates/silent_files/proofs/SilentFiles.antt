@@ -1,0 +1,609 @@
+-- Where no use means `context` or `errgroup`, no named function gives, and no name is `recover`, nothing is to be
+-- found.
+use Rattle.std.proofs.Common.{◌≡◌, ℕ, zero, suc, ◌+◌, Bool, true, false, List, [], ◌∷◌, ◌++◌, Option, Some, None, refl, ap, ◌∙◌, subst}
+use Rattle.std.specs.Prelude.{◌==◌, ◌&&◌, ◌||◌, if◌then◌else◌, is_some, option_map, codes, length}
+use Rattle.std.specs.List.{list_any}
+use Rattle.std.specs.Str.{bytes_eq}
+use Rattle.std.proofs.lemmas.Option.{same_Some}
+use Rattle.tree.specs.declared.operator.DeclKeyword.TheVariants.{Const, Var, «Type» as type_keyword}
+use Rattle.tree.specs.Syntax.{Identifier, Expression, expression_node, name_expression, basic_literal, function_literal, composite_literal, literal_value, key_value, parenthesized, selector_expression, index_expression, slice_expression, type_assertion, call_expression, star_expression, unary_expression, binary_expression, array_type, ellipsis_array_type, slice_type, map_type, channel_type, function_type, struct_type, interface_type, Expressions, no_expression, expression_and, OptionalExpression, missing_expression, present_expression, Signature, signature_of}
+use Rattle.meaning.specs.Scopes.{is_blank}
+use Rattle.meaning.specs.OuterBlocks.{or_else}
+use Rattle.meaning.specs.Declarations.{Meaning, local_name, import_name, function_name, package_name, universe_name}
+use Rattle.meaning.specs.Mentions.{Named, as_named, as_pointer, RowForm, defines, assigns, declares, Row, Call, Role, elsewhere, called, called_in_brackets, argument, returned, left, names_type, new_literal, parameter_pointer, Mention, BodyPlace, Mark, mentions, defers_literal, returns, opens, closes, as_new_literal}
+use Rattle.meaning.specs.FunctionFacts.{context_path, errgroup_path, is_import, is_selected, is_of, is_of_some, cancel_type_of_name, is_group_pointer, tracked_type, Item, items_of, item_type, kind_of_type, TrackedType, cancel, cancel_or_group, group, group_or_none, plain, with_cause}
+use Rattle.meaning.specs.Tracked.{Known, facts_of, facts_giving, plain_makers, cause_makers, is_plain_maker, is_maker, giving_of, call_giving, variable_of, declared_by, may_bind, only_call, fits, row_giving, obtains_there, row_obtains, GroupState, is_group_type, is_new_call, made_by_call, made_by_value, made_by_values, if_first, made_by_type, made_by_form, row_makes, lefts_of_expressions, local_at, Placed, outer, placed, LocalRole, Local, item_local, parameter_role, parameter_locals, receiver_locals, only_cancel, result_locals, receiver_items, signature_locals, body_locals, parameter, receiver, result, row_typed, role_typed, declared_local, locals_there, locals_of, find_local, is_variable, is_obtained_by, is_made_by, obtains_in, makes_in, kind_by_rows, kind_of_local, call_in, idle, is_of_universe, is_universe, live, maker_giving}
+use Rattle.meaning.specs.Uses.{Seen, found, may_be_tracked, tracked_kind, is_outside, is_body, nothing, variable_outcome, role_outcome, row_outcome, mention_outcome, local_outcome, binding_at, giving_faults, errgroup_faults, recover_faults, mention_faults, is_cancel, is_result, result_faults, bound_again, fault_at, group_used_otherwise, if_not, is_made_or_parameter, last_fault, recover_used}
+use Rattle.meaning.specs.BodyEvents.{mark_faults, outer_faults_of, faults_of, variable_there, variable_found, variables_among, in_their_order, is_captured_there}
+use Rattle.silent_files.specs.SilentFiles.{GivesNothing, GivesByContext, tells, named_tells, call_tells, type_tells, items_tell, signature_tells, form_tells, row_tells, role_tells, mark_tells, names_recover}
+use Rattle.silent_files.specs.SilentLaws.{SilentFilesAreSilent, FilesWithoutMakersAreSilent}
+
+-- tests of two parts
+
+pub neither_first : (a b : Bool) → (a || b) ≡ false → a ≡ false
+neither_first false b e = refl
+neither_first true b e = let bad : true ≡ false = e in cc
+
+pub neither_second : (a b : Bool) → (a || b) ≡ false → b ≡ false
+neither_second false b e = e
+neither_second true b e = let bad : true ≡ false = e in cc
+
+pub not_both : (a b : Bool) → b ≡ false → (a && b) ≡ false
+not_both true b e = e
+not_both false b e = refl
+
+pub none_of : {A : Type 0} (f : A → Bool) → ((x : A) → f x ≡ false) → (xs : List A) → list_any f xs ≡ false
+none_of f h [] = refl
+none_of f h (x ∷ xs) = ap (λ b. b || list_any f xs) (h x) ∙ none_of f h xs
+
+-- Where no use means `errgroup`
+
+module _ (known : Known)
+    (no_group : (at : ℕ) (path : List ℕ) → known.means at ≡ Some (import_name path)
+    → bytes_eq path errgroup_path ≡ false)
+  where
+    no_errgroup : (at : ℕ) → is_import errgroup_path (known.means at) ≡ false
+    no_errgroup at = by (known.means at) refl
+      where
+        by : (m : Option Meaning) → known.means at ≡ m → is_import errgroup_path m ≡ false
+        by None e = refl
+        by (Some (local_name number kind)) e = refl
+        by (Some (import_name path)) e = no_group at path e
+        by (Some function_name) e = refl
+        by (Some package_name) e = refl
+        by (Some universe_name) e = refl
+
+    of_errgroup : (name : List ℕ) (n : Named) → is_of known.means errgroup_path name n ≡ false
+    of_errgroup name n = not_both (is_selected name n.selected) _ (no_errgroup n.at)
+
+    of_some_errgroup : (name : List ℕ) (n : Option Named) → is_of_some known.means errgroup_path name n ≡ false
+    of_some_errgroup name None = refl
+    of_some_errgroup name (Some n) = of_errgroup name n
+
+    -- types
+
+    no_cancel_type : (n : Option Named) → named_tells known n ≡ false → cancel_type_of_name known.means n ≡ None
+    no_cancel_type None h = refl
+    no_cancel_type (Some n) h =
+        by _ _ (neither_first _ _ (neither_second (is_maker known n) _ h))
+        (neither_second (is_of known.means context_path (codes "CancelFunc") n) _
+        (neither_second (is_maker known n) _ h))
+      where
+        by : (a b : Bool) → a ≡ false → b ≡ false
+            → (if a then Some plain else if b then Some with_cause else None) ≡ None
+        by false false e f = refl
+        by false true e f = absurd cc
+        by true b e f = absurd cc
+
+    no_type : (t : OptionalExpression) → type_tells known t ≡ false → tracked_type known.means t ≡ None
+    no_type missing_expression h = refl
+    no_type (present_expression t) h =
+        ap (λ c. cancel_or_group c (is_group_pointer known.means t)) (no_cancel_type (as_named t) h)
+        ∙ ap group_or_none (of_some_errgroup (codes "Group") (as_pointer t))
+
+    pub no_item_type : (i : Item) → type_tells known i.type ≡ false → item_type known.means i ≡ None
+    no_item_type i h = by i.is_variadic
+      where
+        by : (b : Bool) → (if b then None else tracked_type known.means i.type) ≡ None
+        by true = refl
+        by false = no_type i.type h
+
+-- Where no function that is named gives besides
+
+module _ (known : Known) (gives : GivesByContext known) where
+  -- makers and givers
+
+  no_giving : (n : Named) → tells known n ≡ false → giving_of known n ≡ None
+  no_giving n h =
+      by _ _ (neither_first _ _ (neither_first _ _ h)) (neither_second (is_plain_maker known n) _ (neither_first _ _ h))
+    where
+      by : (a b : Bool) → a ≡ false → b ≡ false
+          → (if a then Some (maker_giving plain)
+          else if b then Some (maker_giving with_cause)
+          else facts_giving (facts_of known n)) ≡ None
+      by false false e f = gives.no_giver n
+      by false true e f = absurd cc
+      by true b e f = absurd cc
+
+  no_call_giving : (c : Option Call) → call_tells known c ≡ false → call_giving known c ≡ None
+  no_call_giving None h = refl
+  no_call_giving (Some c) h = no_giving c.callee h
+
+  no_row_giving : (row : Row) → row_tells known row ≡ false → row_giving known row ≡ None
+  no_row_giving row h = by (may_bind row.standing row.form)
+    where
+      by : (b : Bool) → (if b then fits row (call_giving known (only_call row row.values)) else None) ≡ None
+      by true = ap (fits row) (no_call_giving (only_call row row.values) (neither_first _ _ h))
+      by false = refl
+
+  no_obtained : (row : Row) (k : ℕ) → row_tells known row ≡ false → row_obtains known row k ≡ false
+  no_obtained row k h = ap (obtains_there known row k) (no_row_giving row h)
+
+  -- groups
+
+  no_group_type : (n : Option Named) → is_group_type known n ≡ false
+  no_group_type n = of_some_errgroup known gives.no_group (codes "Group") n
+
+  no_made_call : (count : ℕ) (c : Option Call) → made_by_call known count c ≡ None
+  no_made_call count None = refl
+  no_made_call count (Some c) =
+      by _ (of_errgroup known gives.no_group (codes "WithContext") c.callee) _
+      (no_new c.arguments c.has_ellipsis)
+    where
+      no_new : (es : Expressions) (ellipsis : Bool) → (is_new_call known c.callee es ellipsis && (count == 1)) ≡ false
+      no_new no_expression ellipsis = refl
+      no_new (expression_and e no_expression) true = refl
+      no_new (expression_and e no_expression) false =
+          ap (λ b. b && (count == 1))
+          (not_both (is_of_universe known (codes "new") c.callee) _ (no_group_type (as_named e)))
+      no_new (expression_and e (expression_and f es)) ellipsis = refl
+
+      by : (a : Bool) → a ≡ false → (b : Bool) → b ≡ false
+          → (if a then (if count == 2 then Some live else None)
+          else if b then Some idle else None) ≡ None
+      by false e false f = refl
+      by false e true f = absurd cc
+      by true e b f = absurd cc
+
+  no_made_value : (row : Row) (count : ℕ) (e : Expression) → made_by_value known row count e ≡ None
+  no_made_value row count (expression_node (unary_expression op e) span) =
+      ap (λ b. if b then Some idle else None)
+      (ap (λ b. b && (count == 1)) (no_group_type (as_new_literal op e)))
+  no_made_value row count (expression_node (call_expression e es ellipsis) span) =
+      no_made_call count (call_in row (expression_node (call_expression e es ellipsis) span))
+  no_made_value row count (expression_node (name_expression text) span) = refl
+  no_made_value row count (expression_node (basic_literal kind) span) = refl
+  no_made_value row count (expression_node (function_literal signature ss braces) span) = refl
+  no_made_value row count (expression_node (composite_literal t es) span) = refl
+  no_made_value row count (expression_node (literal_value es) span) = refl
+  no_made_value row count (expression_node (key_value k v) span) = refl
+  no_made_value row count (expression_node (parenthesized e) span) = refl
+  no_made_value row count (expression_node (selector_expression e n) span) = refl
+  no_made_value row count (expression_node (index_expression e i) span) = refl
+  no_made_value row count (expression_node (slice_expression e low high most) span) = refl
+  no_made_value row count (expression_node (type_assertion e t) span) = refl
+  no_made_value row count (expression_node (star_expression e) span) = refl
+  no_made_value row count (expression_node (binary_expression op l r) span) = refl
+  no_made_value row count (expression_node (array_type n t) span) = refl
+  no_made_value row count (expression_node (ellipsis_array_type t) span) = refl
+  no_made_value row count (expression_node (slice_type t) span) = refl
+  no_made_value row count (expression_node (map_type k t) span) = refl
+  no_made_value row count (expression_node (channel_type direction t) span) = refl
+  no_made_value row count (expression_node (function_type signature) span) = refl
+  no_made_value row count (expression_node (struct_type fs) span) = refl
+  no_made_value row count (expression_node (interface_type fs) span) = refl
+
+  no_made_values : (row : Row) (count : ℕ) (es : Expressions) → made_by_values known row count es ≡ None
+  no_made_values row count no_expression = refl
+  no_made_values row count (expression_and e no_expression) = no_made_value row count e
+  no_made_values row count (expression_and e (expression_and f es)) = refl
+
+  not_first : (k : ℕ) (o : Option GroupState) → o ≡ None → if_first k o ≡ None
+  not_first zero o e = e
+  not_first (suc k) o e = refl
+
+  no_made_type : (t : OptionalExpression) (es : Expressions) → made_by_type known t es ≡ None
+  no_made_type missing_expression es = refl
+  no_made_type (present_expression t) no_expression =
+      ap (λ b. if b then Some idle else None) (no_group_type (as_named t))
+  no_made_type (present_expression t) (expression_and e es) = refl
+
+  no_made_form : (row : Row) (k : ℕ) (form : RowForm) → made_by_form known row k form ≡ None
+  no_made_form row k (defines ns) = not_first k _ (no_made_values row (length ns) row.values)
+  no_made_form row k (assigns ls) = not_first k _ (no_made_values row (length (lefts_of_expressions ls)) row.values)
+  no_made_form row k (declares Const ns t) = refl
+  no_made_form row k (declares Var ns t) = no_made_type t row.values
+  no_made_form row k (declares type_keyword ns t) = refl
+
+  no_made : (row : Row) (k : ℕ) → row_makes known row k ≡ None
+  no_made row k = by (may_bind row.standing row.form && is_some (local_at known row k))
+    where
+      by : (b : Bool) → (if b then made_by_form known row k row.form else None) ≡ None
+      by true = no_made_form row k row.form
+      by false = refl
+
+-- Locals without a type that is tracked
+
+abbrev Untyped : List Local → Type 0
+Untyped [] = Unit {0}
+Untyped (l ∷ ls) = (l.typed ≡ None) × Untyped ls
+
+both_untyped : (xs ys : List Local) → Untyped xs → Untyped ys → Untyped (xs ++ ys)
+both_untyped [] ys h k = k
+both_untyped (x ∷ xs) ys h k = (h.0, both_untyped xs ys h.1 k)
+
+found_untyped : (ls : List Local) (number : ℕ) (l : Local) → Untyped ls → find_local ls number ≡ Some l → l.typed ≡ None
+found_untyped [] number l h e = let bad : None ≡ Some l = e in cc
+found_untyped (x ∷ xs) number l h e = by (x.number == number) (found_untyped xs number l h.1) e
+  where
+    by : (t : Bool) → (find_local xs number ≡ Some l → l.typed ≡ None)
+        → (if t then Some x else find_local xs number) ≡ Some l
+        → l.typed ≡ None
+    by true later is = subst (λ (y : Local). y.typed ≡ None) (same_Some x l is) h.0
+    by false later is = later is
+
+item_untyped : (b : BodyPlace) (role : LocalRole) (typed : Option TrackedType) (n : Option Identifier) → typed ≡ None
+    → Untyped (item_local b role typed n)
+item_untyped b role typed None e = tt
+item_untyped b role typed (Some n) e = by (is_blank n.text)
+  where
+    by : (t : Bool) → Untyped (if t then [] else record {
+      number = n.span.start;
+      name = n.text;
+      at = n.span.start;
+      role = role;
+      typed = typed;
+      body = b.at;
+    } ∷ [])
+    by true = tt
+    by false = (e, tt)
+
+no_result_fault : (ls : List Local) → Untyped ls → result_faults ls ≡ []
+no_result_fault [] h = refl
+no_result_fault (l ∷ ls) h =
+    by _ (not_both (is_result l.role) _ (ap (λ t. is_cancel (option_map kind_of_type t)) h.0)) (no_result_fault ls h.1)
+  where
+    by : (t : Bool) → t ≡ false → result_faults ls ≡ []
+        → (if t then fault_at l.at bound_again l.name ++ result_faults ls else result_faults ls) ≡ []
+    by false e rest = rest
+    by true e rest = absurd cc
+
+module _ (known : Known) (gives : GivesByContext known) where
+  -- Locals
+
+  parameters_untyped : (b : BodyPlace) (k : ℕ) (is : List Item) → items_tell known is ≡ false
+      → Untyped (parameter_locals known b k is)
+  parameters_untyped b k [] h = tt
+  parameters_untyped b k (i ∷ is) h =
+      both_untyped (item_local b (parameter_role (parameter k) i) (item_type known.means i) i.name) _
+      (item_untyped b (parameter_role (parameter k) i) _ i.name
+      (no_item_type known gives.no_group i (neither_first _ _ h)))
+      (parameters_untyped b (k + 1) is (neither_second (type_tells known i.type) _ h))
+
+  receivers_untyped : (b : BodyPlace) (is : List Item) → items_tell known is ≡ false
+      → Untyped (receiver_locals known b is)
+  receivers_untyped b [] h = tt
+  receivers_untyped b (i ∷ is) h =
+      both_untyped (item_local b (parameter_role receiver i) (item_type known.means i) i.name) _
+      (item_untyped b (parameter_role receiver i) _ i.name (no_item_type known gives.no_group i (neither_first _ _ h)))
+      (receivers_untyped b is (neither_second (type_tells known i.type) _ h))
+
+  results_untyped : (b : BodyPlace) (is : List Item) → items_tell known is ≡ false → Untyped (result_locals known b is)
+  results_untyped b [] h = tt
+  results_untyped b (i ∷ is) h =
+      both_untyped (item_local b result (only_cancel (item_type known.means i)) i.name) _
+      (item_untyped b result _ i.name (ap only_cancel (no_item_type known gives.no_group i (neither_first _ _ h))))
+      (results_untyped b is (neither_second (type_tells known i.type) _ h))
+
+  signature_untyped : (b : BodyPlace) (s : Signature) → signature_tells known s ≡ false
+      → Untyped (signature_locals known b s)
+  signature_untyped b (signature_of ps rs brackets) h =
+      both_untyped (parameter_locals known b 0 (items_of ps)) _
+      (parameters_untyped b 0 (items_of ps) (neither_first _ _ h))
+      (results_untyped b (items_of rs) (neither_second (items_tell known (items_of ps)) _ h))
+
+  body_untyped : (b : BodyPlace) → mark_tells known (opens b) ≡ false → Untyped (body_locals known b)
+  body_untyped b h =
+      both_untyped (receiver_locals known b (receiver_items b.receiver)) _
+      (receivers_untyped b (receiver_items b.receiver) (neither_first _ _ h))
+      (signature_untyped b b.signature (neither_second (items_tell known (receiver_items b.receiver)) _ h))
+
+  no_row_type : (form : RowForm) → form_tells known form ≡ false → row_typed known form ≡ None
+  no_row_type (defines ns) h = refl
+  no_row_type (assigns ls) h = refl
+  no_row_type (declares keyword ns t) h = ap only_cancel (no_type known gives.no_group t h)
+
+  no_role_type : (r : Role) → role_tells known r ≡ false → role_typed known r ≡ None
+  no_role_type elsewhere h = refl
+  no_role_type (called c) h = refl
+  no_role_type called_in_brackets h = refl
+  no_role_type (argument k has_address c) h = refl
+  no_role_type (returned k) h = refl
+  no_role_type (left k row) h =
+      no_row_type row.form (neither_second (call_tells known (only_call row row.values)) _ h)
+  no_role_type (names_type row) h = refl
+  no_role_type (new_literal row) h = refl
+  no_role_type parameter_pointer h = refl
+
+  declared_untyped : (m : Mention) (bodies : List BodyPlace) (o : Option ℕ) → role_tells known m.role ≡ false
+      → Untyped (declared_local known m bodies o)
+  declared_untyped m [] o h = tt
+  declared_untyped m (b ∷ bs) None h = tt
+  declared_untyped m (b ∷ bs) (Some number) h = (no_role_type m.role h, tt)
+
+  there_untyped : (bodies : List BodyPlace) (mark : Mark) → mark_tells known mark ≡ false
+      → Untyped (locals_there known bodies mark)
+  there_untyped bodies (mentions m) h =
+      declared_untyped m bodies (declared_by known m) (neither_second (tells known m.named) _ h)
+  there_untyped bodies (defers_literal site at) h = tt
+  there_untyped bodies (returns at es) h = tt
+  there_untyped bodies (opens b) h = body_untyped b h
+  there_untyped bodies closes h = tt
+
+  abbrev NoneTell : List Placed → Type 0
+  NoneTell ps = list_any (λ (p : Placed). mark_tells known p.mark) ps ≡ false
+
+  untyped : (ps : List Placed) → NoneTell ps → Untyped (locals_of known ps)
+  unfolding locals_of
+  untyped [] h = tt
+  untyped (p ∷ ps) h =
+      both_untyped (locals_there known p.bodies p.mark) _ (there_untyped p.bodies p.mark (neither_first _ _ h))
+      (untyped ps (neither_second (mark_tells known p.mark) _ h))
+
+  -- Kinds
+
+  not_obtained : (m : Mention) (r : Role) → role_tells known r ≡ false → is_obtained_by known m r ≡ false
+  not_obtained m elsewhere h = refl
+  not_obtained m (called c) h = refl
+  not_obtained m called_in_brackets h = refl
+  not_obtained m (argument k has_address c) h = refl
+  not_obtained m (returned k) h = refl
+  not_obtained m (left k row) h = no_obtained known gives row k h
+  not_obtained m (names_type row) h = refl
+  not_obtained m (new_literal row) h = refl
+  not_obtained m parameter_pointer h = refl
+
+  not_made : (m : Mention) (r : Role) → is_made_by known m r ≡ false
+  not_made m elsewhere = refl
+  not_made m (called c) = refl
+  not_made m called_in_brackets = refl
+  not_made m (argument k has_address c) = refl
+  not_made m (returned k) = refl
+  not_made m (left k row) = ap is_some (no_made known gives row k)
+  not_made m (names_type row) = refl
+  not_made m (new_literal row) = refl
+  not_made m parameter_pointer = refl
+
+  no_obtaining : (number : ℕ) (mark : Mark) → mark_tells known mark ≡ false → obtains_in known number mark ≡ false
+  no_obtaining number (mentions m) h =
+      not_both (is_variable (variable_of known m) number) _
+      (not_obtained m m.role (neither_second (tells known m.named) _ h))
+  no_obtaining number (defers_literal site at) h = refl
+  no_obtaining number (returns at es) h = refl
+  no_obtaining number (opens b) h = refl
+  no_obtaining number closes h = refl
+
+  none_obtains : (number : ℕ) (ps : List Placed) → NoneTell ps
+      → list_any (λ (p : Placed). obtains_in known number p.mark) ps ≡ false
+  none_obtains number [] h = refl
+  none_obtains number (p ∷ ps) h =
+      ap (λ b. b || list_any (λ (q : Placed). obtains_in known number q.mark) ps)
+      (no_obtaining number p.mark (neither_first _ _ h))
+      ∙ none_obtains number ps (neither_second (mark_tells known p.mark) _ h)
+
+  no_making : (number : ℕ) (mark : Mark) → makes_in known number mark ≡ false
+  no_making number (mentions m) = not_both (is_variable (variable_of known m) number) _ (not_made m m.role)
+  no_making number (defers_literal site at) = refl
+  no_making number (returns at es) = refl
+  no_making number (opens b) = refl
+  no_making number closes = refl
+
+  no_rows : (ps : List Placed) → NoneTell ps → (number : ℕ) → kind_by_rows known ps number ≡ None
+  no_rows ps h number =
+      by _ (none_obtains number ps h)
+      _ (none_of (λ (p : Placed). makes_in known number p.mark) (λ p. no_making number p.mark) ps)
+    where
+      by : (a : Bool) → a ≡ false → (b : Bool) → b ≡ false
+          → (if a then Some cancel
+          else if b then Some group else None) ≡ None
+      by false e false f = refl
+      by false e true f = absurd cc
+      by true e b f = absurd cc
+
+  no_kind : (ps : List Placed) → NoneTell ps → (l : Local) → l.typed ≡ None → kind_of_local known ps l ≡ None
+  no_kind ps h l e =
+      ap (λ t. or_else (option_map kind_of_type t) (kind_by_rows known ps l.number)) e ∙ no_rows ps h l.number
+
+module _ (known : Known) (gives : GivesByContext known) (ps : List Placed)
+    (none_tell : list_any (λ (p : Placed). mark_tells known p.mark) ps ≡ false) where
+  abbrev seen : Seen
+  seen = record { known = known; marks = ps; locals = locals_of known ps }
+
+  found_so : (o : Option ℕ) (l : Local) → found seen o ≡ Some l → l.typed ≡ None
+  found_so None l e = let bad : None ≡ Some l = e in cc
+  found_so (Some n) l e = found_untyped (locals_of known ps) n l (untyped known gives ps none_tell) e
+
+  not_tracked : (l : Local) → l.typed ≡ None → tracked_kind seen (Some l) ≡ None
+  not_tracked l e = by (may_be_tracked l.role)
+    where
+      by : (t : Bool) → (if t then kind_of_local known ps l else None) ≡ None
+      by true = no_kind known gives ps none_tell l e
+      by false = refl
+
+  -- Mentions
+
+  role_nothing : (l : Local) → l.typed ≡ None → (bodies : List BodyPlace) (m : Mention) (r : Role)
+      → role_outcome seen l bodies m r ≡ nothing
+  role_nothing l e bodies m (left k row) =
+      ap (λ kind. row_outcome seen l kind bodies m row (binding_at seen row k)) (no_kind known gives ps none_tell l e)
+  role_nothing l e bodies m elsewhere = ap (λ kind. mention_outcome seen l kind bodies m) (not_tracked l e)
+  role_nothing l e bodies m (called c) = ap (λ kind. mention_outcome seen l kind bodies m) (not_tracked l e)
+  role_nothing l e bodies m called_in_brackets = ap (λ kind. mention_outcome seen l kind bodies m) (not_tracked l e)
+  role_nothing l e bodies m (argument k has_address c) =
+      ap (λ kind. mention_outcome seen l kind bodies m) (not_tracked l e)
+  role_nothing l e bodies m (returned k) = ap (λ kind. mention_outcome seen l kind bodies m) (not_tracked l e)
+  role_nothing l e bodies m (names_type row) = ap (λ kind. mention_outcome seen l kind bodies m) (not_tracked l e)
+  role_nothing l e bodies m (new_literal row) = ap (λ kind. mention_outcome seen l kind bodies m) (not_tracked l e)
+  role_nothing l e bodies m parameter_pointer = ap (λ kind. mention_outcome seen l kind bodies m) (not_tracked l e)
+
+  variable_nothing : (bodies : List BodyPlace) (m : Mention) → variable_outcome seen bodies m ≡ nothing
+  variable_nothing bodies m = by (found seen (variable_of known m)) (found_so (variable_of known m))
+    where
+      by : (o : Option Local) → ((l : Local) → o ≡ Some l → l.typed ≡ None) → local_outcome seen bodies m o ≡ nothing
+      by None h = refl
+      by (Some l) h = role_nothing l (h l refl) bodies m m.role
+
+  no_mention_fault : (bodies : List BodyPlace) (m : Mention) → tells known m.named ≡ false
+      → names_recover (mentions m) ≡ false
+      → mention_faults seen bodies m ≡ []
+  no_mention_fault bodies m h e = λ i.
+      (variable_nothing bodies m i).faults
+      ++ (giving_faults seen bodies m (no_giving known gives m.named h i)
+      ++ (no_errgroup_fault i ++ no_recover_fault i))
+    where
+      no_errgroup_fault : errgroup_faults seen m ≡ []
+      no_errgroup_fault =
+          ap (λ b. if b then if_not (is_made_or_parameter seen m m.role)
+          (last_fault group_used_otherwise m.named) else [])
+          (no_errgroup known gives.no_group m.named.at)
+
+      no_recover_fault : recover_faults known m ≡ []
+      no_recover_fault =
+          ap (λ b. if b && is_universe (known.means m.named.at)
+          then fault_at m.named.at recover_used (codes "-") else []) e
+
+  no_mark_fault : (bodies : List BodyPlace) (mark : Mark) → mark_tells known mark ≡ false → names_recover mark ≡ false
+      → mark_faults seen bodies mark ≡ []
+  no_mark_fault bodies (mentions m) h e = no_mention_fault bodies m (neither_first _ _ h) e
+  no_mark_fault bodies (defers_literal site at) h e = refl
+  no_mark_fault bodies (returns at es) h e = refl
+  no_mark_fault bodies (opens b) h e = no_result_fault (body_locals known b) (body_untyped known gives b h)
+  no_mark_fault bodies closes h e = refl
+
+  abbrev no_recover_in : List Placed → Type 0
+  no_recover_in qs = list_any (λ (p : Placed). names_recover p.mark) qs ≡ false
+
+  abbrev none_tell_in : List Placed → Type 0
+  none_tell_in qs = list_any (λ (p : Placed). mark_tells known p.mark) qs ≡ false
+
+  no_outer_fault : (qs : List Placed) → none_tell_in qs → no_recover_in qs → outer_faults_of seen qs ≡ []
+  no_outer_fault [] t h = refl
+  no_outer_fault (q ∷ qs) t h =
+      by (is_outside q.bodies) (no_mark_fault q.bodies q.mark (neither_first _ _ t) (neither_first _ _ h))
+      (no_outer_fault qs (neither_second (mark_tells known q.mark) _ t) (neither_second (names_recover q.mark) _ h))
+    where
+      by : (t : Bool) → mark_faults seen q.bodies q.mark ≡ [] → outer_faults_of seen qs ≡ []
+          → (if t then mark_faults seen q.bodies q.mark ++ outer_faults_of seen qs else outer_faults_of seen qs) ≡ []
+      by true none rest = λ i. none i ++ rest i
+      by false none rest = rest
+
+  no_inner_fault : (body : ℕ) (qs : List Placed) → none_tell_in qs → no_recover_in qs → faults_of seen body qs ≡ []
+  no_inner_fault body [] t h = refl
+  no_inner_fault body (q ∷ qs) t h =
+      by (is_body body q.bodies) (no_mark_fault q.bodies q.mark (neither_first _ _ t) (neither_first _ _ h))
+      (no_inner_fault body qs (neither_second (mark_tells known q.mark) _ t)
+      (neither_second (names_recover q.mark) _ h))
+    where
+      by : (t : Bool) → mark_faults seen q.bodies q.mark ≡ [] → faults_of seen body qs ≡ []
+          → (if t then mark_faults seen q.bodies q.mark ++ faults_of seen body qs else faults_of seen body qs) ≡ []
+      by true none rest = λ i. none i ++ rest i
+      by false none rest = rest
+
+  -- Variables
+
+  no_variable_found : (body : ℕ) (o : Option Local) → ((l : Local) → o ≡ Some l → l.typed ≡ None)
+      → variable_found seen body o ≡ []
+  no_variable_found body None h = refl
+  no_variable_found body (Some l) h =
+      ap (λ b. if b then variable_there seen body l (tracked_kind seen (Some l)) else [])
+      (ap (λ kind. is_some kind && ((l.body == body)
+      || list_any (λ (p : Placed). is_captured_there known body l p.bodies p.mark) ps))
+      (not_tracked l (h l refl)))
+
+  no_variables : (body : ℕ) (ns : List ℕ) → variables_among seen body ns ≡ []
+  no_variables body [] = refl
+  no_variables body (n ∷ ns) = λ i.
+      no_variable_found body (found seen (Some n)) (found_so (Some n)) i ++ no_variables body ns i
+
+-- what no mark has, no placed mark has
+
+none_placed : (f : Mark → Bool) (bodies : List BodyPlace) (ms : List Mark) → list_any f ms ≡ false
+    → list_any (λ (p : Placed). f p.mark) (placed bodies ms) ≡ false
+unfolding placed
+none_placed f bodies [] h = refl
+none_placed f bodies (mentions m ∷ ms) h =
+    ap (λ b. b || list_any (λ (p : Placed). f p.mark) (placed bodies ms)) (neither_first (f (mentions m)) _ h)
+    ∙ none_placed f bodies ms (neither_second (f (mentions m)) _ h)
+none_placed f bodies (defers_literal site at ∷ ms) h =
+    ap (λ b. b || list_any (λ (p : Placed). f p.mark) (placed bodies ms))
+    (neither_first (f (defers_literal site at)) _ h)
+    ∙ none_placed f bodies ms (neither_second (f (defers_literal site at)) _ h)
+none_placed f bodies (returns at es ∷ ms) h =
+    ap (λ b. b || list_any (λ (p : Placed). f p.mark) (placed bodies ms)) (neither_first (f (returns at es)) _ h)
+    ∙ none_placed f bodies ms (neither_second (f (returns at es)) _ h)
+none_placed f bodies (opens b ∷ ms) h =
+    ap (λ t. t || list_any (λ (p : Placed). f p.mark) (placed (b ∷ bodies) ms)) (neither_first (f (opens b)) _ h)
+    ∙ none_placed f (b ∷ bodies) ms (neither_second (f (opens b)) _ h)
+none_placed f bodies (closes ∷ ms) h = none_placed f (outer bodies) ms (neither_second (f closes) _ h)
+
+pub without_makers : FilesWithoutMakersAreSilent
+without_makers known marks gives tell recovers =
+    let ps = placed [] marks in
+    let none_tell = none_placed (mark_tells known) [] marks tell in
+    let none_there = none_placed names_recover [] marks recovers in
+    record {
+      no_variable = λ body. ap in_their_order (no_variables known gives ps none_tell body _);
+      outside = no_outer_fault known gives ps none_tell ps none_tell none_there;
+      inside = λ body. no_inner_fault known gives ps none_tell body ps none_tell none_there;
+    }
+
+-- Where no use means `context`
+
+module _ (known : Known) (gives : GivesNothing known) where
+  no_context : (at : ℕ) → is_import context_path (known.means at) ≡ false
+  no_context at = by (known.means at) refl
+    where
+      by : (m : Option Meaning) → known.means at ≡ m → is_import context_path m ≡ false
+      by None e = refl
+      by (Some (local_name number kind)) e = refl
+      by (Some (import_name path)) e = neither_first _ _ (gives.no_maker at path e)
+      by (Some function_name) e = refl
+      by (Some package_name) e = refl
+      by (Some universe_name) e = refl
+
+  of_context : (name : List ℕ) (n : Named) → is_of known.means context_path name n ≡ false
+  of_context name n = not_both (is_selected name n.selected) _ (no_context n.at)
+
+  none_tells : (n : Named) → tells known n ≡ false
+  none_tells n = λ i.
+      (none_of (λ name. is_of known.means context_path name n) (λ name. of_context name n) plain_makers i
+      || none_of (λ name. is_of known.means context_path name n) (λ name. of_context name n) cause_makers i)
+      || (of_context (codes "CancelFunc") n i || of_context (codes "CancelCauseFunc") n i)
+
+  no_name_tells : (o : Option Named) → named_tells known o ≡ false
+  no_name_tells None = refl
+  no_name_tells (Some n) = none_tells n
+
+  no_call_tells : (o : Option Call) → call_tells known o ≡ false
+  no_call_tells None = refl
+  no_call_tells (Some c) = none_tells c.callee
+
+  no_type_tells : (t : OptionalExpression) → type_tells known t ≡ false
+  no_type_tells missing_expression = refl
+  no_type_tells (present_expression t) = no_name_tells (as_named t)
+
+  no_items_tell : (is : List Item) → items_tell known is ≡ false
+  no_items_tell is = none_of (λ (i : Item). type_tells known i.type) (λ i. no_type_tells i.type) is
+
+  no_signature_tells : (s : Signature) → signature_tells known s ≡ false
+  no_signature_tells (signature_of ps rs brackets) = λ i. no_items_tell (items_of ps) i || no_items_tell (items_of rs) i
+
+  no_form_tells : (form : RowForm) → form_tells known form ≡ false
+  no_form_tells (defines ns) = refl
+  no_form_tells (assigns ls) = refl
+  no_form_tells (declares keyword ns t) = no_type_tells t
+
+  no_role_tells : (r : Role) → role_tells known r ≡ false
+  no_role_tells elsewhere = refl
+  no_role_tells (called c) = refl
+  no_role_tells called_in_brackets = refl
+  no_role_tells (argument k has_address c) = refl
+  no_role_tells (returned k) = refl
+  no_role_tells (left k row) = λ i. no_call_tells (only_call row row.values) i || no_form_tells row.form i
+  no_role_tells (names_type row) = refl
+  no_role_tells (new_literal row) = refl
+  no_role_tells parameter_pointer = refl
+
+  pub no_mark_tells : (mark : Mark) → mark_tells known mark ≡ false
+  no_mark_tells (mentions m) = λ i. none_tells m.named i || no_role_tells m.role i
+  no_mark_tells (defers_literal site at) = refl
+  no_mark_tells (returns at es) = refl
+  no_mark_tells (opens b) = λ i. no_items_tell (receiver_items b.receiver) i || no_signature_tells b.signature i
+  no_mark_tells closes = refl
+
+pub silent_so : SilentFilesAreSilent
+silent_so known marks gives recovers =
+    without_makers known marks record {
+      no_group = λ at path e. neither_second _ _ (gives.no_maker at path e);
+      no_giver = gives.no_giver;
+    } (none_of (mark_tells known) (no_mark_tells known gives) marks) recovers
