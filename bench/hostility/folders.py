@@ -87,8 +87,9 @@ def words(section):
     with open(os.fsencode(bench.at("a")) + b"/\xff.go", "wb") as file:
         file.write(GOOD)
     expect_unread(section, bench.run(["check", f"a={bench.at('a')}"]), bench.at("a"))
-    for word in (b"a=\xff", b"\xff=a", b"\xff", b"--cert=\xff"):
-        expect(section, bench.run(["check", word]), 2, b"", b"ctxvet: word is not UTF-8\n")
+    # This is told before words that are wrong, and before one that names no package.
+    for word in ([b"a=\xff"], [b"\xff=a"], [b"\xff"], [b"--cert=\xff"], ["-j", "0", b"a=\xff"], ["a", b"a=\xff"]):
+        expect(section, bench.run(["check", *word]), 2, b"", b"ctxvet: word is not UTF-8\n")
     for name in (bench.at("x" * 256), bench.at("x/" * 2100), "/" + "x" * 100_000):
         expect_unread(section, bench.run(["check", f"a={name}"]), name)
         expect_unread(section, bench.run(["verify", "--cert", name, "a=a"]), name)
@@ -185,14 +186,17 @@ def many_files(section):
 
 
 def many_packages(section):
-    """As many packages as a run takes, and one more."""
+    """As many packages as a run takes, and one more: that is told before two of one path, and after a folder that can't
+    be read."""
     bench = section.bench
     bench.package("a", {"a.go": GOOD})
     packages = [f"p{number}={bench.at('a')}" for number in range(MOST_PACKAGES + 1)]
     paths = sorted(word.split("=")[0] for word in packages[:-1])
     report = "".join(f"yes {path}\n" for path in paths).encode()
     expect(section, bench.run(["check", *packages[:-1]]), 0, report, b"")
-    expect(section, bench.run(["check", *packages]), 2, b"", b"ctxvet: too many packages\n")
+    for more in (packages[-1], packages[0]):
+        expect(section, bench.run(["check", *packages[:-1], more]), 2, b"", b"ctxvet: too many packages\n")
+    expect_unread(section, bench.run(["check", *packages, f"a={bench.at('none')}"]), bench.at("none"))
 
 
 def twice(section):

@@ -1,14 +1,24 @@
 """What becomes of a run that is refused memory or threads, and how many requests for memory it makes."""
 
+import math
+
 from hostility.runs import NO_THREAD, OUT_OF_MEMORY, Section, trouble_of_form
-from hostility.worked import FACTS, GIVEN, GIVER, GROUP, HEAD, IMPORT_IS_NOT_YES, NOTIFIED, PASSED, RECURSION, loops, words_of
+from hostility.worked import (
+    FACTS, GIVEN, GIVER, GROUP, HEAD, IMPORT_IS_NOT_YES, NOTIFIED, PASSED, RECURSION, WORKED, importing, loops, report_of,
+    words_of
+)
 
 # So many runs in a row that meet no refusal end a search by the number of a request: threads ask in no fixed order.
 CALM = 3
 OLD = b"what stood there"
 OUT = "certificates.json"
-# How many times the requests for memory of packages one after another those of several workers may be.
+# How many times as many requests for memory as one worker several may make to judge the same.
 MOST_REQUESTS = 1.5
+# Numbers of workers, and how often each is tried: which of them judges a package is another matter each time.
+WORKERS = ("1", "2", "3", "64")
+TURNS, MORE_TURNS = 10, 300
+# So many packages that import one another in a row: one worker judges, and the others wait to be woken.
+CHAIN = 40
 
 # Packages that call, give and start what is tracked.
 WIDE = {"a": GIVER, "b": GIVEN, "c": GROUP, "d": RECURSION}
@@ -17,10 +27,11 @@ DECLARED = {"a": NOTIFIED, "b": PASSED}
 
 
 class Command:
-    """Words, and what they come to where nothing is refused."""
+    """Words, and what they come to where nothing is refused; and how many requests for memory it takes at most until
+    the packages are read, where that is known."""
 
-    def __init__(self, bench, words, writes):
-        self.bench, self.words, self.writes = bench, words, writes
+    def __init__(self, bench, words, writes, read=math.inf):
+        self.bench, self.words, self.writes, self.read = bench, words, writes, read
         self.ample = self.run("")
         self.text = bench.read(OUT)
 
@@ -61,12 +72,19 @@ def commands(bench, packages):
     words, kept = words_of(bench, packages), bench.at("kept.json")
     bench.run(["check", "--cert", kept, *words])
     return [
-        Command(bench, ["check", "-j", "1", *words], False),
-        Command(bench, ["check", "-j", "3", *words], False),
+        Command(bench, ["check", "-j", "1", *words], False, read_by(bench, packages, "1")),
+        Command(bench, ["check", "-j", "3", *words], False, read_by(bench, packages, "3")),
         Command(bench, ["check", "--cert", bench.at(OUT), *words], True),
         Command(bench, ["check", "-j", "3", "--cert", bench.at(OUT), *words], True),
         Command(bench, ["verify", "--cert", kept, *words], False),
     ]
+
+
+def read_by(bench, packages, workers):
+    """How many requests for memory so many workers make at most until they have read these packages: as many as they
+    make on the same ones with two functions of one name more, which are read and not judged."""
+    unjudged = {f"unjudged-{path}": f"{text}\nfunc f() {{}}\nfunc f() {{}}\n" for path, text in packages.items()}
+    return bench.run(["check", "-j", workers, *words_of(bench, unjudged)], "").counts.memory
 
 
 def commands_with_facts(bench):
@@ -89,7 +107,7 @@ def each_refused(section, command, setting, refused_of, judge):
         end = command.run(f"{setting}={number}")
         met = refused_of(end.counts) > 0
         calm, refused = (0, refused + 1) if met else (calm + 1, refused)
-        section.note(end, judge(end, met))
+        section.note(end, judge(end, met, number))
     if refused == 0:
         section.fail(f"no run met a refusal by {setting}=N: no call reaches the shim", command.ample.command)
 
@@ -108,46 +126,123 @@ def memory_of(section, commands):
     for command in commands:
         command.note_ample(section)
         unwritten = (OUT_OF_MEMORY, b"ctxvet: cannot write: %s\n" % section.bench.at(OUT).encode())
-
-        def judge(end, met):
-            return command.trouble(end, (OUT_OF_MEMORY,) if met else (), unwritten if met else ())
-
         for setting in ("memory", "memory+"):
+            def judge(end, met, number):
+                faults = faults_of_memory(command, setting, end) if met else ()
+                if met and number > command.read and command.is_whole(end):
+                    return "memory is refused to somebody who judges, and the report is whole"
+                return command.trouble(end, faults, unwritten if met else ())
+
             each_refused(section, command, setting, lambda counts: counts.refused_memory, judge)
 
 
+def faults_of_memory(command, setting, end):
+    """The faults that may be told where memory is refused. To start a thread takes memory, and whoever is refused it is
+    told of the thread: then it was not started, so that fewer threads were than with ample memory. Memory to judge that
+    is refused after that comes first."""
+    lacks_thread = setting == "memory" and end.counts.threads < command.ample.counts.threads
+    return (OUT_OF_MEMORY, NO_THREAD) if lacks_thread else (OUT_OF_MEMORY,)
+
+
+def memory_before_threads(section):
+    """No thread can be started, and all requests for memory from the k-th on are refused too: that of memory is told,
+    since who judges is refused it whatever became of the thread."""
+    bench = section.bench
+    bench.empty_case()
+    command = Command(bench, ["check", "-j", "2", *words_of(bench, IMPORT_IS_NOT_YES)], False)
+    command.note_ample(section)
+
+    def judge(end, met, number):
+        wanted = (2, b"", OUT_OF_MEMORY if met else NO_THREAD)
+        return None if end.says() == wanted else f"{end.says()!r}, and not {wanted!r}"[:600]
+
+    each_refused(section, command, "thread+=1,memory+", lambda counts: counts.refused_memory, judge)
+
+
 def threads(bench, long):
-    """Each start of a thread refused, and all from it on: the report is whole, or the fault is told."""
+    """Each start of a thread refused, and all from it on. Of a thread that reads files the others do the work; of one
+    that judges packages the fault is told. And nothing refused: each number of workers gives one report."""
     section = Section(bench, "threads")
+    one_report(section, MORE_TURNS if long else TURNS)
+    memory_before_threads(section)
     for workers in ("2", "3", "64"):
         bench.empty_case()
-        command = Command(bench, ["check", "-j", workers, *words_of(bench, WIDE)], False)
-        command.note_ample(section)
-
-        def judge(end, met):
-            return command.trouble(end, (NO_THREAD,) if met else ())
-
-        for setting in ("thread", "thread+"):
-            each_refused(section, command, setting, lambda counts: counts.refused_threads, judge)
+        one = [bench.package("a", {f"{name}.go": HEAD.encode() for name in WIDE})]
+        alone = Command(bench, ["check", "-j", workers, *one], False)
+        threads_of(section, alone, math.inf)
+        bench.empty_case()
+        several = Command(bench, ["check", "-j", workers, *words_of(bench, WIDE)], False)
+        threads_of(section, several, alone.ample.counts.threads)
     return section
+
+
+def threads_of(section, command, readers):
+    """Each start of a thread of this command refused, and all from it on, where so many of them read files, first."""
+    command.note_ample(section)
+    starts = command.ample.counts.threads
+    for setting in ("thread", "thread+"):
+
+        def judge(end, met, number):
+            is_all = setting == "thread+" and readers < starts
+            return trouble_of_no_thread(end) if met and (is_all or readers < number) else command.trouble(end, ())
+
+        each_refused(section, command, setting, lambda counts: counts.refused_threads, judge)
+
+
+def one_report(section, turns):
+    """Each number of workers gives the report that was worked out by hand, again and again, and one starts no thread."""
+    bench = section.bench
+    chain = {f"p{number:02}": importing("p", f"p{number + 1:02}") for number in range(CHAIN)}
+    runs = [("a chain of packages", chain, [f"yes {path}" for path in chain])]
+    runs += [(name, *run) for name, run in WORKED.items() if len(run[0]) > 1]
+    for name, packages, report in runs:
+        bench.empty_case()
+        words, wanted = words_of(bench, packages), report_of(bench, report)
+        for workers in WORKERS:
+            for _ in range(turns):
+                end = bench.run(["check", "-j", workers, *words], "")
+                trouble = trouble_of_form(end) or trouble_of_one_report(end, wanted, workers)
+                section.note(end, trouble and f"{name}, {workers} workers: {trouble}")
+
+
+def trouble_of_one_report(end, wanted, workers):
+    """What is wrong with the end of a run by so many workers that is to give this report, or None."""
+    if end.status == 2 or end.out != wanted:
+        return f"{end.says()!r}, and not {wanted!r}"[:600]
+    return "a thread is started for one worker" if workers == "1" and end.counts.threads else None
+
+
+def trouble_of_no_thread(end):
+    """What is wrong with an end that is to tell of a thread that could not be started, or None."""
+    if end.says() == (2, b"", NO_THREAD):
+        return None
+    return f"not as where a thread can't be started: {end.says()!r}"[:600]
 
 
 def requests(bench, long):
-    """How many requests for memory two packages take by one and by two workers, beside those of each by itself."""
+    """How many requests for memory it takes to judge two packages, by one worker, by two, and each package by itself."""
     section = Section(bench, "requests")
-    text = loops(20).encode()
-    count = lambda *words: counted(section, ["check", *words])
     bench.empty_case()
-    both = [bench.package(path, {"a.go": text.replace(b"package a", b"package " + path.encode())}) for path in "ab"]
-    start = count(bench.package("c", {"a.go": HEAD.encode()}))
-    alone = sum(count(word) - start for word in both)
+    text = loops(20)
+    # The same packages, but each has two functions of one name: they are read, and not judged.
+    unjudged = text.replace("func f2(", "func f1(")
+    words, read = (words_of(bench, packages_of(text)), words_of(bench, packages_of(unjudged, "unjudged-")))
+    judged = lambda some, same, *options: (
+        counted(section, ["check", *options, *some]) - counted(section, ["check", *options, *same])
+    )
+    alone = sum(judged([word], [same]) for word, same in zip(words, read))
     for workers in ("1", "2"):
-        made = count("-j", workers, *both) - start
-        told = f"requests for memory by {workers} workers: {made}; of each package by itself, together: {alone}"
+        made = judged(words, read, "-j", workers)
+        told = f"requests for memory to judge two packages by {workers} workers: {made}; each by itself: {alone}"
         print(told)
         if not 0 < made <= MOST_REQUESTS * alone:
-            section.fail(told, f"{bench.program} check -j {workers} {' '.join(both)}")
+            section.fail(told, f"{bench.program} check -j {workers} {' '.join(words)}")
     return section
+
+
+def packages_of(text, before=""):
+    """Two packages of this text, by their import paths."""
+    return {f"{before}{name}": text.replace("package a", f"package {name}") for name in "ab"}
 
 
 def counted(section, words):

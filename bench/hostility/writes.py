@@ -8,6 +8,8 @@ from hostility.runs import UNWRITTEN, Section, trouble_of_form
 from hostility.worked import DEFERRED, FACTS, IMPORT_IS_NOT_YES, words_of
 
 YES = {"a": DEFERRED}
+# Standard output that takes nothing.
+FULL = [(os.POSIX_SPAWN_OPEN, 1, "/dev/full", os.O_WRONLY, 0)]
 
 
 def unwritten_file(bench):
@@ -137,9 +139,8 @@ def closed_streams(section, command):
     """Streams that are closed, that are full, and a pipe that nobody reads."""
     reader, writer = os.pipe()
     os.close(reader)
-    full = [(os.POSIX_SPAWN_OPEN, 1, "/dev/full", os.O_WRONLY, 0)]
     broken = [(os.POSIX_SPAWN_DUP2, writer, 1)]
-    for actions in (closed(1), full, broken):
+    for actions in (closed(1), FULL, broken):
         end = command.run(None, actions=actions)
         trouble = None if end.says() == (2, b"", UNWRITTEN) else f"the write does not fail: {end.says()!r}"[:400]
         section.note(end, trouble or command.trouble_of_file(end) or untouched(command))
@@ -167,3 +168,6 @@ def special_files(section, command):
         section.note(end, None if known else f"OUT can't be written: {end.says()!r}"[:400])
     end = bench.run(["check", "--cert", "/dev/null", *words])
     section.note(end, None if command.is_whole(end) else f"not the whole answer: {end.says()!r}"[:400])
+    # Where the report can't be written either, that is told.
+    end = bench.run(["check", "--cert", bench.at("none/file"), *words], actions=FULL)
+    section.note(end, None if end.says() == (2, b"", UNWRITTEN) else f"not of the report: {end.says()!r}"[:400])

@@ -16,7 +16,7 @@ use Rattle.agreement.specs.CertificateLaws.{given_in, CanBeWritten, Certificates
 use Rattle.agreement.specs.PackageLaws.{IsGivenByPaths, AreGivenByPaths}
 use Rattle.all_certificates.specs.CertifiedBodies.{AreOfFiles}
 use Rattle.all_certificates.specs.CertifiedPackages.{IsCertificateOf, AreCertificatesBy}
-use Rattle.all_packages.specs.Tables.{is_none_of, entries_for, IsPlain}
+use Rattle.plain_tables.specs.Tables.{is_none_of, entries_for, IsPlain}
 use Rattle.certificate_json.specs.Certificates.{PackageEntry}
 use Rattle.meaning.specs.FunctionFacts.{cancel, cancel_type, CancelType, FunctionFacts}
 use Rattle.meaning.specs.Uses.{Seen, facts_take, facts_take_type, has_kind_at, has_type_at}

@@ -6,7 +6,7 @@ use Rattle.std.specs.Str.{bytes_eq}
 use Rattle.std.proofs.lemmas.Bool.{and_parts, or_left, or_right, false≢true, lt-ltb}
 use Rattle.std.proofs.lemmas.Bool.Decides.{Decides-eqb}
 use Rattle.std.proofs.lemmas.Slice.Eq.{bytes_eq-Decides}
-use Rattle.all_packages.specs.Tables.{as_list, parameter_kept, parameter_told, entry_told, is_none_of, entries_with, entries_for}
+use Rattle.plain_tables.specs.Tables.{as_list, parameter_kept, parameter_told, entry_told, is_none_of, entries_with, entries_for}
 use Rattle.meaning.proofs.Membership.{contains_nil, contains_cases}
 use Rattle.meaning.specs.FunctionFacts.{Meanings, CancelType, plain, with_cause, TrackedType, cancel_type, group_type, TrackedParameter, parameter_at, tracked_parameters, Item, items_of, item_type, FunctionFacts, signature_facts, facts_in, facts_from}
 use Rattle.meaning.specs.FunctionFacts.{cancel}

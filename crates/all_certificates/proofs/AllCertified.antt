@@ -10,7 +10,7 @@ use Rattle.all_packages.proofs.KeptPackages.{kept_of}
 use Rattle.one_package.specs.Certified.{certificates_in}
 use Rattle.all_packages.specs.Reports.{AreAllCertified, AreReports}
 use Rattle.one_package.specs.Judgments.{table_view, said_view}
-use Rattle.all_packages.specs.Tables.{IsPlain}
+use Rattle.plain_tables.specs.Tables.{IsPlain}
 use Rattle.one_package.specs.declared.judged.Judged.{Judged}
 use Rattle.certificate_json.specs.Certificates.{PackageEntry}
 use Rattle.gathering.proofs.Results.{below_each}

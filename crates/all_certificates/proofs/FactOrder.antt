@@ -16,7 +16,7 @@ use Rattle.meaning_reports.specs.Loaded.{LoadedPackage, PackageTable, Tables, me
 use Rattle.meaning_reports.specs.PackageTables.{IsTable, empty, full}
 use Rattle.table_json.specs.Tables.{Entry, Rise, HasOrder, IsInOrder, are_apart, by_bytes, itself, name_of, position_of}
 use Rattle.table_json.specs.WrittenTables.{is_told}
-use Rattle.all_packages.specs.Tables.{as_list, position_told, parameter_kept, parameter_told, result_told, entry_told, is_none_of, if_told, entries_with, entries_for, IsPlain}
+use Rattle.plain_tables.specs.Tables.{as_list, position_told, parameter_kept, parameter_told, result_told, entry_told, is_none_of, if_told, entries_with, entries_for, IsPlain}
 use Rattle.all_certificates.proofs.RisingLists.{is_less, IsThinned, rise_left}
 
 -- Positions of a signature

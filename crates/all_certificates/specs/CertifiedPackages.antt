@@ -3,7 +3,7 @@
 -- package has no table and no certificates of bodies.
 use Rattle.std.specs.Prelude.{ℕ, ◌≡◌, Bool, List, [], length, Some, slice_get}
 use Rattle.all_certificates.specs.CertifiedBodies.{AreOfFiles}
-use Rattle.all_packages.specs.Tables.{IsPlain}
+use Rattle.plain_tables.specs.Tables.{IsPlain}
 use Rattle.certificate_json.specs.Certificates.{BodyEntry, PackageEntry}
 use Rattle.meaning.specs.Uses.{Callee, Seen}
 use Rattle.meaning_packages.specs.CallsFlags.{FileWithCredits, Flags, calls_by}

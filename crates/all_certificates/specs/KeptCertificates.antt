@@ -2,7 +2,7 @@
 use Rattle.std.specs.Prelude.{ℕ, ◌+◌, ◌≡◌, List, [], ◌∷◌, ◌++◌, length, Some, slice_get, ⊤}
 use Rattle.one_package.specs.Certified.{certificates_in}
 use Rattle.one_package.specs.Judgments.{table_view}
-use Rattle.all_packages.specs.Tables.{IsPlain}
+use Rattle.plain_tables.specs.Tables.{IsPlain}
 use Rattle.one_package.specs.declared.judged.Judged.{Judged}
 use Rattle.certificate_json.specs.Certificates.{PackageEntry}
 use Rattle.meaning_reports.specs.Loaded.{LoadedPackage, Tables}

@@ -1,17 +1,23 @@
 //! A report with certificates.
 
-ghost use Rattle.std.specs.Prelude.{IfOk};
+ghost use Rattle.std.specs.Prelude.{IfErr, IfOk, length};
 ghost use Rattle.all_certificates.specs.CertifiedReports.{TellsCertified};
 ghost use Rattle.declared_tables.specs.DeclaredTables.{declared_tables};
 ghost use Rattle.outside_json.specs.Outside.{packages_of};
+ghost use Rattle.package_workers.specs.Faults.{IsFaultOf};
+ghost use Rattle.workers.specs.Counts.{count_of};
 
 use crate::certifying::Certifying;
 use crate::packages::{CertifiedPackages, certified_packages};
-use all_packages::{Report, check_by, report_from};
+use all_packages::{Report, report_from};
 use certificate_json::Certificates;
 use outside_json::Outside;
-use std::alloc::{AllocError, Global};
+use package_workers::{CheckFault, Crew, Open, check_by_workers};
+use std::alloc::Global;
+use std::sync::Wait;
+use std::thread::Threads;
 use whole_packages::LoadedPackage;
+use workers::Workers;
 
 /// The report of packages, and their certificates.
 #[derive(Drop)]
@@ -20,21 +26,29 @@ pub struct Certified {
     pub certificates: Certificates,
 }
 
-/// Judges packages of different paths by the paths of bodies, where this is declared of packages that are not given,
-/// and tells what is to be said of them, with their certificates. These are made while a package is judged, so that
-/// nothing is told of it a second time.
+/// Lets so many workers judge packages of different paths by the paths of bodies, where this is declared of packages
+/// that are not given, and tells what is to be said of them, with their certificates: the same for any number of
+/// workers. Certificates are made while a package is judged, so that nothing is told of it a second time.
 ///
 /// # Errors
 ///
-/// Memory was refused.
-pub fn certified_report(
+/// As of `check_by_workers`.
+pub fn certified_report_by<R: Threads + Wait + Sync>(
+    rt: &R,
     alloc: Global,
     packages: &[LoadedPackage],
     outside: &Outside,
-) -> Result<Certified, AllocError>
-    ensures { IfOk result (TellsCertified (declared_tables (packages_of outside.now)) packages.now) }
+    workers: Workers,
+) -> Result<Certified, CheckFault>
+    ensures certified { IfOk result (TellsCertified (declared_tables (packages_of outside.now)) packages.now) }
+    ensures fault { IfErr result (IsFaultOf (count_of workers) (length packages.now)) }
 {
-    let judged = check_by(alloc, packages, outside, &Certifying)?;
+    let crew = Crew {
+        rt,
+        workers,
+        gate: &Open,
+    };
+    let judged = check_by_workers(alloc, crew, packages, outside, &Certifying)?;
     let CertifiedPackages {
         reports,
         certificates,

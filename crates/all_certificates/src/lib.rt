@@ -9,5 +9,5 @@ mod files;
 mod laws;
 mod packages;
 
-pub use certified::{Certified, certified_report};
+pub use certified::{Certified, certified_report_by};
 pub use laws::{certificates_are_in_order, certificates_read_back};

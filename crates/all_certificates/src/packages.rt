@@ -7,9 +7,9 @@ ghost use Rattle.certificate_json.specs.Certificates.{package_of, packages_of};
 ghost use Rattle.table_json.specs.Tables.{entries_of};
 ghost use Rattle.table_json.specs.declared.table.Version.TheVariants.{Newer};
 
-use all_packages::package_table;
 use certificate_json::{Certificates, Package};
 use one_package::Judged;
+use plain_tables::package_table;
 use report::PackageReport;
 use std::alloc::{AllocError, Global};
 use table_json::{Table, Version};

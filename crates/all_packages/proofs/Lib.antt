@@ -5,5 +5,3 @@ mod ImportedRows
 mod JudgedImports
 pub mod KeptPackages
 mod NextPackage
-mod PlainNames
-mod PlainTables

@@ -2,6 +2,5 @@
 -- The rules are those of `meaning_reports/specs/PackageReports.antt` and `meaning_reports/specs/PackageTables.antt`.
 pub mod JudgedPackages
 pub mod Reports
-pub mod Tables
 -- What serves the proofs: what is known while packages are judged one after another.
 pub mod Progress

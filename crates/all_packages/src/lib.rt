@@ -6,11 +6,9 @@ mod known_imports;
 mod packages;
 mod progress;
 mod reports;
-mod tables;
 
 pub use packages::{
-    JudgedBy, JudgedPackages, check_by, judge_left, judge_packages, judge_packages_by,
+    JudgedBy, JudgedPackages, check, check_by, judge_left, judge_packages, judge_packages_by,
 };
 pub use progress::Progress;
 pub use reports::{Report, report_from, told, whole_report, whole_report_by};
-pub use tables::{final_tables, package_table};

@@ -349,7 +349,8 @@ pub fn check_by<'a, R: FileRules>(
     judge_left(alloc, &given, none, rules)
 }
 
-/// The same by the paths of bodies.
+/// Judges packages of different paths by the paths of bodies, where this is declared of packages that are not given:
+/// what is to be said of each, in their order, and what is known of its functions.
 ///
 /// # Errors
 ///

@@ -4,5 +4,6 @@ pub mod Listings
 pub mod ImportersAdded
 pub mod Steps
 pub mod Answered
+pub mod Orders
 pub mod Told
 pub mod Stopped

@@ -1,28 +1,12 @@
 -- Three workers with three packages that import nothing: each gets another one, and all stop once one was given back.
-use Rattle.std.proofs.Common.{◌≡◌, ℕ, zero, suc, List, [], ◌∷◌, Contains, inl, inr, refl, sym, subst, arith}
-use Rattle.std.proofs.lemmas.Option.{same_Some}
-use Rattle.imports.specs.Ranks.{Package, Imports}
+use Rattle.std.proofs.Common.{◌≡◌, ℕ, zero, suc, List, [], ◌∷◌, Contains, inl, inr, refl, arith}
 use Rattle.board.specs.declared.entries.Phase.{Phase}
-use Rattle.board.specs.declared.entries.Phase.TheVariants.{Untaken, Taken, GivenBack, Delivered}
+use Rattle.board.specs.declared.entries.Phase.TheVariants.{Untaken, Taken}
 use Rattle.board.specs.declared.entries.Task.{Task}
 use Rattle.board.specs.declared.entries.Task.TheVariants.{Work, Wait, Over}
 use Rattle.board.specs.Legal.{IsReady, AreImportsIn}
-use Rattle.board.specs.ThreeWorkers.{alone, three, rank_of_three, one_taken, two_taken, all_taken, one_back, all_done, MayBeTold, AreStopped}
-use Rattle.board.proofs.Lists.{none_in}
-
-imports_of_none : (path : List ℕ) (importer : Package) (name : List ℕ) → alone path ≡ importer → Contains importer.imports name → ⊥
-imports_of_none path importer name same names =
-    let P : Package → Type 0 = λ p. Contains p.imports name in
-    none_in name (subst P (sym same) names)
-
-none_imports : (i j : ℕ) → Imports three i j → ⊥
-none_imports zero j h =
-    imports_of_none (97 ∷ []) h.importer h.imported.path (same_Some (alone (97 ∷ [])) h.importer h.is_importer) h.names
-none_imports (suc zero) j h =
-    imports_of_none (98 ∷ []) h.importer h.imported.path (same_Some (alone (98 ∷ [])) h.importer h.is_importer) h.names
-none_imports (suc (suc zero)) j h =
-    imports_of_none (99 ∷ []) h.importer h.imported.path (same_Some (alone (99 ∷ [])) h.importer h.is_importer) h.names
-none_imports (suc (suc (suc i))) j h = (let e = h.is_importer in cc)
+use Rattle.board.specs.ThreeWorkers.{three, rank_of_three, one_taken, two_taken, all_taken, one_back, all_done, MayBeTold, AreStopped}
+use Rattle.board.proofs.Orders.{none_imports, three_are_ordered}
 
 all_in : (phases : List Phase) (i : ℕ) → AreImportsIn three phases i
 all_in phases i j h = absurd (none_imports i j h)
@@ -115,6 +99,7 @@ over_only Over h = refl
 
 pub are_stopped : AreStopped
 are_stopped = record {
+  are_ranks = three_are_ordered;
   first = record { each = first_each; no_other = first_only };
   second = record { each = second_each; no_other = second_only };
   third = record { each = third_each; no_other = third_only };

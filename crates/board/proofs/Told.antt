@@ -1,7 +1,7 @@
 -- Two workers with two packages: each answer is the only one that is allowed.
-use Rattle.std.proofs.Common.{◌≡◌, ℕ, zero, suc, List, [], ◌∷◌, Contains, inl, inr, refl, sym, subst, arith}
+use Rattle.std.proofs.Common.{◌≡◌, ℕ, zero, suc, [], ◌∷◌, inl, inr, refl, sym, subst, arith}
 use Rattle.std.proofs.lemmas.Option.{same_Some}
-use Rattle.imports.specs.Ranks.{Package, Imports}
+use Rattle.imports.specs.Ranks.{Imports}
 use Rattle.board.specs.declared.entries.Phase.{Phase}
 use Rattle.board.specs.declared.entries.Phase.TheVariants.{Untaken, Taken, Delivered}
 use Rattle.board.specs.declared.entries.Task.{Task}
@@ -10,26 +10,7 @@ use Rattle.board.specs.History.{state_of}
 use Rattle.board.specs.Legal.{IsIn, IsReady}
 use Rattle.board.specs.Answers.{IsTask}
 use Rattle.board.specs.Examples.{package_a, package_b, two, rank_of_two, one_entry, two_entries, all_entries, AreTold}
-use Rattle.board.proofs.Lists.{none_in}
-
-a_imports_none : (j : ℕ) → Imports two 0 j → ⊥
-a_imports_none j h =
-    let same : package_a ≡ h.importer = same_Some package_a h.importer h.is_importer in
-    let P : Package → Type 0 = λ p. Contains p.imports h.imported.path in
-    let there : Contains [] h.imported.path = subst P (sym same) h.names in
-    none_in h.imported.path there
-
-only_one : (x y : List ℕ) → Contains (x ∷ []) y → x ≡ y
-only_one x y (zero, low, e) = e
-only_one x y (suc k, low, e) = absurd (omega (arith, low))
-
-b_imports_a : (j : ℕ) → Imports two 1 j → j ≡ 0
-b_imports_a j h =
-    let same : package_b ≡ h.importer = same_Some package_b h.importer h.is_importer in
-    let P : Package → Type 0 = λ p. Contains p.imports h.imported.path in
-    let there : Contains ((97 ∷ []) ∷ []) h.imported.path = subst P (sym same) h.names in
-    let low = h.is_first 0 package_a refl (only_one (97 ∷ []) h.imported.path there) in
-    omega (arith, low)
+use Rattle.board.proofs.Orders.{a_imports_none, b_imports_a, two_are_ordered}
 
 a_is_imported : Imports two 1 0
 a_is_imported = record {
@@ -95,6 +76,7 @@ over_only Over h = refl
 
 pub are_told : AreTold
 are_told = record {
+  are_ranks = two_are_ordered;
   too_early = refl;
   first_works = ((refl, a_ready), first_only);
   second_waits = (record { goes_on = refl; none_ready = none_ready; place = 0; worker = 1; is_taken = refl }, wait_only);

@@ -1,7 +1,7 @@
 -- The answers to two workers, 1 and 2, with two packages of which the second one imports the first: each answer is the
 -- only one that is allowed.
 use Rattle.std.specs.Prelude.{ℕ, zero, suc, ◌≡◌, List, [], ◌∷◌, Option, Some, None}
-use Rattle.imports.specs.Ranks.{Package}
+use Rattle.imports.specs.Ranks.{Package, IsOrder}
 use Rattle.board.specs.declared.entries.Entry.{Entry}
 use Rattle.board.specs.declared.entries.Entry.TheVariants.{Take, Deliver, Back}
 use Rattle.board.specs.declared.entries.Task.{Task}
@@ -50,6 +50,7 @@ abbrev pub all_entries : List Entry
 all_entries = Take 1 0 ∷ Deliver 1 0 ∷ Take 2 1 ∷ Back 2 1 ∷ []
 
 pub record AreTold : Type 0 where
+  pub are_ranks : IsOrder two rank_of_two (0 ∷ 1 ∷ [])
   pub too_early : refusal [] 1 0 ≡ Some NotTaken
   pub first_works : IsTold [] (Work 0)
   pub second_waits : IsTold one_entry Wait

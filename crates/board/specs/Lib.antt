@@ -1,4 +1,4 @@
--- To be trusted: what a history comes to, which are legal, and what a board answers.
+-- For a reader of the contracts: what a history comes to, which are legal, and what a board answers.
 pub mod History
 pub mod Legal
 pub mod Answers

@@ -1,8 +1,8 @@
 -- The answers to three workers, 1, 2 and 3, with three packages that import nothing: each gets a package that nobody
 -- has. The first gives its package back. The others can still deliver theirs, and whoever asks from then on is told
 -- that it is over.
-use Rattle.std.specs.Prelude.{ℕ, zero, suc, ◌≡◌, List, [], ◌∷◌, ◌++◌, Option, Some, None, Contains}
-use Rattle.imports.specs.Ranks.{Package}
+use Rattle.std.specs.Prelude.{ℕ, zero, suc, ◌≡◌, List, [], ◌∷◌, Option, Some, None, Contains}
+use Rattle.imports.specs.Ranks.{Package, IsOrder}
 use Rattle.board.specs.declared.entries.Entry.{Entry}
 use Rattle.board.specs.declared.entries.Entry.TheVariants.{Take, Deliver, Back}
 use Rattle.board.specs.declared.entries.Task.{Task}
@@ -61,6 +61,7 @@ abbrev pub all_done : List Entry
 all_done = Take 1 0 ∷ Take 2 1 ∷ Take 3 2 ∷ Back 1 0 ∷ Deliver 2 1 ∷ Deliver 3 2 ∷ []
 
 pub record AreStopped : Type 0 where
+  pub are_ranks : IsOrder three rank_of_three (0 ∷ 1 ∷ 2 ∷ [])
   pub first : IsGivenOneOf (0 ∷ 1 ∷ 2 ∷ []) []
   pub second : IsGivenOneOf (1 ∷ 2 ∷ []) one_taken
   pub third : IsGivenOneOf (2 ∷ []) two_taken

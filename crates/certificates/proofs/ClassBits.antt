@@ -1,18 +1,18 @@
 -- Which classes have bits, and what the masks of a least certificate have of them.
-use Rattle.std.proofs.Common.{◌≡◌, ℕ, ◌+◌, ◌≤◌, List, [], ◌∷◌, length, Option, Some, Contains, refl, sym, ◌∙◌, subst}
+use Rattle.std.proofs.Common.{◌≡◌, ℕ, ◌+◌, ◌≤◌, List, [], ◌∷◌, length, Option, Some, Contains, refl, sym, ap, ◌∙◌, subst}
 use Rattle.std.proofs.lemmas.Option.{same_Some}
 use Rattle.std.specs.Prelude.{slice_get}
 use Rattle.certificates.proofs.ListsToNodes.{only}
 use Rattle.certificates.specs.Least.{HasJust}
-use Rattle.checker.proofs.SteppedClasses.{HasBit, class_has}
+use Rattle.checker.proofs.SteppedClasses.{class_has}
 use Rattle.flow.specs.Walks.{Graph}
-use Rattle.maker.proofs.Numbers.{change_has}
 use Rattle.maker.specs.Carried.{IsReached, starts, goes}
 use Rattle.maker.specs.Flags.{literal_group}
 use Rattle.meaning.specs.BodyEvents.{VariableRole, own_parameter, own_receiver, declared_in_body, captured}
 use Rattle.meaning.specs.Classes.{Promises, entry_cancel, change_cancel, entry_group, change_group}
 use Rattle.meaning.specs.Code.{Occurrence}
 use Rattle.meaning.specs.Uses.{Event}
+use Rattle.states.proofs.ChangedClasses.{HasBit, change_has}
 use Rattle.states.proofs.ClassNumbers.{cancel_inverse, group_inverse}
 use Rattle.states.specs.Bits.{most, cancel_bit, cancel_class, group_bit, group_class}
 use Rattle.states.specs.Masks.{bit_of_group, Has, MayBe}
@@ -48,7 +48,8 @@ cancel_bits g groups p v role fits among = record {
   there = (cancel_inverse groups).there;
   of_class = λ k bit e. class_has groups fits k bit e;
   at_entry = entry_has_bit groups role;
-  keeps = λ n o k is h. change_has groups p v o.event k fits (λ h e. among n o h is e) h;
+  keeps = λ n o k is h.
+      change_has groups fits p v o.event k (λ g literal begins. among n o g is (ap literal_group begins)) h;
 }
 
 -- Groups

@@ -22,7 +22,7 @@ use Rattle.checker.specs.declared.laid_out.LaidOut.{LaidOut}
 use Rattle.checker.specs.Certificates.{spare, groups_with_bits, row_from, masks_in, masks_at, Holds, SettlesIn}
 use Rattle.checker.specs.CertificateTests as tested
 use Rattle.checker.specs.CertificateTests.{all_from, mask_in, have_places, all_start_among, has_rows, starts_hold, edges_hold, has_fault, loads, all_step_into, edges_from, breaks_settling}
-use Rattle.checker.specs.LaidOutViews.{Vec, states_view, masks_of, RowsOfNodes, body_of, IsLaidOut, HavePlaces, LaysOut}
+use Rattle.checker.specs.LaidOutViews.{Vec, states_view, masks_of, RowsOfNodes, body_of, IsReturn, IsLaidOut, HavePlaces, LaysOut}
 use Rattle.checker.specs.Loaded.{numbers_of, AreLoaded, step_of, steps_into}
 use Rattle.checker.specs.NodeStates.{IsImageOf}
 use Rattle.checker.proofs.FewVariables.{same_groups}
@@ -41,8 +41,9 @@ pub lays_out : (variables : List KeptVariable) (kept : BodyGraph) (l : LaidOut) 
     → (own : List ℕ)
     → own ≡ l.numbers.groups.items
     → l.groups.items ≡ own ++ spare (MOST_GROUPS - length own)
+    → IsReturn l.nothing
     → LaysOut variables kept l
-lays_out variables kept l nodes order are_variables is_kept count is_order rows cancels groups own is_own bits = record {
+lays_out variables kept l nodes order are_variables is_kept count is_order rows cancels groups own is_own bits nothing = record {
   are_variables = are_variables;
   is_kept = is_kept;
   is_laid_out = λ whole. record {
@@ -59,6 +60,7 @@ lays_out variables kept l nodes order are_variables is_kept count is_order rows 
         bits
         ∙ ap (λ ns. ns ++ spare (MOST_GROUPS - length ns)) (is_own ∙ groups ∙ same_groups (map variable_view variables))
         ∙ ap (λ vs. groups_with_bits (map variable_view vs)) (sym are_variables);
+    nothing = nothing;
   };
 }
 

@@ -17,11 +17,12 @@ use Rattle.path_faults.proofs.Places.{place_of as place_of_element, contains_at,
 use Rattle.states.specs.Bits.{group_class}
 use Rattle.states.specs.Masks.{HasKnownBits, Has, MayBe, GoesInto, bit_of_group}
 use Rattle.states.specs.MaskTests.{has_known_bits, may_be_cancel, may_be_group}
+use Rattle.states.proofs.ChangedClasses.{StartsAmong}
 use Rattle.states.proofs.MaskedClasses.{known_bits, has_is, may_be_is, pending_among, group_may_be_is}
 use Rattle.states.specs.States.{has_place}
 use Rattle.checker.proofs.FewVariables.{few_cancels, few_own, few_is, with_bits, bits_fit}
 use Rattle.checker.proofs.LoadedRows.{place_below}
-use Rattle.checker.proofs.SteppedClasses.{StartsAmong, cancels_go, groups_go, bits_go, cancel_stands, group_stands}
+use Rattle.checker.proofs.SteppedClasses.{cancels_go, groups_go, bits_go, cancel_stands, group_stands}
 use Rattle.checker.proofs.SteppedMasks.{known_cancel, known_group, steps_told, steps_tested}
 use Rattle.checker.proofs.TestedLists.{members, all_members, by_recursion, at_each, each_at, zip_each, each_zip, at_edge, edge_each}
 use Rattle.checker.specs.Certificates.{CheckedBody, groups_with_bits, class_of_bit, bit_of_class, masks_in, row_from, masks_at, mask_at, StartsWithBits, IsRow, HasRows, IsClosedFor, is_claimed, IsOwed, is_kept, has_claim, MayBeCancel, MayBeLive, MayBeUncalled, is_open, is_left, IsFault, loses_cancel, loses_group, returns_live, returns_uncalled, Holds, IsSettledBy, SettlesIn}

@@ -12,7 +12,10 @@ use Rattle.flow.specs.GraphViews.{occurrences_of}
 use Rattle.flow.specs.NodeOrder.{places}
 use Rattle.meaning.specs.Classes.{Promises}
 use Rattle.meaning.specs.FunctionFacts.{cancel, group}
+use Rattle.meaning.specs.Uses.{Handed, return_event}
 use Rattle.meaning.specs.declared.TheConstants.{MOST_CANCELS, MOST_GROUPS}
+use Rattle.tracked_rows.specs.EventViews.{event_view}
+use Rattle.tracked_rows.specs.declared.event.Event.{Event as KeptEvent}
 use Rattle.checker.specs.declared.laid_out.LaidOut.{LaidOut}
 use Rattle.checker.specs.Certificates.{CheckedBody, groups_with_bits, row_from, masks_in}
 use Rattle.checker.specs.Loaded.{numbers_of}
@@ -55,12 +58,18 @@ body_of l promises claims = record {
   is_claimed = claims;
 }
 
--- its rows are looked up where they stand, its variables are listed by their kinds, and its groups have the bits
+-- it stands for a return, which changes no class
+abbrev pub IsReturn : KeptEvent → Type 0
+IsReturn e = (handed : List Handed) × (event_view e ≡ return_event handed)
+
+-- its rows are looked up where they stand, its variables are listed by their kinds, its groups have the bits, and what
+-- takes the place of nothing is a return
 pub record IsLaidOut (l : LaidOut) : Type 0 where
   pub rows : (n : ℕ) → row_of l.rows.items n ≡ row_from 0 l.kept.now.order.items n
   pub cancels : l.numbers.cancels.items ≡ numbers_of cancel (map variable_view l.variables.now)
   pub own_groups : l.numbers.groups.items ≡ numbers_of group (map variable_view l.variables.now)
   pub groups : l.groups.items ≡ groups_with_bits (map variable_view l.variables.now)
+  pub nothing : IsReturn l.nothing
 
 -- states have places for its variables, and bits for the groups
 pub record HavePlaces (l : LaidOut) : Type 0 where

@@ -2,7 +2,7 @@
 use Rattle.std.specs.Prelude.{ℕ, ◌≡◌, false, List, length, map, Option, Some, None}
 use Rattle.events.specs.VariableViews.{variable_view}
 use Rattle.meaning.specs.Classes.{Promises, change_cancel, change_group}
-use Rattle.meaning.specs.Uses.{Handed, Event, return_event}
+use Rattle.meaning.specs.Uses.{Event}
 use Rattle.states.specs.States.{Applies, Fit}
 use Rattle.states.specs.declared.state.State.{State}
 use Rattle.states.specs.declared.state.StateVariables.{StateVariables}
@@ -20,10 +20,6 @@ pub record IsChanged (p : Promises) (kept : StateVariables) (e : Event) (before 
   pub done : Event
   pub does_same : DoesSame done e
   pub applies : Applies p done kept before after
-
--- it is changed as by a return, which leaves each class what it was
-abbrev pub LeavesAll : Promises → StateVariables → List ℕ → List ℕ → Type 0
-LeavesAll p kept before after = (handed : List Handed) × Applies p (return_event handed) kept before after
 
 -- they are the body's variables
 pub record AreKept (l : LaidOut) (kept : StateVariables) : Type 0 where

@@ -4,8 +4,8 @@ ghost use Rattle.std.specs.Prelude.{◌≡◌, ℕ, List, map};
 ghost use Rattle.std.specs.List.{list_all};
 ghost use Rattle.bodies.specs.NodeEvents.{node_event_view, events_graph};
 ghost use Rattle.checker.specs.CertificateTests.{starts_among, all_start_among, all_step_into, edges_hold};
-ghost use Rattle.checker.specs.LaidOutViews.{HavePlaces, IsLaidOut, masks_of};
-ghost use Rattle.checker.specs.NodeStates.{LeavesAll, IsChanged, IsImageIf};
+ghost use Rattle.checker.specs.LaidOutViews.{HavePlaces, IsLaidOut, IsReturn, masks_of};
+ghost use Rattle.checker.specs.NodeStates.{IsChanged, IsImageIf};
 ghost use Rattle.events.specs.VariableViews.{variable_view};
 ghost use Rattle.meaning.specs.Classes.{Promises as MeantPromises};
 ghost use Rattle.meaning.specs.Uses.{Event as MeantEvent};
@@ -17,7 +17,6 @@ use crate::loaded::state_of;
 use bodies::NodeEvent;
 use flow::Node;
 use states::{Promises, State, StateVariables};
-use std::alloc::Global;
 use tracked_rows::Event;
 
 /// Whether the group has a bit in which the node starts a literal, if it does.
@@ -62,36 +61,21 @@ fn applied<P: Promises>(
     image
 }
 
-/// What an event makes of the state that changes nothing.
-fn unchanged<P: Promises>(
-    alloc: Global,
-    state: State,
-    promises: &P,
-    variables: &StateVariables<'_>,
-) -> State
-    requires fits { Fit variables.now }
-    ensures { LeavesAll (P.promises promises.now) variables.now state.words result.words }
-{
-    let nothing = Event::Return {
-        handed: Vec::new(alloc),
-    };
-    applied(state, &nothing, promises, variables)
-}
-
-/// What the node makes of the state. Where it does nothing to variables, each class stays what it was.
+/// What the node makes of the state. Where it does nothing to variables, that is what a return makes of it.
 fn changed<P: Promises>(
-    alloc: Global,
+    nothing: &Event<'_>,
     state: State,
     event: NodeEvent<'_, '_>,
     promises: &P,
     variables: &StateVariables<'_>,
 ) -> State
     requires fits { Fit variables.now }
-    ensures { IsChanged (P.promises promises.now) variables.now (node_event_view event.entry) state.words result.words }
+    ensures { IsReturn nothing.now → IsChanged (P.promises promises.now) variables.now (node_event_view event.entry)
+        state.words result.words }
 {
     match event {
         NodeEvent::Does(event) => applied(state, event, promises, variables),
-        NodeEvent::Other | NodeEvent::FallsOff => unchanged(alloc, state, promises, variables),
+        NodeEvent::Other | NodeEvent::FallsOff => applied(state, nothing, promises, variables),
     }
 }
 
@@ -103,7 +87,8 @@ fn image_of<P: Promises>(
     event: NodeEvent<'_, '_>,
 ) -> Option<State>
     requires places { HavePlaces laid_out.now }
-    ensures { IsImageIf laid_out.now (P.promises promises.now) (node_event_view event.entry) masks.now result }
+    ensures { IsLaidOut laid_out.now → IsImageIf laid_out.now (P.promises promises.now) (node_event_view event.entry)
+        masks.now result }
 {
     let variables = StateVariables {
         cancels: &laid_out.numbers.cancels,
@@ -111,7 +96,7 @@ fn image_of<P: Promises>(
         pending: &laid_out.groups,
     };
     match state_of(laid_out.variables, masks) {
-        Some(state) => Some(changed(laid_out.alloc, state, event, promises, &variables)),
+        Some(state) => Some(changed(&laid_out.nothing, state, event, promises, &variables)),
         None => None,
     }
 }

@@ -15,6 +15,7 @@ use facts::VariableKind;
 use flow::NodePlace;
 use meaning::{MOST_CANCELS, MOST_GROUPS};
 use std::alloc::{AllocError, Global};
+use tracked_rows::Event;
 
 /// The numbers of the variables of a body, by their kinds, in their order.
 #[derive(Drop)]
@@ -26,7 +27,6 @@ pub struct Numbers {
 /// A body, where the rows of its certificates stand, and for which groups these have bits.
 #[derive(Drop)]
 pub struct LaidOut<'k, 'e, 'a> {
-    pub alloc: Global,
     pub variables: &'k [Variable<'a>],
     pub kept: &'k BodyGraph<'e, 'a>,
     /// For each node of the graph its row, if it stands in the order.
@@ -34,6 +34,8 @@ pub struct LaidOut<'k, 'e, 'a> {
     pub numbers: Numbers,
     /// The groups that have bits: the body's, and up to twelve that it has not.
     pub groups: Vec<u32>,
+    /// A return, which changes no class. It takes the place of what a node does that does nothing to variables.
+    pub nothing: Event<'a>,
 }
 
 /// The node has the row, unless it has one.
@@ -122,13 +124,16 @@ pub fn lay_out<'k, 'e, 'a>(
     let rows = rows_of_nodes(alloc, kept.graph.nodes.len(), &kept.order)?;
     let numbers = numbers_of(alloc, variables)?;
     let groups = groups_with_bits(alloc, &numbers.groups)?;
+    let nothing = Event::Return {
+        handed: Vec::new(alloc),
+    };
     Ok(LaidOut {
-        alloc,
         variables,
         kept,
         rows,
         numbers,
         groups,
+        nothing,
     })
 }
 

@@ -77,8 +77,8 @@ const FACTS: &str =
     "The file of declared facts, as JSON: what is taken for true of functions of packages that are not given";
 
 const WORKERS: &str =
-    "How many threads read the files at most, from 1 to 64. The report is the same for each number \
-[default: 1]";
+    "How many threads read the files and judge the packages at most, from 1 to 64. The report is the same \
+for each number [default: 1]";
 
 const PACKAGE: &str = "A package's import path, `=`, and the folder of its files: \
 each file there is read that ends in .go and not in _test.go";

@@ -15,6 +15,7 @@ mod runs;
 #[cfg(test)]
 mod stand_in;
 #[cfg(test)]
+mod together;
 #[cfg(test)]
 mod transcripts;
 #[cfg(test)]

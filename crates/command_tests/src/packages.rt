@@ -73,10 +73,13 @@ ctxvet: note: no Go files in DIR/empty/
 $ check b=DIR/good a=DIR/good b=DIR/empty
 status 2
 ctxvet: two packages of one path: b
-# A bad word is found before a folder is read, and a folder before two packages of one path.
+# A bad word is found before a folder is read, the first one, and a folder before two packages of one path.
 $ check a=DIR/none b
 status 2
 ctxvet: bad package: b
+$ check a=DIR/none c =b b
+status 2
+ctxvet: bad package: c
 $ check a=DIR/good a=DIR/none b=DIR/absent
 status 2
 ctxvet: cannot read: DIR/none

@@ -111,6 +111,11 @@ const ROWS: &[Case] = &[
         &[("\x7f.go", EMPTY)],
         "status 2\nctxvet: cannot read: DIR\n",
     ),
+    // The names are looked over before a file is read.
+    (
+        &[("a.go", FolderEntry::Link("none")), ("\x7f.go", EMPTY)],
+        "status 2\nctxvet: cannot read: DIR\n",
+    ),
     // 1 MiB, one byte more, and 2 GiB, of which no more is read.
     (
         &[("a.go", FolderEntry::Sparse(1_048_576))],

@@ -4,6 +4,7 @@ use std::alloc::{Allocator, Global};
 use std::fs::{File, Metadata, OpenOptions};
 use std::io::{self, ErrorKind};
 use std::rt::Files;
+use std::sync::Wait;
 use std::thread::Threads;
 
 /// Lists these names in each folder, each ended by a NUL, where there are some, and answers all else with an error of
@@ -30,6 +31,8 @@ impl<R: AllocGlobal> Alloc for StandIn<R> {
 }
 
 impl<R: Threads> Threads for StandIn<R> {}
+
+impl<R: Wait> Wait for StandIn<R> {}
 
 impl<R> Files for StandIn<R> {
     type File = File;

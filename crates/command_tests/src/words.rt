@@ -80,6 +80,10 @@ const ROWS: &[Case] = &[
         "--facts <FILE>",
     ),
     ("a=.", 2, "", "Usage: ctxvet "),
+    // Words that are wrong are told before one that names no package.
+    ("check -j 0 a", 2, "", "-j <N>"),
+    ("check a --cert", 2, "", "--cert <OUT>"),
+    ("verify a", 2, "", "--cert <IN>"),
 ];
 
 #[test]

@@ -1,15 +1,20 @@
 //! The program `ctxvet`: hands the words of its command line and its streams to the library `driver`.
 #![tactic(auto)]
 
-use driver::{Fault, refuse, run, words_fault};
+use driver::{Fault, ToTheEnd, refuse, run_leaving, words_fault};
 use std::env;
 use std::process::ExitCode;
 
-/// Runs the program and ends with its status.
+/// Runs the program and ends with its status. The packages that were judged are left to the end of the process.
 fn main(rt: HostRuntime) -> ExitCode {
     let mut err = rt.stderr();
     let status = match words(&rt) {
-        Ok(words) => run(&rt, words.as_slice(), &mut rt.stdout(), &mut err),
+        Ok(words) => run_leaving::<_, _, _, _, ToTheEnd>(
+            &rt,
+            words.as_slice(),
+            &mut rt.stdout(),
+            &mut err,
+        ),
         Err(fault) => refuse(&mut err, &fault),
     };
     ExitCode::from(status)

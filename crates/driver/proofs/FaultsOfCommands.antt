@@ -29,12 +29,13 @@ of_bytes name bytes (FactsReserved path) is = record { name = name; is_named = r
 of_bytes name bytes OutOfMemory is = tt
 of_bytes name bytes _ is = absurd is
 
-module _ (words facts : List (List ℕ)) where
-  -- a fault of a check is one of a check that writes certificates
-  pub of_check : (fault : Fault) → IsCheckFault words facts fault → IsCertifyFault words facts fault
-  of_check (CannotWriteFile name) is = absurd is
-  of_check _ is = is
+-- a fault of a check is one of a check that writes certificates
+pub of_check : (words facts : List (List ℕ)) (workers : ℕ) (fault : Fault) → IsCheckFault words facts workers fault
+    → IsCertifyFault words facts workers fault
+of_check words facts workers (CannotWriteFile name) is = absurd is
+of_check words facts workers _ is = is
 
+module _ (words facts : List (List ℕ)) where
   -- a fault of words is one of reading
   pub of_words : (fault : Fault) → IsWordsFault words fault → IsReadingFault words facts fault
   of_words (BadPackage text) is = is

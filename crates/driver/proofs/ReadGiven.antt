@@ -5,12 +5,12 @@ use Rattle.load.specs.declared.packages.GivenPackage.{GivenPackage}
 use Rattle.outside_json.specs.Outside.{packages_of}
 use Rattle.outside_json.specs.declared.outside.Outside.{Outside}
 use Rattle.folders.specs.declared.fault.Fault.{Fault}
-use Rattle.folders.specs.declared.fault.Fault.TheVariants.{CannotRead, FactsNotJson, FactsWrongShape, FactsWrongVersion, FactsReserved, FactsNameGiven, TwoPackages, TooManyPackages, OutOfMemory}
+use Rattle.folders.specs.declared.fault.Fault.TheVariants.{CannotRead, FactsNotJson, FactsWrongShape, FactsWrongVersion, FactsReserved, FactsNameGiven, TwoPackages, TooManyPackages, NoThread, OutOfMemory}
 use Rattle.folders.specs.declared.whole_files.ReadFile.{ReadFile}
 use Rattle.driver.specs.declared.packages.NamedPackage.{NamedPackage}
 use Rattle.driver.specs.DeclaredFacts.{AreDeclaredBy, IsReadFactsFault}
 use Rattle.driver.specs.Packages.{AreGiven, AreNamed, AreRead}
-use Rattle.driver.specs.Faults.{HasBadWord, IsCheckFault, IsGivenFault, IsReportFault}
+use Rattle.driver.specs.Faults.{HasBadWord, IsCheckFault, IsGivenFault, IsSharedReportFault}
 
 -- a fault that `?` hands on as it is
 pub handed_on : {T : Type 0} (r : Result T Fault) (fault : Fault) (P : Fault → Type 0) → IsErrAnd r (λ told. told ≡ fault)
@@ -47,20 +47,22 @@ are_given words packages lent given named same read = record {
   are_read = subst (λ ps. AreRead ps given) same read;
 }
 
-pub of_reading : (words facts : List (List ℕ)) (packages : List NamedPackage) (fault : Fault) → AreNamed words packages
+pub of_reading : (words facts : List (List ℕ)) (workers : ℕ) (packages : List NamedPackage) (fault : Fault)
+    → AreNamed words packages
     → IsReadFactsFault facts fault
-    → IsCheckFault words facts fault
-of_reading words facts packages (CannotRead name) named is = none_bad words packages named
-of_reading words facts packages OutOfMemory named is = tt
-of_reading words facts packages FactsNotJson named is = (none_bad words packages named, is)
-of_reading words facts packages FactsWrongShape named is = (none_bad words packages named, is)
-of_reading words facts packages FactsWrongVersion named is = (none_bad words packages named, is)
-of_reading words facts packages (FactsReserved path) named is = (none_bad words packages named, is)
-of_reading words facts packages _ named is = absurd is.is_fault
+    → IsCheckFault words facts workers fault
+of_reading words facts workers packages (CannotRead name) named is = none_bad words packages named
+of_reading words facts workers packages OutOfMemory named is = tt
+of_reading words facts workers packages FactsNotJson named is = (none_bad words packages named, is)
+of_reading words facts workers packages FactsWrongShape named is = (none_bad words packages named, is)
+of_reading words facts workers packages FactsWrongVersion named is = (none_bad words packages named, is)
+of_reading words facts workers packages (FactsReserved path) named is = (none_bad words packages named, is)
+of_reading words facts workers packages _ named is = absurd is.is_fault
 
-module _ (words facts : List (List ℕ)) (given : List GivenPackage) (file : Option ReadFile) (outside : Outside)
-    (are : AreGiven words given) (declared : AreDeclaredBy facts file outside) where
-  of_given : (fault : Fault) → IsReportFault (packages_of outside) given fault → IsGivenFault words facts fault
+module _ (words facts : List (List ℕ)) (workers : ℕ) (given : List GivenPackage) (file : Option ReadFile)
+    (outside : Outside) (are : AreGiven words given) (declared : AreDeclaredBy facts file outside) where
+  of_given : (fault : Fault) → IsSharedReportFault (packages_of outside) given workers fault
+      → IsGivenFault words facts workers fault
   of_given fault is = record {
     given = given;
     are_given = are;
@@ -70,9 +72,11 @@ module _ (words facts : List (List ℕ)) (given : List GivenPackage) (file : Opt
     is_fault = is;
   }
 
-  pub of_report : (fault : Fault) → IsReportFault (packages_of outside) given fault → IsCheckFault words facts fault
+  pub of_report : (fault : Fault) → IsSharedReportFault (packages_of outside) given workers fault
+      → IsCheckFault words facts workers fault
   of_report (FactsNameGiven path) is = of_given (FactsNameGiven path) is
   of_report (TwoPackages path) is = of_given (TwoPackages path) is
   of_report TooManyPackages is = of_given TooManyPackages is
+  of_report NoThread is = of_given NoThread is
   of_report OutOfMemory is = tt
   of_report _ is = absurd is

@@ -7,14 +7,19 @@ use Rattle.load.specs.LoadedBeside.{IsLoadFaultBeside}
 use Rattle.outside_json.specs.Outside.{PackageEntry, packages_of}
 use Rattle.outside_json.specs.declared.outside.Outside.{Outside}
 use Rattle.certificate_json.specs.declared.certificates.Certificates.{Certificates}
+use Rattle.judge.specs.CheckFaults.{NeedThreads}
 use Rattle.judge.specs.Verified.{IsVerifyFault}
+use Rattle.judge.specs.declared.check_fault.CheckFault.{CheckFault}
+use Rattle.judge.specs.declared.check_fault.CheckFault.TheVariants as check_fault
 use Rattle.judge.specs.declared.verified.VerifyFault.{VerifyFault}
 use Rattle.judge.specs.declared.verified.VerifyFault.TheVariants as verify_fault
 use Rattle.folders.specs.Packages.{IsPackageWord}
 use Rattle.folders.specs.declared.fault.Fault.{Fault}
-use Rattle.folders.specs.declared.fault.Fault.TheVariants.{BadPackage, CannotRead, CannotWrite, CannotWriteFile, CertificateNotJson, CertificateWrongShape, CertificateWrongVersion, CertificateTooOld, FactsNotJson, FactsWrongShape, FactsWrongVersion, FactsReserved, FactsNameGiven, TwoPackages, TooManyPackages, OutOfMemory}
+use Rattle.folders.specs.declared.fault.Fault.TheVariants.{BadPackage, CannotRead, CannotWrite, CannotWriteFile, CertificateNotJson, CertificateWrongShape, CertificateWrongVersion, CertificateTooOld, FactsNotJson, FactsWrongShape, FactsWrongVersion, FactsReserved, FactsNameGiven, TwoPackages, TooManyPackages, NoThread, OutOfMemory}
 use Rattle.folders.specs.declared.whole_files.ReadFile.{ReadFile}
-use Rattle.command_line.specs.Words.{AsksForHelp, IsCommand}
+use Rattle.command_line.specs.Words.{AskForWorkers, AsksForHelp, IsCommand}
+use Rattle.workers.specs.Counts.{count_of}
+use Rattle.workers.specs.declared.count.Workers.{Workers}
 use Rattle.driver.specs.Certificates.{HaveFault, StandIn}
 use Rattle.driver.specs.DeclaredFacts.{AreDeclaredBy, HaveFactsFault}
 use Rattle.driver.specs.Packages.{AreGiven}
@@ -54,38 +59,45 @@ IsReportFault outside given TooManyPackages = IsLoadFaultBeside given outside lo
 IsReportFault outside given OutOfMemory = ⊤
 IsReportFault outside given _ = ⊥
 
--- the words name packages, as they are read, declared facts are read too, and it is the fault of these
-pub record IsGivenFault (words facts : List (List ℕ)) (fault : Fault) : Type 0 where
+-- the same where so many workers judge them: once they are loaded, a thread that is needed may not be started
+abbrev pub IsSharedReportFault : List PackageEntry → List GivenPackage → ℕ → Fault → Type 0
+IsSharedReportFault outside given workers NoThread = NeedThreads outside given workers
+IsSharedReportFault outside given workers fault = IsReportFault outside given fault
+
+-- the words name packages, as they are read, declared facts are read too, and it is the fault of these, which so many
+-- workers should judge
+pub record IsGivenFault (words facts : List (List ℕ)) (workers : ℕ) (fault : Fault) : Type 0 where
   pub given : List GivenPackage
   pub are_given : AreGiven words given
   pub file : Option ReadFile
   pub outside : Outside
   pub are_declared : AreDeclaredBy facts file outside
-  pub is_fault : IsReportFault (packages_of outside) given fault
+  pub is_fault : IsSharedReportFault (packages_of outside) given workers fault
 
 -- the words name packages, and the fault is that of the bytes of a file of declared facts
 abbrev pub IsFactsFaultOf : List (List ℕ) → List (List ℕ) → Fault → Type 0
 IsFactsFaultOf words facts fault = (HasBadWord words → ⊥) × HaveFactsFault facts fault
 
--- the fault of a check of these words, with these files of declared facts
-abbrev pub IsCheckFault : List (List ℕ) → List (List ℕ) → Fault → Type 0
-IsCheckFault words facts (BadPackage text) = HasBadWord words
-IsCheckFault words facts (CannotRead name) = HasBadWord words → ⊥
-IsCheckFault words facts CannotWrite = HasBadWord words → ⊥
-IsCheckFault words facts FactsNotJson = IsFactsFaultOf words facts FactsNotJson
-IsCheckFault words facts FactsWrongShape = IsFactsFaultOf words facts FactsWrongShape
-IsCheckFault words facts FactsWrongVersion = IsFactsFaultOf words facts FactsWrongVersion
-IsCheckFault words facts (FactsReserved text) = IsFactsFaultOf words facts (FactsReserved text)
-IsCheckFault words facts (FactsNameGiven path) = IsGivenFault words facts (FactsNameGiven path)
-IsCheckFault words facts (TwoPackages path) = IsGivenFault words facts (TwoPackages path)
-IsCheckFault words facts TooManyPackages = IsGivenFault words facts TooManyPackages
-IsCheckFault words facts OutOfMemory = ⊤
-IsCheckFault words facts _ = ⊥
+-- the fault of a check of these words, with these files of declared facts, by so many workers
+abbrev pub IsCheckFault : List (List ℕ) → List (List ℕ) → ℕ → Fault → Type 0
+IsCheckFault words facts workers (BadPackage text) = HasBadWord words
+IsCheckFault words facts workers (CannotRead name) = HasBadWord words → ⊥
+IsCheckFault words facts workers CannotWrite = HasBadWord words → ⊥
+IsCheckFault words facts workers FactsNotJson = IsFactsFaultOf words facts FactsNotJson
+IsCheckFault words facts workers FactsWrongShape = IsFactsFaultOf words facts FactsWrongShape
+IsCheckFault words facts workers FactsWrongVersion = IsFactsFaultOf words facts FactsWrongVersion
+IsCheckFault words facts workers (FactsReserved text) = IsFactsFaultOf words facts (FactsReserved text)
+IsCheckFault words facts workers (FactsNameGiven path) = IsGivenFault words facts workers (FactsNameGiven path)
+IsCheckFault words facts workers (TwoPackages path) = IsGivenFault words facts workers (TwoPackages path)
+IsCheckFault words facts workers TooManyPackages = IsGivenFault words facts workers TooManyPackages
+IsCheckFault words facts workers NoThread = IsGivenFault words facts workers NoThread
+IsCheckFault words facts workers OutOfMemory = ⊤
+IsCheckFault words facts workers _ = ⊥
 
 -- the fault of a check of these words that writes certificates: one of a check, or that the file can't be written
-abbrev pub IsCertifyFault : List (List ℕ) → List (List ℕ) → Fault → Type 0
-IsCertifyFault words facts (CannotWriteFile name) = HasBadWord words → ⊥
-IsCertifyFault words facts fault = IsCheckFault words facts fault
+abbrev pub IsCertifyFault : List (List ℕ) → List (List ℕ) → ℕ → Fault → Type 0
+IsCertifyFault words facts workers (CannotWriteFile name) = HasBadWord words → ⊥
+IsCertifyFault words facts workers fault = IsCheckFault words facts workers fault
 
 -- the fault of packages that should be judged by certificates, where this is declared of others
 abbrev pub IsVerdictFault : List PackageEntry → List GivenPackage → Certificates → Fault → Type 0
@@ -153,16 +165,20 @@ IsVerificationFault words facts fault = IsReadingFault words facts fault
 pub record IsFaultOfCheck (words : List (List ℕ)) (fault : Fault) : Type 0 where
   pub facts : List (List ℕ)
   pub packages : List (List ℕ)
+  pub workers : Workers
   pub is_check : IsCommand (codes "check") words [] facts packages
-  pub is_fault : IsCheckFault packages facts fault
+  pub are_workers : AskForWorkers words workers
+  pub is_fault : IsCheckFault packages facts (count_of workers) fault
 
 -- the words ask to check packages and to write certificates, and it is the fault of this
 pub record IsFaultOfCertify (words : List (List ℕ)) (fault : Fault) : Type 0 where
   pub file : List ℕ
   pub facts : List (List ℕ)
   pub packages : List (List ℕ)
+  pub workers : Workers
   pub is_certify : IsCommand (codes "check") words (file ∷ []) facts packages
-  pub is_fault : IsCertifyFault packages facts fault
+  pub are_workers : AskForWorkers words workers
+  pub is_fault : IsCertifyFault packages facts (count_of workers) fault
 
 -- the words ask to judge packages by certificates, and it is the fault of this
 pub record IsFaultOfVerify (words : List (List ℕ)) (fault : Fault) : Type 0 where
@@ -189,12 +205,16 @@ LeavesUnwritten fault old new = is_of_output fault ≡ false → new ≡ old
 
 -- What serves the proofs
 
--- why packages are not loaded, and not judged by certificates, as the program tells it
+-- why packages are not loaded, not judged by several threads, and not judged by certificates, as the program tells it
 abbrev pub told_fault : LoadFault → Fault
 told_fault load_fault.TooMany = TooManyPackages
 told_fault (load_fault.TwoPackages path) = TwoPackages path
 told_fault (load_fault.NamesGiven path) = FactsNameGiven path
 told_fault load_fault.OutOfMemory = OutOfMemory
+
+abbrev pub told_check_fault : CheckFault → Fault
+told_check_fault (check_fault.NotLoaded fault) = told_fault fault
+told_check_fault check_fault.NoThread = NoThread
 
 abbrev pub told_verify_fault : VerifyFault → Fault
 told_verify_fault (verify_fault.NotLoaded fault) = told_fault fault

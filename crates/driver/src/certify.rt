@@ -8,6 +8,7 @@ ghost use Rattle.driver.specs.Statuses.{status_of};
 ghost use Rattle.driver.specs.WrittenReport.{IsBegun, IsWritten, OfCertifiedReport};
 ghost use Rattle.folders.specs.WrittenFiles.{name_of, text_of};
 ghost use Rattle.folders.specs.declared.whole_files.ReadFile.{ReadFile};
+ghost use Rattle.workers.specs.Counts.{count_of};
 
 use crate::input::read_input;
 use crate::notes::note_empty;
@@ -19,8 +20,10 @@ use crate::writers::Refusals;
 use command_line::CertifyWords;
 use folders::{Fault, ReadFile, UnwrittenFile, WrittenFile, write_file};
 use judge::CertifiedReport;
+use load::Leave;
 use std::io::Write;
 use std::rt::Files;
+use std::sync::Wait;
 use std::thread::Threads;
 
 /// How a check ended that wrote certificates, the file of declared facts that was read, and the file that the
@@ -34,7 +37,7 @@ pub struct Certified<'a> {
 
 /// Checks the packages of these words, prints their report, and then writes their certificates to the file. Folders
 /// without a Go file are noted after the report.
-pub fn certify<'a, R: Files + AllocGlobal + Threads + Sync, W: Write, E: Write>(
+pub fn certify<'a, R: Files + AllocGlobal + Threads + Wait + Sync, W: Write, E: Write, L: Leave>(
     rt: &R,
     asked: &CertifyWords<'a>,
     out: &mut W,
@@ -45,7 +48,8 @@ pub fn certify<'a, R: Files + AllocGlobal + Threads + Sync, W: Write, E: Write>(
         × OfCertifiedReport (texts_of asked.now.packages.items) (option_texts asked.now.facts) done.facts
         (text_of done.file) (IsWritten (W.contents out.old) (W.contents out.new) yes)) }
     ensures file { IfOk result (λ done. name_of done.file ≡ asked.now.file.now) }
-    ensures fault { IfErr result (IsCertifyFault (texts_of asked.now.packages.items) (option_texts asked.now.facts)) }
+    ensures fault { IfErr result (IsCertifyFault (texts_of asked.now.packages.items) (option_texts asked.now.facts)
+        (count_of asked.now.workers)) }
     ensures unwritten { IfErr result (λ fault. LeavesUnwritten fault (W.contents out.old) (W.contents out.new)) }
     ensures begun { IfErr result (λ fault. fault ≡ Fault.CannotWrite
         → (read : Option ReadFile) × (text : List ℕ)
@@ -60,7 +64,7 @@ pub fn certify<'a, R: Files + AllocGlobal + Threads + Sync, W: Write, E: Write>(
     let packages = all_named(rt.alloc(), &asked.packages)?;
     let input = read_input(rt, &packages, asked.facts, &mut FoldersAsked::none())?;
     let file = UnwrittenFile::named(rt.alloc(), asked.file)?;
-    let told = certified_report_by(rt, input.given, input.outside, asked.workers)?;
+    let told = certified_report_by::<R, L>(rt, input.given, input.outside, asked.workers)?;
     print(out, &told.report.text, refusals)?;
     note_empty(&input.empty, err);
     let status = Status::of_verdict(told.report.yes);

@@ -17,6 +17,6 @@ mod writers;
 
 pub use folders::{Fault, words_fault};
 pub use judge::Report;
-pub use load::GivenPackage;
-pub use program::{refuse, run};
+pub use load::{GivenPackage, Leave, ToTheEnd};
+pub use program::{refuse, run, run_leaving};
 pub use reports::report_of;

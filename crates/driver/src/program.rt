@@ -7,6 +7,7 @@ ghost use Rattle.driver.specs.Printing.{refused_by};
 ghost use Rattle.driver.specs.Statuses.{status_code, status_of};
 ghost use Rattle.driver.specs.WrittenReport.{EndsWith, IsBegun, IsWritten, LeavesBegun, LeavesWhole, OfReport};
 ghost use Rattle.folders.specs.declared.whole_files.ReadFile.{ReadFile};
+ghost use Rattle.workers.specs.Counts.{count_of};
 
 use crate::certify::certify;
 use crate::input::read_input;
@@ -19,16 +20,18 @@ use crate::verify::verify;
 use crate::writers::Refusals;
 use command_line::{Asked, CheckWords, read_words};
 use folders::{Fault, ReadFile, fail};
+use load::{Leave, LetGo};
 use std::convert::AsStr;
 use std::io::Write;
 use std::rt::Files;
+use std::sync::Wait;
 use std::thread::Threads;
 
 /// Runs the program with the words after its name: prints its report or help on `out` and its fault on `err`, and
 /// returns its status. 0: each package is yes, or help or the version was asked for. 1: some package is no. 2: a fault,
 /// which is the first one. What a yes says, and in which runs, `judge::report_of` tells: where a file of facts is
 /// named, in those in which what it declares is true.
-pub fn run<R: Files + AllocGlobal + Threads + Sync, S: AsStr, W: Write, E: Write>(
+pub fn run<R: Files + AllocGlobal + Threads + Wait + Sync, S: AsStr, W: Write, E: Write>(
     rt: &R,
     words: &[S],
     out: &mut W,
@@ -37,8 +40,23 @@ pub fn run<R: Files + AllocGlobal + Threads + Sync, S: AsStr, W: Write, E: Write
     ensures { (status : Status) × (result ≡ status_code status)
         × EndsWith (map S.text words.now) status (W.contents out.old) (W.contents out.new) }
 {
+    run_leaving::<R, S, W, E, LetGo>(rt, words, out, err)
+}
+
+/// The same, where `L` says what becomes of the packages once they were judged. A program that ends then may leave them
+/// to the end of its process.
+pub fn run_leaving<
+    R: Files + AllocGlobal + Threads + Wait + Sync,
+    S: AsStr,
+    W: Write,
+    E: Write,
+    L: Leave,
+>(rt: &R, words: &[S], out: &mut W, err: &mut E) -> u8
+    ensures { (status : Status) × (result ≡ status_code status)
+        × EndsWith (map S.text words.now) status (W.contents out.old) (W.contents out.new) }
+{
     let mut refusals = Refusals::none();
-    match answer(rt, words, out, err, &mut refusals) {
+    match answer::<R, S, W, E, L>(rt, words, out, err, &mut refusals) {
         Ok(status) => status.code(),
         Err(fault) => fail(err, PROGRAM, &fault),
     }
@@ -52,7 +70,7 @@ pub fn refuse<E: Write>(err: &mut E, fault: &Fault) -> u8
 }
 
 /// Does what the words ask for. A write on `out` was refused just where the fault is that of writing.
-fn answer<R: Files + AllocGlobal + Threads + Sync, S: AsStr, W: Write, E: Write>(
+fn answer<R: Files + AllocGlobal + Threads + Wait + Sync, S: AsStr, W: Write, E: Write, L: Leave>(
     rt: &R,
     words: &[S],
     out: &mut W,
@@ -71,15 +89,15 @@ fn answer<R: Files + AllocGlobal + Threads + Sync, S: AsStr, W: Write, E: Write>
 {
     match read_words(rt.alloc(), words)? {
         Asked::Check(asked) => {
-            let done = check(rt, &asked, out, err, refusals)?;
+            let done = check::<R, W, E, L>(rt, &asked, out, err, refusals)?;
             Ok(done.status)
         }
         Asked::Certify(asked) => {
-            let done = certify(rt, &asked, out, err, refusals)?;
+            let done = certify::<R, W, E, L>(rt, &asked, out, err, refusals)?;
             Ok(done.status)
         }
         Asked::Verify(asked) => {
-            let done = verify(rt, &asked, out, err, refusals)?;
+            let done = verify::<R, W, E, L>(rt, &asked, out, err, refusals)?;
             Ok(done.status)
         }
         Asked::Help(text) => {
@@ -104,7 +122,7 @@ struct Checked<'a> {
 
 /// Checks the packages of these words, `PATH=DIR` each, and prints their report. Folders without a Go file are noted
 /// after it.
-fn check<'a, R: Files + AllocGlobal + Threads + Sync, W: Write, E: Write>(
+fn check<'a, R: Files + AllocGlobal + Threads + Wait + Sync, W: Write, E: Write, L: Leave>(
     rt: &R,
     asked: &CheckWords<'a>,
     out: &mut W,
@@ -114,8 +132,8 @@ fn check<'a, R: Files + AllocGlobal + Threads + Sync, W: Write, E: Write>(
     ensures written { IfOk result (λ done. (yes : Bool) × (done.status ≡ status_of yes)
         × OfReport (texts_of asked.now.packages.items) (option_texts asked.now.facts) done.facts
         (IsWritten (W.contents out.old) (W.contents out.new) yes)) }
-    ensures fault { IfErr result
-        (IsCheckFault (texts_of asked.now.packages.items) (option_texts asked.now.facts)) }
+    ensures fault { IfErr result (IsCheckFault (texts_of asked.now.packages.items) (option_texts asked.now.facts)
+        (count_of asked.now.workers)) }
     ensures unwritten { IfErr result (λ fault. LeavesUnwritten fault (W.contents out.old) (W.contents out.new)) }
     ensures begun { IfErr result (λ fault. fault ≡ Fault.CannotWrite → (read : Option ReadFile)
         × OfReport (texts_of asked.now.packages.items) (option_texts asked.now.facts) read
@@ -124,7 +142,7 @@ fn check<'a, R: Files + AllocGlobal + Threads + Sync, W: Write, E: Write>(
 {
     let packages = all_named(rt.alloc(), &asked.packages)?;
     let input = read_input(rt, &packages, asked.facts, &mut FoldersAsked::none())?;
-    let report = report_by(rt, input.given, input.outside, asked.workers)?;
+    let report = report_by::<R, L>(rt, input.given, input.outside, asked.workers)?;
     print(out, &report.text, refusals)?;
     note_empty(&input.empty, err);
     Ok(Checked {

@@ -1,19 +1,21 @@
 //! The reports of given packages, with the faults that the program tells.
 
 ghost use Rattle.std.specs.Prelude.{◌≡◌, [], IfErr, IfOk, string_bytes};
-ghost use Rattle.driver.specs.Faults.{told_fault, told_verify_fault, IsReportFault, IsVerdictFault};
+ghost use Rattle.driver.specs.Faults.{told_check_fault, told_fault, told_verify_fault, IsReportFault, IsSharedReportFault, IsVerdictFault};
 ghost use Rattle.judge.specs.Certified.{IsCertifiedReport};
 ghost use Rattle.judge.specs.Reports.{IsReport};
 ghost use Rattle.judge.specs.Verified.{IsVerifiedReport};
 ghost use Rattle.outside_json.specs.Outside.{packages_of};
+ghost use Rattle.workers.specs.Counts.{count_of};
 
 use crate::facts_input::nothing_declared;
 use certificate_json::Certificates;
 use folders::Fault;
-use judge::{CertifiedReport, Report, VerifyFault};
-use load::{GivenPackage, LoadFault};
+use judge::{CertifiedReport, CheckFault, Report, VerifyFault};
+use load::{GivenPackage, Leave, LoadFault};
 use outside_json::Outside;
 use std::alloc::Global;
+use std::sync::Wait;
 use std::thread::Threads;
 use workers::Workers;
 
@@ -46,34 +48,45 @@ pub fn report_of(alloc: Global, given: Vec<GivenPackage>) -> Result<Report, Faul
     }
 }
 
+/// Why packages are not judged by several threads, as the program tells it.
+fn told_check_fault(fault: CheckFault) -> Fault
+    ensures { result ≡ told_check_fault fault }
+{
+    match fault {
+        CheckFault::NotLoaded(fault) => told_fault(fault),
+        CheckFault::NoThread => Fault::NoThread,
+    }
+}
+
 /// The report of these packages with what is declared of others, the same for any number of workers. So many threads
-/// read the files.
+/// read the files, and then judge the packages.
 ///
 /// # Errors
 ///
-/// As `report_of`; after these faults, something is declared of a package that is given.
-pub fn report_by<R: AllocGlobal + Threads + Sync>(
+/// As `report_of`; after these faults, something is declared of a package that is given; after that, a thread that
+/// should judge packages can't be started. One worker, or one package, needs none.
+pub fn report_by<R: AllocGlobal + Threads + Wait + Sync, L: Leave>(
     rt: &R,
     given: Vec<GivenPackage>,
     outside: Outside,
     workers: Workers,
 ) -> Result<Report, Fault>
     ensures report { IfOk result (IsReport (packages_of outside) given.items) }
-    ensures fault { IfErr result (IsReportFault (packages_of outside) given.items) }
+    ensures fault { IfErr result (IsSharedReportFault (packages_of outside) given.items (count_of workers)) }
 {
-    match judge::report_by(rt, rt.alloc(), given, outside, workers) {
+    match judge::report_by::<R, L>(rt, rt.alloc(), given, outside, workers) {
         Ok(report) => Ok(report),
-        Err(fault) => Err(told_fault(fault)),
+        Err(fault) => Err(told_check_fault(fault)),
     }
 }
 
 /// The same report, and the certificates of the packages' bodies: both are the same for any number of workers. So many
-/// threads read the files.
+/// threads read the files, and then judge the packages.
 ///
 /// # Errors
 ///
 /// As `report_by`.
-pub fn certified_report_by<R: AllocGlobal + Threads + Sync>(
+pub fn certified_report_by<R: AllocGlobal + Threads + Wait + Sync, L: Leave>(
     rt: &R,
     given: Vec<GivenPackage>,
     outside: Outside,
@@ -81,11 +94,11 @@ pub fn certified_report_by<R: AllocGlobal + Threads + Sync>(
 ) -> Result<CertifiedReport, Fault>
     ensures report { IfOk result
         (λ told. IsCertifiedReport (packages_of outside) given.items told.report (string_bytes told.certificates)) }
-    ensures fault { IfErr result (IsReportFault (packages_of outside) given.items) }
+    ensures fault { IfErr result (IsSharedReportFault (packages_of outside) given.items (count_of workers)) }
 {
-    match judge::certified_report_by(rt, rt.alloc(), given, outside, workers) {
+    match judge::certified_report_by::<R, L>(rt, rt.alloc(), given, outside, workers) {
         Ok(told) => Ok(told),
-        Err(fault) => Err(told_fault(fault)),
+        Err(fault) => Err(told_check_fault(fault)),
     }
 }
 
@@ -104,7 +117,7 @@ fn told_verify_fault(fault: VerifyFault) -> Fault
 /// # Errors
 ///
 /// As `report_by`; after these faults, the certificates are too old.
-pub fn verified_report_of(
+pub fn verified_report_of<L: Leave>(
     alloc: Global,
     given: Vec<GivenPackage>,
     outside: Outside,
@@ -113,7 +126,7 @@ pub fn verified_report_of(
     ensures report { IfOk result (IsVerifiedReport (packages_of outside) given.items certificates.now) }
     ensures fault { IfErr result (IsVerdictFault (packages_of outside) given.items certificates.now) }
 {
-    match judge::verified_report_of(alloc, given, outside, certificates) {
+    match judge::verified_report_of::<L>(alloc, given, outside, certificates) {
         Ok(report) => Ok(report),
         Err(fault) => Err(told_verify_fault(fault)),
     }

@@ -22,7 +22,7 @@ use crate::writers::Refusals;
 use certificate_json::Certificates;
 use command_line::VerifyWords;
 use folders::{Fault, ReadFile};
-use load::GivenPackage;
+use load::{GivenPackage, Leave};
 use outside_json::Outside;
 use std::io::Write;
 use std::rt::Files;
@@ -74,7 +74,7 @@ pub struct Verified<'a> {
 
 /// Judges the packages of these words by the certificates in the file, and prints their report. Folders without a Go
 /// file are noted after it.
-pub fn verify<'a, R: Files + AllocGlobal, W: Write, E: Write>(
+pub fn verify<'a, R: Files + AllocGlobal, W: Write, E: Write, L: Leave>(
     rt: &R,
     asked: &VerifyWords<'a>,
     out: &mut W,
@@ -93,7 +93,8 @@ pub fn verify<'a, R: Files + AllocGlobal, W: Write, E: Write>(
     ensures refused { refusals.new.any ≡ refused_by refusals.old.any result }
 {
     let read = read_evidence(rt, asked, &mut FoldersAsked::none())?;
-    let report = verified_report_of(rt.alloc(), read.given, read.outside, &read.certificates)?;
+    let outside = read.outside;
+    let report = verified_report_of::<L>(rt.alloc(), read.given, outside, &read.certificates)?;
     print(out, &report.text, refusals)?;
     note_empty(&read.empty, err);
     Ok(Verified {

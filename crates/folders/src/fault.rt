@@ -61,6 +61,9 @@ pub enum Fault {
     /// There are more packages than are read in one run, or a package has too many files.
     #[error("too many packages")]
     TooManyPackages,
+    /// A thread that should judge packages could not be started.
+    #[error("a thread could not be started")]
+    NoThread,
     /// Memory was refused.
     #[error("out of memory")]
     OutOfMemory,

@@ -9,6 +9,7 @@ use folders::{Fault, fail};
 use inspect_packages::{Shown, read_packages, text_of_packages};
 use std::io::Write;
 use std::rt::Files;
+use std::sync::Wait;
 use std::thread::Threads;
 
 /// The program's name, with which the lines of its faults begin.
@@ -87,7 +88,7 @@ enum AskedFor<'a> {
 /// Runs the program with the words after its name: prints what they ask for, and faults on standard error, and returns
 /// its status. `system` is the runtime once more, with what it may do as bounds: that it may start threads only `main`
 /// knows of a `HostRuntime`.
-pub fn run<R: Files + AllocGlobal + Threads + Sync>(
+pub fn run<R: Files + AllocGlobal + Threads + Wait + Sync>(
     rt: &HostRuntime,
     system: &R,
     words: &[String],
@@ -104,7 +105,7 @@ pub fn refuse(rt: &HostRuntime, fault: &Fault) -> u8 {
 }
 
 /// Does what the words ask for, and gives the status to end with.
-fn answer<R: Files + AllocGlobal + Threads + Sync>(
+fn answer<R: Files + AllocGlobal + Threads + Wait + Sync>(
     rt: &HostRuntime,
     system: &R,
     words: &[String],

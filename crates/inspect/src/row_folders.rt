@@ -13,6 +13,7 @@ use folders::Fault;
 use inspect_packages::Shown;
 use std::alloc::Global;
 use std::rt::Files;
+use std::sync::Wait;
 use std::thread::Threads;
 
 /// How the entries of a folder are read.
@@ -85,7 +86,7 @@ fn last_element(folder: &str) -> &str {
 ///
 /// A folder has a name for which no rows are known, and then none is gone through; a folder or a file can't be read;
 /// what is told can't be written; or memory was refused.
-pub fn show_folders<R: Files + AllocGlobal + Threads + Sync>(
+pub fn show_folders<R: Files + AllocGlobal + Threads + Wait + Sync>(
     rt: &HostRuntime,
     system: &R,
     folders: &[String],
@@ -105,7 +106,7 @@ pub fn show_folders<R: Files + AllocGlobal + Threads + Sync>(
 }
 
 /// Goes through a folder, and gives whether all of it that is compared is as it is to be.
-fn show_folder<R: Files + AllocGlobal + Threads + Sync>(
+fn show_folder<R: Files + AllocGlobal + Threads + Wait + Sync>(
     rt: &HostRuntime,
     system: &R,
     folder: &str,

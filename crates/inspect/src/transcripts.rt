@@ -7,6 +7,7 @@ use driver::run;
 use folders::Fault;
 use std::alloc::{AllocError, Global};
 use std::rt::Files;
+use std::sync::Wait;
 use std::thread::Threads;
 
 /// Runs `ctxvet check` for each folder in this one, on all packages that lie there. `system` is the runtime once more,
@@ -15,7 +16,7 @@ use std::thread::Threads;
 /// # Errors
 ///
 /// A folder can't be listed, a transcript can't be written, or memory was refused.
-pub fn show_runs<R: Files + AllocGlobal + Threads + Sync>(
+pub fn show_runs<R: Files + AllocGlobal + Threads + Wait + Sync>(
     rt: &HostRuntime,
     system: &R,
     folder: &str,
@@ -28,7 +29,7 @@ pub fn show_runs<R: Files + AllocGlobal + Threads + Sync>(
 }
 
 /// Runs `ctxvet check` on all packages in this folder, each by the name of its own folder.
-fn show_packages<R: Files + AllocGlobal + Threads + Sync>(
+fn show_packages<R: Files + AllocGlobal + Threads + Wait + Sync>(
     rt: &HostRuntime,
     system: &R,
     folder: &str,
@@ -45,7 +46,7 @@ fn show_packages<R: Files + AllocGlobal + Threads + Sync>(
 /// # Errors
 ///
 /// The folder can't be listed, a transcript can't be written, or memory was refused.
-pub fn show_examples<R: Files + AllocGlobal + Threads + Sync>(
+pub fn show_examples<R: Files + AllocGlobal + Threads + Wait + Sync>(
     rt: &HostRuntime,
     system: &R,
     folder: &str,
@@ -59,7 +60,7 @@ pub fn show_examples<R: Files + AllocGlobal + Threads + Sync>(
 }
 
 /// Runs `ctxvet check` on the packages that these words name, and shows the command, what it printed, and its status.
-fn show_check<R: Files + AllocGlobal + Threads + Sync>(
+fn show_check<R: Files + AllocGlobal + Threads + Wait + Sync>(
     rt: &HostRuntime,
     system: &R,
     packages: &[String],

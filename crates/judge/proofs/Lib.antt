@@ -2,6 +2,7 @@ mod QuietYes
 mod LoadedPackages
 mod SourcePlaces
 mod Loads
+mod WorkersFaults
 mod SameTexts
 mod OneLoad
 mod OneReport

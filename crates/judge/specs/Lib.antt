@@ -3,5 +3,6 @@ pub mod QuietYes
 pub mod SourcePlaces
 pub mod Reports
 pub mod OneReport
+pub mod CheckFaults
 pub mod Certified
 pub mod Verified

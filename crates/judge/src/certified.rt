@@ -1,17 +1,22 @@
 //! The report of given packages with their certificates as a text.
 
-ghost use Rattle.std.specs.Prelude.{IfErr, IfOk, string_bytes};
+ghost use Rattle.std.specs.Prelude.{IfErr, IfOk, length, string_bytes};
 ghost use Rattle.declared_tables.specs.DeclaredTables.{declared_tables};
+ghost use Rattle.judge.specs.CheckFaults.{IsCheckFault};
 ghost use Rattle.judge.specs.Certified.{IsCertifiedReport, TellsCertifiedText};
-ghost use Rattle.load.specs.LoadedBeside.{IsLoadFaultBeside};
 ghost use Rattle.outside_json.specs.Outside.{packages_of};
+ghost use Rattle.package_workers.specs.Faults.{IsFaultOf};
+ghost use Rattle.workers.specs.Counts.{count_of};
 
-use all_certificates::{Certified, certified_report};
+use crate::check_fault::{CheckFault, of_workers};
+use all_certificates::Certified;
 use all_packages::Report;
 use certificate_json::to_json;
-use load::{GivenPackage, LoadFault, Loaded, load_beside_by};
+use load::{GivenPackage, Leave, Loaded, load_beside_by};
 use outside_json::Outside;
-use std::alloc::{AllocError, Global};
+use package_workers::CheckFault as WorkersFault;
+use std::alloc::Global;
+use std::sync::Wait;
 use std::thread::Threads;
 use whole_packages::LoadedPackage;
 use workers::Workers;
@@ -23,18 +28,22 @@ pub struct CertifiedReport {
     pub certificates: String,
 }
 
-/// The report and the certificates of packages of different paths, where that is declared of others.
-fn told_of(
+/// The report and the certificates of packages of different paths, where that is declared of others, by so many
+/// workers.
+fn told_of<R: Threads + Wait + Sync>(
+    rt: &R,
     alloc: Global,
     packages: &[LoadedPackage],
     outside: &Outside,
-) -> Result<CertifiedReport, AllocError>
-    ensures { IfOk result (TellsCertifiedText (declared_tables (packages_of outside.now)) packages.now) }
+    workers: Workers,
+) -> Result<CertifiedReport, WorkersFault>
+    ensures certified { IfOk result (TellsCertifiedText (declared_tables (packages_of outside.now)) packages.now) }
+    ensures fault { IfErr result (IsFaultOf (count_of workers) (length packages.now)) }
 {
     let Certified {
         report,
         certificates,
-    } = certified_report(alloc, packages, outside)?;
+    } = all_certificates::certified_report_by(rt, alloc, packages, outside, workers)?;
     let certificates = to_json(alloc, &certificates)?;
     Ok(CertifiedReport {
         report,
@@ -42,34 +51,46 @@ fn told_of(
     })
 }
 
-/// The same of packages that are let go.
-fn told_loaded(alloc: Global, loaded: Loaded) -> Result<CertifiedReport, AllocError>
-    ensures { IfOk result
+/// The same, where `L` says what becomes of the packages then.
+fn told_loaded<R: Threads + Wait + Sync, L: Leave>(
+    rt: &R,
+    alloc: Global,
+    loaded: Loaded,
+    workers: Workers,
+) -> Result<CertifiedReport, WorkersFault>
+    ensures certified { IfOk result
         (TellsCertifiedText (declared_tables (packages_of loaded.outside)) loaded.packages.items) }
+    ensures fault { IfErr result (IsFaultOf (count_of workers) (length loaded.packages.items)) }
 {
-    let told = told_of(alloc, &loaded.packages, &loaded.outside);
-    loaded.release();
+    let told = told_of(rt, alloc, &loaded.packages, &loaded.outside, workers);
+    L::leave(loaded);
     told
 }
 
 /// The report of these packages, in the order of their paths, where that is declared of others, and the text of their
 /// certificates: both are the same for any number of workers. A yes says the same as one of `report_of`. So many
-/// threads read the files.
+/// threads read the files, and then judge the packages. What becomes of these, once they were judged, `L` says.
 ///
 /// # Errors
 ///
-/// As `report_of`.
-pub fn certified_report_by<R: Threads + Sync>(
+/// As `report_by`.
+pub fn certified_report_by<R: Threads + Wait + Sync, L: Leave>(
     rt: &R,
     alloc: Global,
     given: Vec<GivenPackage>,
     outside: Outside,
     workers: Workers,
-) -> Result<CertifiedReport, LoadFault>
+) -> Result<CertifiedReport, CheckFault>
     ensures report { IfOk result
         (λ told. IsCertifiedReport (packages_of outside) given.items told.report (string_bytes told.certificates)) }
-    ensures fault { IfErr result (IsLoadFaultBeside given.items (packages_of outside)) }
+    ensures fault { IfErr result (IsCheckFault (packages_of outside) given.items (count_of workers)) }
 {
-    let loaded = load_beside_by(rt, alloc, given, outside, workers)?;
-    Ok(told_loaded(alloc, loaded)?)
+    let loaded = match load_beside_by(rt, alloc, given, outside, workers) {
+        Ok(loaded) => loaded,
+        Err(fault) => return Err(CheckFault::NotLoaded(fault)),
+    };
+    match told_loaded::<R, L>(rt, alloc, loaded, workers) {
+        Ok(told) => Ok(told),
+        Err(fault) => Err(of_workers(fault)),
+    }
 }

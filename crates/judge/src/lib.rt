@@ -3,12 +3,14 @@
 #![tactic(auto)]
 
 mod certified;
+mod check_fault;
 mod laws;
 mod reports;
 mod verified;
 
 pub use all_packages::Report;
 pub use certified::{CertifiedReport, certified_report_by};
+pub use check_fault::CheckFault;
 pub use laws::given_packages_have_one_report;
 pub use reports::{report_by, report_of};
 pub use verified::{VerifyFault, verified_report_of};

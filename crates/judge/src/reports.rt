@@ -1,16 +1,23 @@
 //! The report of given packages.
 
-ghost use Rattle.std.specs.Prelude.{IfErr, IfOk};
+ghost use Rattle.std.specs.Prelude.{IfErr, IfOk, length};
 ghost use Rattle.all_packages.specs.Reports.{TellsReport};
 ghost use Rattle.declared_tables.specs.DeclaredTables.{declared_tables};
+ghost use Rattle.judge.specs.CheckFaults.{IsCheckFault};
 ghost use Rattle.judge.specs.Reports.{IsReport};
 ghost use Rattle.load.specs.LoadedBeside.{IsLoadFaultBeside};
 ghost use Rattle.outside_json.specs.Outside.{packages_of};
+ghost use Rattle.package_workers.specs.Faults.{IsFaultOf};
+ghost use Rattle.workers.specs.Counts.{count_of};
 
+use crate::check_fault::{CheckFault, of_workers};
 use all_packages::{Report, whole_report};
-use load::{GivenPackage, LoadFault, Loaded, load_beside, load_beside_by};
+use load::{GivenPackage, Leave, LoadFault, Loaded, load_beside, load_beside_by};
+use one_package::ByPaths;
 use outside_json::Outside;
+use package_workers::{CheckFault as WorkersFault, Crew, Open, whole_report_by_workers};
 use std::alloc::{AllocError, Global};
+use std::sync::Wait;
 use std::thread::Threads;
 use workers::Workers;
 
@@ -21,6 +28,26 @@ fn report_loaded(alloc: Global, loaded: Loaded) -> Result<Report, AllocError>
     let told = whole_report(alloc, &loaded.packages, &loaded.outside);
     loaded.release();
     told
+}
+
+/// The same by so many workers, where `L` says what becomes of the packages then.
+fn report_loaded_by<R: Threads + Wait + Sync, L: Leave>(
+    rt: &R,
+    alloc: Global,
+    loaded: Loaded,
+    workers: Workers,
+) -> Result<Report, WorkersFault>
+    ensures report { IfOk result (TellsReport (declared_tables (packages_of loaded.outside)) loaded.packages.items) }
+    ensures fault { IfErr result (IsFaultOf (count_of workers) (length loaded.packages.items)) }
+{
+    let crew = Crew {
+        rt,
+        workers,
+        gate: &Open,
+    };
+    let report = whole_report_by_workers(alloc, crew, &loaded.packages, &loaded.outside, &ByPaths);
+    L::leave(loaded);
+    report
 }
 
 /// The report of these packages, in the order of their paths, where that is declared of others. No thread is started.
@@ -44,21 +71,30 @@ pub fn report_of(
     Ok(report_loaded(alloc, loaded)?)
 }
 
-/// The same report, for any number of workers, and a yes says the same. So many threads read the files.
+/// The same report, for any number of workers, and a yes says the same. So many threads read the files, and then judge
+/// the packages; with one worker no thread is started. Where a thread can't be started that should read files, the
+/// others do its work. What becomes of the packages, once they were judged, `L` says.
 ///
 /// # Errors
 ///
-/// As `report_of`.
-pub fn report_by<R: Threads + Sync>(
+/// As `report_of`; once the packages are loaded, a thread that should judge some of them can't be started. One worker,
+/// or one package, needs none.
+pub fn report_by<R: Threads + Wait + Sync, L: Leave>(
     rt: &R,
     alloc: Global,
     given: Vec<GivenPackage>,
     outside: Outside,
     workers: Workers,
-) -> Result<Report, LoadFault>
+) -> Result<Report, CheckFault>
     ensures report { IfOk result (IsReport (packages_of outside) given.items) }
-    ensures fault { IfErr result (IsLoadFaultBeside given.items (packages_of outside)) }
+    ensures fault { IfErr result (IsCheckFault (packages_of outside) given.items (count_of workers)) }
 {
-    let loaded = load_beside_by(rt, alloc, given, outside, workers)?;
-    Ok(report_loaded(alloc, loaded)?)
+    let loaded = match load_beside_by(rt, alloc, given, outside, workers) {
+        Ok(loaded) => loaded,
+        Err(fault) => return Err(CheckFault::NotLoaded(fault)),
+    };
+    match report_loaded_by::<R, L>(rt, alloc, loaded, workers) {
+        Ok(report) => Ok(report),
+        Err(fault) => Err(of_workers(fault)),
+    }
 }

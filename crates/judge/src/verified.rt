@@ -10,7 +10,7 @@ ghost use Rattle.verifier.specs.Rules.{by_certificates};
 use all_packages::{Report, whole_report_by};
 use cause_mentions::first_with_causes;
 use certificate_json::Certificates;
-use load::{GivenPackage, LoadFault, Loaded, load_beside};
+use load::{GivenPackage, Leave, LoadFault, Loaded, load_beside};
 use outside_json::Outside;
 use std::alloc::{AllocError, Global};
 use table_json::Version;
@@ -79,8 +79,8 @@ fn told_unless_old(
     }
 }
 
-/// The same of packages that are let go.
-fn verified_loaded(
+/// The same, where `L` says what becomes of the packages then.
+fn verified_loaded<L: Leave>(
     alloc: Global,
     loaded: Loaded,
     certificates: &Certificates,
@@ -89,18 +89,18 @@ fn verified_loaded(
         (TellsVerified (declared_tables (packages_of loaded.outside)) loaded.packages.items certificates.now) }
 {
     let told = told_unless_old(alloc, &loaded.packages, &loaded.outside, certificates);
-    loaded.release();
+    L::leave(loaded);
     told
 }
 
 /// The report of these packages, in the order of their paths, by these certificates, where that is declared of others.
-/// A yes says the same as one of `report_of`.
+/// A yes says the same as one of `report_of`. What becomes of the packages, once they were judged, `L` says.
 ///
 /// # Errors
 ///
 /// The packages are not loaded, as for `report_of`; after these faults, the certificates are too old for one of them;
 /// or memory was refused.
-pub fn verified_report_of(
+pub fn verified_report_of<L: Leave>(
     alloc: Global,
     given: Vec<GivenPackage>,
     outside: Outside,
@@ -113,7 +113,7 @@ pub fn verified_report_of(
         Ok(loaded) => loaded,
         Err(fault) => return Err(VerifyFault::NotLoaded(fault)),
     };
-    match verified_loaded(alloc, loaded, certificates) {
+    match verified_loaded::<L>(alloc, loaded, certificates) {
         Ok(Verified::Told(report)) => Ok(report),
         Ok(Verified::IsTooOld(path)) => Err(VerifyFault::TooOld(path)),
         Err(_) => Err(VerifyFault::NotLoaded(LoadFault::OutOfMemory)),

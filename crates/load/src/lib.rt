@@ -8,5 +8,5 @@ mod package;
 mod packages;
 mod source;
 
-pub use loaded::{Loaded, load_beside, load_beside_by};
+pub use loaded::{Leave, LetGo, Loaded, ToTheEnd, load_beside, load_beside_by};
 pub use packages::{GivenPackage, LoadFault, load, load_by, release};

@@ -9,6 +9,7 @@ ghost use Rattle.outside_json.specs.Outside.{package_of, packages_of};
 use crate::packages::{GivenPackage, LoadFault, load, load_by, release};
 use outside_json::{Outside, OutsidePackage};
 use std::alloc::Global;
+use std::mem;
 use std::thread::Threads;
 use whole_packages::LoadedPackage;
 use workers::Workers;
@@ -95,6 +96,36 @@ impl Loaded {
         let Loaded { packages, outside } = self;
         release(packages);
         drop(outside);
+    }
+}
+
+/// What becomes of packages that nobody needs any more. A library lets them go (`LetGo`). A program that is about to
+/// end may leave them (`ToTheEnd`).
+pub trait Leave {
+    /// Takes the packages.
+    fn leave(loaded: Loaded);
+}
+
+/// They are let go.
+#[derive(Clone, Copy)]
+pub struct LetGo;
+
+impl Leave for LetGo {
+    fn leave(loaded: Loaded) {
+        loaded.release();
+    }
+}
+
+/// They are left to the end of the process, which lets all memory go at once. No library chooses this. It stands here,
+/// since whoever leaves trees has to show how they could be let go, and here that is shown already.
+#[derive(Clone, Copy)]
+pub struct ToTheEnd;
+
+impl Leave for ToTheEnd {
+    fn leave(loaded: Loaded) {
+        let Loaded { packages, outside } = loaded;
+        mem::forget(packages);
+        mem::forget(outside);
     }
 }
 

@@ -21,10 +21,11 @@ use Rattle.meaning_reports.specs.Loaded.{LoadedPackage, PackageTable, Tables, im
 use Rattle.meaning_reports.specs.PackageReports.{Rules}
 use Rattle.gathering.specs.Results.{IsNotGiven, HaveResults}
 use Rattle.silent_files.specs.SilentPackages.{GiveNone}
+use Rattle.files_to_walk.specs.Givers.{giver_by_path, may_give}
 use Rattle.one_package.specs.declared.given.Given.{Given}
 use Rattle.one_package.specs.declared.judged.Judged.{Judged}
 use Rattle.one_package.specs.declared.known_imports.KnownImports.{KnownImports}
-use Rattle.one_package.specs.Judgments.{table_view, giver_by_path, may_give, KnownAround, IsOfImport, said_view}
+use Rattle.one_package.specs.Judgments.{table_view, KnownAround, IsOfImport, said_view}
 use Rattle.one_package.specs.Given.{TellsGiven}
 use Rattle.one_package.specs.Results.{declared_among, declared_outside, first_at, judged_at, said_at, results_by, table_or, AllMarked, AreImported, HaveTheirTables, KnowsImports}
 use Rattle.one_package.proofs.DeclaredImports.{among_is, is_outside, was_given}

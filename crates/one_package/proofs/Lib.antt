@@ -6,7 +6,5 @@ pub mod ImportedTables
 mod ImportsNotYes
 pub mod JudgedFiles
 mod NothingSaid
-mod OwnGivers
 mod PackageNames
-mod SkippedFiles
 mod WholeOnly

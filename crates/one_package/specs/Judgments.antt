@@ -19,7 +19,7 @@ use Rattle.meaning_reports.specs.Loaded.{LoadedPackage, PackageTable, Tables, im
 use Rattle.meaning_reports.specs.PackageTables.{IsTableBy, IsEmpty}
 use Rattle.meaning_reports.specs.PackageReports.{Rules, Said, IsFindingBy, AreFindingsBy}
 use Rattle.silent_files.specs.SilentPackages.{GiveNone}
-use Rattle.one_package.specs.declared.givers.Givers.{Givers}
+use Rattle.files_to_walk.specs.Givers.{may_give}
 use Rattle.one_package.specs.declared.judged.Around.{Around}
 use Rattle.one_package.specs.declared.judged.Judged.{Judged}
 use Rattle.one_package.specs.declared.known_imports.NotYes.{NotYes}
@@ -47,13 +47,6 @@ abbrev pub is_yes : PackageReport → Bool
 is_yes report = says_nothing report.diagnostics.items
 
 -- What is known around a package
-
--- whether a function of the package of that path may give a cancel function, if anything is known of the package
-abbrev pub giver_by_path : Givers → List ℕ → Option Bool
-giver_by_path givers = at_name givers.packages
-
-abbrev pub may_give : Givers → List ℕ → Bool
-may_give givers path = is_set (giver_by_path givers path)
 
 -- what is kept of the packages around one
 pub record Surroundings : Type 0 where

@@ -6,5 +6,3 @@ pub mod Judgments
 pub mod ToldPackages
 pub mod Certified
 pub mod Results
--- What serves the proofs: which files nothing need be told of, by their imports and words.
-pub mod Skipping

@@ -15,10 +15,11 @@ use Rattle.declared_tables.specs.MarkedGivers.{MarksGivers}
 use Rattle.meaning_reports.specs.Loaded.{LoadedPackage, PackageTable, Tables, import_list, imported_paths, imported_tables}
 use Rattle.meaning_reports.specs.PackageReports.{Said}
 use Rattle.gathering.specs.Results.{Results}
+use Rattle.files_to_walk.specs.Givers.{giver_by_path}
 use Rattle.one_package.specs.declared.given.Given.{Given}
 use Rattle.one_package.specs.declared.judged.Judged.{Judged}
 use Rattle.one_package.specs.declared.known_imports.KnownImports.{KnownImports}
-use Rattle.one_package.specs.Judgments.{table_view, giver_by_path, mark_by_path, IsOfImport, is_yes, said_view}
+use Rattle.one_package.specs.Judgments.{table_view, mark_by_path, IsOfImport, is_yes, said_view}
 
 -- what is of that path, if it was judged
 abbrev pub given_by : {V : Type 0} → (Judged → V) → Option Judged → List ℕ → Option V

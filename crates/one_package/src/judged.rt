@@ -13,7 +13,6 @@ ghost use Rattle.meaning_reports.specs.Loaded.{LoadedPackage as MeantPackage, Ta
 ghost use Rattle.meaning_reports.specs.WholeFaults.{HasNoWholeFault};
 
 use crate::file_rules::{FileRules, FoundFiles};
-use crate::givers::Givers;
 use crate::grounds::{Grounds, find_grounds};
 use crate::known_imports::NotYes;
 use crate::told_package::ToldPackage;
@@ -21,6 +20,7 @@ use calls_flags::{Called, ImportedCalls};
 use certificate_json::Body;
 use declared_tables::PackageTable;
 use facts::{Imported, Table};
+use files_to_walk::Givers;
 use names::PackageNames;
 use report::{Diagnostic, DiagnosticCode, PackageReport, in_order};
 use std::alloc::{AllocError, Global};

@@ -3,19 +3,20 @@
 ghost use Rattle.std.specs.Prelude.{◌≡◌, ◌++◌, ◌∷◌, ℕ, List, [], OnOk, None, option_map};
 ghost use Rattle.calls_flags.specs.KnownCalls.{called_by_path};
 ghost use Rattle.facts.specs.FactViews.{table_by_path};
+ghost use Rattle.files_to_walk.specs.Givers.{giver_by_path};
 ghost use Rattle.imports.specs.Views.{text_views};
 ghost use Rattle.meaning.specs.OuterBlocks.{or_else};
 ghost use Rattle.names.specs.Maps.{only_at};
-ghost use Rattle.one_package.specs.Judgments.{giver_by_path, is_picked, mark_by_path};
+ghost use Rattle.one_package.specs.Judgments.{is_picked, mark_by_path};
 ghost use Rattle.one_package.specs.Results.{declared_among, declared_if, KnowsImports, KnowsJudged};
 ghost use Rattle.one_package.specs.declared.judged.Judged.{Judged};
 
 use crate::given::Given;
-use crate::givers::Givers;
 use crate::judged::Judged;
 use crate::verdicts::is_yes;
 use calls_flags::ImportedCalls;
 use facts::Imported;
+use files_to_walk::Givers;
 use indexmap::IndexMap;
 use std::alloc::{AllocError, Global};
 use whole_packages::Picks;

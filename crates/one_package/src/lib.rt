@@ -5,21 +5,17 @@
 mod by_paths;
 mod file_rules;
 mod given;
-mod givers;
 mod grounds;
 mod judged;
 mod judging;
 mod known_imports;
 mod package_names;
-mod skipping;
 mod told_package;
 mod verdicts;
-mod words;
 
 pub use by_paths::{ByPaths, JudgedBodies, judge_bodies};
 pub use file_rules::{FileRules, FoundFiles};
 pub use given::{Given, given_packages};
-pub use givers::Givers;
 pub use grounds::told_of;
 pub use judged::{Around, Judged};
 pub use judging::{around, judge_package};

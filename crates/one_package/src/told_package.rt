@@ -10,11 +10,11 @@ ghost use Rattle.meaning_reports.specs.WholeFaults.{HasNoWholeFault};
 ghost use Rattle.meaning_reports.specs.Loaded.{LoadedPackage as MeantPackage, Tables, imported_flags, means_in};
 
 use crate::judged::Around;
-use crate::skipping::{gives_some, walked_files};
 use calls_flags::{
     Called, FileBodies, ImportedCalls, ToldFile, bodies_of_files, find_called, tell_files,
 };
 use facts::{Table, signatures};
+use files_to_walk::{gives_some, walked_files};
 use names::Names;
 use std::alloc::{AllocError, Global};
 use whole_packages::LoadedPackage;

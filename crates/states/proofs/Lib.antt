@@ -1,4 +1,5 @@
 pub mod ClassNumbers
+pub mod ChangedClasses
 pub mod MaskedClasses
 pub mod StateBits
 pub mod MaskImages

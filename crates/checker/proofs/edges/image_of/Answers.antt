@@ -7,7 +7,7 @@ use Rattle.checker.specs.Loaded.{AreLoaded}
 use Rattle.checker.proofs.edges.image_of.Goals as goal
 
 pub returns-in-Some : goal.returns-in-Some
-returns-in-Some g c =
+returns-in-Some g c = λ laid.
     let views = map variable_view c.args.laid_out.now.variables.now in
     let kept : StateVariables = record {
       cancels = c.deref.result;
@@ -31,8 +31,8 @@ returns-in-Some g c =
         groups = c.deref-3.ensures.value;
         fit = fits;
       };
-      is_changed = c.changed.ensures;
+      is_changed = c.changed.ensures laid.nothing;
     }
 
 pub returns-in-None : goal.returns-in-None
-returns-in-None g c = sym c.state_of.ensures.there ∙ ap is_some c.in-None.is
+returns-in-None g c = λ laid. sym c.state_of.ensures.there ∙ ap is_some c.in-None.is

@@ -25,7 +25,7 @@ loop-after-preserved g c = λ laid.
     (at_nodes l states p e c.args.number (get_or c.deref-after-items.result.now c.loop-after.after-index 0)
     c.masks_at-before.result.now c.masks_at.result.now
     c.goes_into.result c.masks_at-before.ensures c.masks_at.ensures
-    (c.goes_into.ensures p e c.masks_at-before.result.now laid c.image_of-image.ensures))
+    (c.goes_into.ensures p e c.masks_at-before.result.now laid (c.image_of-image.ensures laid)))
     (c.loop-after.invariant laid) c.if-not-goes_into.false
 
 pub returns-then-not-goes_into : goal.returns-then-not-goes_into
@@ -42,7 +42,7 @@ returns-then-not-goes_into g c = λ laid.
     (at_nodes l states p e c.args.number (get_or c.deref-after-items.result.now c.loop-after.after-index 0)
     c.masks_at-before.result.now c.masks_at.result.now
     c.goes_into.result c.masks_at-before.ensures c.masks_at.ensures
-    (c.goes_into.ensures p e c.masks_at-before.result.now laid c.image_of-image.ensures))
+    (c.goes_into.ensures p e c.masks_at-before.result.now laid (c.image_of-image.ensures laid)))
     (subst (λ items. list_all test (drop c.loop-after.after-index c.deref-after-items.result.now) ≡ list_all test items)
     c.deref-after-items.ensures.value (c.loop-after.invariant laid)) c.if-not-goes_into.true
 

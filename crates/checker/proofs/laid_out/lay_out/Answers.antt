@@ -8,4 +8,4 @@ returns c =
     lays_out c.args.variables.now kept _ c.len.result c.deref.result.now refl refl
     (omega (arith, c.len.ensures, kept.graph.nodes.ok.0)) c.deref.ensures.value c.in_ok-rows.ensures
     c.in_ok-numbers.ensures.cancels c.in_ok-numbers.ensures.groups c.deref-2.result.now c.deref-2.ensures.value
-    c.in_ok-groups.ensures
+    c.in_ok-groups.ensures (_, refl)

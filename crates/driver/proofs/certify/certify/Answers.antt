@@ -4,6 +4,7 @@ use Rattle.command_line.specs.Words.{option_texts, texts_of}
 use Rattle.folders.specs.declared.fault.Fault.TheVariants.{CannotWrite}
 use Rattle.judge.specs.Certified.{IsCertifiedReport}
 use Rattle.outside_json.specs.Outside.{packages_of}
+use Rattle.workers.specs.Counts.{count_of}
 use Rattle.driver.specs.Faults.{IsCertifyFault}
 use Rattle.driver.specs.Packages.{AreGiven, AreNamed}
 use Rattle.driver.specs.Printing.{AppendsFront}
@@ -16,25 +17,27 @@ returns-in_err-input-clause-fault g c =
     let packages = c.in_ok-packages.packages.items in
     let words = texts_of c.args.asked.now.packages.items in
     let facts = option_texts c.args.asked.now.facts in
+    let workers = count_of c.args.asked.now.workers in
     let named : AreNamed words packages
     = subst (λ ws. AreNamed (texts_of ws) packages) c.deref.ensures.value c.in_ok-packages.ensures.named in
     let fault = c.in_err-input.field-0.0 in
-    handed_on c.from_residual-in_err-input.result fault (IsCertifyFault words facts) c.from_residual-in_err-input.ensures.1
-    (of_check words facts fault (of_reading words facts packages fault named c.in_err-input.ensures.fault))
+    handed_on c.from_residual-in_err-input.result fault (IsCertifyFault words facts workers) c.from_residual-in_err-input.ensures.1
+    (of_check words facts workers fault (of_reading words facts workers packages fault named c.in_err-input.ensures.fault))
 
 pub returns-in_err-told-clause-fault : goal.returns-in_err-told-clause-fault
 returns-in_err-told-clause-fault g c =
     let packages = c.in_ok-packages.packages.items in
     let words = texts_of c.args.asked.now.packages.items in
     let facts = option_texts c.args.asked.now.facts in
+    let workers = count_of c.args.asked.now.workers in
     let input = c.in_ok-input.input in
     let named : AreNamed words packages
     = subst (λ ws. AreNamed (texts_of ws) packages) c.deref.ensures.value c.in_ok-packages.ensures.named in
     let are : AreGiven words input.given.items
     = are_given words packages _ input.given.items named c.deref-2.ensures.value c.in_ok-input.ensures.given in
     let fault = c.in_err-told.field-0.0 in
-    handed_on c.from_residual-in_err-told.result fault (IsCertifyFault words facts) c.from_residual-in_err-told.ensures.1
-    (of_check words facts fault (of_report words facts input.given.items input.facts input.outside are
+    handed_on c.from_residual-in_err-told.result fault (IsCertifyFault words facts workers) c.from_residual-in_err-told.ensures.1
+    (of_check words facts workers fault (of_report words facts workers input.given.items input.facts input.outside are
     c.in_ok-input.ensures.declared fault c.in_err-told.ensures.fault))
 
 pub returns-in_err-print-clause-fault : goal.returns-in_err-print-clause-fault
@@ -42,10 +45,11 @@ returns-in_err-print-clause-fault g c =
     let packages = c.in_ok-packages.packages.items in
     let words = texts_of c.args.asked.now.packages.items in
     let facts = option_texts c.args.asked.now.facts in
+    let workers = count_of c.args.asked.now.workers in
     let named : AreNamed words packages
     = subst (λ ws. AreNamed (texts_of ws) packages) c.deref.ensures.value c.in_ok-packages.ensures.named in
     let told : IsErrAnd c.from_residual-in_err-print.result (λ fault. fault ≡ CannotWrite) = search rules in
-    handed_on c.from_residual-in_err-print.result CannotWrite (IsCertifyFault words facts) told (none_bad words packages named)
+    handed_on c.from_residual-in_err-print.result CannotWrite (IsCertifyFault words facts workers) told (none_bad words packages named)
 
 pub returns-in_err-print-clause-begun : goal.returns-in_err-print-clause-begun
 returns-in_err-print-clause-begun g c =
@@ -80,11 +84,12 @@ returns-in_err-file-2-clause-fault g c =
     let packages = c.in_ok-packages.packages.items in
     let words = texts_of c.args.asked.now.packages.items in
     let facts = option_texts c.args.asked.now.facts in
+    let workers = count_of c.args.asked.now.workers in
     let named : AreNamed words packages
     = subst (λ ws. AreNamed (texts_of ws) packages) c.deref.ensures.value c.in_ok-packages.ensures.named in
     let fault = c.in_err-file-2.field-0.0 in
-    handed_on c.from_residual-in_err-file-2.result fault (IsCertifyFault words facts) c.from_residual-in_err-file-2.ensures.1
-    (subst (IsCertifyFault words facts) (sym c.in_err-file-2.ensures.fault) (none_bad words packages named))
+    handed_on c.from_residual-in_err-file-2.result fault (IsCertifyFault words facts workers) c.from_residual-in_err-file-2.ensures.1
+    (subst (IsCertifyFault words facts workers) (sym c.in_err-file-2.ensures.fault) (none_bad words packages named))
 
 pub returns-in_err-file-2-clause-whole : goal.returns-in_err-file-2-clause-whole
 returns-in_err-file-2-clause-whole g c =

@@ -1,10 +1,46 @@
-use Rattle.std.proofs.Common.{inr, map, subst}
+use Rattle.std.proofs.Common.{inl, inr, map, subst}
 use Rattle.command_line.specs.Words.{IsAsked, option_texts, texts_of}
 use Rattle.folders.specs.WrittenFiles.{text_of}
+use Rattle.driver.specs.Faults.{IsFaultOfCertify, IsFaultOfCheck, IsRunFault}
 use Rattle.driver.specs.WrittenReport.{IsBegun, IsWritten, LeavesBegun}
 use Rattle.driver.proofs.AskedReports.{asked_certify, asked_verify, ends_so}
 use Rattle.driver.proofs.ReadGiven.{handed_on}
 use Rattle.driver.proofs.program.answer.Goals as goal
+
+pub returns-in_err-done-in-Check-clause-fault : goal.returns-in_err-done-in-Check-clause-fault
+returns-in_err-done-in-Check-clause-fault g c =
+    let words = map g.S.AsStr.text c.args.words.now in
+    let asked = c.in-Check.asked in
+    let is = subst (IsAsked words) c.in-Check.is c.in_ok-asked.ensures in
+    let fault = c.in_err-done-in-Check.field-0.0 in
+    let of_check : IsFaultOfCheck words fault = record {
+      facts = option_texts asked.facts;
+      packages = texts_of asked.packages.items;
+      workers = asked.workers;
+      is_check = is.0;
+      are_workers = is.1;
+      is_fault = c.in_err-done-in-Check.ensures.fault;
+    } in
+    handed_on c.from_residual-in_err-done-in-Check.result fault (IsRunFault words)
+    c.from_residual-in_err-done-in-Check.ensures.1 (inr (inr (inl of_check)))
+
+pub returns-in_err-done-in-Certify-clause-fault : goal.returns-in_err-done-in-Certify-clause-fault
+returns-in_err-done-in-Certify-clause-fault g c =
+    let words = map g.S.AsStr.text c.args.words.now in
+    let asked = c.in-Certify.asked in
+    let is = subst (IsAsked words) c.in-Certify.is c.in_ok-asked.ensures in
+    let fault = c.in_err-done-in-Certify.field-0.0 in
+    let of_certify : IsFaultOfCertify words fault = record {
+      file = asked.file.now;
+      facts = option_texts asked.facts;
+      packages = texts_of asked.packages.items;
+      workers = asked.workers;
+      is_certify = is.0;
+      are_workers = is.1;
+      is_fault = c.in_err-done-in-Certify.ensures.fault;
+    } in
+    handed_on c.from_residual-in_err-done-in-Certify.result fault (IsRunFault words)
+    c.from_residual-in_err-done-in-Certify.ensures.1 (inr (inr (inr (inl of_certify))))
 
 pub returns-in_err-done-in-Certify-clause-begun : goal.returns-in_err-done-in-Certify-clause-begun
 returns-in_err-done-in-Certify-clause-begun g c =

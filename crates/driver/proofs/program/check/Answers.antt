@@ -2,6 +2,7 @@ use Rattle.std.proofs.Common.{◌≡◌, IsErrAnd, refl, rules, subst}
 use Rattle.std.specs.Io.KnownBytes.{Appends}
 use Rattle.command_line.specs.Words.{option_texts, texts_of}
 use Rattle.folders.specs.declared.fault.Fault.TheVariants.{CannotWrite}
+use Rattle.workers.specs.Counts.{count_of}
 use Rattle.driver.specs.Faults.{IsCheckFault}
 use Rattle.driver.specs.Packages.{AreGiven, AreNamed}
 use Rattle.driver.specs.Printing.{AppendsFront}
@@ -13,27 +14,29 @@ returns-in_err-input-clause-fault g c =
     let packages = c.in_ok-packages.packages.items in
     let words = texts_of c.args.asked.now.packages.items in
     let facts = option_texts c.args.asked.now.facts in
+    let workers = count_of c.args.asked.now.workers in
     let named : AreNamed words packages
     = subst (λ ws. AreNamed (texts_of ws) packages) c.deref.ensures.value c.in_ok-packages.ensures.named in
     let fault = c.in_err-input.field-0.0 in
-    handed_on c.from_residual-in_err-input.result fault (IsCheckFault words facts)
+    handed_on c.from_residual-in_err-input.result fault (IsCheckFault words facts workers)
     c.from_residual-in_err-input.ensures.1
-    (of_reading words facts packages fault named c.in_err-input.ensures.fault)
+    (of_reading words facts workers packages fault named c.in_err-input.ensures.fault)
 
 pub returns-in_err-report-clause-fault : goal.returns-in_err-report-clause-fault
 returns-in_err-report-clause-fault g c =
     let packages = c.in_ok-packages.packages.items in
     let words = texts_of c.args.asked.now.packages.items in
     let facts = option_texts c.args.asked.now.facts in
+    let workers = count_of c.args.asked.now.workers in
     let input = c.in_ok-input.input in
     let named : AreNamed words packages
     = subst (λ ws. AreNamed (texts_of ws) packages) c.deref.ensures.value c.in_ok-packages.ensures.named in
     let are : AreGiven words input.given.items
     = are_given words packages _ input.given.items named c.deref-2.ensures.value c.in_ok-input.ensures.given in
     let fault = c.in_err-report.field-0.0 in
-    handed_on c.from_residual-in_err-report.result fault (IsCheckFault words facts)
+    handed_on c.from_residual-in_err-report.result fault (IsCheckFault words facts workers)
     c.from_residual-in_err-report.ensures.1
-    (of_report words facts input.given.items input.facts input.outside are c.in_ok-input.ensures.declared fault
+    (of_report words facts workers input.given.items input.facts input.outside are c.in_ok-input.ensures.declared fault
     c.in_err-report.ensures.fault)
 
 pub returns-in_err-print-clause-fault : goal.returns-in_err-print-clause-fault
@@ -41,10 +44,11 @@ returns-in_err-print-clause-fault g c =
     let packages = c.in_ok-packages.packages.items in
     let words = texts_of c.args.asked.now.packages.items in
     let facts = option_texts c.args.asked.now.facts in
+    let workers = count_of c.args.asked.now.workers in
     let named : AreNamed words packages
     = subst (λ ws. AreNamed (texts_of ws) packages) c.deref.ensures.value c.in_ok-packages.ensures.named in
     let told : IsErrAnd c.from_residual-in_err-print.result (λ fault. fault ≡ CannotWrite) = search rules in
-    handed_on c.from_residual-in_err-print.result CannotWrite (IsCheckFault words facts) told
+    handed_on c.from_residual-in_err-print.result CannotWrite (IsCheckFault words facts workers) told
     (none_bad words packages named)
 
 pub returns-in_err-print-clause-begun : goal.returns-in_err-print-clause-begun

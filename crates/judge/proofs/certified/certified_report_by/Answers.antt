@@ -1,8 +1,16 @@
 use Rattle.judge.proofs.CertifiedReports.{is_certified}
+use Rattle.judge.proofs.WorkersFaults.{is_of_workers}
 use Rattle.outside_json.specs.Outside.{packages_of}
+use Rattle.workers.specs.Counts.{count_of}
 use Rattle.judge.proofs.certified.certified_report_by.Goals as goal
 
-pub returns-clause-report : goal.returns-clause-report
-returns-clause-report g c =
-    is_certified (packages_of c.args.outside) c.args.given.items c.in_ok-loaded.loaded c.in_ok-told_loaded.field-0
-    c.in_ok-loaded.ensures.loaded c.in_ok-told_loaded.ensures
+pub returns-in-Ok-told_loaded-clause-report : goal.returns-in-Ok-told_loaded-clause-report
+returns-in-Ok-told_loaded-clause-report g c =
+    is_certified (packages_of c.args.outside) c.args.given.items c.in-Ok.loaded c.in-Ok-told_loaded.told
+    c.in-Ok.ensures.loaded c.in-Ok-told_loaded.ensures.certified
+
+pub returns-in-Err-told_loaded-clause-fault : goal.returns-in-Err-told_loaded-clause-fault
+returns-in-Err-told_loaded-clause-fault g c =
+    is_of_workers (packages_of c.args.outside) c.args.given.items (count_of c.args.workers) c.in-Ok.loaded
+    c.in-Ok.ensures.loaded c.in-Err-told_loaded.fault c.of_workers.result c.of_workers.ensures
+    c.in-Err-told_loaded.ensures.fault

@@ -1,8 +1,16 @@
 use Rattle.judge.proofs.Loads.{is_report}
+use Rattle.judge.proofs.WorkersFaults.{is_of_workers}
 use Rattle.outside_json.specs.Outside.{packages_of}
+use Rattle.workers.specs.Counts.{count_of}
 use Rattle.judge.proofs.reports.report_by.Goals as goal
 
-pub returns-clause-report : goal.returns-clause-report
-returns-clause-report g c =
-    is_report (packages_of c.args.outside) c.args.given.items c.in_ok-loaded.loaded c.in_ok-report_loaded.field-0
-    c.in_ok-loaded.ensures.loaded c.in_ok-report_loaded.ensures
+pub returns-in-Ok-report_loaded_by-clause-report : goal.returns-in-Ok-report_loaded_by-clause-report
+returns-in-Ok-report_loaded_by-clause-report g c =
+    is_report (packages_of c.args.outside) c.args.given.items c.in-Ok.loaded c.in-Ok-report_loaded_by.report
+    c.in-Ok.ensures.loaded c.in-Ok-report_loaded_by.ensures.report
+
+pub returns-in-Err-report_loaded_by-clause-fault : goal.returns-in-Err-report_loaded_by-clause-fault
+returns-in-Err-report_loaded_by-clause-fault g c =
+    is_of_workers (packages_of c.args.outside) c.args.given.items (count_of c.args.workers) c.in-Ok.loaded
+    c.in-Ok.ensures.loaded c.in-Err-report_loaded_by.fault c.of_workers.result c.of_workers.ensures
+    c.in-Err-report_loaded_by.ensures.fault

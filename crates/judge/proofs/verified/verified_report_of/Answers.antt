@@ -6,7 +6,7 @@ use Rattle.judge.proofs.VerifiedReports.{told_beside, is_verified, are_too_old}
 use Rattle.judge.proofs.verified.verified_report_of.Goals as goal
 
 pub returns-in-Ok-Told-clause-report : goal.returns-in-Ok-Told-clause-report
-returns-in-Ok-Told-clause-report c =
+returns-in-Ok-Told-clause-report g c =
     let outside = packages_of c.args.outside in
     let given = c.args.given.items in
     let loaded = c.in-Ok.loaded in
@@ -16,7 +16,7 @@ returns-in-Ok-Told-clause-report c =
     (told_beside outside given loaded certificates _ c.in-Ok.ensures.loaded c.in-Ok-Told.ensures))
 
 pub returns-in-Ok-IsTooOld-clause-fault : goal.returns-in-Ok-IsTooOld-clause-fault
-returns-in-Ok-IsTooOld-clause-fault c =
+returns-in-Ok-IsTooOld-clause-fault g c =
     let outside = packages_of c.args.outside in
     let given = c.args.given.items in
     let loaded = c.in-Ok.loaded in

@@ -5,7 +5,7 @@ use Rattle.declared_tables.specs.declared.tables.PackageTable.{PackageTable as K
 use Rattle.facts.specs.FactViews.{table_by_path}
 use Rattle.imports.specs.Views.{text_views}
 use Rattle.meaning.specs.OuterBlocks.{or_else}
-use Rattle.one_package.specs.Judgments.{giver_by_path}
+use Rattle.files_to_walk.specs.Givers.{giver_by_path}
 use Rattle.one_package.specs.Results.{declared_among}
 use Rattle.one_package.proofs.DeclaredImports.{one_more}
 use Rattle.one_package.proofs.known_imports.add_all_declared.Goals as goal

@@ -3,7 +3,7 @@ use Rattle.calls_flags.specs.KnownCalls.{called_by_path}
 use Rattle.facts.specs.FactViews.{table_by_path}
 use Rattle.imports.specs.Views.{text_views}
 use Rattle.meaning.specs.OuterBlocks.{or_else}
-use Rattle.one_package.specs.Judgments.{giver_by_path}
+use Rattle.files_to_walk.specs.Givers.{giver_by_path}
 use Rattle.one_package.specs.Results.{declared_among}
 use Rattle.one_package.proofs.known_imports.add_all_declared.Given as goal
 

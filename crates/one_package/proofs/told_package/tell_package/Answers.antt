@@ -9,9 +9,9 @@ use Rattle.silent_files.specs.WalkedFiles.{SkipsSilent}
 use Rattle.silent_files.proofs.SilentFiles.{neither_second}
 use Rattle.tree.specs.View.{file_syntax}
 use Rattle.meaning_reports.specs.Loaded.{signatures_of}
-use Rattle.one_package.specs.Skipping.{has_giver}
+use Rattle.files_to_walk.specs.Skipping.{has_giver}
 use Rattle.one_package.proofs.JudgedFiles.{seen_so}
-use Rattle.one_package.proofs.OwnGivers.{none_gives}
+use Rattle.files_to_walk.proofs.OwnGivers.{none_gives}
 use Rattle.one_package.proofs.told_package.tell_package.Goals as goal
 
 pub returns-clause-told : goal.returns-clause-told

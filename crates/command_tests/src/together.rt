@@ -1,0 +1,250 @@
+//! Packages that several workers judge: at the same time, each once, and with one report for each number of workers.
+
+use crate::real_folders::folder_with;
+use crate::runs::{outcome, words_of};
+use evidence_rows::FolderEntry;
+use evidence_rows::declared_facts::{NOTIFIED, NOTIFY};
+use lexer::Source;
+use load::{GivenPackage, load, release};
+use one_package::{Around, ByPaths, FileRules, FoundFiles, ToldPackage};
+use outside_json::Outside;
+use package_workers::{Crew, Gate, whole_report_by_workers};
+use std::alloc::{AllocError, Global};
+use std::sync::atomic::{AtomicU64, Ordering};
+use std::test::Fail;
+use std::time::{Clock, Duration};
+use std::{fs, thread};
+use whole_packages::LoadedPackage;
+use workers::Workers;
+
+/// So many times of a millisecond a worker waits for another one.
+const MOST_TURNS: u32 = 10_000;
+
+/// Judges by paths, and is what workers pass before that. At each of the two it counts the packages, and goes on with
+/// the first only once a second one came there: so whoever waits there has nothing that the other worker waits for.
+#[derive(Drop)]
+struct Meeting<'r, R> {
+    rt: &'r R,
+    passed: AtomicU64,
+    begun: AtomicU64,
+    gave_up: AtomicU64,
+}
+
+impl<'r, R: Clock> Meeting<'r, R> {
+    /// Counts one who comes. The first waits for another, or gives up.
+    fn meet(&self, come: &AtomicU64) {
+        if come.fetch_add(1, Ordering::SeqCst) > 0 {
+            return;
+        }
+        for _ in 0..MOST_TURNS {
+            if come.load(Ordering::SeqCst) > 1 {
+                return;
+            }
+            thread::sleep(self.rt, Duration::from_millis(1));
+        }
+        self.gave_up.fetch_add(1, Ordering::SeqCst);
+    }
+}
+
+impl<'r, R: Clock> Gate for Meeting<'r, R> {
+    fn enter(&self, _place: usize) {
+        self.meet(&self.passed);
+    }
+}
+
+impl<'r, R: Clock> FileRules for Meeting<'r, R> {
+    ghost use Rattle.one_package.specs.Certified.{no_certificates};
+    ghost use Rattle.meaning_reports.specs.PackageReports.{by_paths};
+    ghost use Rattle.std.specs.Prelude.{false};
+
+    ghost rules = { λ all. by_paths };
+
+    ghost certificates = { λ all. no_certificates };
+
+    ghost tells_all = { λ all. false };
+
+    fn find<'a>(
+        &self,
+        alloc: Global,
+        loaded: &'a LoadedPackage,
+        told: &ToldPackage<'a>,
+        around: Around<'_, 'a>,
+    ) -> Result<FoundFiles<'a>, AllocError> {
+        self.meet(&self.begun);
+        ByPaths.find(alloc, loaded, told, around)
+    }
+
+    fn tells_all(&self) -> bool {
+        ByPaths.tells_all()
+    }
+
+    fn are_determined(&self) {
+        ByPaths.are_determined()
+    }
+}
+
+/// A package of this path with one file.
+fn package(alloc: Global, path: &str) -> Result<GivenPackage, AllocError> {
+    let mut bytes = Vec::new(alloc);
+    bytes.extend_from_slice(b"package a\n\nfunc f() {}\n")?;
+    let mut sources = Vec::new(alloc);
+    sources.push(Source {
+        name: String::from_str(alloc, "x.go")?,
+        bytes,
+    })?;
+    Ok(GivenPackage {
+        path: String::from_str(alloc, path)?,
+        sources,
+    })
+}
+
+#[test]
+fn two_packages_meet(rt: HostRuntime) -> Result<(), Fail> {
+    let Some(two) = Workers::new(2) else {
+        return Err(Fail::new("no workers"));
+    };
+    let mut given = Vec::new(rt.alloc());
+    given.push(package(rt.alloc(), "a")?)?;
+    given.push(package(rt.alloc(), "b")?)?;
+    let meeting = Meeting {
+        rt: &rt,
+        passed: AtomicU64::new(0),
+        begun: AtomicU64::new(0),
+        gave_up: AtomicU64::new(0),
+    };
+    let crew = Crew {
+        rt: &rt,
+        workers: two,
+        gate: &meeting,
+    };
+    let outside = Outside {
+        packages: Vec::new(rt.alloc()),
+    };
+    let packages = load(rt.alloc(), given)?;
+    let answer = whole_report_by_workers(rt.alloc(), crew, &packages, &outside, &meeting);
+    release(packages);
+    assert_eq!(rt; answer?.text.as_slice(), b"yes a\nyes b\n".as_slice());
+    assert_eq!(rt; meeting.passed.load(Ordering::SeqCst), 2);
+    assert_eq!(rt; meeting.begun.load(Ordering::SeqCst), 2);
+    assert_eq!(rt; meeting.gave_up.load(Ordering::SeqCst), 0);
+    Ok(())
+}
+
+/// A package that hands out cancel functions.
+const GIVER: &str = "package giver
+
+import \"context\"
+
+func With(p context.Context) (context.Context, context.CancelFunc) {
+\treturn context.WithCancel(p)
+}
+";
+
+/// A cancel function that this package hands out, and that is deferred.
+const GIVEN: &str = "package given
+
+import (
+\t\"context\"
+\t\"giver\"
+)
+
+func f(p context.Context) {
+\tctx, cancel := giver.With(p)
+\tdefer cancel()
+\tuse(ctx)
+}
+";
+
+/// One that is not called.
+const DROPPED: &str = "package dropped
+
+import (
+\t\"context\"
+\t\"giver\"
+)
+
+func f(p context.Context) {
+\tctx, cancel := giver.With(p)
+\tuse(ctx)
+}
+";
+
+/// A chain of three packages, two that import each other, one above these, one that imports another one twice, one that
+/// hands out what two others use, one of which something is declared, and what is declared.
+const ENTRIES: &[(&str, FolderEntry)] = &[
+    (
+        "one",
+        FolderEntry::Package("package one\n\nimport \"two\"\n"),
+    ),
+    (
+        "two",
+        FolderEntry::Package("package two\n\nimport \"three\"\n"),
+    ),
+    ("three", FolderEntry::Package("package three\n")),
+    (
+        "turn",
+        FolderEntry::Package("package turn\n\nimport \"round\"\n"),
+    ),
+    (
+        "round",
+        FolderEntry::Package("package round\n\nimport \"turn\"\n"),
+    ),
+    (
+        "over",
+        FolderEntry::Package("package over\n\nimport \"round\"\n"),
+    ),
+    (
+        "bad",
+        FolderEntry::Package("package bad\n\nfunc f() {}\nfunc f() {}\n"),
+    ),
+    (
+        "twice",
+        FolderEntry::Package("package twice\n\nimport (\n\t\"bad\"\n\tb \"bad\"\n)\n"),
+    ),
+    ("giver", FolderEntry::Package(GIVER)),
+    ("given", FolderEntry::Package(GIVEN)),
+    ("dropped", FolderEntry::Package(DROPPED)),
+    ("notified", FolderEntry::Package(NOTIFIED)),
+    ("facts", FolderEntry::Text(NOTIFY)),
+];
+
+const PACKAGES: &str =
+    "--facts DIR/facts one=DIR/one two=DIR/two three=DIR/three turn=DIR/turn round=DIR/round \
+over=DIR/over bad=DIR/bad twice=DIR/twice given=DIR/given giver=DIR/giver dropped=DIR/dropped notified=DIR/notified";
+
+const REPORT: &str = "DIR/bad/x.go:4:6: LC15 f two functions of one name
+no bad
+DIR/dropped/x.go:11:1: LC05 cancel may not have been called at this return
+no dropped
+yes given
+yes giver
+DIR/notified/x.go:11:1: LC05 stop may not have been called at this return
+no notified
+yes one
+DIR/over/x.go:3:8: LC14 round import has no rank
+no over
+DIR/round/x.go:3:8: LC14 turn import has no rank
+no round
+yes three
+DIR/turn/x.go:3:8: LC14 round import has no rank
+no turn
+DIR/twice/x.go:4:2: LC13 bad import is not yes
+DIR/twice/x.go:5:4: LC13 bad import is not yes
+no twice
+yes two
+status 1
+";
+
+#[test]
+fn each_number_of_workers_gives_one_report(rt: HostRuntime) -> Result<(), Fail> {
+    let folder = folder_with(&rt, "together", ENTRIES)?;
+    for number in ["1", "2", "3", "64"] {
+        for command in ["check -j", "check --cert DIR/c -j"] {
+            let line = format!(in rt.alloc(); "{command} {number} {PACKAGES}")?;
+            let words = words_of(rt.alloc(), line.as_str())?;
+            let found = outcome(&rt, folder.as_str(), words.as_slice())?;
+            assert_eq!(rt; found.as_str(), REPORT);
+        }
+    }
+    Ok(fs::remove_dir_all(&rt, folder.as_str())?)
+}

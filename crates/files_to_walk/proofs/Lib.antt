@@ -1,0 +1,2 @@
+pub mod OwnGivers
+mod SkippedFiles

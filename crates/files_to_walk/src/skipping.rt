@@ -1,0 +1,220 @@
+//! Which files of a package are walked: those in which something may be found.
+
+ghost use Rattle.std.specs.Prelude.{◌≡◌, ℕ, true, false, List, IfOk, Some, map, slice_get};
+ghost use Rattle.std.specs.List.{list_any};
+ghost use Rattle.std.specs.Str.{bytes_eq};
+ghost use Rattle.calls_flags.specs.ToldFiles.{is_walked};
+ghost use Rattle.facts.specs.FactViews.{cancel_result_view, facts_by_name};
+ghost use Rattle.meaning.specs.FunctionFacts.{errgroup_path};
+ghost use Rattle.meaning.specs.OuterBlocks.{is_first_path, specs_of};
+ghost use Rattle.meaning_reports.specs.Loaded.{LoadedPackage as MeantPackage, Tables, imported_signatures, imports_of, signatures_of};
+ghost use Rattle.meaning_reports.specs.WholeFaults.{HasNoWholeFault};
+ghost use Rattle.files_to_walk.specs.Givers.{may_give};
+ghost use Rattle.files_to_walk.specs.Skipping.{declares_giver, gives_any, gives_by, has_giver, AreQuiet, IsQuiet, IsQuietIn, NamesNoMaker};
+ghost use Rattle.silent_files.specs.SilentPackages.{GiveNone};
+ghost use Rattle.silent_files.specs.WalkedFiles.{SkipsSilent};
+ghost use Rattle.tree.specs.View.{file_syntax, import_spec_syntax, import_syntax, top_level_syntax};
+ghost use Rattle.whole_packages.specs.LoadedViews.{TellsPackage};
+
+use crate::givers::Givers;
+use crate::words::{names_recover, names_telling};
+use facts::{CancelResult, Table};
+use lexer::Source;
+use names::{CONTEXT, ERRGROUP};
+use std::alloc::{AllocError, Global};
+use tree::{File, ImportDecl, ImportSpec, TopLevelDecl};
+use whole_packages::{LoadedPackage, Picks};
+
+fn gives_any(results: &[CancelResult]) -> bool
+    ensures { result ≡ gives_any (map cancel_result_view results.now) }
+{
+    !results.is_empty()
+}
+
+fn gives_by_name(table: &Table<'_>, name: &str) -> bool
+    ensures { result ≡ gives_by (facts_by_name table.now name.now) }
+{
+    match table.facts(name) {
+        Some(facts) => gives_any(&facts.gives),
+        None => false,
+    }
+}
+
+/// Whether the declaration is of a function that gives a cancel function, by the facts of its name.
+fn declares_giver(table: &Table<'_>, declaration: &TopLevelDecl) -> bool
+    ensures { result ≡ declares_giver (facts_by_name table.now) (top_level_syntax declaration.now) }
+{
+    match declaration {
+        TopLevelDecl::Func(function) => gives_by_name(table, function.name.text.as_str()),
+        TopLevelDecl::Decl(_) => false,
+    }
+}
+
+fn declare_giver(table: &Table<'_>, declarations: &[TopLevelDecl]) -> bool
+    ensures { result ≡ list_any (declares_giver (facts_by_name table.now)) (map top_level_syntax declarations.now) }
+{
+    for declaration in declarations {
+        if declares_giver(table, declaration) {
+            return true;
+        }
+    }
+    false
+}
+
+/// Whether one of the functions of these files gives a cancel function, by the facts of its name.
+pub fn gives_some(table: &Table<'_>, trees: &[File]) -> bool
+    ensures { result ≡ list_any (has_giver (facts_by_name table.now)) (map file_syntax trees.now) }
+{
+    for tree in trees {
+        if declare_giver(table, &tree.declarations) {
+            return true;
+        }
+    }
+    false
+}
+
+/// `context` and `errgroup`.
+struct Tracked;
+
+impl Picks for Tracked {
+    ghost picked = { λ all. is_first_path };
+
+    fn picks(&self, path: &str) -> bool {
+        path == CONTEXT || path == ERRGROUP
+    }
+}
+
+/// `errgroup`.
+struct Groups;
+
+impl Picks for Groups {
+    ghost picked = { λ all path. bytes_eq path errgroup_path };
+
+    fn picks(&self, path: &str) -> bool {
+        path == ERRGROUP
+    }
+}
+
+fn any_picked<P: Picks>(picked: &P, specs: &[ImportSpec]) -> bool
+    ensures { result ≡ list_any (λ s. P.picked picked.now s.path) (map import_spec_syntax specs.now) }
+{
+    for spec in specs {
+        if picked.picks(spec.path.as_str()) {
+            return true;
+        }
+    }
+    false
+}
+
+fn any_import<P: Picks>(picked: &P, declarations: &[ImportDecl]) -> bool
+    ensures { result ≡ list_any (λ s. P.picked picked.now s.path) (specs_of (map import_syntax declarations.now)) }
+{
+    for declaration in declarations {
+        if any_picked(picked, &declaration.specs) {
+            return true;
+        }
+    }
+    false
+}
+
+/// Whether a file imports one of these packages.
+fn imports_picked<P: Picks>(picked: &P, tree: &File) -> bool
+    ensures { result ≡ list_any (λ s. P.picked picked.now s.path) (imports_of (file_syntax tree.now)) }
+{
+    any_import(picked, &tree.imports)
+}
+
+/// Whether a file of that text may name a maker of cancel functions, or a type of these.
+fn may_name_makers(alloc: Global, tree: &File, source: &Source) -> Result<bool, AllocError>
+    ensures { IfOk result (λ may. may ≡ false → NamesNoMaker (file_syntax tree.now) source.now.bytes.items) }
+{
+    if imports_picked(&Tracked, tree) {
+        return names_telling(alloc, source);
+    }
+    Ok(false)
+}
+
+/// Whether nothing is to be found in a file of that text, as far as no function of its package gives a cancel function.
+fn is_quiet(
+    alloc: Global,
+    tree: &File,
+    source: &Source,
+    givers: &Givers<'_>,
+) -> Result<bool, AllocError>
+    ensures { IfOk result (λ is. is ≡ true
+        → IsQuiet (may_give givers.now) (file_syntax tree.now) source.now.bytes.items) }
+{
+    if imports_picked(&Groups, tree) {
+        return Ok(false);
+    }
+    if imports_picked(givers, tree) {
+        return Ok(false);
+    }
+    let may_name = may_name_makers(alloc, tree, source)?;
+    if may_name {
+        return Ok(false);
+    }
+    let recovers = names_recover(alloc, source)?;
+    Ok(!recovers)
+}
+
+/// Whether the file of that number has to be walked: where its text isn't there, it has.
+fn must_walk(
+    alloc: Global,
+    tree: &File,
+    sources: &[Source],
+    number: usize,
+    givers: &Givers<'_>,
+) -> Result<bool, AllocError>
+    ensures { IfOk result (λ must. must ≡ false
+        → IsQuietIn (may_give givers.now) (file_syntax tree.now) (slice_get sources.now number)) }
+{
+    match sources.get(number) {
+        Some(source) => {
+            let quiet = is_quiet(alloc, tree, source, givers)?;
+            Ok(!quiet)
+        }
+        None => Ok(true),
+    }
+}
+
+/// For each of these files of these texts, whether it has to be walked.
+fn marks_of(
+    alloc: Global,
+    trees: &[File],
+    sources: &[Source],
+    givers: &Givers<'_>,
+) -> Result<Vec<bool>, AllocError>
+    ensures { IfOk result (λ marks. AreQuiet (may_give givers.now) (map file_syntax trees.now) sources.now
+        marks.items) }
+{
+    let mut marks = Vec::new(alloc);
+    for (number, tree) in trees.iter().enumerate() {
+        marks.push(must_walk(alloc, tree, sources, number, givers)?)?;
+    }
+    Ok(marks)
+}
+
+/// A mark for each file of a package, by its number: whether it is walked. No marks, where all are.
+///
+/// # Errors
+///
+/// Memory was refused.
+pub fn walked_files(
+    alloc: Global,
+    loaded: &LoadedPackage,
+    givers: &Givers<'_>,
+    all: bool,
+) -> Result<Vec<bool>, AllocError>
+    ensures skip { IfOk result (λ walked. (ps : List MeantPackage) (tables : Tables) (i : ℕ) (p : MeantPackage)
+        → slice_get ps i ≡ Some p → TellsPackage p loaded.now → HasNoWholeFault ps i
+        → (all ≡ false → GiveNone (signatures_of ps p))
+        → ((path : List ℕ) → may_give givers.now path ≡ false → GiveNone (imported_signatures p tables path))
+        → SkipsSilent ps tables p (is_walked walked.items)) }
+    ensures all { IfOk result (λ walked. all ≡ true → (n : ℕ) → is_walked walked.items n ≡ true) }
+{
+    if all {
+        return Ok(Vec::new(alloc));
+    }
+    marks_of(alloc, &loaded.trees, &loaded.sources, givers)
+}

@@ -1,0 +1,6 @@
+mod Gathered
+mod Shared
+pub mod ImportedResults
+pub mod KnownResults
+pub mod RightResults
+pub mod RightSlots

@@ -1,0 +1,244 @@
+//! All packages, by several workers.
+
+ghost use Rattle.std.specs.Prelude.{◌≡◌, IfErr, IfOk, List, length};
+ghost use Rattle.all_packages.specs.Progress.{slots_in};
+ghost use Rattle.all_packages.specs.Reports.{AreAllCertified, AreReportsBy};
+ghost use Rattle.board.specs.Answers.{state_in};
+ghost use Rattle.declared_tables.specs.DeclaredTables.{declared_tables};
+ghost use Rattle.imports.specs.Ranks.{IsOrder};
+ghost use Rattle.imports.specs.Settling.{given_imports};
+ghost use Rattle.imports.specs.Views.{packages_view, rank_of, ranked_of, rows_view};
+ghost use Rattle.meaning_reports.specs.Loaded.{LoadedPackage as MeantPackage};
+ghost use Rattle.outside_json.specs.Outside.{packages_of};
+ghost use Rattle.package_workers.specs.Faults.{IsFaultOf, TellsFault, fault_by};
+ghost use Rattle.package_workers.specs.Naming.{Names};
+ghost use Rattle.package_workers.specs.Slots.{MayBeKept};
+ghost use Rattle.whole_packages.specs.LoadedViews.{HaveDistinctPaths, TellPackages};
+ghost use Rattle.workers.specs.Counts.{count_of};
+
+use crate::faults::{CheckFault, fault_of};
+use crate::gates::Gate;
+use crate::judging::Judging;
+use crate::naming::Naming;
+use crate::results::PackageResult;
+use crate::shared_board::Board;
+use crate::sharing::packages_are_shared;
+use crate::threads::{ThreadWork, work_all};
+use crate::working::{Worker, until_over};
+use all_packages::{Progress, check_by, judge_left};
+use board::{Core, Outcome};
+use one_package::{FileRules, Judged, given_packages};
+use outside_json::Outside;
+use std::alloc::{AllocError, Global};
+use std::marker::Brand;
+use std::sync::{Condvar, Mutex, Wait};
+use std::thread::Threads;
+use whole_packages::LoadedPackage;
+use workers::Workers;
+
+/// Who judges: so many workers of this system, and what each passes before it judges a package.
+#[derive(Drop)]
+pub struct Crew<'c, T, G> {
+    pub rt: &'c T,
+    pub workers: Workers,
+    pub gate: &'c G,
+}
+
+/// Keeps what is said of a package in its place, unless it is held elsewhere too.
+fn keep<'a, B: Naming>(progress: &mut Progress<'a>, found: PackageResult<'a, B>)
+    ensures as_many { length (slots_in progress.new) ≡ length (slots_in progress.old) }
+    ensures kept { MayBeKept B.told (slots_in progress.old) → MayBeKept B.told (slots_in progress.new) }
+{
+    let place = found.place();
+    match found.into_judged() {
+        Some(judged) => progress.keep(place, judged),
+        None => {}
+    }
+}
+
+/// Keeps what was delivered, each in its place.
+///
+/// # Errors
+///
+/// Memory was refused.
+fn keep_all<'a, B: Naming>(
+    alloc: Global,
+    outcomes: Vec<Option<PackageResult<'a, B>>>,
+) -> Result<Progress<'a>, AllocError>
+    ensures as_many { IfOk result (λ progress. length (slots_in progress) ≡ length outcomes.entry.items) }
+    ensures kept { IfOk result (λ progress. MayBeKept B.told (slots_in progress)) }
+{
+    let mut progress = Progress::new(alloc, outcomes.len())?;
+    for outcome in outcomes {
+        match outcome {
+            Some(found) => keep(&mut progress, found),
+            None => {}
+        }
+    }
+    Ok(progress)
+}
+
+/// What is said of the packages, by a board on which nothing more is to be done.
+///
+/// # Errors
+///
+/// Memory was refused, as always where a package was given back; or else not all threads could be started.
+fn gathered<'a, B: Naming, R: FileRules>(
+    alloc: Global,
+    core: Core<'_, PackageResult<'a, B>>,
+    all_started: bool,
+    judging: &Judging<'_, 'a, R>,
+) -> Result<Vec<Judged<'a>>, CheckFault>
+    requires named { Names R.rules R.certificates judging.now B.packages B.rank B.told }
+    ensures reports { IfOk result (λ found. (ps : List MeantPackage)
+        → TellPackages ps judging.now.given.now.packages.now → HaveDistinctPaths ps
+        → AreReportsBy (R.rules judging.now.rules.now (declared_tables (packages_of judging.now.outside.now))) ps
+        judging.now.given.now.packages.now found.items) }
+    ensures certified { IfOk result (λ found. (ps : List MeantPackage)
+        → TellPackages ps judging.now.given.now.packages.now → HaveDistinctPaths ps
+        → AreAllCertified (R.rules judging.now.rules.now (declared_tables (packages_of judging.now.outside.now)))
+        (R.certificates judging.now.rules.now) ps found.items) }
+    ensures fault { TellsFault (fault_by (state_in B.packages core.entry).stopped all_started) result }
+{
+    fault_of(core.is_stopped(), all_started)?;
+    let progress = keep_all(alloc, core.into_outcomes())?;
+    let found = judge_left(alloc, judging.given, progress, judging.rules)?;
+    Ok(found)
+}
+
+/// What workers share: the board, what each passes before it judges a package, and what they judge by.
+#[derive(Drop)]
+struct Shared<'w, 'k, 'a, B: Naming, R, G> {
+    alloc: Global,
+    gate: &'w G,
+    board: &'w Board<'k, 'a, B>,
+    judging: &'w Judging<'w, 'a, R>,
+}
+
+impl<'w, 'k, 'a, B: Naming, R: FileRules, G: Gate> ThreadWork for Shared<'w, 'k, 'a, B, R, G> {
+    ghost ready = { λ shared. Names R.rules R.certificates shared.judging.now B.packages B.rank B.told };
+
+    fn work<T: Wait>(&self, rt: &T, number: usize) {
+        let worker = Worker {
+            number,
+            rt,
+            gate: self.gate,
+            board: self.board,
+        };
+        drop(until_over(self.alloc, &worker, self.judging))
+    }
+}
+
+/// Lets so many workers judge what the board has, and says whether all threads could be started. When it returns
+/// nothing more is to be done, and nobody else has the board.
+fn all_work<
+    'a,
+    B: Naming + Send + Sync,
+    R: FileRules + Send + Sync,
+    T: Threads + Wait + Sync,
+    G: Gate + Sync,
+>(
+    alloc: Global,
+    crew: &Crew<'_, T, G>,
+    board: &Board<'_, 'a, B>,
+    judging: &Judging<'_, 'a, R>,
+) -> bool
+    requires named { Names R.rules R.certificates judging.now B.packages B.rank B.told }
+{
+    let shared = Shared {
+        alloc,
+        gate: crew.gate,
+        board,
+        judging,
+    };
+    let count = crew.workers.count().min(judging.given.packages.len());
+    // That threads may share all this is proved by it.
+    packages_are_shared();
+    let all_started = work_all(crew.rt, &shared, count);
+    // The thread that asked waits once more, as a worker that gets nothing.
+    let last = Worker {
+        number: 0,
+        rt: crew.rt,
+        gate: crew.gate,
+        board,
+    };
+    drop(until_over(alloc, &last, judging));
+    all_started
+}
+
+/// Judges the packages that `B` names, by so many workers.
+///
+/// # Errors
+///
+/// Memory was refused, or else a thread could not be started.
+fn check_named<
+    'a,
+    B: Naming + Send + Sync,
+    R: FileRules + Send + Sync,
+    T: Threads + Wait + Sync,
+    G: Gate + Sync,
+>(
+    alloc: Global,
+    crew: &Crew<'_, T, G>,
+    judging: &Judging<'_, 'a, R>,
+) -> Result<Vec<Judged<'a>>, CheckFault>
+    requires named { Names R.rules R.certificates judging.now B.packages B.rank B.told }
+    requires rows { rows_view judging.now.given.now.imports.items
+        ≡ given_imports (packages_view judging.now.given.now.lists.items) }
+    requires order { IsOrder (packages_view judging.now.given.now.lists.items) (rank_of judging.now.given.now.order)
+        (ranked_of judging.now.given.now.order) }
+    ensures reports { IfOk result (λ found. (ps : List MeantPackage)
+        → TellPackages ps judging.now.given.now.packages.now → HaveDistinctPaths ps
+        → AreReportsBy (R.rules judging.now.rules.now (declared_tables (packages_of judging.now.outside.now))) ps
+        judging.now.given.now.packages.now found.items) }
+    ensures certified { IfOk result (λ found. (ps : List MeantPackage)
+        → TellPackages ps judging.now.given.now.packages.now → HaveDistinctPaths ps
+        → AreAllCertified (R.rules judging.now.rules.now (declared_tables (packages_of judging.now.outside.now)))
+        (R.certificates judging.now.rules.now) ps found.items) }
+{
+    let core = Core::new(alloc, &judging.given.imports, &judging.given.order)?;
+    let board: Board<'_, '_, B> = Board {
+        core: Mutex::new(core),
+        ready: Condvar::new(),
+    };
+    let all_started = all_work(alloc, crew, &board, judging);
+    let Board { core, .. } = board;
+    gathered(alloc, core.into_inner(), all_started, judging)
+}
+
+/// Judges packages of different paths, and their files by these rules, where this is declared of packages that are not
+/// given, by so many workers: what is to be said of each, in their order, what is known of its functions, and the
+/// certificates of its bodies, if the rules make some. It promises what `check_by` does. A package is judged once all
+/// that it imports was judged. One worker, or one package, starts no thread, takes no lock and passes no gate.
+///
+/// # Errors
+///
+/// Memory was refused; or else a thread could not be started, which one worker or one package does not need. Then the
+/// packages were judged by the other threads, and what these found is let go.
+pub fn check_by_workers<'a, R: FileRules + Send + Sync, T: Threads + Wait + Sync, G: Gate + Sync>(
+    alloc: Global,
+    crew: Crew<'_, T, G>,
+    packages: &'a [LoadedPackage],
+    outside: &'a Outside,
+    rules: &R,
+) -> Result<Vec<Judged<'a>>, CheckFault>
+    ensures reports { IfOk result (λ found. (ps : List MeantPackage) → TellPackages ps packages.now
+        → HaveDistinctPaths ps
+        → AreReportsBy (R.rules rules.now (declared_tables (packages_of outside.now))) ps packages.now found.items) }
+    ensures certified { IfOk result (λ found. (ps : List MeantPackage) → TellPackages ps packages.now
+        → HaveDistinctPaths ps
+        → AreAllCertified (R.rules rules.now (declared_tables (packages_of outside.now))) (R.certificates rules.now) ps
+        found.items) }
+    ensures fault { IfErr result (IsFaultOf (count_of crew.entry.workers) (length packages.now)) }
+{
+    if crew.workers.count() <= 1 || packages.len() <= 1 {
+        return Ok(check_by(alloc, packages, outside, rules)?);
+    }
+    let given = given_packages(alloc, packages, outside)?;
+    let judging = Judging {
+        given: &given,
+        outside,
+        rules,
+    };
+    check_named::<Brand, R, T, G>(alloc, &crew, &judging)
+}

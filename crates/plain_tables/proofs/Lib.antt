@@ -1,0 +1,2 @@
+mod PlainNames
+mod PlainTables

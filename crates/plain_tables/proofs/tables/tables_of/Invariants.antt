@@ -1,0 +1,7 @@
+use Rattle.std.proofs.Common.{drop}
+use Rattle.plain_tables.proofs.PlainTables.{TablesOn}
+use Rattle.plain_tables.proofs.tables.tables_of.Given as goal
+
+-- the tables of those that are left complete the tables of all
+abbrev pub invariant-loop-place : goal.invariant-loop-place
+invariant-loop-place l = TablesOn l.packages l.judged l.place (drop l.place l.judged) l.tables.items

@@ -1,0 +1,7 @@
+//! The tables of packages that were judged, as plain values: what they say of each function, in the order of the names.
+//! What is in them is said in `specs/Tables.antt`.
+#![tactic(auto)]
+
+mod tables;
+
+pub use tables::{final_tables, package_table};
