@@ -1,5 +1,5 @@
 -- Entries that are added one part after the other.
-use Rattle.std.proofs.Common.{◌≡◌, ℕ, zero, suc, ◌+◌, Bool, List, [], ◌∷◌, ◌++◌, drop, Some, sym, ap, ◌∙◌, subst, arith}
+use Rattle.std.proofs.Common.{◌≡◌, ℕ, zero, suc, ◌+◌, Bool, List, [], ◌∷◌, ◌++◌, drop, Some, Result, Ok, Err, OnOk, sym, ap, ◌∙◌, subst, arith}
 use Rattle.std.specs.Prelude.{slice_get}
 use Rattle.std.proofs.lemmas.List.{append-nil, append_assoc}
 use Rattle.std.proofs.lemmas.Option.{none-some, same_Some}
@@ -8,6 +8,11 @@ use Rattle.all_certificates.specs.CertifiedBodies.{InTurn, no_item, item_and, Ar
 use Rattle.certificate_json.specs.Certificates.{BodyEntry}
 use Rattle.meaning.specs.Uses.{Callee}
 use Rattle.meaning_packages.specs.CallsFlags.{FileWithCredits}
+
+-- what follows where there is an answer
+pub on_ok : {T E : Type 0} {P Q : Type 0} (r : Result T E) → (P → Q) → OnOk r P → OnOk r Q
+on_ok (Ok t) f h = f h
+on_ok (Err e) f h = h
 
 grown : (so_far own rest next : List BodyEntry) → next ≡ so_far ++ own → so_far ++ (own ++ rest) ≡ next ++ rest
 grown so_far own rest next is = sym (append_assoc so_far own rest) ∙ ap (λ es. es ++ rest) (sym is)

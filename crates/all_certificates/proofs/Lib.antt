@@ -1,4 +1,6 @@
 mod AddedEntries
+mod CertifiedFiles
+mod JoinedEntries
 mod AllCertified
 mod MadeCertificates
 mod RisingLists

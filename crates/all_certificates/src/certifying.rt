@@ -4,10 +4,14 @@ ghost use Rattle.std.specs.Prelude.{true};
 ghost use Rattle.all_certificates.specs.CertifiedPackages.{are_of_bodies};
 ghost use Rattle.meaning_reports.specs.PackageReports.{by_paths};
 
-use crate::files::entries_of_files;
+use crate::files::{entries_of_files, entries_with};
 use calls_flags::KnownCalls;
-use one_package::{Around, FileRules, FoundFiles, JudgedBodies, ToldPackage, judge_bodies};
+use one_package::{Alone, Around, FileRules, FoundFiles, JudgedBodies, ToldPackage, judge_bodies};
+use package_pieces::{ByHelpers, PieceRules};
+use pieces::{Free, Helpers, PieceFault};
 use std::alloc::{AllocError, Global};
+use std::sync::Wait;
+use std::thread::Threads;
 use whole_packages::LoadedPackage;
 
 /// Files are judged by the paths of their bodies. Each body gets its least certificate while it is there, also where
@@ -33,7 +37,7 @@ impl FileRules for Certifying {
             files,
             diagnostics,
             called,
-        } = judge_bodies(alloc, told, around)?;
+        } = judge_bodies(alloc, &Alone, told, around)?;
         let calls = KnownCalls {
             own: &called,
             imported: around.calls,
@@ -51,4 +55,30 @@ impl FileRules for Certifying {
     }
 
     fn are_determined(&self) {}
+}
+
+impl PieceRules for Certifying {
+    fn find_with<'a, R: Threads + Wait>(
+        &self,
+        alloc: Global,
+        helpers: &Helpers<'_, R, Free>,
+        told: &ToldPackage<'a>,
+        around: Around<'_, 'a>,
+    ) -> Result<FoundFiles<'a>, PieceFault> {
+        let JudgedBodies {
+            files,
+            diagnostics,
+            called,
+        } = judge_bodies(alloc, &ByHelpers { helpers }, told, around)?;
+        let calls = KnownCalls {
+            own: &called,
+            imported: around.calls,
+        };
+        let certificates = entries_with(alloc, helpers, calls, &files)?;
+        Ok(FoundFiles {
+            diagnostics,
+            called,
+            certificates,
+        })
+    }
 }

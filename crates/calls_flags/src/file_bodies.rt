@@ -42,7 +42,11 @@ pub fn told_bodies<'e, 'a>(
 }
 
 /// The file of that number with its bodies and credits.
-fn bodies_of_file<'e, 'a>(
+///
+/// # Errors
+///
+/// Memory was refused.
+pub fn bodies_of_file<'e, 'a>(
     alloc: Global,
     number: usize,
     file: &'e ToldFile<'a>,

@@ -2,16 +2,24 @@
 
 use crate::real_folders::folder_with;
 use crate::runs::{outcome, words_of};
+use calls_flags::{KnownCalls, find_called};
 use evidence_rows::FolderEntry;
 use evidence_rows::declared_facts::{NOTIFIED, NOTIFY};
 use lexer::Source;
 use load::{GivenPackage, load, release};
-use one_package::{Around, ByPaths, FileRules, FoundFiles, ToldPackage};
+use one_package::{
+    Around, ByPaths, FileRules, FoundFiles, Given, KnownImports, ToldPackage, around,
+    given_packages, told_of,
+};
 use outside_json::Outside;
+use package_pieces::{PieceRules, build_all, solve_all};
 use package_workers::{Crew, Gate, whole_report_by_workers};
+use pieces::{BodyGate, Free, Helpers, PieceFault};
 use std::alloc::{AllocError, Global};
+use std::sync::Wait;
 use std::sync::atomic::{AtomicU64, Ordering};
 use std::test::Fail;
+use std::thread::Threads;
 use std::time::{Clock, Duration};
 use std::{fs, thread};
 use whole_packages::LoadedPackage;
@@ -21,13 +29,27 @@ use workers::Workers;
 const MOST_TURNS: u32 = 10_000;
 
 /// Judges by paths, and is what workers pass before that. At each of the two it counts the packages, and goes on with
-/// the first only once a second one came there: so whoever waits there has nothing that the other worker waits for.
+/// the first only once a second one came there: so whoever waits there has nothing that the other worker waits for. It
+/// is what helpers pass before a piece, too, and counts these with the packages that come to it.
 #[derive(Drop)]
 struct Meeting<'r, R> {
     rt: &'r R,
     passed: AtomicU64,
     begun: AtomicU64,
+    helpers: AtomicU64,
     gave_up: AtomicU64,
+}
+
+impl<'r, R> Meeting<'r, R> {
+    fn new(rt: &'r R) -> Self {
+        Meeting {
+            rt,
+            passed: AtomicU64::new(0),
+            begun: AtomicU64::new(0),
+            helpers: AtomicU64::new(0),
+            gave_up: AtomicU64::new(0),
+        }
+    }
 }
 
 impl<'r, R: Clock> Meeting<'r, R> {
@@ -48,6 +70,12 @@ impl<'r, R: Clock> Meeting<'r, R> {
 
 impl<'r, R: Clock> Gate for Meeting<'r, R> {
     fn enter(&self, _place: usize) {
+        self.meet(&self.passed);
+    }
+}
+
+impl<'r, R: Clock> BodyGate for Meeting<'r, R> {
+    fn enter(&self, _piece: usize) {
         self.meet(&self.passed);
     }
 }
@@ -83,15 +111,32 @@ impl<'r, R: Clock> FileRules for Meeting<'r, R> {
     }
 }
 
-/// A package of this path with one file.
-fn package(alloc: Global, path: &str) -> Result<GivenPackage, AllocError> {
-    let mut bytes = Vec::new(alloc);
-    bytes.extend_from_slice(b"package a\n\nfunc f() {}\n")?;
+impl<'r, R: Clock> PieceRules for Meeting<'r, R> {
+    fn find_with<'a, T: Threads + Wait>(
+        &self,
+        alloc: Global,
+        helpers: &Helpers<'_, T, Free>,
+        told: &ToldPackage<'a>,
+        around: Around<'_, 'a>,
+    ) -> Result<FoundFiles<'a>, PieceFault> {
+        self.meet(&self.begun);
+        let count = helpers.count.count() as u64;
+        self.helpers.fetch_add(count, Ordering::SeqCst);
+        ByPaths.find_with(alloc, helpers, told, around)
+    }
+}
+
+/// A package of this path with a file of each of these texts.
+fn package(alloc: Global, path: &str, texts: &[&str]) -> Result<GivenPackage, AllocError> {
     let mut sources = Vec::new(alloc);
-    sources.push(Source {
-        name: String::from_str(alloc, "x.go")?,
-        bytes,
-    })?;
+    for text in texts {
+        let mut bytes = Vec::new(alloc);
+        bytes.extend_from_slice(text.as_bytes())?;
+        sources.push(Source {
+            name: String::from_str(alloc, "x.go")?,
+            bytes,
+        })?;
+    }
     Ok(GivenPackage {
         path: String::from_str(alloc, path)?,
         sources,
@@ -100,21 +145,17 @@ fn package(alloc: Global, path: &str) -> Result<GivenPackage, AllocError> {
 
 #[test]
 fn two_packages_meet(rt: HostRuntime) -> Result<(), Fail> {
-    let Some(two) = Workers::new(2) else {
+    let Some(five) = Workers::new(5) else {
         return Err(Fail::new("no workers"));
     };
     let mut given = Vec::new(rt.alloc());
-    given.push(package(rt.alloc(), "a")?)?;
-    given.push(package(rt.alloc(), "b")?)?;
-    let meeting = Meeting {
-        rt: &rt,
-        passed: AtomicU64::new(0),
-        begun: AtomicU64::new(0),
-        gave_up: AtomicU64::new(0),
-    };
+    let text = "package a\n\nfunc f() {}\n";
+    given.push(package(rt.alloc(), "a", &[text])?)?;
+    given.push(package(rt.alloc(), "b", &[text])?)?;
+    let meeting = Meeting::new(&rt);
     let crew = Crew {
         rt: &rt,
-        workers: two,
+        workers: five,
         gate: &meeting,
     };
     let outside = Outside {
@@ -127,6 +168,103 @@ fn two_packages_meet(rt: HostRuntime) -> Result<(), Fail> {
     assert_eq!(rt; meeting.passed.load(Ordering::SeqCst), 2);
     assert_eq!(rt; meeting.begun.load(Ordering::SeqCst), 2);
     assert_eq!(rt; meeting.gave_up.load(Ordering::SeqCst), 0);
+    // Two packages share five workers: each has two helpers.
+    assert_eq!(rt; meeting.helpers.load(Ordering::SeqCst), 4);
+    Ok(())
+}
+
+/// Two files of one package, each with a body in which a cancel function is not called.
+const OPEN: &[&str] = &[
+    "package a\n\nimport \"context\"\n\nfunc f(p context.Context) {\n\t_, c := context.WithCancel(p)\n}\n",
+    "package a\n\nimport \"context\"\n\nfunc ff(p context.Context) {\n\t_, c := context.WithCancel(p)\n}\n",
+];
+
+/// Where something is to be said of a package of which this was told: files, and offsets in them. These helpers make
+/// its bodies, and those solve them.
+fn solved_in<'a, R: Threads + Wait, G: BodyGate + Sync>(
+    alloc: Global,
+    builders: &Helpers<'_, R, G>,
+    solvers: &Helpers<'_, R, G>,
+    told: &ToldPackage<'a>,
+    imports: &KnownImports<'a, '_>,
+) -> Option<Vec<(usize, u32)>> {
+    let made = build_all(alloc, builders, &told.files).ok()?;
+    let called = find_called(alloc, &told.signatures, &made, &imports.calls).ok()?;
+    let calls = KnownCalls {
+        own: &called,
+        imported: &imports.calls,
+    };
+    let found = solve_all(alloc, solvers, &made, calls).ok()?;
+    let mut places = Vec::new(alloc);
+    for one in &found {
+        places.push((one.file, one.offset)).ok()?;
+    }
+    Some(places)
+}
+
+/// The same of this package, which imports nothing.
+fn solved_alone<'a, R: Threads + Wait, G: BodyGate + Sync>(
+    alloc: Global,
+    builders: &Helpers<'_, R, G>,
+    solvers: &Helpers<'_, R, G>,
+    given: &Given<'a>,
+    package: &'a LoadedPackage,
+) -> Option<Vec<(usize, u32)>> {
+    let imports = KnownImports::new(alloc);
+    let told = told_of(alloc, package, around(given, &imports)).ok()??;
+    solved_in(alloc, builders, solvers, &told, &imports)
+}
+
+/// The same of the first of these packages.
+fn solved<R: Threads + Wait, G: BodyGate + Sync>(
+    alloc: Global,
+    builders: &Helpers<'_, R, G>,
+    solvers: &Helpers<'_, R, G>,
+    packages: &[LoadedPackage],
+) -> Option<Vec<(usize, u32)>> {
+    let outside = Outside {
+        packages: Vec::new(alloc),
+    };
+    let given = given_packages(alloc, packages, &outside).ok()?;
+    solved_alone(alloc, builders, solvers, &given, packages.first()?)
+}
+
+#[test]
+fn helpers_of_one_package_meet(rt: HostRuntime) -> Result<(), Fail> {
+    let Some(two) = Workers::new(2) else {
+        return Err(Fail::new("no workers"));
+    };
+    let (builds, solves) = (Meeting::new(&rt), Meeting::new(&rt));
+    let builders = Helpers {
+        rt: &rt,
+        count: two,
+        gate: &builds,
+    };
+    let solvers = Helpers {
+        rt: &rt,
+        count: two,
+        gate: &solves,
+    };
+    let alone = Helpers {
+        rt: &rt,
+        count: Workers::one(),
+        gate: &Free,
+    };
+    let mut given = Vec::new(rt.alloc());
+    given.push(package(rt.alloc(), "a", OPEN)?)?;
+    let packages = load(rt.alloc(), given)?;
+    let by_two = solved(rt.alloc(), &builders, &solvers, &packages);
+    let by_one = solved(rt.alloc(), &alone, &alone, &packages);
+    release(packages);
+    let (Some(by_two), Some(by_one)) = (by_two, by_one) else {
+        return Err(Fail::new("nothing was solved"));
+    };
+    assert_eq!(rt; by_two.as_slice(), [(0, 88), (1, 89)].as_slice());
+    assert_eq!(rt; by_one.as_slice(), [(0, 88), (1, 89)].as_slice());
+    for gate in [&builds, &solves] {
+        assert_eq!(rt; gate.passed.load(Ordering::SeqCst), 2);
+        assert_eq!(rt; gate.gave_up.load(Ordering::SeqCst), 0);
+    }
     Ok(())
 }
 

@@ -64,7 +64,7 @@ fn told_check_fault(fault: CheckFault) -> Fault
 /// # Errors
 ///
 /// As `report_of`; after these faults, something is declared of a package that is given; after that, a thread that
-/// should judge packages can't be started. One worker, or one package, needs none.
+/// should judge packages can't be started. One worker needs none.
 pub fn report_by<R: AllocGlobal + Threads + Wait + Sync, L: Leave>(
     rt: &R,
     given: Vec<GivenPackage>,

@@ -125,8 +125,12 @@ fn add_bodies<'a>(
     Ok(())
 }
 
-/// Adds what is to be said of the file of that number.
-fn add_file<'a>(
+/// Adds what is to be said of the file of that number, by what is known of functions.
+///
+/// # Errors
+///
+/// Memory was refused.
+pub fn add_file<'a>(
     alloc: Global,
     number: usize,
     file: &FileBodies<'_, 'a>,

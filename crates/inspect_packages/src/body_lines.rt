@@ -41,8 +41,8 @@ fn push_header(text: &mut String, source: &Source, body: BodyPlace<'_>) -> Resul
     let at = place_of(source, body.at);
     write!(text, "{}:{}:{} ", source.name, at.line, at.column)?;
     match (body.name, body.receiver) {
-        (Some(name), None) => write!(text, "function {}\n", name.text)?,
-        (Some(name), Some(_)) => write!(text, "method {}\n", name.text)?,
+        (Some(name), None) => write!(text, "function {}\n", name.text.as_str())?,
+        (Some(name), Some(_)) => write!(text, "method {}\n", name.text.as_str())?,
         _ => text.push_str("literal\n")?,
     }
     Ok(())

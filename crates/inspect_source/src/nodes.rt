@@ -9,7 +9,7 @@ use tree::{
 /// `Identifier` and its text.
 pub fn identifier(lines: &mut Lines, slot: Slot, name: &Identifier) {
     lines.node(slot, name.span, "Identifier");
-    lines.word(&name.text);
+    lines.word(name.text.as_str());
 }
 
 pub fn optional_identifier(lines: &mut Lines, slot: Slot, name: &Option<Identifier>) {
@@ -70,7 +70,7 @@ fn expression_form(kind: &ExprKind) -> &'static str {
 #[cycle(nodes)]
 fn parts_of_expression(lines: &mut Lines, slot: Slot, kind: &ExprKind) {
     match kind {
-        ExprKind::Name(text) => lines.word(text),
+        ExprKind::Name(text) => lines.word(text.as_str()),
         ExprKind::BasicLit(kind) => lines.literal_kind(*kind),
         ExprKind::FuncLit(literal) => {
             result_brackets(lines, &literal.signature);

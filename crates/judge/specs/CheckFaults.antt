@@ -11,12 +11,12 @@ use Rattle.outside_json.specs.Outside.{PackageEntry}
 use Rattle.package_workers.specs.declared.faults.CheckFault.{CheckFault as WorkersFault}
 use Rattle.package_workers.specs.declared.faults.CheckFault.TheVariants as workers
 
--- the packages are loaded, nothing is declared of any of them, and several workers judge several of them
+-- the packages are loaded, nothing is declared of any of them, and several workers judge them
 pub record NeedThreads (outside : List PackageEntry) (given : List GivenPackage) (workers : ℕ) : Type 0 where
   pub loaded : Loaded
   pub load : IsLoadBeside given outside loaded
   pub are_workers : 1 < workers
-  pub are_packages : 1 < length loaded.packages.items
+  pub are_packages : 0 < length loaded.packages.items
 
 -- the fault where so many workers judge them
 abbrev pub IsCheckFault : List PackageEntry → List GivenPackage → ℕ → CheckFault → Type 0

@@ -77,8 +77,8 @@ pub fn report_of(
 ///
 /// # Errors
 ///
-/// As `report_of`; once the packages are loaded, a thread that should judge some of them can't be started. One worker,
-/// or one package, needs none.
+/// As `report_of`; once the packages are loaded, a thread that should judge them, or help to, can't be started. One
+/// worker needs none.
 pub fn report_by<R: Threads + Wait + Sync, L: Leave>(
     rt: &R,
     alloc: Global,

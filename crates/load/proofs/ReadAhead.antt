@@ -1,16 +1,15 @@
--- The trees of files that were read ahead.
+-- Files that were read ahead.
 use Rattle.std.proofs.Common.{◌≡◌, List, [], ◌∷◌, Option, map, Result, Ok, IfOk, subst}
 use Rattle.std.specs.Borrow.{Bor}
 use Rattle.lexer.specs.declared.source.Source.{Source}
-use Rattle.tree.specs.declared.file.File.{File}
 use Rattle.workers.specs.Outcomes.{AreOutcomes}
 use Rattle.load.specs.Ahead.{AreReadAhead}
-use Rattle.load.specs.Readings.{HasTree}
+use Rattle.load.specs.Readings.{IsParsed, Parsed}
 
 -- what came of the files is what was read ahead of them
-pub of_outcomes : (files : List (Bor Source)) (trees : List (Option File))
-    → AreOutcomes (λ file tree. HasTree file.now tree) files trees
-    → AreReadAhead (map (λ file. file.now) files) trees
+pub of_outcomes : (files : List (Bor Source)) (read : List (Option Parsed))
+    → AreOutcomes (λ file parsed. IsParsed file.now parsed) files read
+    → AreReadAhead (map (λ file. file.now) files) read
 of_outcomes [] [] are = tt
 of_outcomes [] (t ∷ ts) are = absurd are
 of_outcomes (f ∷ fs) [] are = absurd are

@@ -100,10 +100,6 @@ trees_of (Err reading) = []
 abbrev pub IsParsed : Source → Parsed → Type 0
 IsParsed source parsed = IsKeptWith source.bytes.items (reading_of parsed) (trees_of parsed)
 
--- this is the tree of the file
-abbrev pub HasTree : Source → File → Type 0
-HasTree source tree = IsTreeOf source.bytes.items (file_syntax tree)
-
 abbrev pub fault_of_form : LeftOut → TreeFault
 fault_of_form form.TypeParameters = TypeParameters
 fault_of_form form.Goto = Goto

@@ -4,7 +4,7 @@ ghost use Rattle.std.specs.Prelude.{◌≡◌, ◌++◌, ◌∷◌, List, IfOk, 
 ghost use Rattle.std.specs.Vec.Iter.{into_iter_items};
 ghost use Rattle.lexer.specs.declared.source.Source.{Source};
 ghost use Rattle.load.specs.Ahead.{files_of, AreReadAhead};
-ghost use Rattle.load.specs.Readings.{HasTree, IsParsed};
+ghost use Rattle.load.specs.Readings.{IsParsed};
 
 use crate::packages::GivenPackage;
 use crate::source::{Parsed, read_source};
@@ -12,34 +12,32 @@ use lexer::Source;
 use std::alloc::{AllocError, Global};
 use std::thread::Threads;
 use std::vec::IntoIter;
-use tree::File;
 use tree_work::trees_of;
 use workers::{Work, Workers};
 
-/// The trees of files that were read ahead, in the order of the files. Of some there may be none.
-pub type Ahead = IntoIter<Option<File>>;
+/// What became of files that were read ahead, in their order. Of some it may not be known.
+pub type Ahead = IntoIter<Option<Parsed>>;
 
-/// The reading of files, as work that threads share. What comes of a file is its tree.
+/// The reading of files, as work that threads share.
 #[derive(Clone, Copy)]
 struct ReadFiles {
     alloc: Global,
 }
 
-impl<'a> Work<&'a Source, File> for ReadFiles {
-    ghost is_outcome = { λ _ file tree. HasTree file.now tree };
+impl<'a> Work<&'a Source, Parsed> for ReadFiles {
+    ghost is_outcome = { λ _ file parsed. IsParsed file.now parsed };
 
-    fn outcome(&self, file: &&'a Source) -> Option<File> {
-        tree_of(self.alloc, *file)
+    fn outcome(&self, file: &&'a Source) -> Option<Parsed> {
+        parsed_of(self.alloc, *file)
     }
 }
 
-/// The tree of the file, if it has one and there is memory.
-fn tree_of(alloc: Global, source: &Source) -> Option<File>
-    ensures { IfSome result (HasTree source.now) }
+/// What becomes of the file, if there is memory.
+fn parsed_of(alloc: Global, source: &Source) -> Option<Parsed>
+    ensures { IfSome result (IsParsed source.now) }
 {
     match read_source(alloc, source) {
-        Ok(Ok(tree)) => Some(tree),
-        Ok(Err(_)) => None,
+        Ok(parsed) => Some(parsed),
         Err(_) => None,
     }
 }
@@ -73,7 +71,7 @@ pub fn nothing_ahead(alloc: Global, packages: &[GivenPackage]) -> Ahead
     Vec::new(alloc).into_iter()
 }
 
-/// The trees of the files of all packages, which so many threads read. One worker reads nothing ahead.
+/// What becomes of the files of all packages, which so many threads read. One worker reads nothing ahead.
 ///
 /// # Errors
 ///
@@ -90,11 +88,11 @@ pub fn read_ahead<R: Threads + Sync>(
         return Ok(nothing_ahead(alloc, packages));
     }
     let files = files_of(alloc, packages)?;
-    let trees = trees_of(rt, alloc, &files, workers, &ReadFiles { alloc })?;
-    Ok(trees.into_iter())
+    let parsed = trees_of(rt, alloc, &files, workers, &ReadFiles { alloc })?;
+    Ok(parsed.into_iter())
 }
 
-/// What becomes of the next file, which is read here if its tree was not read ahead.
+/// What becomes of the next file, which is read here if it was not read ahead.
 ///
 /// # Errors
 ///
@@ -106,7 +104,7 @@ pub fn next_parsed(alloc: Global, source: &Source, ahead: &mut Ahead) -> Result<
         → AreReadAhead after (into_iter_items ahead.new) }
 {
     match ahead.next() {
-        Some(Some(tree)) => Ok(Ok(tree)),
+        Some(Some(parsed)) => Ok(parsed),
         Some(None) => read_source(alloc, source),
         None => read_source(alloc, source),
     }

@@ -1,10 +1,9 @@
 -- Expressions that are no names.
-use Rattle.std.proofs.Common.{◌≡◌, true, false, true≢false, List, [], ◌∷◌, length, refl, sym, ap, ◌∙◌, None}
+use Rattle.std.proofs.Common.{◌≡◌, ℕ, true, false, true≢false, List, [], ◌∷◌, length, refl, sym, ap, ◌∙◌, None}
 use Rattle.std.specs.Prelude.{◌==◌}
 use Rattle.std.proofs.Math.Dec.{eqb-suc-zero}
 use Rattle.std.specs.declared.alloc.Global.{Global}
 use Rattle.std.specs.declared.boxed.Box.{Box}
-use Rattle.std.specs.declared.string.String.{String}
 use Rattle.std.specs.declared.vec.Vec.{Vec}
 use Rattle.tree.specs.declared.expression.Expr.{Expr}
 use Rattle.tree.specs.declared.expression.ExprKind.{ExprKind, Name, Selector, Selector', Paren, Paren', Star, Star', CompositeLit, CompositeLit', FuncLit', roll-ExprKind, roll-out-ExprKind}
@@ -18,14 +17,14 @@ use Rattle.tree.specs.View.{expression_form, expression_syntax, expressions_synt
 use Rattle.tree.proofs.Views.{expression_form-CompositeLit}
 use Rattle.meaning.specs.Mentions.{as_bare, as_named, as_bracketed, as_pointer, as_new_literal, without_brackets}
 
-pub bare_other : (k : ExprKind) (span : Span) → ((text : String Global) → k ≡ Name text → ⊥)
+pub bare_other : (k : ExprKind) (span : Span) → ((text : List ℕ) → k ≡ Name text → ⊥)
     → None ≡ as_bare (expression_node (expression_form k) span)
 unfolding expression_form
 bare_other (Name text) span not = absurd (not text refl)
 bare_other (FuncLit' p (Literal' ps_shape ps rs_shape rs brackets body)) span not = refl
 bare_other _ span not = refl
 
-pub named_other : (k : ExprKind) (span : Span) → ((text : String Global) → k ≡ Name text → ⊥)
+pub named_other : (k : ExprKind) (span : Span) → ((text : List ℕ) → k ≡ Name text → ⊥)
     → ((e : Box Expr Global) (n : KeptIdentifier) → k ≡ Selector e n → ⊥)
     → None ≡ as_named (expression_node (expression_form k) span)
 unfolding expression_form

@@ -19,3 +19,4 @@ pub use meanings::{NameFault, NameMeaning};
 pub use package_block::{INIT, can_be_meant};
 pub use package_names::PackageNames;
 pub use resolution::{Names, names_of, resolve};
+pub use second::second_function;

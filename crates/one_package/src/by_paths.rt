@@ -9,10 +9,10 @@ ghost use Rattle.meaning_reports.specs.PackageReports.{by_paths};
 ghost use Rattle.meaning_reports.specs.WholeFaults.{HasNoWholeFault};
 
 use crate::file_rules::{FileRules, FoundFiles};
+use crate::hands::{Alone, Hands};
 use crate::judged::Around;
 use crate::told_package::{PackageBodies, ToldPackage, package_bodies};
 use calls_flags::{Called, FileBodies, KnownCalls};
-use findings::find_faults;
 use report::Diagnostic;
 use std::alloc::{AllocError, Global};
 use whole_packages::LoadedPackage;
@@ -30,24 +30,25 @@ pub struct JudgedBodies<'e, 'a> {
 ///
 /// # Errors
 ///
-/// Memory was refused.
-pub fn judge_bodies<'e, 'a>(
+/// Memory was refused, or what else keeps these hands from it.
+pub fn judge_bodies<'e, 'a, H: Hands>(
     alloc: Global,
+    hands: &H,
     told: &'e ToldPackage<'a>,
     around: Around<'_, 'a>,
-) -> Result<JudgedBodies<'e, 'a>, AllocError>
+) -> Result<JudgedBodies<'e, 'a>, H::Fault>
     ensures { IfOk result (λ bodies. (ps : List MeantPackage) (tables : Tables) (i : ℕ) (p : MeantPackage)
         (all : Bool) (is : IsToldPackage ps tables p all told.now)
         → slice_get ps i ≡ Some p → TellsAround ps tables p around.entry
         → HasNoWholeFault ps i
         → AreJudgedBodies ps tables i p is.walked bodies) }
 {
-    let PackageBodies { files, called } = package_bodies(alloc, told, around.calls)?;
+    let PackageBodies { files, called } = package_bodies(alloc, hands, told, around.calls)?;
     let calls = KnownCalls {
         own: &called,
         imported: around.calls,
     };
-    let diagnostics = find_faults(alloc, &files, calls)?;
+    let diagnostics = hands.faults(alloc, &files, calls)?;
     Ok(JudgedBodies {
         files,
         diagnostics,
@@ -77,7 +78,7 @@ impl FileRules for ByPaths {
             diagnostics,
             called,
             ..
-        } = judge_bodies(alloc, told, around)?;
+        } = judge_bodies(alloc, &Alone, told, around)?;
         Ok(FoundFiles {
             diagnostics,
             called,

@@ -4,14 +4,13 @@ ghost use Rattle.std.specs.Prelude.{◌≡◌, ℕ, Bool, List, IfOk, None, Some
 ghost use Rattle.one_package.specs.Judgments.{TellsAround};
 ghost use Rattle.one_package.specs.ToldPackages.{IsToldIf, AreGrounds, AreMarkedGrounds};
 ghost use Rattle.meaning.specs.TwoFunctions.{second_function};
-ghost use Rattle.meaning_reports.specs.Loaded.{LoadedPackage as MeantPackage, Tables, means_in, trees_of};
-ghost use Rattle.names.specs.Answers.{declared_at};
+ghost use Rattle.meaning_reports.specs.Loaded.{LoadedPackage as MeantPackage, Tables, trees_of};
 ghost use Rattle.whole_packages.specs.LoadedViews.{TellsPackage};
 ghost use Rattle.whole_packages.specs.WholeEntries.{second_view};
 
 use crate::judged::Around;
 use crate::told_package::{ToldPackage, tell_package};
-use names::{NameFault, Names, resolve};
+use names::{names_of, second_function};
 use report::Diagnostic;
 use std::alloc::{AllocError, Global};
 use whole_packages::{LoadedPackage, Second, whole_faults};
@@ -25,17 +24,16 @@ pub enum Grounds<'a> {
     Told(ToldPackage<'a>),
 }
 
-/// What a package is judged by in which no function has the name of another, and the uses mean this.
+/// What a package is judged by in which no function has the name of another. What its names mean is asked only where it
+/// has no fault as a whole.
 fn named_grounds<'a>(
     alloc: Global,
     loaded: &'a LoadedPackage,
-    names: &Names<'a>,
     around: Around<'_, 'a>,
     tells_all: bool,
 ) -> Result<Grounds<'a>, AllocError>
     ensures grounds { IfOk result (λ grounds. (ps : List MeantPackage) (tables : Tables) (i : ℕ) (p : MeantPackage)
         → slice_get ps i ≡ Some p → TellsPackage p loaded.now → TellsAround ps tables p around.entry
-        → ((file at : ℕ) → declared_at names.now file at ≡ means_in ps p file at)
         → second_function (trees_of p) ≡ None
         → AreGrounds ps tables i p tells_all grounds) }
     ensures marked { IfOk result AreMarkedGrounds }
@@ -44,7 +42,8 @@ fn named_grounds<'a>(
     if !faults.is_empty() {
         return Ok(Grounds::WholeFaults(faults));
     }
-    let told = tell_package(alloc, loaded, names, around, tells_all)?;
+    let names = names_of(alloc, &loaded.trees, around.names)?;
+    let told = tell_package(alloc, loaded, &names, around, tells_all)?;
     Ok(Grounds::Told(told))
 }
 
@@ -82,12 +81,9 @@ pub fn find_grounds<'a>(
         → AreGrounds ps tables i p tells_all grounds) }
     ensures marked { IfOk result AreMarkedGrounds }
 {
-    match resolve(alloc, &loaded.trees, around.names) {
-        Ok(names) => named_grounds(alloc, loaded, &names, around, tells_all),
-        Err(NameFault::TwoFunctions(tree, name)) => {
-            second_grounds(alloc, loaded, Second { tree, name }, around)
-        }
-        Err(NameFault::Memory) => Err(AllocError),
+    match second_function(alloc, &loaded.trees)? {
+        Some((tree, name)) => second_grounds(alloc, loaded, Second { tree, name }, around),
+        None => named_grounds(alloc, loaded, around, tells_all),
     }
 }
 

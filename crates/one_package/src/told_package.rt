@@ -9,10 +9,9 @@ ghost use Rattle.names.specs.Answers.{declared_at};
 ghost use Rattle.meaning_reports.specs.WholeFaults.{HasNoWholeFault};
 ghost use Rattle.meaning_reports.specs.Loaded.{LoadedPackage as MeantPackage, Tables, imported_flags, means_in};
 
+use crate::hands::Hands;
 use crate::judged::Around;
-use calls_flags::{
-    Called, FileBodies, ImportedCalls, ToldFile, bodies_of_files, find_called, tell_files,
-};
+use calls_flags::{Called, FileBodies, ImportedCalls, ToldFile, tell_files};
 use facts::{Table, signatures};
 use files_to_walk::{gives_some, walked_files};
 use names::Names;
@@ -88,18 +87,19 @@ pub fn tell_package<'a>(
 ///
 /// # Errors
 ///
-/// Memory was refused.
-pub fn package_bodies<'e, 'a>(
+/// Memory was refused, or what else keeps these hands from it.
+pub fn package_bodies<'e, 'a, H: Hands>(
     alloc: Global,
+    hands: &H,
     told: &'e ToldPackage<'a>,
     imported: &ImportedCalls<'a, '_>,
-) -> Result<PackageBodies<'e, 'a>, AllocError>
+) -> Result<PackageBodies<'e, 'a>, H::Fault>
     ensures { IfOk result (λ bodies. (ps : List MeantPackage) (tables : Tables) (p : MeantPackage) (all : Bool)
         (is : IsToldPackage ps tables p all told.now)
         → ((path name : List ℕ) (k : ℕ) → flags_by_path imported.now path name k ≡ imported_flags p tables path name k)
         → HasPackageBodies ps tables p is.walked bodies) }
 {
-    let files = bodies_of_files(alloc, &told.files)?;
-    let called = find_called(alloc, &told.signatures, &files, imported)?;
+    let files = hands.bodies(alloc, &told.files)?;
+    let called = hands.called(alloc, &told.signatures, &files, imported)?;
     Ok(PackageBodies { files, called })
 }

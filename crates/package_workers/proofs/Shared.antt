@@ -14,6 +14,7 @@ use Rattle.imports.proofs.ranks.Order.TheSendSync as order
 use Rattle.names.proofs.package_names.PackageNames.TheSendSync as names
 use Rattle.declared_tables.proofs.tables.DeclaredTables.TheSendSync as tables
 use Rattle.outside_json.proofs.outside.Outside.TheSendSync as outside
+use Rattle.workers.proofs.count.Workers.TheSendSync as count
 use Rattle.whole_packages.specs.contracts.loaded_package.LoadedPackage as loaded
 use Rattle.one_package.specs.contracts.given.Given as given
 use Rattle.package_workers.specs.contracts.checking.Shared as shared
@@ -60,5 +61,5 @@ all_shared κ ι μ B R G names r gate p =
     let known : IsSync (judging.the_row κ μ R) = judging_shared R κ μ r p in
     declared_sync (shared.the_type κ ι μ B R G names) (
       search (sendable, alloc.the_sync),
-      (search (sendable, gate), (search (sendable, board.the_sync), (search (sendable, known), tt))),
+      (search (sendable, gate), (search (sendable, board.the_sync), (search (sendable, known), (search (sendable, count.the_sync), tt)))),
     )

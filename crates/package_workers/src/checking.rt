@@ -1,6 +1,6 @@
 //! All packages, by several workers.
 
-ghost use Rattle.std.specs.Prelude.{◌≡◌, IfErr, IfOk, List, length};
+ghost use Rattle.std.specs.Prelude.{◌≡◌, ◌/◌, ◌≤◌, IfErr, IfOk, List, length, max};
 ghost use Rattle.all_packages.specs.Progress.{slots_in};
 ghost use Rattle.all_packages.specs.Reports.{AreAllCertified, AreReportsBy};
 ghost use Rattle.board.specs.Answers.{state_in};
@@ -16,7 +16,7 @@ ghost use Rattle.package_workers.specs.Slots.{MayBeKept};
 ghost use Rattle.whole_packages.specs.LoadedViews.{HaveDistinctPaths, TellPackages};
 ghost use Rattle.workers.specs.Counts.{count_of};
 
-use crate::faults::{CheckFault, fault_of};
+use crate::faults::{CheckFault, Ended, fault_of};
 use crate::gates::Gate;
 use crate::judging::Judging;
 use crate::naming::Naming;
@@ -29,8 +29,11 @@ use all_packages::{Progress, check_by, judge_left};
 use board::{Core, Outcome};
 use one_package::{FileRules, Judged, given_packages};
 use outside_json::Outside;
+use package_pieces::PieceRules;
+use pieces::{Free, Helpers};
 use std::alloc::{AllocError, Global};
 use std::marker::Brand;
+use std::sync::atomic::{AtomicBool, Ordering};
 use std::sync::{Condvar, Mutex, Wait};
 use std::thread::Threads;
 use whole_packages::LoadedPackage;
@@ -82,11 +85,11 @@ fn keep_all<'a, B: Naming>(
 ///
 /// # Errors
 ///
-/// Memory was refused, as always where a package was given back; or else not all threads could be started.
+/// Memory was refused; or else not all threads could be started.
 fn gathered<'a, B: Naming, R: FileRules>(
     alloc: Global,
     core: Core<'_, PackageResult<'a, B>>,
-    all_started: bool,
+    ended: Ended,
     judging: &Judging<'_, 'a, R>,
 ) -> Result<Vec<Judged<'a>>, CheckFault>
     requires named { Names R.rules R.certificates judging.now B.packages B.rank B.told }
@@ -98,30 +101,38 @@ fn gathered<'a, B: Naming, R: FileRules>(
         → TellPackages ps judging.now.given.now.packages.now → HaveDistinctPaths ps
         → AreAllCertified (R.rules judging.now.rules.now (declared_tables (packages_of judging.now.outside.now)))
         (R.certificates judging.now.rules.now) ps found.items) }
-    ensures fault { TellsFault (fault_by (state_in B.packages core.entry).stopped all_started) result }
+    ensures fault { TellsFault (fault_by (state_in B.packages core.entry).stopped ended.lacks_memory ended.all_started)
+        result }
 {
-    fault_of(core.is_stopped(), all_started)?;
+    fault_of(core.is_stopped(), ended)?;
     let progress = keep_all(alloc, core.into_outcomes())?;
     let found = judge_left(alloc, judging.given, progress, judging.rules)?;
     Ok(found)
 }
 
-/// What workers share: the board, what each passes before it judges a package, and what they judge by.
+/// What workers share: the board, what each passes before it judges a package, what they judge by, and how many help
+/// each of them, itself among them.
 #[derive(Drop)]
 struct Shared<'w, 'k, 'a, B: Naming, R, G> {
     alloc: Global,
     gate: &'w G,
     board: &'w Board<'k, 'a, B>,
     judging: &'w Judging<'w, 'a, R>,
+    helpers: Workers,
 }
 
-impl<'w, 'k, 'a, B: Naming, R: FileRules, G: Gate> ThreadWork for Shared<'w, 'k, 'a, B, R, G> {
+impl<'w, 'k, 'a, B: Naming, R: PieceRules, G: Gate> ThreadWork for Shared<'w, 'k, 'a, B, R, G> {
     ghost ready = { λ shared. Names R.rules R.certificates shared.judging.now B.packages B.rank B.told };
 
-    fn work<T: Wait>(&self, rt: &T, number: usize) {
+    fn work<T: Threads + Wait>(&self, rt: &T, number: usize) {
+        let helpers = Helpers {
+            rt,
+            count: self.helpers,
+            gate: &Free,
+        };
         let worker = Worker {
             number,
-            rt,
+            helpers: &helpers,
             gate: self.gate,
             board: self.board,
         };
@@ -129,12 +140,26 @@ impl<'w, 'k, 'a, B: Naming, R: FileRules, G: Gate> ThreadWork for Shared<'w, 'k,
     }
 }
 
-/// Lets so many workers judge what the board has, and says whether all threads could be started. When it returns
+/// How many help each of so many workers that judge so many packages, itself among them: they share the threads.
+fn helpers_of(workers: Workers, packages: usize) -> Workers
+    ensures { 1 ≤ packages → count_of result ≡ max 1 (count_of workers / packages) }
+{
+    if packages == 0 {
+        return Workers::one();
+    }
+    let share = (workers.count() / packages).max(1);
+    match Workers::new(share) {
+        Some(helpers) => helpers,
+        None => Workers::one(),
+    }
+}
+
+/// Lets so many workers judge what the board has, and says whether each of them could be started. When it returns
 /// nothing more is to be done, and nobody else has the board.
 fn all_work<
     'a,
     B: Naming + Send + Sync,
-    R: FileRules + Send + Sync,
+    R: PieceRules + Send + Sync,
     T: Threads + Wait + Sync,
     G: Gate + Sync,
 >(
@@ -145,20 +170,27 @@ fn all_work<
 ) -> bool
     requires named { Names R.rules R.certificates judging.now B.packages B.rank B.told }
 {
+    let packages = judging.given.packages.len();
+    let helpers = Helpers {
+        rt: crew.rt,
+        count: helpers_of(crew.workers, packages),
+        gate: &Free,
+    };
     let shared = Shared {
         alloc,
         gate: crew.gate,
         board,
         judging,
+        helpers: helpers.count,
     };
-    let count = crew.workers.count().min(judging.given.packages.len());
+    let count = crew.workers.count().min(packages);
     // That threads may share all this is proved by it.
     packages_are_shared();
     let all_started = work_all(crew.rt, &shared, count);
     // The thread that asked waits once more, as a worker that gets nothing.
     let last = Worker {
         number: 0,
-        rt: crew.rt,
+        helpers: &helpers,
         gate: crew.gate,
         board,
     };
@@ -174,7 +206,7 @@ fn all_work<
 fn check_named<
     'a,
     B: Naming + Send + Sync,
-    R: FileRules + Send + Sync,
+    R: PieceRules + Send + Sync,
     T: Threads + Wait + Sync,
     G: Gate + Sync,
 >(
@@ -200,22 +232,29 @@ fn check_named<
     let board: Board<'_, '_, B> = Board {
         core: Mutex::new(core),
         ready: Condvar::new(),
+        lacks_memory: AtomicBool::new(false),
     };
     let all_started = all_work(alloc, crew, &board, judging);
+    let lacks_memory = board.lacks_memory.load(Ordering::SeqCst);
+    let ended = Ended {
+        all_started,
+        lacks_memory,
+    };
     let Board { core, .. } = board;
-    gathered(alloc, core.into_inner(), all_started, judging)
+    gathered(alloc, core.into_inner(), ended, judging)
 }
 
 /// Judges packages of different paths, and their files by these rules, where this is declared of packages that are not
 /// given, by so many workers: what is to be said of each, in their order, what is known of its functions, and the
 /// certificates of its bodies, if the rules make some. It promises what `check_by` does. A package is judged once all
-/// that it imports was judged. One worker, or one package, starts no thread, takes no lock and passes no gate.
+/// that it imports was judged. Where there are more workers than packages, those that are over help with the bodies of
+/// each package. One worker starts no thread, takes no lock and passes no gate.
 ///
 /// # Errors
 ///
-/// Memory was refused; or else a thread could not be started, which one worker or one package does not need. Then the
-/// packages were judged by the other threads, and what these found is let go.
-pub fn check_by_workers<'a, R: FileRules + Send + Sync, T: Threads + Wait + Sync, G: Gate + Sync>(
+/// Memory was refused; or else a thread could not be started, which one worker does not need. Then the packages were
+/// judged by the other threads, or given back, and what was found is let go.
+pub fn check_by_workers<'a, R: PieceRules + Send + Sync, T: Threads + Wait + Sync, G: Gate + Sync>(
     alloc: Global,
     crew: Crew<'_, T, G>,
     packages: &'a [LoadedPackage],
@@ -231,7 +270,7 @@ pub fn check_by_workers<'a, R: FileRules + Send + Sync, T: Threads + Wait + Sync
         found.items) }
     ensures fault { IfErr result (IsFaultOf (count_of crew.entry.workers) (length packages.now)) }
 {
-    if crew.workers.count() <= 1 || packages.len() <= 1 {
+    if crew.workers.count() <= 1 || packages.len() < 1 {
         return Ok(check_by(alloc, packages, outside, rules)?);
     }
     let given = given_packages(alloc, packages, outside)?;

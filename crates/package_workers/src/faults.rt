@@ -24,19 +24,28 @@ impl From<AllocError> for CheckFault {
     }
 }
 
-/// Whether workers could judge all packages, by whether one of them gave a package back, and whether each thread could
-/// be started.
+/// How workers ended.
+#[derive(Clone, Copy)]
+pub struct Ended {
+    /// Each of them could be started.
+    pub all_started: bool,
+    /// Memory was refused to one of them.
+    pub lacks_memory: bool,
+}
+
+/// Whether workers that ended so could judge all packages, by whether one of them gave a package back.
 ///
 /// # Errors
 ///
-/// A package was given back, so memory was refused; or else a thread could not be started.
-pub fn fault_of(stopped: bool, all_started: bool) -> Result<(), CheckFault>
-    ensures { result ≡ fault_by stopped all_started }
+/// A package was given back, and memory was refused to a worker; or else a thread could not be started, be it a worker
+/// or one that should help.
+pub fn fault_of(stopped: bool, ended: Ended) -> Result<(), CheckFault>
+    ensures { result ≡ fault_by stopped ended.lacks_memory ended.all_started }
 {
-    if stopped {
+    if stopped && ended.lacks_memory {
         return Err(CheckFault::Memory);
     }
-    if !all_started {
+    if stopped || !ended.all_started {
         return Err(CheckFault::Thread);
     }
     Ok(())

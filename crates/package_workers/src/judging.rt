@@ -7,12 +7,18 @@ ghost use Rattle.package_workers.specs.Jobs.{IsJob};
 ghost use Rattle.package_workers.specs.Naming.{Names};
 ghost use Rattle.package_workers.specs.Results.{judged_of, Kept};
 
+use crate::helped::Helped;
 use crate::jobs::Job;
 use crate::naming::Naming;
 use crate::results::PackageResult;
-use one_package::{FileRules, Given, KnownImports, judge_package};
+use one_package::{Given, KnownImports, judge_package};
 use outside_json::Outside;
+use package_pieces::PieceRules;
+use pieces::{Free, Helpers, PieceFault};
 use std::alloc::{AllocError, Global};
+use std::sync::Wait;
+use std::sync::atomic::AtomicBool;
+use std::thread::Threads;
 
 /// By what workers judge.
 #[derive(Drop)]
@@ -41,22 +47,30 @@ fn known_of<'a, 'k, B: Naming>(
     Ok(known)
 }
 
-/// Judges a package by results of its imports.
+/// Judges a package by results of its imports, by these helpers.
 ///
 /// # Errors
 ///
-/// Memory was refused.
-pub fn judge<'a, R: FileRules, B: Naming>(
+/// Memory was refused, or else a thread could not be started.
+pub fn judge<'a, R: PieceRules, B: Naming, T: Threads + Wait>(
     alloc: Global,
+    helpers: &Helpers<'_, T, Free>,
     judging: &Judging<'_, 'a, R>,
     job: &Job<'_, 'a, B>,
-) -> Result<PackageResult<'a, B>, AllocError>
+) -> Result<PackageResult<'a, B>, PieceFault>
     requires named { Names R.rules R.certificates judging.now B.packages B.rank B.told }
     requires job { IsJob B.packages judging.now.given.now.packages.now judging.now.given.now.lists.items job.now }
     ensures { IfOk result (λ r. r.place ≡ job.now.place) }
 {
     judging.rules.are_determined();
     let imports = known_of(alloc, judging.given, &job.list.imports, &job.imported)?;
-    let judged = judge_package(alloc, judging.given, job.loaded, &imports, judging.rules)?;
-    PackageResult::new(alloc, job.place, judged)
+    let helped = Helped {
+        rules: &*judging.rules,
+        helpers: &*helpers,
+        lacks_thread: AtomicBool::new(false),
+    };
+    match judge_package(alloc, judging.given, job.loaded, &imports, &helped) {
+        Ok(judged) => Ok(PackageResult::new(alloc, job.place, judged)?),
+        Err(_) => Err(helped.fault()),
+    }
 }

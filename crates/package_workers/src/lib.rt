@@ -4,6 +4,7 @@
 mod checking;
 mod faults;
 mod gates;
+mod helped;
 mod jobs;
 mod judging;
 mod naming;

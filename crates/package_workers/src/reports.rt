@@ -11,8 +11,8 @@ use crate::checking::{Crew, check_by_workers};
 use crate::faults::CheckFault;
 use crate::gates::Gate;
 use all_packages::{Report, told};
-use one_package::FileRules;
 use outside_json::Outside;
+use package_pieces::PieceRules;
 use std::alloc::Global;
 use std::sync::Wait;
 use std::thread::Threads;
@@ -25,7 +25,7 @@ use whole_packages::LoadedPackage;
 ///
 /// As of `check_by_workers`.
 pub fn whole_report_by_workers<
-    R: FileRules + Send + Sync,
+    R: PieceRules + Send + Sync,
     T: Threads + Wait + Sync,
     G: Gate + Sync,
 >(

@@ -11,7 +11,7 @@ pub trait ThreadWork {
     ghost ready: { Self → Type 0 };
 
     /// Does what is to be done by the thread of that number.
-    fn work<T: Wait>(&self, rt: &T, number: usize)
+    fn work<T: Threads + Wait>(&self, rt: &T, number: usize)
         requires { ready self.now };
 }
 

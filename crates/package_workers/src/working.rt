@@ -16,9 +16,12 @@ use crate::naming::Naming;
 use crate::results::PackageResult;
 use crate::shared_board::Board;
 use board::{Core, Task};
-use one_package::{FileRules, Given};
+use one_package::Given;
+use package_pieces::PieceRules;
+use pieces::{Free, Helpers, PieceFault};
 use std::alloc::{AllocError, Global};
 use std::sync::{MutexGuard, Wait};
+use std::thread::Threads;
 
 /// Why a worker has nothing to judge.
 #[derive(Clone, Copy)]
@@ -31,11 +34,12 @@ pub enum Idle {
     Ends,
 }
 
-/// A worker: its number, how it waits, what it passes before it judges, and the board that it shares with others.
+/// A worker: its number, those that help it with a package, itself among them, what it passes before it judges, and the
+/// board that it shares with others.
 #[derive(Drop)]
 pub struct Worker<'w, 'k, 'a, B: Naming, T, G> {
     pub number: usize,
-    pub rt: &'w T,
+    pub helpers: &'w Helpers<'w, T, Free>,
     pub gate: &'w G,
     pub board: &'w Board<'k, 'a, B>,
 }
@@ -87,9 +91,9 @@ fn step<'g, 'a, B: Naming>(
     }
 }
 
-/// Judges a package, and delivers what is said of it, or gives it back for want of memory. The worker has the board
-/// only once it has judged.
-fn finish<'a, B: Naming, R: FileRules, T: Wait, G: Gate>(
+/// Judges a package, and delivers what is said of it, or gives it back for want of memory or of a thread. The worker
+/// has the board only once it has judged.
+fn finish<'a, B: Naming, R: PieceRules, T: Threads + Wait, G: Gate>(
     alloc: Global,
     worker: &Worker<'_, '_, 'a, B, T, G>,
     judging: &Judging<'_, 'a, R>,
@@ -100,27 +104,21 @@ fn finish<'a, B: Naming, R: FileRules, T: Wait, G: Gate>(
 {
     worker.gate.enter(job.place);
     // The worker took the package, and nobody else may close it: so neither call is refused.
-    match judge(alloc, judging, &job) {
+    let (board, rt) = (worker.board, worker.helpers.rt);
+    match judge(alloc, worker.helpers, judging, &job) {
         Ok(found) => {
-            let _ = worker
-                .board
-                .core
-                .lock(worker.rt)
-                .deliver(worker.number, found);
+            let _ = board.core.lock(rt).deliver(worker.number, found);
         }
-        Err(_) => {
-            let _ = worker
-                .board
-                .core
-                .lock(worker.rt)
-                .back(worker.number, job.place);
+        Err(fault) => {
+            board.note(fault);
+            let _ = board.core.lock(rt).back(worker.number, job.place);
         }
     }
-    worker.board.ready.notify_all();
+    board.ready.notify_all();
 }
 
 /// Judges packages until there is nothing more to do, and has the board then.
-pub fn until_over<'w, 'k, 'a, B: Naming, R: FileRules, T: Wait, G: Gate>(
+pub fn until_over<'w, 'k, 'a, B: Naming, R: PieceRules, T: Threads + Wait, G: Gate>(
     alloc: Global,
     worker: &Worker<'w, 'k, 'a, B, T, G>,
     judging: &Judging<'_, 'a, R>,
@@ -128,16 +126,19 @@ pub fn until_over<'w, 'k, 'a, B: Naming, R: FileRules, T: Wait, G: Gate>(
     requires named { Names R.rules R.certificates judging.now B.packages B.rank B.told }
     ensures { IsOver B.rank (state_in B.packages (mutex_guard_value result)) }
 {
-    let board = worker.board;
-    for _ in worker.rt.forever() {
-        let mut core = board.core.lock(worker.rt);
+    let (board, rt) = (worker.board, worker.helpers.rt);
+    for _ in rt.forever() {
+        let mut core = board.core.lock(rt);
         match step(alloc, &mut core, judging.given, worker.number) {
             Ok(job) => {
                 drop(core);
                 finish(alloc, worker, judging, job);
             }
-            Err(Idle::Waits) => drop(board.ready.wait(worker.rt, core)),
-            Err(Idle::GaveBack) => board.ready.notify_all(),
+            Err(Idle::Waits) => drop(board.ready.wait(rt, core)),
+            Err(Idle::GaveBack) => {
+                board.note(PieceFault::Memory);
+                board.ready.notify_all()
+            }
             Err(Idle::Ends) => return core,
         }
     }

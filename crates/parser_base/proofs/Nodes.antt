@@ -2,7 +2,6 @@
 use Rattle.std.proofs.Common.{◌≡◌, ℕ, false, Option, Some, List, refl, sym, ap, ◌∙◌}
 use Rattle.std.specs.declared.alloc.Global.{Global}
 use Rattle.std.specs.declared.boxed.Box.{Box}
-use Rattle.std.specs.declared.string.String.{String}
 use Rattle.tree.specs.declared.expression.Expr.{Expr}
 use Rattle.tree.specs.declared.expression.ExprKind.{ExprKind, Name, Selector, Selector', FuncLit'}
 use Rattle.tree.specs.declared.expression.Literal.{Literal'}
@@ -16,7 +15,7 @@ use Rattle.tree_reader.specs.Reader.{names_type_form}
 use Rattle.tree_reader.specs.Reading.{behind, spanned, span_between, word_between}
 
 abbrev pub IsNoName : ExprKind → Type 0
-IsNoName k = (s : String Global) → k ≡ Name s → ⊥
+IsNoName k = (s : List ℕ) → k ≡ Name s → ⊥
 
 no_name : (k : ExprKind) → IsNoName k → is_name_form (expression_form k) ≡ false
 unfolding expression_form

@@ -13,7 +13,7 @@ ghost use Rattle.tree_reader.specs.Reading.{stands, behind, word_between, read_i
 use crate::cursor::{Read, SourceTokens, TokenPlace};
 use lexer::TokenKind;
 use std::alloc::{AllocError, Global};
-use tree::{Identifier, TypeName};
+use tree::{Identifier, NameText, TypeName};
 
 /// The bytes from one offset up to another, as far as the text has them.
 fn bytes_between(text: &[u8], start: usize, end: usize) -> &[u8]
@@ -23,13 +23,13 @@ fn bytes_between(text: &[u8], start: usize, end: usize) -> &[u8]
     if start < end { &text[start..end] } else { &[] }
 }
 
-/// Those bytes as a string.
-fn text_between(alloc: Global, text: &[u8], start: usize, end: usize) -> Result<String, AllocError>
+/// Those bytes as text.
+fn text_between(text: &[u8], start: usize, end: usize) -> &str
     requires { is_utf8 (slice_range text.now start end) ≡ true }
-    ensures { IfOk result (λ s. string_bytes s ≡ slice_range text.now start end) }
+    ensures { result.now ≡ slice_range text.now start end }
 {
     match str::from_utf8(bytes_between(text, start, end)) {
-        Ok(written) => String::from_str(alloc, written),
+        Ok(written) => written,
         // They are UTF-8.
         Err(_) => unreachable!(),
     }
@@ -40,14 +40,14 @@ fn text_between(alloc: Global, text: &[u8], start: usize, end: usize) -> Result<
 /// # Errors
 ///
 /// Out of memory.
-pub fn word(source: SourceTokens<'_>, place: TokenPlace) -> Result<String, AllocError>
+pub fn word(source: SourceTokens<'_>, place: TokenPlace) -> Result<NameText, AllocError>
     requires { stands identifier_kind (cursor source place) ≡ true }
-    ensures { IfOk result (λ s. string_bytes s ≡ word_between source.entry.text.now (cursor source.entry place) (behind
+    ensures { IfOk result (λ s. s ≡ word_between source.entry.text.now (cursor source.entry place) (behind
         (cursor source.entry place))) }
 {
     let start = source.start(place) as usize;
     let end = source.behind(place).end as usize;
-    text_between(source.alloc, source.text, start, end)
+    NameText::of(source.alloc, text_between(source.text, start, end))
 }
 
 /// What stands between the quotes of the next token, a string.
@@ -62,7 +62,7 @@ pub fn quoted(source: SourceTokens<'_>, place: TokenPlace) -> Result<String, All
 {
     let start = source.start(place) as usize + 1;
     let end = source.behind(place).end.saturating_sub(1) as usize;
-    text_between(source.alloc, source.text, start, end)
+    String::from_str(source.alloc, text_between(source.text, start, end))
 }
 
 /// A name, and the place after it.

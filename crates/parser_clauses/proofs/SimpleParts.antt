@@ -1,8 +1,6 @@
 -- What expressions and statements that were read already turn out to be.
 use Rattle.std.proofs.Common.{◌≡◌, ℕ, false, List, [], ◌∷◌, ◌++◌, map, length, reverse, Option, Some, None, refl, sym, ap, ◌∙◌}
 use Rattle.std.specs.Prelude.{◌==◌}
-use Rattle.std.specs.declared.alloc.Global.{Global}
-use Rattle.std.specs.declared.string.String.{String}
 use Rattle.tree.specs.declared.expression.Expr.{Expr}
 use Rattle.tree.specs.declared.expression.ExprKind.{ExprKind, Name, FuncLit'}
 use Rattle.tree.specs.declared.expression.Literal.{Literal'}
@@ -13,7 +11,7 @@ use Rattle.tree.specs.Syntax.{Identifier}
 use Rattle.tree.specs.View.{identifier_syntax, expression_form, statement_form, expression_syntax, expressions_syntax}
 use Rattle.tree_reader.specs.Reader.{Readers, form_identifier, as_identifiers, single, expression_of}
 
-pub no_name : (span : Span) (k : ExprKind) → ((s : String Global) → k ≡ Name s → ⊥) → form_identifier span (expression_form k) ≡ None
+pub no_name : (span : Span) (k : ExprKind) → ((s : List ℕ) → k ≡ Name s → ⊥) → form_identifier span (expression_form k) ≡ None
 unfolding expression_form
 no_name span (Name s) not = absurd (not s refl)
 no_name span (FuncLit' p (Literal' ps_shape ps rs_shape rs brackets body)) not = refl

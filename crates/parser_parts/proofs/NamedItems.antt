@@ -3,8 +3,6 @@ use Rattle.std.proofs.Common.{◌≡◌, ℕ, ◌+◌, ◌<◌, Bool, true, fals
 use Rattle.std.proofs.lemmas.List.{nil_from_length, reverse-append, length-reverse}
 use Rattle.std.proofs.Math.Dec.{eqb-suc-zero}
 use Rattle.std.specs.Prelude.{◌==◌, not, option_and_then}
-use Rattle.std.specs.declared.alloc.Global.{Global}
-use Rattle.std.specs.declared.string.String.{String}
 use Rattle.tree.specs.declared.expression.Expr.{Expr}
 use Rattle.tree.specs.declared.expression.ExprKind.{ExprKind, Name, FuncLit'}
 use Rattle.tree.specs.declared.expression.Literal.{Literal'}
@@ -28,11 +26,11 @@ no_identifier span _ not = refl
 
 -- a type without a name, which is one name or not
 module _ (k : ExprKind) (span : Span) (t : Expression) (last : Bool) (more : Parameters) (ends : is_no_item more ≡ last) where
-  pub name-last : (s : String Global) → k ≡ Name s → last ≡ true → None ≡ name_alone (form_identifier span (expression_form k)) t more
+  pub name-last : (s : List ℕ) → k ≡ Name s → last ≡ true → None ≡ name_alone (form_identifier span (expression_form k)) t more
   unfolding expression_form
   name-last s is true_last = rw (is, ends, true_last) refl
 
-  pub name-before : (s kept : String Global) (item : Parameters) → k ≡ Name s → last ≡ false → kept ≡ s → item ≡ name_alone_and (identifier_syntax record { text = kept; span = span }) more → Some item ≡ name_alone (form_identifier span (expression_form k)) t more
+  pub name-before : (s kept : List ℕ) (item : Parameters) → k ≡ Name s → last ≡ false → kept ≡ s → item ≡ name_alone_and (identifier_syntax record { text = kept; span = span }) more → Some item ≡ name_alone (form_identifier span (expression_form k)) t more
   unfolding expression_form
   name-before s kept item is no_last same made = rw (is, ends, no_last, made, same) refl
 

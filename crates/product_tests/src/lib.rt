@@ -1,6 +1,8 @@
-//! Tests of tables as texts, and of work that threads share.
+//! Tests of tables as texts, of work that threads share, and of a board.
 #![tactic(auto)]
 
+#[cfg(test)]
+mod boards;
 #[cfg(test)]
 mod meeting;
 #[cfg(test)]

@@ -1,5 +1,5 @@
 -- What the syntax of each node is, in the words of the code: one law a variant.
-use Rattle.std.proofs.Common.{◌≡◌, map, Option, Some, None, option_map, Bool, string_bytes, refl, ap, ◌∙◌}
+use Rattle.std.proofs.Common.{◌≡◌, ℕ, List, map, Option, Some, None, option_map, Bool, string_bytes, refl, ap, ◌∙◌}
 use Rattle.std.specs.declared.alloc.Global.{Global}
 use Rattle.std.specs.declared.boxed.Box.{Box}
 use Rattle.std.specs.declared.string.String.{String}
@@ -112,7 +112,7 @@ signature_kept s =
 pub declaration_kept : (d : Decl) → declaration_of d.keyword (row_specs (hidden-the_row-Spec-3 d.specs)) d.is_grouped d.span ≡ declaration_syntax d
 declaration_kept d = ap (λ l. declaration_of d.keyword l d.is_grouped d.span) (specs_kept d.specs)
 
-pub expression_form-Name : (text : String Global) → expression_form (Name text) ≡ name_expression (string_bytes text)
+pub expression_form-Name : (text : List ℕ) → expression_form (Name text) ≡ name_expression text
 unfolding expression_form
 expression_form-Name text = refl
 

@@ -45,7 +45,7 @@ optional_statement_of None = missing_statement
 optional_statement_of (Some s) = present_statement s
 
 abbrev pub identifier_syntax : KeptIdentifier → Identifier
-identifier_syntax n = record { text = string_bytes n.text; span = n.span }
+identifier_syntax n = record { text = n.text; span = n.span }
 
 abbrev pub type_name_syntax : KeptTypeName → TypeName
 type_name_syntax n = record {
@@ -59,7 +59,7 @@ block_braces (Block' shape ss braces) = braces
 
 unfoldable mutual
   pub expression_form : ExprKind → ExpressionForm
-  expression_form (Name text) = name_expression (string_bytes text)
+  expression_form (Name text) = name_expression text
   expression_form (BasicLit kind) = basic_literal kind
   expression_form (FuncLit' p literal) = literal_syntax literal
   expression_form (CompositeLit' p t span shape es) =

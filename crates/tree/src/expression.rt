@@ -1,5 +1,6 @@
 //! Expressions, and types, which are expressions too (the Go specification, "Expressions", "Types").
 
+use crate::name_text::NameText;
 use crate::operator::{BasicLitKind, BinaryOperator, ChanDirection, UnaryOperator};
 use crate::span::{Identifier, Span, TypeName};
 use crate::statement::Block;
@@ -17,7 +18,7 @@ pub struct Expr {
 #[cycle(node)]
 pub enum ExprKind {
     /// A name, with its text.
-    Name(String),
+    Name(NameText),
     /// A number, a rune or a string.
     BasicLit(BasicLitKind),
     /// `func(..) { .. }`.

@@ -1,5 +1,7 @@
 //! Places in a file, and the names that stand there.
 
+use crate::name_text::NameText;
+
 /// The bytes of a node: the offset of its first byte, and of the byte after its last one.
 #[derive(Clone, Copy, Debug, PartialEq, Eq)]
 pub struct Span {
@@ -13,7 +15,7 @@ pub const BLANK: &str = "_";
 /// A name as it is written in one place (the Go specification, "Identifiers").
 #[derive(Drop)]
 pub struct Identifier {
-    pub text: String,
+    pub text: NameText,
     pub span: Span,
 }
 

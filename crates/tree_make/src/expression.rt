@@ -1,17 +1,17 @@
 //! Expressions (the Go specification, "Expressions"). The span is the bytes that the node takes.
 
-ghost use Rattle.std.specs.Prelude.{◌≡◌, string_bytes};
+ghost use Rattle.std.specs.Prelude.{◌≡◌};
 ghost use Rattle.tree.specs.Syntax.{expression_node, name_expression, basic_literal, function_literal, composite_literal, literal_value, key_value, parenthesized, selector_expression, index_expression, slice_expression, type_assertion, call_expression, star_expression, unary_expression, binary_expression};
 ghost use Rattle.tree.specs.View.{identifier_syntax, signature_syntax, block_syntax, expression_syntax, expressions_syntax, optional_expression_syntax, literal_syntax};
 
 use tree::{
-    BasicLitKind, BinaryOperator, Block, Expr, ExprKind, Identifier, Literal, Signature, Span,
-    UnaryOperator,
+    BasicLitKind, BinaryOperator, Block, Expr, ExprKind, Identifier, Literal, NameText, Signature,
+    Span, UnaryOperator,
 };
 
 /// A name, with its text.
-pub fn name_expression(text: String, span: Span) -> Expr
-    ensures { expression_syntax result ≡ expression_node (name_expression (string_bytes text)) span }
+pub fn name_expression(text: NameText, span: Span) -> Expr
+    ensures { expression_syntax result ≡ expression_node (name_expression text) span }
 {
     let kind = ExprKind::Name(text);
     Expr { kind, span }

@@ -1,14 +1,14 @@
 //! Trees of a depth that is asked for. `tree_hold` lets them go, also where memory runs out.
 
 use std::alloc::{AllocError, Global};
-use tree::{Expr, Identifier, Span, Stmt};
+use tree::{Expr, Identifier, NameText, Span, Stmt};
 use tree_hold::{boxed, list, release};
 use tree_make::{control, expression, statement};
 
 const NOWHERE: Span = Span { start: 0, end: 0 };
 
 fn identifier(alloc: Global) -> Result<Identifier, AllocError> {
-    let text = String::from_str(alloc, "a")?;
+    let text = NameText::of(alloc, "a")?;
     Ok(Identifier {
         text,
         span: NOWHERE,
@@ -17,7 +17,7 @@ fn identifier(alloc: Global) -> Result<Identifier, AllocError> {
 
 /// A name, which is one deep.
 pub fn name(alloc: Global) -> Result<Expr, AllocError> {
-    Ok(expression::name_expression(String::from_str(alloc, "a")?, NOWHERE))
+    Ok(expression::name_expression(NameText::of(alloc, "a")?, NOWHERE))
 }
 
 /// A name in `brackets` pairs of brackets.

@@ -7,7 +7,7 @@ use Rattle.meaning_packages.specs.CallsFlags.{FileWithCredits}
 use Rattle.all_certificates.proofs.files.entries_of_files.Given as goal
 
 -- the certificates so far, with those of the files that are left, are those of all
-abbrev pub invariant-loop-number : goal.invariant-loop-number
-invariant-loop-number l =
+abbrev pub invariant-loop-file : goal.invariant-loop-file
+invariant-loop-file l =
     (fs : List FileWithCredits) → TellAll fs l.files
-    → FilesOn (known_calls l.calls) fs l.number (drop l.number fs) (map body_of l.entries.items)
+    → FilesOn (known_calls l.calls) fs l.file-index (drop l.file-index fs) (map body_of l.entries.items)

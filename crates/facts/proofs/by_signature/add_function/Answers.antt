@@ -9,6 +9,6 @@ pub returns : goal.returns
 returns c =
     on_ok c.insert.result
     (λ h n. function_added (declared_at c.args.names.now c.args.file) (function_syntax c.args.function.now)
-    (sym c.can_be_meant.ensures ∙ c.if-not-can_be_meant.false) _ c.in_ok-facts.ensures _ c.as_str.ensures.value
+    (sym c.can_be_meant.ensures ∙ c.if-not-can_be_meant.false) _ c.in_ok-facts.ensures _ c.as_str.ensures
     (facts_by_name c.args.table.now n) _ n (h n))
     c.insert.ensures.ok

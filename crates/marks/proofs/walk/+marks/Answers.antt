@@ -15,7 +15,7 @@ pub expression_form-returns-in-Name : goal.expression_form-returns-in-Name
 unfolding form_marks
 expression_form-returns-in-Name t c =
     rw (c.in-Name.is, expression_form-Name)
-    (same_adds _ _ _ _ _ (λ i. mention c.args.spot.site (c.name_role.ensures i) (bare (c.as_str.ensures.value i) c.args.span.start) ∷ []) c.mention.ensures)
+    (same_adds _ _ _ _ _ (λ i. mention c.args.spot.site (c.name_role.ensures i) (bare (c.as_str.ensures i) c.args.span.start) ∷ []) c.mention.ensures)
 
 pub expression_form-returns-in-BasicLit : goal.expression_form-returns-in-BasicLit
 unfolding form_marks

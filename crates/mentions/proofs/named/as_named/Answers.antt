@@ -8,7 +8,7 @@ use Rattle.mentions.proofs.named.as_named.Goals as goal
 pub returns-in-Name : goal.returns-in-Name
 returns-in-Name c =
     rw (c.in-Name.is, expression_form-Name)
-    (ap (λ text. Some (bare text c.args.expression.now.span.start)) c.as_str.ensures.value)
+    (ap (λ text. Some (bare text c.args.expression.now.span.start)) c.as_str.ensures)
 
 pub returns-in-Selector : goal.returns-in-Selector
 returns-in-Selector c =

@@ -11,7 +11,7 @@ use Rattle.one_package.specs.ToldPackages.{files_of}
 use Rattle.one_package.proofs.by_paths.judge_bodies.Goals as goal
 
 pub returns : goal.returns
-returns c = λ ps tables i p all told is_p around none.
+returns g c = λ ps tables i p all told is_p around none.
     let ks = c.in_ok-files.field-0.files.items in
     let flags = is_called c.in_ok-files.field-0.called in
     let imported = flags_by_path c.args.around.calls.now in

@@ -11,7 +11,7 @@ use Rattle.one_package.proofs.JudgedFiles.{have_facts}
 use Rattle.one_package.proofs.told_package.package_bodies.Goals as goal
 
 pub returns : goal.returns
-returns c = λ ps tables p all told are_calls.
+returns g c = λ ps tables p all told are_calls.
     let seens = walked_files ps tables p told.walked in
     let ks = c.in_ok-files.files.items in
     let made = c.in_ok-files.ensures seens (subst (TellAllSeen seens) (sym c.deref.ensures.value) told.are_files) in

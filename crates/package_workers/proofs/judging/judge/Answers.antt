@@ -1,5 +1,4 @@
 use Rattle.std.proofs.Common.{ap, map, subst}
-use Rattle.std.proofs.lemmas.Result.{IfOk-weaker}
 use Rattle.declared_tables.specs.DeclaredTables.{declared_tables}
 use Rattle.imports.specs.Views.{text_views}
 use Rattle.outside_json.specs.Outside.{packages_of}
@@ -9,8 +8,8 @@ use Rattle.package_workers.proofs.KnownResults.{AreTold}
 use Rattle.package_workers.proofs.RightResults.{judged_told}
 use Rattle.package_workers.proofs.judging.judge.Goals as goal
 
-pub new-requires : goal.new-requires
-new-requires g c =
+pub new-requires-in-Ok : goal.new-requires-in-Ok
+new-requires-in-Ok g c =
     let given = c.args.judging.now.given.now in
     let declared = declared_tables (packages_of c.args.judging.now.outside.now) in
     let rules = g.R.FileRules.rules c.args.judging.now.rules.now declared in
@@ -26,8 +25,8 @@ new-requires g c =
     c.in_ok-imports.ensures.known) in
     judged_told declared rules rule (c.are_determined.ensures.flags declared) given g.B.Naming.packages g.B.Naming.rank told
     c.requires.named job.place job.loaded.now job.list.now job.imported.items c.requires.job.is_package c.requires.job.is_list
-    c.requires.job.are_imports each imports knows c.in_ok-judged.judged c.in_ok-judged.ensures.told
-    (c.in_ok-judged.ensures.follows declared) (c.in_ok-judged.ensures.certified declared)
+    c.requires.job.are_imports each imports knows c.in-Ok.judged c.in-Ok.ensures.told (c.in-Ok.ensures.follows declared)
+    (c.in-Ok.ensures.certified declared)
 
-pub returns : goal.returns
-returns g c = IfOk-weaker c.new.result _ _ (λ r same. ap place_of same) c.new.ensures
+pub returns-in-Ok : goal.returns-in-Ok
+returns-in-Ok g c = ap place_of c.in_ok-new-in-Ok.ensures

@@ -11,7 +11,7 @@ returns-in-Some c =
     (same_adds _ _ _ _ _
     (λ i. declared
     record {
-      name = c.as_str.ensures.value i;
+      name = c.as_str.ensures i;
       number = c.args.clause.start;
       kind = Var;
       block = c.args.clause;

@@ -8,5 +8,5 @@ pub returns : goal.returns
 returns c =
     let span = c.args.name.now.span in
     same_adds _ _ _ _ _
-    (ap (λ (n : List ℕ). declared_names type_keyword c.args.block span.start false (record { text = n; span = span } ∷ [])) c.as_str.ensures.value)
+    (ap (λ (n : List ℕ). declared_names type_keyword c.args.block span.start false (record { text = n; span = span } ∷ [])) c.as_str.ensures)
     (alone_adds _ _ _ _ c.declare.ensures)

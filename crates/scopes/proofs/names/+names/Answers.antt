@@ -16,7 +16,7 @@ pub expression_form-returns-in_ok-push-in-Name : goal.expression_form-returns-in
 unfolding expression_form_names
 expression_form-returns-in_ok-push-in-Name t c =
     rw (c.in-Name.is, expression_form-Name)
-    (adds_same _ _ _ _ (ap (λ n. uses_name n c.args.at ∷ []) c.as_str.ensures.value) (adds_pushed _ _ _ c.in_ok-push-in-Name.ensures.items))
+    (adds_same _ _ _ _ (ap (λ n. uses_name n c.args.at ∷ []) c.as_str.ensures) (adds_pushed _ _ _ c.in_ok-push-in-Name.ensures.items))
 
 pub expression_form-returns-in-BasicLit : goal.expression_form-returns-in-BasicLit
 unfolding expression_form_names

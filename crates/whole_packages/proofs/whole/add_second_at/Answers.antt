@@ -10,7 +10,7 @@ returns-in_ok-push-in-Some c =
     rw (
       entries_there c.args.trees.now (second_view c.args.second) c.in-Some.numbered.now c.in-Some.ensures.lookup.3.0
           c.in-Some.ensures.lookup.1,
-      ← c.as_str.ensures.value,
+      ← c.as_str.ensures,
     ) (ap (map entry_of) c.in_ok-push-in-Some.ensures.items ∙ map-append entry_of c.args.diagnostics.now.items _)
 
 pub returns-in-None : goal.returns-in-None

@@ -1,22 +1,19 @@
 use Rattle.std.proofs.Common.{◌≡◌, ◌∙◌, length, map, sym, ap, subst, arith}
 use Rattle.std.proofs.lemmas.List.{length-map}
-use Rattle.std.proofs.lemmas.Result.{IfOk-weaker}
 use Rattle.facts.specs.FactViews.{facts_by_name}
 use Rattle.meaning_packages.specs.CallsFlags.{AreMost, calls_by}
 use Rattle.calls_flags.specs.Claims.{claim_view, flags_claimed, AreClaims, KeepsClaim, Sieves}
 use Rattle.calls_flags.specs.KnownCalls.{flags_by_path}
 use Rattle.calls_flags.proofs.GreatestFlags.{at_first, next_round, last_round}
-use Rattle.calls_flags.proofs.rounds.find_called.Goals as goal
+use Rattle.calls_flags.proofs.rounds.find_called_by.Goals as goal
 
 pub loop-claims-init : goal.loop-claims-init
-loop-claims-init c = λ fs tell have.
+loop-claims-init g c = λ fs tell have.
     at_first fs (flags_by_path c.args.imported.now) (facts_by_name c.args.table.now) have
     (map claim_view c.in_ok-claims.claims.items) (c.in_ok-claims.ensures fs tell)
 
 pub returns-then-len : goal.returns-then-len
-returns-then-len c =
-    IfOk-weaker c.called_by.result _ _
-    (λ called are fs tell have.
+returns-then-len g c = λ fs tell have.
     let imported = flags_by_path c.args.imported.now in
     let claims = map claim_view c.loop-claims.claims.items in
     let kept = map claim_view c.in_ok-kept.kept.items in
@@ -40,12 +37,11 @@ returns-then-len c =
     ) in
     let same : claims ≡ map claim_view c.deref-then-len.result.now = ap (map claim_view) (sym c.deref-then-len.ensures.value) in
     subst (AreMost fs imported)
-    (λ i name k. ((ap (λ cs. flags_claimed cs name k) same) ∙ sym (are name k)) i)
-    (last_round fs imported claims kept enough sieves size))
-    c.called_by.ensures
+    (λ i name k. ((ap (λ cs. flags_claimed cs name k) same) ∙ sym (c.in_ok-called_by.ensures name k)) i)
+    (last_round fs imported claims kept enough sieves size)
 
 pub loop-claims-smaller : goal.loop-claims-smaller
-loop-claims-smaller c =
+loop-claims-smaller g c =
     let fewer = c.in_ok-kept.ensures.fewer in
     let there = ap length c.deref.ensures.value in
     let left : c.len.result ≡ c.in_ok-kept.kept.len = c.len.ensures in
@@ -64,7 +60,7 @@ loop-claims-smaller c =
     )
 
 pub loop-claims-preserved : goal.loop-claims-preserved
-loop-claims-preserved c = λ fs tell have.
+loop-claims-preserved g c = λ fs tell have.
     let imported = flags_by_path c.args.imported.now in
     let kept = map claim_view c.in_ok-kept.kept.items in
     let enough = c.loop-claims.invariant fs tell have in

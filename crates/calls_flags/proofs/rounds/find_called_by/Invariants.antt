@@ -5,13 +5,13 @@ use Rattle.calls_flags.specs.Claims.{claim_view, HaveFacts}
 use Rattle.calls_flags.specs.KnownCalls.{flags_by_path}
 use Rattle.calls_flags.specs.FilesBodies.{TellAll}
 use Rattle.calls_flags.proofs.GreatestFlags.{AreEnough}
-use Rattle.calls_flags.proofs.rounds.find_called.Given as goal
+use Rattle.calls_flags.proofs.rounds.find_called_by.Given as goal
 
 -- what consistent flags keep is claimed
 abbrev pub invariant-loop-claims : goal.invariant-loop-claims
-invariant-loop-claims l =
+invariant-loop-claims g l =
     (fs : List FileWithCredits) → TellAll fs l.files → HaveFacts (facts_by_name l.table) fs
     → AreEnough fs (flags_by_path l.imported) (map claim_view l.claims.items)
 
 abbrev pub decreases-loop-claims : goal.decreases-loop-claims
-decreases-loop-claims l = length l.claims.items
+decreases-loop-claims g l = length l.claims.items

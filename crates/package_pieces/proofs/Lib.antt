@@ -1,0 +1,5 @@
+mod SharedJobs
+pub mod Shared
+pub mod Built
+pub mod Marked
+pub mod Joined

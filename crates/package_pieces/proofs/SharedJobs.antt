@@ -1,0 +1,15 @@
+-- Threads may share what tells them what to do.
+use denote.Param.Send.{IsSync, sendable}
+use denote.Param.SendFields.{declared_sync}
+use denote.Ref.{NamedLft}
+use Rattle.calls_flags.proofs.known_calls.KnownCalls.TheSendSync as calls
+use Rattle.package_pieces.specs.contracts.building.Building as building
+use Rattle.package_pieces.specs.contracts.claims.Keeping as keeping
+use Rattle.package_pieces.proofs.Shared.{file_sync, bodies_sync}
+
+pub building_sync : (κ ι : NamedLft) → IsSync (building.the_row κ ι)
+building_sync κ ι = declared_sync (building.the_type κ ι) (search (sendable, file_sync), tt)
+
+pub keeping_sync : (κ ι μ ν : NamedLft) → IsSync (keeping.the_row κ ι μ ν)
+keeping_sync κ ι μ ν =
+    declared_sync (keeping.the_type κ ι μ ν) (search (sendable, bodies_sync), (search (sendable, calls.the_sync), tt))

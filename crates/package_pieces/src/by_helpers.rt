@@ -1,0 +1,88 @@
+//! Several threads as the hands that judge a package.
+
+use crate::building::build_all;
+use crate::claims::find_called_with;
+use crate::solving::solve_all;
+use calls_flags::{Called, FileBodies, ImportedCalls, KnownCalls, ToldFile, bodies_of_files};
+use facts::Table;
+use findings::find_faults;
+use one_package::Hands;
+use pieces::{Free, Helpers, PieceFault};
+use report::Diagnostic;
+use std::alloc::Global;
+use std::sync::Wait;
+use std::thread::Threads;
+
+/// Whether more than one of these files was walked: else there is nothing to share.
+fn walk_several(files: &[ToldFile<'_>]) -> bool {
+    let mut one = false;
+    for file in files {
+        if file.variables.is_some() {
+            if one {
+                return true;
+            }
+            one = true;
+        }
+    }
+    false
+}
+
+/// Whether more than one of these files has a body.
+pub fn have_bodies(files: &[FileBodies<'_, '_>]) -> bool {
+    let mut one = false;
+    for file in files {
+        if !file.bodies.is_empty() {
+            if one {
+                return true;
+            }
+            one = true;
+        }
+    }
+    false
+}
+
+/// These helpers make the bodies of a package, and judge them. Where there is nothing to share, the thread that asks
+/// does it alone, so that none is started for nothing.
+#[derive(Drop)]
+pub struct ByHelpers<'h, R> {
+    pub helpers: &'h Helpers<'h, R, Free>,
+}
+
+impl<'h, R: Threads + Wait> Hands for ByHelpers<'h, R> {
+    type Fault = PieceFault;
+
+    fn bodies<'e, 'a>(
+        &self,
+        alloc: Global,
+        files: &'e [ToldFile<'a>],
+    ) -> Result<Vec<FileBodies<'e, 'a>>, PieceFault> {
+        if walk_several(files) {
+            build_all(alloc, self.helpers, files)
+        } else {
+            Ok(bodies_of_files(alloc, files)?)
+        }
+    }
+
+    fn called<'a>(
+        &self,
+        alloc: Global,
+        table: &Table<'a>,
+        files: &[FileBodies<'_, 'a>],
+        imported: &ImportedCalls<'a, '_>,
+    ) -> Result<Called<'a>, PieceFault> {
+        find_called_with(alloc, self.helpers, table, files, imported)
+    }
+
+    fn faults<'a>(
+        &self,
+        alloc: Global,
+        files: &[FileBodies<'_, 'a>],
+        calls: KnownCalls<'_, 'a>,
+    ) -> Result<Vec<Diagnostic<'a>>, PieceFault> {
+        if have_bodies(files) {
+            solve_all(alloc, self.helpers, files, calls)
+        } else {
+            Ok(find_faults(alloc, files, calls)?)
+        }
+    }
+}

@@ -1,0 +1,2 @@
+-- What comes of the pieces of a list.
+pub mod Pieces
