@@ -122,14 +122,16 @@ def memory(bench, long):
 
 
 def memory_of(section, commands):
-    """Each request for memory of these commands refused, and all from it on."""
+    """Each request for memory of these commands refused, and all from it on. An arena that is refused a chunk asks for
+    half as much."""
     for command in commands:
         command.note_ample(section)
         unwritten = (OUT_OF_MEMORY, b"ctxvet: cannot write: %s\n" % section.bench.at(OUT).encode())
         for setting in ("memory", "memory+"):
             def judge(end, met, number):
                 faults = faults_of_memory(command, setting, end) if met else ()
-                if met and number > command.read and command.is_whole(end):
+                judged = number > command.read and not end.counts.halved_memory
+                if met and judged and command.is_whole(end):
                     return "memory is refused to somebody who judges, and the report is whole"
                 return command.trouble(end, faults, unwritten if met else ())
 

@@ -67,9 +67,9 @@ FINDING = re.compile(
     "|".join(rf"[^\n]+:[1-9]\d*:[1-9]\d*: {code} \S+ (?:{text})" for code, text in TEXTS.items()).encode()
 )
 
-# What shim.c counts: calls of each kind, and how many of them were refused.
+# What shim.c counts: calls of each kind, how many of them were refused, and how often half as much was asked for next.
 Counts = collections.namedtuple(
-    "Counts", "memory threads files writes refused_memory refused_threads refused_files refused_writes"
+    "Counts", "memory threads files writes refused_memory refused_threads refused_files refused_writes halved_memory"
 )
 
 
@@ -220,7 +220,7 @@ def read_file(path):
 
 def read_counts(path):
     data = read_file(path) if os.path.exists(path) else b""
-    return Counts(*struct.unpack("=8Q", data)) if len(data) == 64 else Counts(*[0] * 8)
+    return Counts(*struct.unpack("=9Q", data)) if len(data) == 72 else Counts(*[0] * 9)
 
 
 def shown_command(settings, command):

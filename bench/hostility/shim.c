@@ -11,8 +11,9 @@
    Further settings: step=N lets a write take N bytes at most, and none=N lets the N-th write take nothing; stall=1 has
    each other write interrupted before it begins; kill=N kills the program at the N-th call on files.
 
-   HOSTILE_COUNTS names a file that gets how many calls of each kind there were, and then how many of each were refused,
-   as numbers of 8 bytes. It is mapped, so it is right at every moment, however the program ends. */
+   HOSTILE_COUNTS names a file that gets how many calls of each kind there were, then how many of each were refused, and
+   then how often a thread that was refused memory asked for half as much next, as numbers of 8 bytes. It is mapped, so
+   it is right at every moment, however the program ends. */
 
 #define _GNU_SOURCE
 #include <dlfcn.h>
@@ -39,6 +40,7 @@ static const char *const NAMES[KINDS] = {"memory", "thread", "file", "write"};
 struct counts {
     _Atomic uint64_t made[KINDS];
     _Atomic uint64_t refused[KINDS];
+    _Atomic uint64_t halved;
 };
 
 static struct counts own_counts;
@@ -155,28 +157,38 @@ static int is_file_refused(int error)
 
 /* Memory. */
 
-static int is_memory_refused(const void *caller)
+/* How many bytes this thread was refused by its last request, or 0; and how many an arena keeps of each chunk for itself
+   at most. */
+static __thread size_t last_refused;
+enum { CHUNK_HEAD = 64 };
+
+static int is_memory_refused(const void *caller, size_t size)
 {
     uintptr_t at = (uintptr_t)caller;
-    if (at < code_start || at >= code_end || !is_refused(MEMORY))
+    if (at < code_start || at >= code_end)
+        return 0;
+    if (size < last_refused && last_refused <= 2 * size + CHUNK_HEAD)
+        atomic_fetch_add(&counts->halved, 1);
+    last_refused = is_refused(MEMORY) ? size : 0;
+    if (!last_refused)
         return 0;
     errno = ENOMEM;
     return 1;
 }
 
-#define REFUSES_MEMORY is_memory_refused(__builtin_return_address(0))
+#define REFUSES_MEMORY(size) is_memory_refused(__builtin_return_address(0), size)
 
-void *malloc(size_t size) { return REFUSES_MEMORY ? NULL : __libc_malloc(size); }
+void *malloc(size_t size) { return REFUSES_MEMORY(size) ? NULL : __libc_malloc(size); }
 
-void *calloc(size_t count, size_t size) { return REFUSES_MEMORY ? NULL : __libc_calloc(count, size); }
+void *calloc(size_t count, size_t size) { return REFUSES_MEMORY(count * size) ? NULL : __libc_calloc(count, size); }
 
-void *realloc(void *place, size_t size) { return REFUSES_MEMORY ? NULL : __libc_realloc(place, size); }
+void *realloc(void *place, size_t size) { return REFUSES_MEMORY(size) ? NULL : __libc_realloc(place, size); }
 
-void *aligned_alloc(size_t align, size_t size) { return REFUSES_MEMORY ? NULL : __libc_memalign(align, size); }
+void *aligned_alloc(size_t align, size_t size) { return REFUSES_MEMORY(size) ? NULL : __libc_memalign(align, size); }
 
 int posix_memalign(void **place, size_t align, size_t size)
 {
-    void *got = REFUSES_MEMORY ? NULL : __libc_memalign(align, size);
+    void *got = REFUSES_MEMORY(size) ? NULL : __libc_memalign(align, size);
     if (!got)
         return ENOMEM;
     *place = got;

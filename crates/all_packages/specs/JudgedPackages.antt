@@ -1,6 +1,6 @@
 -- What the program keeps of all packages once they are judged, and of one of them what it was judged by.
 use Rattle.std.specs.Prelude.{ℕ, ◌≡◌, List, Option, None, Some}
-use Rattle.calls_flags.specs.KnownCalls.{flags_by_path}
+use Rattle.called_parameters.specs.Called.{flags_by_path}
 use Rattle.declared_tables.specs.DeclaredTables.{declared_view}
 use Rattle.meaning_reports.specs.Loaded.{LoadedPackage, Tables, imported_flags}
 use Rattle.meaning_reports.specs.PackageReports.{Rules, by_paths}
@@ -10,7 +10,7 @@ use Rattle.all_packages.specs.declared.packages.JudgedBy.{JudgedBy}
 use Rattle.all_packages.specs.declared.packages.JudgedPackages.{JudgedPackages}
 use Rattle.one_package.specs.Certified.{CertificateRule, no_certificates}
 use Rattle.one_package.specs.Judgments.{table_view, IsJudgment}
-use Rattle.all_packages.specs.Progress.{slots_in, results_of, tables_of, AreAllJudged}
+use Rattle.all_packages.specs.Progress.{judged_in, slots_in, results_of, tables_of, AreAllJudged}
 use Rattle.one_package.specs.Given.{TellsGiven}
 use Rattle.one_package.specs.ToldPackages.{IsToldIf}
 
@@ -28,10 +28,12 @@ pub record AreAllBy (rules : Rules) (rule : CertificateRule) (ps : List LoadedPa
 abbrev pub AreAll : Tables → List LoadedPackage → JudgedPackages → Type 0
 AreAll declared = AreAllBy (by_paths declared) no_certificates
 
--- what is said of the package, its table, what was told of it, and what its imports' functions are known to call
+-- what was kept of the package when it was judged, which is what is said of it and its table; what was told of it; and
+-- what its imports' functions are known to call
 pub record IsJudgedBy
     (declared : Tables) (ps : List LoadedPackage) (all : JudgedPackages) (i : ℕ) (p : LoadedPackage) (found : JudgedBy)
     : Type 0 where
+  pub is_kept : judged_in all.progress i ≡ Some found.judged.now
   pub is_judgment : IsJudgment (by_paths declared) ps (tables_in all) i p found.judged.now
   pub is_table : tables_in all p.path ≡ table_view found.judged.now
   pub is_told : IsToldIf ps (tables_in all) i p found.told

@@ -1,6 +1,6 @@
 //! All packages, one after another.
 
-ghost use Rattle.std.specs.Prelude.{◌≡◌, ℕ, List, Option, IfOk, OnOk, Some, filter_map, slice_get};
+ghost use Rattle.std.specs.Prelude.{◌≡◌, ℕ, List, Option, IfOk, OnOk, Some, None, filter_map, slice_get};
 ghost use Rattle.all_packages.specs.Reports.{AreAllCertified, AreReports, AreReportsBy};
 ghost use Rattle.one_package.specs.Certified.{CertificatesFollow};
 ghost use Rattle.all_packages.specs.JudgedPackages.{AreAll, AreAllBy, IsFoundBy, IsJudgedBy};
@@ -19,7 +19,7 @@ ghost use Rattle.meaning_reports.specs.Loaded.{LoadedPackage as MeantPackage, Ta
 
 use crate::known_imports::known_imports;
 use crate::progress::Progress;
-use calls_flags::ImportedCalls;
+use called_parameters::ImportedCalls;
 use imports::ImportList;
 use one_package::{
     ByPaths, FileRules, Given, Judged, KnownImports, ToldPackage, around, given_packages,
@@ -271,9 +271,10 @@ impl<'a> JudgedPackages<'a> {
         alloc: Global,
         place: usize,
     ) -> Result<Option<JudgedBy<'a, 'k>>, AllocError>
-        ensures { IfOk result (λ found. (declared : Tables) (ps : List MeantPackage) (p : MeantPackage)
+        ensures found { IfOk result (λ found. (declared : Tables) (ps : List MeantPackage) (p : MeantPackage)
             → AreAll declared ps self.now → slice_get ps place ≡ Some p
             → IsFoundBy declared ps self.now place p found) }
+        ensures past { IfOk result (λ found. slice_get self.now.given.packages.now place ≡ None → found ≡ None) }
     {
         let (Some(loaded), Some(list), Some(places)) = (
             self.given.packages.get(place),

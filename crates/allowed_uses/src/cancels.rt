@@ -19,7 +19,7 @@ use std::alloc::{AllocError, Global};
 use tracked_rows::{Event, Known, callee_of};
 
 /// `()`, or `(e)` where the function takes a cause.
-fn has_its_arguments(cancel_type: CancelType, call: Call<'_>) -> bool
+fn has_its_arguments(cancel_type: CancelType, call: Call<'_, '_>) -> bool
     ensures { result ≡ has_its_arguments (type_view cancel_type) (call_view call.entry) }
 {
     match cancel_type {
@@ -33,7 +33,7 @@ fn cancel_called<'a>(
     cancel_type: CancelType,
     number: u32,
     selected: Option<&str>,
-    call: Call<'a>,
+    call: Call<'_, 'a>,
 ) -> Use<'a>
     ensures { use_view result ≡ cancel_called (type_view cancel_type) number
         (option_map (λ m. m.now) selected.entry) (call_view call.entry) }
@@ -55,9 +55,9 @@ fn cancel_called<'a>(
 fn cancel_passed<'a>(
     known: Known<'_, 'a>,
     cancel_type: CancelType,
-    here: LocalMention<'_, 'a>,
+    here: LocalMention<'_, '_, 'a>,
     position: usize,
-    call: Call<'a>,
+    call: Call<'_, 'a>,
 ) -> Use<'a>
     ensures { use_view result ≡ cancel_passed (known_view known.entry) (type_view cancel_type)
         (variable_at (local_view here.entry.local) (mention_view here.entry.mention))
@@ -91,7 +91,7 @@ fn cancel_returned<'a>(
     alloc: Global,
     known: Known<'_, 'a>,
     cancel_type: CancelType,
-    here: LocalMention<'_, 'a>,
+    here: LocalMention<'_, '_, 'a>,
     item: usize,
 ) -> Result<Use<'a>, AllocError>
     ensures { IfOk result (λ allowed. use_view allowed ≡ allowed_if
@@ -119,7 +119,7 @@ pub fn cancel_use<'a>(
     alloc: Global,
     known: Known<'_, 'a>,
     cancel_type: CancelType,
-    here: LocalMention<'_, 'a>,
+    here: LocalMention<'_, '_, 'a>,
 ) -> Result<Use<'a>, AllocError>
     ensures { IfOk result (λ allowed. use_view allowed ≡ cancel_use (known_view known.entry)
         (type_view cancel_type) (local_view here.entry.local) (map body_view here.entry.bodies.now)
@@ -131,11 +131,11 @@ pub fn cancel_use<'a>(
             cancel_type,
             local.number,
             here.mention.named.selected,
-            call,
+            *call,
         )),
-        Role::Argument(position, has_address, call) => {
+        Role::Argument(has_address, position, call) => {
             if is_body(local.body, here.bodies) && !has_address {
-                Ok(cancel_passed(known, cancel_type, here, position, call))
+                Ok(cancel_passed(known, cancel_type, here, position, *call))
             } else {
                 Ok(Use::NotAllowed)
             }

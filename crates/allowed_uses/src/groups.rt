@@ -22,7 +22,7 @@ use tracked_rows::{Event, Known, callee_of, only};
 use tree::{Expr, ExprKind};
 
 /// The only argument of a call, where no `...` stands after it.
-pub fn only_argument<'a>(call: Call<'a>) -> Option<&'a Expr>
+pub fn only_argument<'a>(call: Call<'_, 'a>) -> Option<&'a Expr>
     ensures { option_map (λ e. expression_syntax e.now) result ≡ only_argument (call_view call.entry) }
 {
     if call.has_ellipsis {
@@ -55,8 +55,8 @@ fn started_literal(argument: Option<&Expr>) -> Option<u32>
 /// `g.Go(x)` as a statement; in literals where each one between is a member. Whether x is free is told.
 pub fn group_started<'a>(
     known: Known<'_, 'a>,
-    here: LocalMention<'_, 'a>,
-    call: Call<'a>,
+    here: LocalMention<'_, '_, 'a>,
+    call: Call<'_, 'a>,
     is_free: bool,
 ) -> Use<'a>
     ensures { use_view result ≡ allowed_if (is_statement_place (call_view call.entry).place && (is_free
@@ -79,8 +79,8 @@ pub fn group_started<'a>(
 /// `g.TryGo(x)` as a statement or value, as `g.Go(x)`.
 pub fn group_tried<'a>(
     known: Known<'_, 'a>,
-    here: LocalMention<'_, 'a>,
-    call: Call<'a>,
+    here: LocalMention<'_, '_, 'a>,
+    call: Call<'_, 'a>,
     is_free: bool,
 ) -> Use<'a>
     ensures { use_view result ≡ allowed_if (is_statement_or_value (call_view call.entry).place && (is_free
@@ -101,7 +101,7 @@ pub fn group_tried<'a>(
 }
 
 /// `g.Wait()` at a call place, and under `defer`; in literals where each one between is deferred, and not as an item.
-pub fn group_awaited<'a>(here: LocalMention<'_, 'a>, call: Call<'a>) -> Use<'a>
+pub fn group_awaited<'a>(here: LocalMention<'_, '_, 'a>, call: Call<'_, 'a>) -> Use<'a>
     ensures { use_view result ≡ group_awaited (local_view here.entry.local) (map body_view here.entry.bodies.now)
         (call_view call.entry) }
 {
@@ -122,7 +122,7 @@ pub fn group_awaited<'a>(here: LocalMention<'_, 'a>, call: Call<'a>) -> Use<'a>
 }
 
 /// `g.SetLimit(..)` as a statement.
-pub fn group_limited<'a>(here: LocalMention<'_, 'a>, call: Call<'a>) -> Use<'a>
+pub fn group_limited<'a>(here: LocalMention<'_, '_, 'a>, call: Call<'_, 'a>) -> Use<'a>
     ensures { use_view result ≡ group_limited (local_view here.entry.local) (map body_view here.entry.bodies.now)
         (call_view call.entry) }
 {
@@ -136,9 +136,9 @@ pub fn group_limited<'a>(here: LocalMention<'_, 'a>, call: Call<'a>) -> Use<'a>
 /// Argument g or `&g` at a position of type `*errgroup.Group`, at a call place.
 pub fn group_lent<'a>(
     known: Known<'_, 'a>,
-    here: LocalMention<'_, 'a>,
+    here: LocalMention<'_, '_, 'a>,
     position: usize,
-    call: Call<'a>,
+    call: Call<'_, 'a>,
 ) -> Use<'a>
     ensures { use_view result ≡ group_lent (known_view known.entry) (local_view here.entry.local)
         (map body_view here.entry.bodies.now) (mention_view here.entry.mention).named.selected position

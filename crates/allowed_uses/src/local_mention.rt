@@ -12,14 +12,14 @@ use tracked_rows::VariableAt;
 
 /// A mention of a local, in the bodies around it, the innermost first.
 #[derive(Clone, Copy)]
-pub struct LocalMention<'b, 'a> {
+pub struct LocalMention<'b, 'm, 'a> {
     pub local: Local<'a>,
     pub bodies: &'b [BodyPlace<'a>],
-    pub mention: Mention<'a>,
+    pub mention: Mention<'m, 'a>,
 }
 
 /// The variable, where the mention stands.
-pub fn variable_at(local: Local<'_>, mention: Mention<'_>) -> VariableAt
+pub fn variable_at(local: Local<'_>, mention: Mention<'_, '_>) -> VariableAt
     ensures { variable_view result ≡ variable_at (local_view local.entry) (mention_view mention.entry) }
 {
     VariableAt {

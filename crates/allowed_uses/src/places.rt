@@ -13,7 +13,7 @@ use tracked_rows::{Known, facts_of, is_binding_form};
 use tree::Expr;
 
 /// `:=`, `=` and `var` have a value that stands as a whole; `const` has none.
-pub fn is_value_place(place: CallPlace<'_>) -> bool
+pub fn is_value_place(place: CallPlace<'_, '_>) -> bool
     ensures { result ≡ is_value_place (place_view place.entry) }
 {
     match place {
@@ -23,7 +23,7 @@ pub fn is_value_place(place: CallPlace<'_>) -> bool
 }
 
 /// A call that is a statement.
-pub fn is_statement_place(place: CallPlace<'_>) -> bool
+pub fn is_statement_place(place: CallPlace<'_, '_>) -> bool
     ensures { result ≡ is_statement_place (place_view place.entry) }
 {
     match place {
@@ -33,7 +33,7 @@ pub fn is_statement_place(place: CallPlace<'_>) -> bool
 }
 
 /// A call that is an item of a return list.
-pub fn is_item_place(place: CallPlace<'_>) -> bool
+pub fn is_item_place(place: CallPlace<'_, '_>) -> bool
     ensures { result ≡ is_item_place (place_view place.entry) }
 {
     match place {
@@ -43,7 +43,7 @@ pub fn is_item_place(place: CallPlace<'_>) -> bool
 }
 
 /// A call after `defer`.
-pub fn is_deferred_place(place: CallPlace<'_>) -> bool
+pub fn is_deferred_place(place: CallPlace<'_, '_>) -> bool
     ensures { result ≡ is_deferred_place (place_view place.entry) }
 {
     match place {
@@ -53,14 +53,14 @@ pub fn is_deferred_place(place: CallPlace<'_>) -> bool
 }
 
 /// A statement, or an only value.
-pub fn is_statement_or_value(place: CallPlace<'_>) -> bool
+pub fn is_statement_or_value(place: CallPlace<'_, '_>) -> bool
     ensures { result ≡ is_statement_or_value (place_view place.entry) }
 {
     is_statement_place(place) || is_value_place(place)
 }
 
 /// A statement, an only value, or an item of a return list.
-pub fn is_call_place(place: CallPlace<'_>) -> bool
+pub fn is_call_place(place: CallPlace<'_, '_>) -> bool
     ensures { result ≡ is_call_place (place_view place.entry) }
 {
     is_statement_or_value(place) || is_item_place(place)
@@ -73,14 +73,14 @@ fn is_empty(values: &[Expr]) -> bool
 }
 
 /// `()`.
-pub fn has_no_argument(call: Call<'_>) -> bool
+pub fn has_no_argument(call: Call<'_, '_>) -> bool
     ensures { result ≡ has_no_argument (call_view call.entry) }
 {
     is_empty(call.arguments) && !call.has_ellipsis
 }
 
 /// Whether the function takes what is of that type at that position.
-pub fn takes(known: Known<'_, '_>, call: Call<'_>, typed: TrackedType, position: usize) -> bool
+pub fn takes(known: Known<'_, '_>, call: Call<'_, '_>, typed: TrackedType, position: usize) -> bool
     ensures { result ≡ takes (known_view known.entry) (call_view call.entry)
         (tracked_type_view typed) position }
 {

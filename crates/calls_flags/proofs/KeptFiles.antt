@@ -1,12 +1,13 @@
 -- What is kept of the files of a package, made one file after the other: what is so of each is so of all. And the files
 -- that were seen so, with the credits that are kept.
-use Rattle.std.proofs.Common.{◌≡◌, ℕ, zero, suc, ◌+◌, ◌<◌, ◌⊎◌, inl, inr, List, [], ◌∷◌, ◌++◌, map, length, Some, refl, sym, ap, ◌∙◌, subst, arith}
+use Rattle.std.proofs.Common.{◌≡◌, ℕ, zero, suc, ◌+◌, ◌<◌, inl, inr, List, [], ◌∷◌, ◌++◌, map, length, Some, refl, sym, ap, ◌∙◌, subst, arith}
 use Rattle.std.specs.Prelude.{slice_get}
 use Rattle.std.proofs.lemmas.Option.{none-some, same_Some, slice_get_within}
 use Rattle.std.proofs.lemmas.List.{length-append}
 use Rattle.meaning.specs.Uses.{Seen}
 use Rattle.meaning_packages.specs.CallsFlags.{FileWithCredits}
 use Rattle.path_faults.proofs.Places.{element_at}
+use Rattle.silent_files.proofs.OneMore.{last_or_before}
 use Rattle.calls_flags.specs.declared.told_file.ToldFile.{ToldFile}
 use Rattle.calls_flags.specs.declared.file_bodies.FileBodies.{FileBodies}
 use Rattle.calls_flags.specs.ToldFiles.{TellsSeen, TellAllSeen}
@@ -75,15 +76,6 @@ tell_all seens ks size each = record {
 }
 
 -- One file after the other
-
--- a list with one element more
-pub last_or_before : {X : Type 0} (xs : List X) (y : X) (i : ℕ) (z : X) → slice_get (xs ++ y ∷ []) i ≡ Some z
-    → (slice_get xs i ≡ Some z) ⊎ ((i ≡ length xs) × (y ≡ z))
-last_or_before [] y zero z e = inr (refl, same_Some y z e)
-last_or_before [] y (suc i) z e = absurd (none-some z e)
-last_or_before (x ∷ xs) y zero z e = inl e
-last_or_before (x ∷ xs) y (suc i) z e =
-    elim (last_or_before xs y i z e) [ inl before ↦ inl before | inr last ↦ inr (ap suc last.0, last.1) ]
 
 module _ (IsKept : ℕ → Seen → FileBodies → Type 0) (files : List ToldFile) where
   pub none_made : (made : List FileBodies) → made ≡ [] → AreMade IsKept files 0 made

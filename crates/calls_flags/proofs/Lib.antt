@@ -1,5 +1,5 @@
-mod AddedParameters
 mod BodiesKept
+mod ClaimedParameters
 mod ClaimsAdded
 pub mod ClaimsOf
 pub mod CreditedFiles

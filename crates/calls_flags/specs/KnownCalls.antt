@@ -1,38 +1,9 @@
--- What the program keeps of the parameters that functions are known to call, and what it stands for.
-use Rattle.std.specs.Prelude.{ℕ, ◌==◌, ◌&&◌, Bool, false, List, Option, Some, None, option_map}
-use Rattle.std.specs.List.{list_any}
-use Rattle.std.specs.Str.{bytes_eq}
-use Rattle.indexmap.specs.IndexSet.{contains_by}
-use Rattle.names.specs.Answers.{at_name}
+-- What is known of the functions of a package and of its imports, put together.
+use Rattle.std.specs.Prelude.{ℕ, Bool}
 use Rattle.meaning.specs.Uses.{Callee}
-use Rattle.meaning_packages.specs.CallsFlags.{Flags, calls_by}
-use Rattle.calls_flags.specs.declared.known_calls.FunctionParameter.{FunctionParameter}
-use Rattle.calls_flags.specs.declared.known_calls.Called.{Called}
-use Rattle.calls_flags.specs.declared.known_calls.ImportedCalls.{ImportedCalls}
+use Rattle.meaning_packages.specs.CallsFlags.{calls_by}
+use Rattle.called_parameters.specs.Called.{is_called, flags_by_path}
 use Rattle.calls_flags.specs.declared.known_calls.KnownCalls.{KnownCalls}
-
-abbrev pub is_parameter : List ℕ → ℕ → FunctionParameter → Bool
-is_parameter name k p = bytes_eq name p.name.now && (k == p.position)
-
--- the function of that name is known to call its parameter at that position
-abbrev pub is_called : Called → Flags
-is_called called name k = contains_by (is_parameter name k) called.parameters
-
-abbrev pub is_called_in : Option Called → Flags
-is_called_in None name k = false
-is_called_in (Some called) name k = is_called called name k
-
--- the functions of the package of that path
-abbrev pub called_by_path : ImportedCalls → List ℕ → Option Called
-called_by_path imported path = option_map (λ c. c.now) (at_name imported.packages path)
-
-abbrev pub flags_by_path : ImportedCalls → List ℕ → Flags
-flags_by_path imported path = is_called_in (called_by_path imported path)
 
 abbrev pub known_calls : KnownCalls → Callee → ℕ → Bool
 known_calls known = calls_by (is_called known.own.now) (flags_by_path known.imported.now)
-
--- The parameters of a list
-
-abbrev pub flags_of : List FunctionParameter → Flags
-flags_of parameters name k = list_any (is_parameter name k) parameters

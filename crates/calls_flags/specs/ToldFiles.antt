@@ -1,15 +1,11 @@
 -- What the program keeps of what was told of the files of a package, and what it stands for.
-use Rattle.std.specs.Prelude.{ℕ, ◌≡◌, Bool, true, List, [], length, Option, None, Some, slice_get, unwrap_or}
+use Rattle.std.specs.Prelude.{ℕ, ◌≡◌, List, [], length, Option, None, Some, slice_get}
 use Rattle.meaning.specs.BodyEvents.{Variable, bodies_of, variables_of}
 use Rattle.meaning.specs.Uses.{Seen}
 use Rattle.events.specs.ToldViews.{TellsFile}
 use Rattle.events.specs.VariableViews.{ordered_in}
 use Rattle.events.specs.declared.found.Variables.{Variables}
 use Rattle.calls_flags.specs.declared.told_file.ToldFile.{ToldFile}
-
--- whether the file of that number is walked, by marks of files: it is where it has none
-abbrev pub is_walked : List Bool → ℕ → Bool
-is_walked marks number = unwrap_or (slice_get marks number) true
 
 -- the variables of the body at that place: none, where none were sought
 abbrev pub ordered_if : Option Variables → ℕ → List Variable

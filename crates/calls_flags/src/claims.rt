@@ -14,8 +14,8 @@ ghost use Rattle.path_faults.specs.FoundFaults.{each_from};
 ghost use Rattle.events.specs.VariableViews.{variable_view};
 
 use crate::file_bodies::FileBodies;
-use crate::known_calls::FunctionParameter;
 use bodies::Body;
+use called_parameters::FunctionParameter;
 use events::{Variable, VariableRole};
 use facts::{FunctionFacts, Table, VariableKind};
 use mentions::BodyPlace;

@@ -12,6 +12,6 @@ mod told_file;
 pub use claims::{Claim, find_claims, function_name};
 pub use file_bodies::{FileBodies, bodies_of_file, bodies_of_files, told_bodies};
 pub use keeping::keeps_claim;
-pub use known_calls::{Called, FunctionParameter, ImportedCalls, KnownCalls};
+pub use known_calls::KnownCalls;
 pub use rounds::{Sieve, called_by, find_called, find_called_by};
 pub use told_file::{ToldFile, tell_files};

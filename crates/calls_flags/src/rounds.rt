@@ -3,14 +3,16 @@
 ghost use Rattle.std.specs.Prelude.{◌≡◌, ◌≤◌, ℕ, List, IfOk, length, map};
 ghost use Rattle.facts.specs.FactViews.{facts_by_name};
 ghost use Rattle.calls_flags.specs.Claims.{claim_view, flags_claimed, AreClaims, HaveFacts, KeepsClaim, Sieves};
-ghost use Rattle.calls_flags.specs.KnownCalls.{is_called, flags_by_path, known_calls};
+ghost use Rattle.called_parameters.specs.Called.{is_called, flags_by_path};
+ghost use Rattle.calls_flags.specs.KnownCalls.{known_calls};
 ghost use Rattle.calls_flags.specs.FilesBodies.{TellAll};
 ghost use Rattle.meaning_packages.specs.CallsFlags.{AreMost, FileWithCredits, calls_by};
 
 use crate::claims::{Claim, find_claims};
 use crate::file_bodies::FileBodies;
 use crate::keeping::keeps_claim;
-use crate::known_calls::{Called, ImportedCalls, KnownCalls};
+use crate::known_calls::KnownCalls;
+use called_parameters::{Called, ImportedCalls};
 use facts::Table;
 use std::alloc::{AllocError, Global};
 

@@ -2,15 +2,16 @@
 
 ghost use Rattle.std.specs.Prelude.{◌≡◌, [], IfOk, map};
 ghost use Rattle.facts.specs.FactViews.{facts_by_name, facts_by_path};
-ghost use Rattle.calls_flags.specs.ToldFiles.{TellsSeen, TellAllSeen, is_walked};
+ghost use Rattle.calls_flags.specs.ToldFiles.{TellsSeen, TellAllSeen};
 ghost use Rattle.meaning.specs.BodyEvents.{seen_file};
 ghost use Rattle.meaning.specs.Tracked.{Known as MeantKnown};
 ghost use Rattle.meaning.specs.Uses.{seen_in};
 ghost use Rattle.names.specs.Answers.{declared_at};
 ghost use Rattle.tracked_rows.specs.RowViews.{known_view};
 ghost use Rattle.tree.specs.View.{file_syntax};
-ghost use Rattle.silent_files.specs.WalkedFiles.{seen_if, seen_some};
+ghost use Rattle.silent_files.specs.WalkedFiles.{is_walked, seen_if, seen_some};
 
+use bumpalo::Bump;
 use events::{Told, Variables, find_variables, tell};
 use facts::{Imported, Table};
 use names::Names;
@@ -34,7 +35,8 @@ fn tell_file<'k, 'a>(
 ) -> Result<ToldFile<'a>, AllocError>
     ensures { IfOk result (TellsSeen (seen_file (known_view known.entry) (file_syntax file.now))) }
 {
-    let seen = see(alloc, known, file)?;
+    let arena = Bump::new(alloc);
+    let seen = see(alloc, &arena, known, file)?;
     let told = tell(alloc, &seen)?;
     let variables = find_variables(alloc, &seen)?;
     Ok(ToldFile {

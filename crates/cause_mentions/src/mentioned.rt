@@ -7,6 +7,7 @@ ghost use Rattle.mentions.specs.MarkViews.{named_view, mark_view};
 ghost use Rattle.names.specs.Answers.{declared_at, names_by_path};
 ghost use Rattle.tree.specs.View.{file_syntax};
 
+use bumpalo::Bump;
 use facts::is_of;
 use marks::file_marks;
 use mentions::{Mark, Named};
@@ -24,7 +25,7 @@ fn is_cause_name(names: &Names<'_>, file: usize, named: Named<'_>) -> bool
         || is_of(names, file, CONTEXT, "WithDeadlineCause", named)
 }
 
-fn mark_mentions(names: &Names<'_>, file: usize, mark: Mark<'_>) -> bool
+fn mark_mentions(names: &Names<'_>, file: usize, mark: Mark<'_, '_>) -> bool
     ensures { result ≡ mark_mentions (declared_at names.now file) (mark_view mark.entry) }
 {
     match mark {
@@ -33,7 +34,7 @@ fn mark_mentions(names: &Names<'_>, file: usize, mark: Mark<'_>) -> bool
     }
 }
 
-fn marks_mention(names: &Names<'_>, file: usize, marks: &[Mark<'_>]) -> bool
+fn marks_mention(names: &Names<'_>, file: usize, marks: &[Mark<'_, '_>]) -> bool
     ensures { result ≡ list_any (mark_mentions (declared_at names.now file)) (map mark_view marks.now) }
 {
     for mark in marks {
@@ -53,7 +54,8 @@ fn file_mentions(
 ) -> Result<bool, AllocError>
     ensures { IfOk result (λ does. does ≡ file_mentions (declared_at names.now number) (file_syntax file.now)) }
 {
-    let marks = file_marks(alloc, file)?;
+    let arena = Bump::new(alloc);
+    let marks = file_marks(alloc, &arena, file)?;
     Ok(marks_mention(names, number, &marks))
 }
 

@@ -1,9 +1,8 @@
 //! Transcripts of runs over folders of real files.
 
-use crate::packages;
 use crate::real_folders::{NAMED, NAMED_TRANSCRIPT, folder_with};
 use crate::runs::expect_transcript;
-use evidence_rows::{certificate_files, declared_facts};
+use evidence_rows::{certificate_files, declared_facts, packages};
 use std::fs;
 use std::test::Fail;
 

@@ -8,8 +8,8 @@ use Rattle.std.proofs.lemmas.Slice.Eq.{bytes_eq-Decides}
 use Rattle.table_json.specs.declared.table.Parameter.{Parameter}
 use Rattle.facts.specs.declared.table.Table.{Table}
 use Rattle.facts.specs.FactViews.{facts_by_name}
-use Rattle.calls_flags.specs.declared.known_calls.Called.{Called}
-use Rattle.calls_flags.specs.KnownCalls.{is_called}
+use Rattle.called_parameters.specs.declared.called.Called.{Called}
+use Rattle.called_parameters.specs.Called.{is_called}
 use Rattle.meaning.specs.FunctionFacts.{FunctionFacts}
 use Rattle.meaning.specs.OuterBlocks.{or_else}
 use Rattle.names.specs.Maps.{only_at}

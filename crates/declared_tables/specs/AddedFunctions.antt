@@ -5,8 +5,8 @@ use Rattle.std.specs.List.{list_any}
 use Rattle.std.specs.Str.{bytes_eq}
 use Rattle.facts.specs.declared.table.Table.{Table}
 use Rattle.facts.specs.FactViews.{facts_by_name}
-use Rattle.calls_flags.specs.declared.known_calls.Called.{Called}
-use Rattle.calls_flags.specs.KnownCalls.{is_called}
+use Rattle.called_parameters.specs.declared.called.Called.{Called}
+use Rattle.called_parameters.specs.Called.{is_called}
 use Rattle.meaning.specs.FunctionFacts.{FunctionFacts}
 use Rattle.meaning.specs.OuterBlocks.{or_else}
 use Rattle.names.specs.Maps.{only_at}

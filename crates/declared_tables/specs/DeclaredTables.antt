@@ -9,7 +9,7 @@ use Rattle.outside_json.specs.Outside.{FunctionEntry, PackageEntry, table_at}
 use Rattle.meaning.specs.FunctionFacts.{CancelType, plain, with_cause, cancel_type, group_type, TrackedParameter, CancelResult, FunctionFacts}
 use Rattle.meaning_reports.specs.Loaded.{PackageTable, Tables, no_table}
 use Rattle.facts.specs.FactViews.{facts_by_name}
-use Rattle.calls_flags.specs.KnownCalls.{is_called}
+use Rattle.called_parameters.specs.Called.{is_called}
 use Rattle.names.specs.Answers.{at_name}
 use Rattle.declared_tables.specs.declared.tables.DeclaredTables.{DeclaredTables}
 use Rattle.declared_tables.specs.declared.tables.PackageTable.{PackageTable as KeptTable}

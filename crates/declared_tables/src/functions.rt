@@ -3,13 +3,13 @@
 ghost use Rattle.std.specs.Prelude.{◌≡◌, ◌++◌, ◌&&◌, ◌||◌, ◌==◌, ℕ, List, IfOk, OnOk, map};
 ghost use Rattle.std.specs.List.{list_any};
 ghost use Rattle.std.specs.Str.{bytes_eq};
-ghost use Rattle.calls_flags.specs.KnownCalls.{is_called};
+ghost use Rattle.called_parameters.specs.Called.{is_called};
 ghost use Rattle.declared_tables.specs.AddedFunctions.{AddsFunction};
 ghost use Rattle.declared_tables.specs.DeclaredTables.{facts_of, is_called_at, parameter_of, results_of};
 ghost use Rattle.facts.specs.FactViews.{cancel_result_view, facts_view, parameter_view, type_view};
 ghost use Rattle.outside_json.specs.Outside.{function_of};
 
-use calls_flags::{Called, FunctionParameter};
+use called_parameters::{Called, FunctionParameter};
 use facts::{CancelResult, CancelType, FunctionFacts, Table, TrackedParameter, TrackedType};
 use outside_json::OutsideFunction;
 use std::alloc::{AllocError, Global};

@@ -10,7 +10,7 @@ ghost use Rattle.names.specs.Maps.{only_at};
 ghost use Rattle.outside_json.specs.Outside.{function_of, package_of, packages_of};
 
 use crate::functions::add_function;
-use calls_flags::Called;
+use called_parameters::Called;
 use facts::Table;
 use indexmap::IndexMap;
 use outside_json::{Outside, OutsideFunction, OutsidePackage};

@@ -24,7 +24,7 @@ fn order_by_place(bodies: &mut Vec<BodyPlace<'_>>) -> Result<(), AllocError>
 /// # Errors
 ///
 /// Memory was refused.
-pub fn tell<'a>(alloc: Global, seen: &Seen<'_, 'a>) -> Result<Told<'a>, AllocError>
+pub fn tell<'a>(alloc: Global, seen: &Seen<'_, '_, 'a>) -> Result<Told<'a>, AllocError>
     requires { Sees seen.now }
     ensures { IfOk result (λ told. TellsFile (seen_view seen.now) told) }
 {

@@ -117,7 +117,7 @@ fn add_local<'a>(
 /// Adds the local of that number, if it is tracked.
 fn add_number<'a>(
     alloc: Global,
-    seen: &Seen<'_, 'a>,
+    seen: &Seen<'_, '_, 'a>,
     number: u32,
     sightings: &[Sighting],
     lists: &mut Lists<Variable<'a>>,
@@ -143,7 +143,10 @@ fn add_number<'a>(
 /// # Errors
 ///
 /// Memory was refused.
-pub fn find_variables<'a>(alloc: Global, seen: &Seen<'_, 'a>) -> Result<Variables<'a>, AllocError>
+pub fn find_variables<'a>(
+    alloc: Global,
+    seen: &Seen<'_, '_, 'a>,
+) -> Result<Variables<'a>, AllocError>
     requires { Sees seen.now }
     ensures { IfOk result (λ found. (body : ℕ) → ordered_in found body ≡ variables_of (seen_view seen.now) body) }
 {

@@ -62,7 +62,7 @@ fn add_in_bodies(
 }
 
 /// The local of that number, if it is tracked.
-pub fn tracked_local<'a>(seen: &Seen<'_, 'a>, number: Option<u32>) -> Option<Local<'a>>
+pub fn tracked_local<'a>(seen: &Seen<'_, '_, 'a>, number: Option<u32>) -> Option<Local<'a>>
     requires { Sees seen.now }
     ensures { option_map local_view result ≡ tracked_local (seen_view seen.now) number }
 {
@@ -77,9 +77,9 @@ pub fn tracked_local<'a>(seen: &Seen<'_, 'a>, number: Option<u32>) -> Option<Loc
 
 fn add_mention<'a>(
     alloc: Global,
-    seen: &Seen<'_, 'a>,
+    seen: &Seen<'_, '_, 'a>,
     bodies: &[BodyPlace<'a>],
-    mention: Mention<'a>,
+    mention: Mention<'_, 'a>,
     sightings: &mut Lists<Sighting>,
 ) -> Result<(), AllocError>
     requires { Sees seen.now }
@@ -103,9 +103,9 @@ fn add_mention<'a>(
 /// Notes what a mark in these bodies mentions.
 fn add_mark<'a>(
     alloc: Global,
-    seen: &Seen<'_, 'a>,
+    seen: &Seen<'_, '_, 'a>,
     bodies: &[BodyPlace<'a>],
-    mark: Mark<'a>,
+    mark: Mark<'_, 'a>,
     sightings: &mut Lists<Sighting>,
 ) -> Result<(), AllocError>
     requires { Sees seen.now }
@@ -123,7 +123,7 @@ fn add_mark<'a>(
 /// # Errors
 ///
 /// Memory was refused.
-pub fn sightings<'a>(alloc: Global, seen: &Seen<'_, 'a>) -> Result<Lists<Sighting>, AllocError>
+pub fn sightings<'a>(alloc: Global, seen: &Seen<'_, '_, 'a>) -> Result<Lists<Sighting>, AllocError>
     requires { Sees seen.now }
     ensures { IfOk result (λ sightings. (n : ℕ) → items_at sightings n ≡ sightings_of (seen_view seen.now) n
         (seen_view seen.now).marks) }

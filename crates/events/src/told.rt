@@ -11,9 +11,8 @@ ghost use Rattle.mentions.specs.MarkViews.{body_view, mark_view, mention_view, r
 ghost use Rattle.tracked_rows.specs.RowViews.{known_view};
 ghost use Rattle.uses.specs.OutcomeViews.{fault_view, AddsFaults, events_view};
 
-use allowed_uses::is_statement_place;
 use lists::Lists;
-use mentions::{BodyPlace, Mark, Mention, Role};
+use mentions::{BodyPlace, CallPlace, Mark, Mention, Role};
 use std::alloc::{AllocError, Global};
 use tracked::Seen;
 use tracked_rows::{Event, Known, is_of_universe};
@@ -99,7 +98,7 @@ fn add_outer_faults<'a>(
 }
 
 /// The site of a mark.
-fn site_of(mark: Mark<'_>) -> Option<u32>
+fn site_of(mark: Mark<'_, '_>) -> Option<u32>
     ensures { (at : ℕ) → is_at result at ≡ is_site (mark_view mark.entry) at }
 {
     match mark {
@@ -138,7 +137,7 @@ fn add_site_event<'a>(
 fn add_event<'a>(
     alloc: Global,
     bodies: &[BodyPlace<'a>],
-    mark: Mark<'a>,
+    mark: Mark<'_, 'a>,
     event: Option<Event<'a>>,
     events: &mut Lists<SiteEvent<'a>>,
 ) -> Result<(), AllocError>
@@ -152,13 +151,14 @@ fn add_event<'a>(
 }
 
 /// Whether it is a call of the universe's `panic` as a statement.
-fn is_panic(known: Known<'_, '_>, mention: Mention<'_>) -> bool
+fn is_panic(known: Known<'_, '_>, mention: Mention<'_, '_>) -> bool
     ensures { result ≡ is_panic (known_view known.entry) (mention_view mention.entry)
         (role_view mention.entry.role) }
 {
     match mention.role {
         Role::Called(call) => {
-            is_of_universe(known, "panic", mention.named) && is_statement_place(call.place)
+            is_of_universe(known, "panic", mention.named)
+                && matches!(call.place, CallPlace::Statement)
         }
         _ => false,
     }
@@ -185,7 +185,7 @@ fn add_panic<'a>(
     alloc: Global,
     known: Known<'_, 'a>,
     bodies: &[BodyPlace<'a>],
-    mark: Mark<'a>,
+    mark: Mark<'_, 'a>,
     panics: &mut Lists<u32>,
 ) -> Result<(), AllocError>
     ensures { OnOk result (AddsPanic (known_view known.entry) (map body_view bodies.now) (mark_view mark.entry)
@@ -200,12 +200,12 @@ fn add_panic<'a>(
 }
 
 /// Adds the body that a mark opens.
-fn add_opened<'a>(mark: Mark<'a>, opened: &mut Vec<BodyPlace<'a>>) -> Result<(), AllocError>
+fn add_opened<'a>(mark: Mark<'_, 'a>, opened: &mut Vec<BodyPlace<'a>>) -> Result<(), AllocError>
     ensures { OnOk result (map body_view opened.new.items ≡ map body_view opened.old.items
         ++ opened_by (mark_view mark.entry)) }
 {
     if let Mark::Opens(body) = mark {
-        opened.push(body)?;
+        opened.push(*body)?;
     }
     Ok(())
 }
@@ -215,11 +215,11 @@ fn add_opened<'a>(mark: Mark<'a>, opened: &mut Vec<BodyPlace<'a>>) -> Result<(),
 /// # Errors
 ///
 /// Memory was refused.
-pub fn add_mark<'a>(
+pub fn add_mark<'m, 'a>(
     alloc: Global,
-    seen: &Seen<'_, 'a>,
+    seen: &Seen<'_, 'm, 'a>,
     bodies: &[BodyPlace<'a>],
-    mark: Mark<'a>,
+    mark: Mark<'m, 'a>,
     told: &mut Told<'a>,
 ) -> Result<(), AllocError>
     requires { Sees seen.now }

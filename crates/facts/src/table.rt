@@ -56,7 +56,7 @@ impl<'a> Table<'a> {
     }
 }
 
-/// The tables of given imports, by path.
+/// The tables of imports, given or declared, by path.
 #[derive(Drop)]
 pub struct Imported<'a, 't> {
     packages: IndexMap<&'a str, &'t Table<'a>>,

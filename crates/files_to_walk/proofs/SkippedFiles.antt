@@ -4,8 +4,6 @@ use Rattle.std.specs.Prelude.{not, slice_get, unwrap_or}
 use Rattle.std.proofs.lemmas.Bool.{false≢true}
 use Rattle.std.proofs.lemmas.Option.{none-some, same_Some, slice_get-map}
 use Rattle.std.proofs.lemmas.List.{length-append}
-use Rattle.calls_flags.specs.ToldFiles.{is_walked}
-use Rattle.calls_flags.proofs.KeptFiles.{last_or_before}
 use Rattle.lexer.specs.declared.source.Source.{Source}
 use Rattle.tree.specs.Syntax.{ImportSpec, SourceFile}
 use Rattle.tree.specs.View.{file_syntax}
@@ -16,7 +14,8 @@ use Rattle.meaning_reports.specs.WholeFaults.{HasNoWholeFault, has_no_tokens, ha
 use Rattle.meaning.proofs.Membership.{contains_here}
 use Rattle.named_words.specs.NamedWords.{LacksEach, LacksWord}
 use Rattle.silent_files.specs.SilentPackages.{GiveNone, NamesNoGiver, MayBeSkipped}
-use Rattle.silent_files.specs.WalkedFiles.{SkipsSilent}
+use Rattle.silent_files.specs.WalkedFiles.{is_walked, SkipsSilent}
+use Rattle.silent_files.proofs.OneMore.{last_or_before}
 use Rattle.silent_files.proofs.SilentPackages.{imports_tell, none_among}
 use Rattle.silent_files.proofs.SilentWords.{words_tell}
 use Rattle.whole_packages.specs.declared.loaded_package.LoadedPackage.{LoadedPackage as KeptPackage}

@@ -12,12 +12,12 @@ use Rattle.silent_files.specs.SilentWords.{telling_words}
 
 -- Files
 
--- it imports none of the two packages, or none of the words is a name of it
+-- it imports neither `context` nor `errgroup`, or its text has none of the words as a name
 abbrev pub NamesNoMaker : SourceFile → List ℕ → Type 0
 NamesNoMaker tree text = (imports_first tree ≡ false) ⊎ LacksEach telling_words text
 
--- nothing is to be found in the file of this text, as far as no function gives of its package, and of its imports only
--- those of such paths
+-- nothing is to be found in the file of this text, as far as no function of its package gives, and of its imports only
+-- those whose path `givers` has
 pub record IsQuiet (givers : List ℕ → Bool) (tree : SourceFile) (text : List ℕ) : Type 0 where
   pub no_group : imports_group tree ≡ false
   pub no_giver : list_any (λ s. givers s.path) (imports_of tree) ≡ false

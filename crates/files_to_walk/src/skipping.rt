@@ -3,7 +3,6 @@
 ghost use Rattle.std.specs.Prelude.{◌≡◌, ℕ, true, false, List, IfOk, Some, map, slice_get};
 ghost use Rattle.std.specs.List.{list_any};
 ghost use Rattle.std.specs.Str.{bytes_eq};
-ghost use Rattle.calls_flags.specs.ToldFiles.{is_walked};
 ghost use Rattle.facts.specs.FactViews.{cancel_result_view, facts_by_name};
 ghost use Rattle.meaning.specs.FunctionFacts.{errgroup_path};
 ghost use Rattle.meaning.specs.OuterBlocks.{is_first_path, specs_of};
@@ -12,12 +11,12 @@ ghost use Rattle.meaning_reports.specs.WholeFaults.{HasNoWholeFault};
 ghost use Rattle.files_to_walk.specs.Givers.{may_give};
 ghost use Rattle.files_to_walk.specs.Skipping.{declares_giver, gives_any, gives_by, has_giver, AreQuiet, IsQuiet, IsQuietIn, NamesNoMaker};
 ghost use Rattle.silent_files.specs.SilentPackages.{GiveNone};
-ghost use Rattle.silent_files.specs.WalkedFiles.{SkipsSilent};
+ghost use Rattle.silent_files.specs.WalkedFiles.{is_walked, SkipsSilent};
 ghost use Rattle.tree.specs.View.{file_syntax, import_spec_syntax, import_syntax, top_level_syntax};
 ghost use Rattle.whole_packages.specs.LoadedViews.{TellsPackage};
 
 use crate::givers::Givers;
-use crate::words::{names_recover, names_telling};
+use crate::words::{may_name_telling, names_recover};
 use facts::{CancelResult, Table};
 use lexer::Source;
 use names::{CONTEXT, ERRGROUP};
@@ -125,13 +124,10 @@ fn imports_picked<P: Picks>(picked: &P, tree: &File) -> bool
 }
 
 /// Whether a file of that text may name a maker of cancel functions, or a type of these.
-fn may_name_makers(alloc: Global, tree: &File, source: &Source) -> Result<bool, AllocError>
-    ensures { IfOk result (λ may. may ≡ false → NamesNoMaker (file_syntax tree.now) source.now.bytes.items) }
+fn may_name_makers(tree: &File, source: &Source) -> bool
+    ensures { result ≡ false → NamesNoMaker (file_syntax tree.now) source.now.bytes.items }
 {
-    if imports_picked(&Tracked, tree) {
-        return names_telling(alloc, source);
-    }
-    Ok(false)
+    imports_picked(&Tracked, tree) && may_name_telling(source)
 }
 
 /// Whether nothing is to be found in a file of that text, as far as no function of its package gives a cancel function.
@@ -150,8 +146,7 @@ fn is_quiet(
     if imports_picked(givers, tree) {
         return Ok(false);
     }
-    let may_name = may_name_makers(alloc, tree, source)?;
-    if may_name {
+    if may_name_makers(tree, source) {
         return Ok(false);
     }
     let recovers = names_recover(alloc, source)?;

@@ -6,7 +6,7 @@ ghost use Rattle.named_words.specs.WordsSought.{bytes_of};
 ghost use Rattle.silent_files.specs.SilentWords.{telling_words};
 
 use lexer::Source;
-use named_words::names_one;
+use named_words::{names_one, occurs_one};
 use std::alloc::{AllocError, Global};
 
 /// The names of the makers of `context`, and of its types of cancel functions.
@@ -28,16 +28,13 @@ fn telling_words() -> &'static [&'static str]
     &TELLING
 }
 
-/// Whether the name of a maker of `context`, or of one of its types of cancel functions, stands in the source as a
-/// name.
-///
-/// # Errors
-///
-/// Memory was refused.
-pub fn names_telling(alloc: Global, source: &Source) -> Result<bool, AllocError>
-    ensures { IfOk result (λ is. is ≡ false → LacksEach telling_words source.now.bytes.items) }
+/// Whether the name of a maker of `context`, or of one of its types of cancel functions, may stand in the source. The
+/// bytes alone are sought. Where they stand in a file that imports `context`, it is nearly always to be walked. So to
+/// cut it into tokens once more would take longer than it saves.
+pub fn may_name_telling(source: &Source) -> bool
+    ensures { result ≡ false → LacksEach telling_words source.now.bytes.items }
 {
-    names_one(alloc, source, telling_words())
+    occurs_one(source, telling_words())
 }
 
 /// Whether `recover` stands in the source as a name.

@@ -1,7 +1,7 @@
 //! The lines of packages' tables.
 
+use crate::final_tables::final_tables;
 use outside_json::Outside;
-use plain_tables::final_tables;
 use std::alloc::{AllocError, Global};
 use table_json::to_json;
 use whole_packages::LoadedPackage;

@@ -6,6 +6,7 @@ mod body_lines;
 mod class_names;
 mod event_words;
 mod fact_lines;
+mod final_tables;
 mod graph_lines;
 mod node_lines;
 mod package_lines;

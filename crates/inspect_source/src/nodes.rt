@@ -49,7 +49,7 @@ fn expression_form(kind: &ExprKind) -> &'static str {
         ExprKind::Paren(_) => "Paren",
         ExprKind::Selector(_, _) => "Selector",
         ExprKind::Index(_, _) => "Index",
-        ExprKind::Slice { .. } => "Slice",
+        ExprKind::Slice(_, _) => "Slice",
         ExprKind::TypeAssert(_, _) => "TypeAssert",
         ExprKind::Call(_, _, _) => "Call",
         ExprKind::Star(_) => "Star",
@@ -95,16 +95,11 @@ fn parts_of_expression(lines: &mut Lines, slot: Slot, kind: &ExprKind) {
             expression(lines, slot.below("operand"), operand);
             expression(lines, slot.below("index"), index);
         }
-        ExprKind::Slice {
-            operand,
-            low,
-            high,
-            max,
-        } => {
+        ExprKind::Slice(operand, bounds) => {
             expression(lines, slot.below("operand"), operand);
-            optional_expression(lines, slot.below("low"), low);
-            optional_expression(lines, slot.below("high"), high);
-            optional_expression(lines, slot.below("max"), max);
+            optional_expression(lines, slot.below("low"), &bounds.low);
+            optional_expression(lines, slot.below("high"), &bounds.high);
+            optional_expression(lines, slot.below("max"), &bounds.max);
         }
         ExprKind::TypeAssert(operand, kind) => {
             expression(lines, slot.below("operand"), operand);

@@ -47,9 +47,18 @@ receiver_same None (Some kept) same = ap (option_map parameters_syntax) same
 receiver_same (Some lent) None same = ap (option_map parameters_syntax) same
 receiver_same (Some lent) (Some kept) same = ap (option_map parameters_syntax) same
 
-pub opens_same : (at : ℕ) (name : Option Identifier) (lent kept : Option Parameters) (signature : Signature) (ss : Statements) (braces : Span)
+abbrev pub body_of : ℕ → Option Identifier → Option Parameters → Signature → Statements → Span → BodyPlace
+body_of at name receiver signature ss braces = record {
+  at = at;
+  name = name;
+  receiver = receiver;
+  signature = signature;
+  statements = ss;
+  braces = braces;
+  literal = other_use;
+}
+
+pub body_same : (at : ℕ) (name : Option Identifier) (lent kept : Option Parameters) (signature : Signature) (ss : Statements) (braces : Span)
     → lent ≡ kept
-    → opens record { at = at; name = name; receiver = lent; signature = signature; statements = ss; braces = braces; literal = other_use } ∷ []
-    ≡ opens record { at = at; name = name; receiver = kept; signature = signature; statements = ss; braces = braces; literal = other_use } ∷ []
-opens_same at name lent kept signature ss braces same =
-    ap (λ ps. opens record { at = at; name = name; receiver = ps; signature = signature; statements = ss; braces = braces; literal = other_use } ∷ []) same
+    → body_of at name lent signature ss braces ≡ body_of at name kept signature ss braces
+body_same at name lent kept signature ss braces same = ap (λ ps. body_of at name ps signature ss braces) same

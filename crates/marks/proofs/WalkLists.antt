@@ -1,5 +1,5 @@
 -- What the parts of a tree add to the marks: an item of a list and the rest, a clause, a body.
-use Rattle.std.proofs.Common.{true, false, Bool, not, ◌&&◌, if◌then◌else◌, ◌≡◌, ℕ, List, [], ◌∷◌, ◌++◌, map, Option, Some, None, option_map, refl, ap, ◌∙◌}
+use Rattle.std.proofs.Common.{Bool, not, ◌&&◌, ◌≡◌, ℕ, List, [], ◌∷◌, ◌++◌, map, Option, Some, None, option_map, refl, ap, ◌∙◌}
 use Rattle.std.specs.Borrow.{Bor}
 use Rattle.std.specs.Option.{option_copied}
 use Rattle.tree.specs.declared.declaration.Spec.{Spec, Value', Type'}
@@ -15,11 +15,12 @@ use Rattle.tree.specs.declared.statement.CaseClause.{CaseClause, out-CaseClause}
 use Rattle.tree.specs.declared.statement.CommClause.{CommClause, out-CommClause}
 use Rattle.tree.specs.declared.statement.Stmt.{Stmt}
 use Rattle.tree.specs.Syntax.{Identifier, expression_node, signature_of, Parameters, no_parameter, Fields, no_field, Specs, no_spec, CaseClauses, CommunicationClauses}
-use Rattle.tree.specs.View.{identifier_syntax, type_name_syntax, block_braces, expression_form, literal_syntax, row_expressions, held_expression, row_parameters, parameter_and, field_and, spec_and, case_clause_and, communication_clause_and, expressions_syntax, signature_syntax, statements_syntax, optional_statement_syntax}
+use Rattle.tree.specs.View.{identifier_syntax, block_braces, expression_form, literal_syntax, row_expressions, held_expression, row_parameters, parameter_and, field_and, spec_and, case_clause_and, communication_clause_and, expressions_syntax, signature_syntax, statements_syntax, optional_statement_syntax}
 use Rattle.tree.proofs.Views.{literal_syntax-out, block_syntax-out, case_clause_and-out, communication_clause_and-out}
+use Rattle.mentions.specs.declared.mark.BodyPlace.{BodyPlace as KeptBody}
 use Rattle.mentions.specs.declared.mark.Mark.{Mark as KeptMark}
-use Rattle.mentions.specs.MarkViews.{Adds}
-use Rattle.meaning.specs.Mentions.{Mark, Spot, part_of, ordinary, communication, declares, row_of, value_spot, left_names, declaring, elsewhere, number_of, named_or, parameter_type_or, guard_in_clause, in_body, literal_body, deferral, BodyPlace, opens, closes, expression_marks, form_marks, expressions_marks, names_type_marks, signature_marks, parameters_marks, fields_marks, statements_marks, optional_statement_marks, cases_marks, communications_marks, specs_marks}
+use Rattle.mentions.specs.MarkViews.{Adds, body_view}
+use Rattle.meaning.specs.Mentions.{Mark, Spot, part_of, ordinary, communication, declares, row_of, value_spot, left_names, declaring, elsewhere, number_of, parameter_type_or, guard_in_clause, in_body, literal_body, deferral, BodyPlace, opens, closes, expression_marks, form_marks, expressions_marks, names_type_marks, signature_marks, parameters_marks, fields_marks, statements_marks, optional_statement_marks, cases_marks, communications_marks, specs_marks}
 use Rattle.mentions.proofs.Adding.{adds_same, adds_then, one_part, two_parts, three_parts, two_joined, three_joined}
 
 pub parameters_more : (are_parameters : Bool) (site : ℕ) (p : Param) (ps : Parameters)
@@ -146,6 +147,13 @@ adds_body a b c d e f place xs ys zs first second third fourth fifth =
     adds_then a e f (in_body place (xs ++ ys)) zs
     (adds_then a b e (opens place ∷ []) ((xs ++ ys) ++ closes ∷ []) first
     (adds_then b d e (xs ++ ys) (closes ∷ []) (adds_then b c d xs ys second third) fourth)) fifth
+
+-- a body that stands in the arena
+pub opens_kept : (a b : List KeptMark) (kept : Bor KeptBody) (place : BodyPlace)
+    → body_view kept.now ≡ place
+    → Adds a b (opens (body_view kept.now) ∷ [])
+    → Adds a b (opens place ∷ [])
+opens_kept a b kept place same = adds_same a b (opens (body_view kept.now) ∷ []) (opens place ∷ []) (ap (λ p. opens p ∷ []) same)
 
 pub guard_same : (lent : Option (Bor KeptIdentifier)) (kept : Option KeptIdentifier)
     → option_copied lent ≡ kept

@@ -1,5 +1,5 @@
 -- Steps of the walk that adds marks.
-use Rattle.std.proofs.Common.{false, true, Bool, not, ◌⊎◌, inl, inr, ◌≢◌, ◌-◌, ◌&&◌, if◌then◌else◌, ◌≡◌, ℕ, ◌+◌, ◌<◌, ◌≤◌, List, [], ◌∷◌, ◌++◌, drop, length, map, Option, Some, None, option_map, Result, OnOk, refl, sym, ap, ◌∙◌, arith}
+use Rattle.std.proofs.Common.{false, true, Bool, ◌⊎◌, inl, inr, ◌≢◌, ◌-◌, ◌≡◌, ℕ, ◌+◌, ◌<◌, ◌≤◌, List, [], ◌∷◌, ◌++◌, drop, length, map, Option, None, Result, OnOk, refl, sym, ap, ◌∙◌, arith}
 use Rattle.std.proofs.lemmas.Bool.Decides.{eqb_tells}
 use Rattle.std.proofs.lemmas.List.{length-drop}
 use Rattle.std.proofs.Math.Dec.{eqb}
@@ -14,7 +14,7 @@ use Rattle.tree.specs.declared.operator.UnaryOperator.{UnaryOperator}
 use Rattle.tree.specs.declared.span.Identifier.{Identifier as KeptIdentifier}
 use Rattle.tree.specs.declared.span.Span.{Span}
 use Rattle.tree.specs.Syntax.{Expression, expression_node, Expressions, expression_and, OptionalExpression}
-use Rattle.tree.specs.View.{identifier_syntax, expression_form, expression_syntax, expressions_syntax, optional_expression_syntax}
+use Rattle.tree.specs.View.{identifier_syntax, expression_form, expression_syntax, expressions_syntax}
 use Rattle.tree.proofs.Views.{expression_form-Unary}
 use Rattle.mentions.specs.declared.mark.Mark.{Mark as KeptMark}
 use Rattle.mentions.specs.MarkViews.{Adds}
@@ -73,77 +73,83 @@ call_adds result a b c site call made used other e es same equal first second =
     (λ i. callee_or (same i) site e (expression_marks (used_at (equal i) site) e) ++ arguments_marks (same i) site 0 es)
     (then_adds result a b c (callee_or call site e (expression_marks (used_at used site) e)) (arguments_marks call site 0 es) first second)
 
--- values, and the left sides that they are assigned to
-pub assignment_adds : {T E : Type 0} (result : Result T E) (a b c : List KeptMark) (standing : Standing) (at : ℕ) (spot : Spot) (ls ms ns : List Expr) (vs ws xs : List Expr)
+-- A row as the code keeps it, whose lists it reads as slices.
+
+pub assigned_row : (standing : Standing) (at : ℕ) (ls ns vs xs : List Expr)
     → ls ≡ ns
     → vs ≡ xs
+    → row_of standing at (assigns (expressions_syntax ls)) (expressions_syntax vs)
+    ≡ row_of standing at (assigns (expressions_syntax ns)) (expressions_syntax xs)
+assigned_row standing at ls ns vs xs l v = λ i. row_of standing at (assigns (expressions_syntax (l i))) (expressions_syntax (v i))
+
+pub defined_row : (standing : Standing) (at : ℕ) (ls ns : List KeptIdentifier) (vs xs : List Expr)
+    → ls ≡ ns
+    → vs ≡ xs
+    → row_of standing at (defines (map identifier_syntax ls)) (expressions_syntax vs)
+    ≡ row_of standing at (defines (map identifier_syntax ns)) (expressions_syntax xs)
+defined_row standing at ls ns vs xs l v = λ i. row_of standing at (defines (map identifier_syntax (l i))) (expressions_syntax (v i))
+
+abbrev pub declared_row : DeclKeyword → ℕ → OptionalExpression → List KeptIdentifier → List Expr → Row
+declared_row keyword at t ns vs = row_of ordinary at (declares keyword (map identifier_syntax ns) t) (expressions_syntax vs)
+
+pub declared_same : (keyword : DeclKeyword) (at : ℕ) (t : OptionalExpression) (ls ns : List KeptIdentifier) (vs xs : List Expr)
+    → ls ≡ ns
+    → vs ≡ xs
+    → declared_row keyword at t ls vs ≡ declared_row keyword at t ns xs
+declared_same keyword at t ls ns vs xs l v = λ i. declared_row keyword at t (l i) (v i)
+
+-- values, and the left sides that they are assigned to
+pub assignment_adds : {T E : Type 0} (result : Result T E) (a b c : List KeptMark) (at : ℕ) (spot : Spot) (kept row : Row) (ms ns ws xs : List Expr)
+    → kept ≡ row
     → ws ≡ xs
     → ms ≡ ns
-    → spot ≡ value_spot (row_of standing at (assigns (expressions_syntax ls)) (expressions_syntax vs)) at
+    → spot ≡ value_spot kept at
     → Adds a b (expressions_marks spot (expressions_syntax ws))
-    → OnOk result (Adds b c (lefts_marks (row_of standing at (assigns (expressions_syntax ls)) (expressions_syntax vs)) at 0 (expressions_syntax ms)))
-    → OnOk result (Adds a c (expressions_marks (value_spot (row_of standing at (assigns (expressions_syntax ns)) (expressions_syntax xs)) at) (expressions_syntax xs)
-    ++ lefts_marks (row_of standing at (assigns (expressions_syntax ns)) (expressions_syntax xs)) at 0 (expressions_syntax ns)))
-assignment_adds result a b c standing at spot ls ms ns vs ws xs l v w m s first second =
-    same_adds result a c
-    (expressions_marks spot (expressions_syntax ws) ++ lefts_marks (row_of standing at (assigns (expressions_syntax ls)) (expressions_syntax vs)) at 0 (expressions_syntax ms))
-    (expressions_marks (value_spot (row_of standing at (assigns (expressions_syntax ns)) (expressions_syntax xs)) at) (expressions_syntax xs)
-    ++ lefts_marks (row_of standing at (assigns (expressions_syntax ns)) (expressions_syntax xs)) at 0 (expressions_syntax ns))
-    (ap (λ t. expressions_marks t (expressions_syntax ws) ++ lefts_marks (row_of standing at (assigns (expressions_syntax ls)) (expressions_syntax vs)) at 0 (expressions_syntax ms)) s
-    ∙ (λ i. expressions_marks (value_spot (row_of standing at (assigns (expressions_syntax (l i))) (expressions_syntax (v i))) at) (expressions_syntax (w i))
-    ++ lefts_marks (row_of standing at (assigns (expressions_syntax (l i))) (expressions_syntax (v i))) at 0 (expressions_syntax (m i))))
-    (then_adds result a b c (expressions_marks spot (expressions_syntax ws))
-    (lefts_marks (row_of standing at (assigns (expressions_syntax ls)) (expressions_syntax vs)) at 0 (expressions_syntax ms)) first second)
+    → OnOk result (Adds b c (lefts_marks kept at 0 (expressions_syntax ms)))
+    → OnOk result (Adds a c (expressions_marks (value_spot row at) (expressions_syntax xs) ++ lefts_marks row at 0 (expressions_syntax ns)))
+assignment_adds result a b c at spot kept row ms ns ws xs r w m s first second =
+    same_adds result a c (expressions_marks spot (expressions_syntax ws) ++ lefts_marks kept at 0 (expressions_syntax ms))
+    (expressions_marks (value_spot row at) (expressions_syntax xs) ++ lefts_marks row at 0 (expressions_syntax ns))
+    (ap (λ t. expressions_marks t (expressions_syntax ws) ++ lefts_marks kept at 0 (expressions_syntax ms)) s
+    ∙ (λ i. expressions_marks (value_spot (r i) at) (expressions_syntax (w i)) ++ lefts_marks (r i) at 0 (expressions_syntax (m i))))
+    (then_adds result a b c (expressions_marks spot (expressions_syntax ws)) (lefts_marks kept at 0 (expressions_syntax ms)) first second)
 
 -- values, and the names that are defined by them
-pub definition_adds : {T E : Type 0} (result : Result T E) (a b c : List KeptMark) (standing : Standing) (at : ℕ) (spot : Spot) (ls ms ns : List KeptIdentifier) (vs ws xs : List Expr)
-    → ls ≡ ns
-    → vs ≡ xs
+pub definition_adds : {T E : Type 0} (result : Result T E) (a b c : List KeptMark) (at : ℕ) (spot : Spot) (kept row : Row) (ms ns : List KeptIdentifier) (ws xs : List Expr)
+    → kept ≡ row
     → ws ≡ xs
     → ms ≡ ns
-    → spot ≡ value_spot (row_of standing at (defines (map identifier_syntax ls)) (expressions_syntax vs)) at
+    → spot ≡ value_spot kept at
     → Adds a b (expressions_marks spot (expressions_syntax ws))
-    → OnOk result (Adds b c (left_names (row_of standing at (defines (map identifier_syntax ls)) (expressions_syntax vs)) at 0 (map identifier_syntax ms)))
-    → OnOk result (Adds a c (expressions_marks (value_spot (row_of standing at (defines (map identifier_syntax ns)) (expressions_syntax xs)) at) (expressions_syntax xs)
-    ++ left_names (row_of standing at (defines (map identifier_syntax ns)) (expressions_syntax xs)) at 0 (map identifier_syntax ns)))
-definition_adds result a b c standing at spot ls ms ns vs ws xs l v w m s first second =
-    same_adds result a c
-    (expressions_marks spot (expressions_syntax ws) ++ left_names (row_of standing at (defines (map identifier_syntax ls)) (expressions_syntax vs)) at 0 (map identifier_syntax ms))
-    (expressions_marks (value_spot (row_of standing at (defines (map identifier_syntax ns)) (expressions_syntax xs)) at) (expressions_syntax xs)
-    ++ left_names (row_of standing at (defines (map identifier_syntax ns)) (expressions_syntax xs)) at 0 (map identifier_syntax ns))
-    (ap (λ t. expressions_marks t (expressions_syntax ws) ++ left_names (row_of standing at (defines (map identifier_syntax ls)) (expressions_syntax vs)) at 0 (map identifier_syntax ms)) s
-    ∙ (λ i. expressions_marks (value_spot (row_of standing at (defines (map identifier_syntax (l i))) (expressions_syntax (v i))) at) (expressions_syntax (w i))
-    ++ left_names (row_of standing at (defines (map identifier_syntax (l i))) (expressions_syntax (v i))) at 0 (map identifier_syntax (m i))))
-    (then_adds result a b c (expressions_marks spot (expressions_syntax ws))
-    (left_names (row_of standing at (defines (map identifier_syntax ls)) (expressions_syntax vs)) at 0 (map identifier_syntax ms)) first second)
-
-abbrev pub declared_row : DeclKeyword → ℕ → List KeptIdentifier → OptionalExpression → List Expr → Row
-declared_row keyword at ns t vs = row_of ordinary at (declares keyword (map identifier_syntax ns) t) (expressions_syntax vs)
+    → OnOk result (Adds b c (left_names kept at 0 (map identifier_syntax ms)))
+    → OnOk result (Adds a c (expressions_marks (value_spot row at) (expressions_syntax xs) ++ left_names row at 0 (map identifier_syntax ns)))
+definition_adds result a b c at spot kept row ms ns ws xs r w m s first second =
+    same_adds result a c (expressions_marks spot (expressions_syntax ws) ++ left_names kept at 0 (map identifier_syntax ms))
+    (expressions_marks (value_spot row at) (expressions_syntax xs) ++ left_names row at 0 (map identifier_syntax ns))
+    (ap (λ t. expressions_marks t (expressions_syntax ws) ++ left_names kept at 0 (map identifier_syntax ms)) s
+    ∙ (λ i. expressions_marks (value_spot (r i) at) (expressions_syntax (w i)) ++ left_names (r i) at 0 (map identifier_syntax (m i))))
+    (then_adds result a b c (expressions_marks spot (expressions_syntax ws)) (left_names kept at 0 (map identifier_syntax ms)) first second)
 
 -- the type, the values and the names of a spec
-pub spec_adds : {T E : Type 0} (result : Result T E) (a b c d : List KeptMark) (keyword : DeclKeyword) (at site : ℕ) (t : OptionalExpression) (spot : Spot) (ls ms ns : List KeptIdentifier) (vs ws xs : List Expr)
-    → ls ≡ ns
-    → vs ≡ xs
+pub spec_adds : {T E : Type 0} (result : Result T E) (a b c d : List KeptMark) (site : ℕ) (t : OptionalExpression) (spot : Spot) (kept row : Row) (ms ns : List KeptIdentifier) (ws xs : List Expr)
+    → kept ≡ row
     → ws ≡ xs
     → ms ≡ ns
-    → spot ≡ value_spot (declared_row keyword at ls t vs) site
-    → Adds a b (names_type_marks (declared_row keyword at ls t vs) site t)
+    → spot ≡ value_spot kept site
+    → Adds a b (names_type_marks kept site t)
     → Adds b c (expressions_marks spot (expressions_syntax ws))
-    → OnOk result (Adds c d (left_names (declared_row keyword at ls t vs) site 0 (map identifier_syntax ms)))
-    → OnOk result (Adds a d (names_type_marks (declared_row keyword at ns t xs) site t
-    ++ (expressions_marks (value_spot (declared_row keyword at ns t xs) site) (expressions_syntax xs)
-    ++ (left_names (declared_row keyword at ns t xs) site 0 (map identifier_syntax ns) ++ []))))
-spec_adds result a b c d keyword at site t spot ls ms ns vs ws xs l v w m s first second third =
-    three_adds result a b c d (names_type_marks (declared_row keyword at ns t xs) site t)
-    (expressions_marks (value_spot (declared_row keyword at ns t xs) site) (expressions_syntax xs))
-    (left_names (declared_row keyword at ns t xs) site 0 (map identifier_syntax ns) ++ [])
-    (adds_same a b (names_type_marks (declared_row keyword at ls t vs) site t) (names_type_marks (declared_row keyword at ns t xs) site t)
-    (λ i. names_type_marks (declared_row keyword at (l i) t (v i)) site t) first)
-    (adds_same b c (expressions_marks spot (expressions_syntax ws)) (expressions_marks (value_spot (declared_row keyword at ns t xs) site) (expressions_syntax xs))
-    (ap (λ p. expressions_marks p (expressions_syntax ws)) s ∙ (λ i. expressions_marks (value_spot (declared_row keyword at (l i) t (v i)) site) (expressions_syntax (w i)))) second)
-    (alone_adds result c d (left_names (declared_row keyword at ns t xs) site 0 (map identifier_syntax ns))
-    (same_adds result c d (left_names (declared_row keyword at ls t vs) site 0 (map identifier_syntax ms)) (left_names (declared_row keyword at ns t xs) site 0 (map identifier_syntax ns))
-    (λ i. left_names (declared_row keyword at (l i) t (v i)) site 0 (map identifier_syntax (m i))) third))
+    → OnOk result (Adds c d (left_names kept site 0 (map identifier_syntax ms)))
+    → OnOk result (Adds a d (names_type_marks row site t
+    ++ (expressions_marks (value_spot row site) (expressions_syntax xs) ++ (left_names row site 0 (map identifier_syntax ns) ++ []))))
+spec_adds result a b c d site t spot kept row ms ns ws xs r w m s first second third =
+    three_adds result a b c d (names_type_marks row site t) (expressions_marks (value_spot row site) (expressions_syntax xs))
+    (left_names row site 0 (map identifier_syntax ns) ++ [])
+    (adds_same a b (names_type_marks kept site t) (names_type_marks row site t) (λ i. names_type_marks (r i) site t) first)
+    (adds_same b c (expressions_marks spot (expressions_syntax ws)) (expressions_marks (value_spot row site) (expressions_syntax xs))
+    (ap (λ p. expressions_marks p (expressions_syntax ws)) s ∙ (λ i. expressions_marks (value_spot (r i) site) (expressions_syntax (w i)))) second)
+    (alone_adds result c d (left_names row site 0 (map identifier_syntax ns))
+    (same_adds result c d (left_names kept site 0 (map identifier_syntax ms)) (left_names row site 0 (map identifier_syntax ns))
+    (λ i. left_names (r i) site 0 (map identifier_syntax (m i))) third))
 
 -- the items of a return, and the return itself
 pub return_adds : (a b c : List KeptMark) (at : ℕ) (ds es fs : List Expr)

@@ -2,10 +2,11 @@
 
 ghost use Rattle.std.specs.Prelude.{◌≡◌, ◌+◌, ◌<◌, ◌&&◌, not, OnOk, drop, length, option_map};
 ghost use Rattle.meaning.specs.Mentions.{nowhere, part_of, named_or, new_literal_or, as_new_literal, callee_or, argument_use, argument_at, argument_or, is_none_left, parameter_type_or, literal_body, in_body, deferral, expression_marks, form_marks, expressions_marks, optional_marks, arguments_marks, items_marks, lefts_marks, names_type_marks, signature_marks, parameters_marks, fields_marks, statement_marks, statement_form_marks, statements_marks, optional_statement_marks, cases_marks, communications_marks, specs_marks};
-ghost use Rattle.mentions.specs.MarkViews.{Adds, named_view, row_view, place_view, call_view, use_view, role_view, standing_view, spot_view};
+ghost use Rattle.mentions.specs.MarkViews.{Adds, named_view, row_view, place_view, call_view, optional_call, use_view, role_view, standing_view, spot_view};
 ghost use Rattle.tree.specs.Syntax.{no_parameter, no_field, no_spec};
 ghost use Rattle.tree.specs.View.{identifier_syntax, expression_form, expression_syntax, expressions_syntax, optional_expression_syntax, signature_syntax, parameters_syntax, fields_syntax, statement_form, statement_syntax, statements_syntax, optional_statement_syntax, cases_syntax, communications_syntax, specs_syntax, parameter_and, field_and, spec_and, literal_syntax};
 
+use mentions::Marks;
 use mentions::mark::{
     BodyPlace, Call, CallPlace, LiteralUse, Mark, Named, Position, Role, Row, RowForm, Spot,
     Standing,
@@ -24,12 +25,12 @@ use tree::{
 };
 
 #[cycle(marks)]
-pub fn expression<'a>(
-    marks: &mut Vec<Mark<'a>>,
-    spot: Spot<'a>,
+pub fn expression<'m, 'a>(
+    marks: &mut Marks<'m, 'a>,
+    spot: Spot<'m, 'a>,
     expression: &'a Expr,
 ) -> Result<(), AllocError>
-    ensures { OnOk result (Adds marks.old.items marks.new.items
+    ensures { OnOk result (Adds marks.old.list.items marks.new.list.items
         (expression_marks (spot_view spot.entry) (expression_syntax expression.now))) }
 {
     expression_form(marks, spot, expression.span, &expression.kind)
@@ -37,8 +38,8 @@ pub fn expression<'a>(
 
 /// The marks of a part of an expression or of a statement.
 #[cycle(marks)]
-fn part<'a>(marks: &mut Vec<Mark<'a>>, site: u32, inner: &'a Expr) -> Result<(), AllocError>
-    ensures { OnOk result (Adds marks.old.items marks.new.items (expression_marks
+fn part<'m, 'a>(marks: &mut Marks<'m, 'a>, site: u32, inner: &'a Expr) -> Result<(), AllocError>
+    ensures { OnOk result (Adds marks.old.list.items marks.new.list.items (expression_marks
         (part_of site) (expression_syntax inner.now))) }
 {
     expression(marks, part_of(site), inner)
@@ -46,14 +47,15 @@ fn part<'a>(marks: &mut Vec<Mark<'a>>, site: u32, inner: &'a Expr) -> Result<(),
 
 /// The marks of what is named, or else those of the expression as a part.
 #[cycle(marks)]
-fn named_or<'a>(
-    marks: &mut Vec<Mark<'a>>,
+fn named_or<'m, 'a>(
+    marks: &mut Marks<'m, 'a>,
     named: Option<Named<'a>>,
-    role: Role<'a>,
+    role: Role<'m, 'a>,
     site: u32,
     other: &'a Expr,
 ) -> Result<(), AllocError>
-    ensures { OnOk result (Adds marks.old.items marks.new.items (named_or (option_map named_view named.entry) site
+    ensures { OnOk result (Adds marks.old.list.items marks.new.list.items
+        (named_or (option_map named_view named.entry) site
         (role_view role.entry) (expression_marks (part_of site) (expression_syntax other.now)))) }
 {
     named_at(marks, named, role, part_of(site), other)
@@ -61,14 +63,14 @@ fn named_or<'a>(
 
 /// The marks of what is named, or else those of the expression, which stands at the spot.
 #[cycle(marks)]
-fn named_at<'a>(
-    marks: &mut Vec<Mark<'a>>,
+fn named_at<'m, 'a>(
+    marks: &mut Marks<'m, 'a>,
     named: Option<Named<'a>>,
-    role: Role<'a>,
-    spot: Spot<'a>,
+    role: Role<'m, 'a>,
+    spot: Spot<'m, 'a>,
     other: &'a Expr,
 ) -> Result<(), AllocError>
-    ensures { OnOk result (Adds marks.old.items marks.new.items (named_or (option_map named_view named.entry)
+    ensures { OnOk result (Adds marks.old.list.items marks.new.list.items (named_or (option_map named_view named.entry)
         spot.entry.site (role_view role.entry) (expression_marks (spot_view spot.entry)
         (expression_syntax other.now)))) }
 {
@@ -80,13 +82,13 @@ fn named_at<'a>(
 
 /// The marks of an expression that takes the bytes of the span.
 #[cycle(marks)]
-fn expression_form<'a>(
-    marks: &mut Vec<Mark<'a>>,
-    spot: Spot<'a>,
+fn expression_form<'m, 'a>(
+    marks: &mut Marks<'m, 'a>,
+    spot: Spot<'m, 'a>,
     span: Span,
     kind: &'a ExprKind,
 ) -> Result<(), AllocError>
-    ensures { OnOk result (Adds marks.old.items marks.new.items
+    ensures { OnOk result (Adds marks.old.list.items marks.new.list.items
         (form_marks (spot_view spot.entry) span (expression_form kind.now))) }
 {
     match kind {
@@ -96,7 +98,8 @@ fn expression_form<'a>(
                 at: span.start,
                 selected: None,
             };
-            mention(marks, spot.site, name_role(spot.place), named)
+            let role: Role<'m, 'a> = name_role(spot.place);
+            mention(marks, spot.site, role, named)
         }
         ExprKind::BasicLit(_) => Ok(()),
         ExprKind::FuncLit(literal) => function_literal(marks, spot, span, literal),
@@ -118,23 +121,18 @@ fn expression_form<'a>(
             part(marks, spot.site, operand)?;
             part(marks, spot.site, index)
         }
-        ExprKind::Slice {
-            operand,
-            low,
-            high,
-            max,
-        } => {
+        ExprKind::Slice(operand, bounds) => {
             part(marks, spot.site, operand)?;
-            optional(marks, spot.site, low)?;
-            optional(marks, spot.site, high)?;
-            optional(marks, spot.site, max)
+            optional(marks, spot.site, &bounds.low)?;
+            optional(marks, spot.site, &bounds.high)?;
+            optional(marks, spot.site, &bounds.max)
         }
         ExprKind::TypeAssert(operand, kind) => {
             part(marks, spot.site, operand)?;
             part(marks, spot.site, kind)
         }
         ExprKind::Call(callee, arguments, has_ellipsis) => {
-            let call = call_of(spot.place, callee, arguments, *has_ellipsis);
+            let call = marks.keep_call(call_of(spot.place, callee, arguments, *has_ellipsis))?;
             callee_or(marks, call, callee_use(spot.place), spot.site, callee)?;
             all_arguments(marks, call, spot.site, arguments)
         }
@@ -163,17 +161,17 @@ fn expression_form<'a>(
 
 /// A literal is a body; called under `defer` it has an event of its own.
 #[cycle(marks)]
-fn function_literal<'a>(
-    marks: &mut Vec<Mark<'a>>,
-    spot: Spot<'a>,
+fn function_literal<'m, 'a>(
+    marks: &mut Marks<'m, 'a>,
+    spot: Spot<'m, 'a>,
     span: Span,
     literal: &'a Literal,
 ) -> Result<(), AllocError>
-    ensures { OnOk result (Adds marks.old.items marks.new.items
+    ensures { OnOk result (Adds marks.old.list.items marks.new.list.items
         (form_marks (spot_view spot.entry) span (literal_syntax literal.now))) }
 {
     let list: &'a [Stmt] = &literal.body.statements;
-    let body = BodyPlace {
+    let body = marks.keep_body(BodyPlace {
         at: span.start,
         name: None,
         receiver: None,
@@ -181,7 +179,7 @@ fn function_literal<'a>(
         statements: list,
         braces: literal.body.span,
         literal: spot.literal,
-    };
+    })?;
     marks.push(Mark::Opens(body))?;
     signature(marks, span.start, &literal.signature)?;
     statements(marks, list)?;
@@ -198,13 +196,13 @@ fn function_literal<'a>(
 
 /// The marks of an operator and its operand; `&T{}` may be the only value of a row.
 #[cycle(marks)]
-fn unary<'a>(
-    marks: &mut Vec<Mark<'a>>,
-    spot: Spot<'a>,
+fn unary<'m, 'a>(
+    marks: &mut Marks<'m, 'a>,
+    spot: Spot<'m, 'a>,
     operator: UnaryOperator,
     operand: &'a Expr,
 ) -> Result<(), AllocError>
-    ensures { OnOk result (Adds marks.old.items marks.new.items
+    ensures { OnOk result (Adds marks.old.list.items marks.new.list.items
         (new_literal_or (place_view spot.entry.place) spot.entry.site
         (as_new_literal operator (expression_syntax operand.now))
         (expression_marks (part_of spot.entry.site) (expression_syntax operand.now)))) }
@@ -220,14 +218,14 @@ fn unary<'a>(
 
 /// The callee of a call: a mention, in brackets too, or another expression.
 #[cycle(marks)]
-fn callee_or<'a>(
-    marks: &mut Vec<Mark<'a>>,
-    call: Option<Call<'a>>,
+fn callee_or<'m, 'a>(
+    marks: &mut Marks<'m, 'a>,
+    call: Option<&'m Call<'m, 'a>>,
     literal: LiteralUse<'a>,
     site: u32,
     callee: &'a Expr,
 ) -> Result<(), AllocError>
-    ensures { OnOk result (Adds marks.old.items marks.new.items (callee_or (option_map call_view call.entry) site
+    ensures { OnOk result (Adds marks.old.list.items marks.new.list.items (callee_or (optional_call call.entry) site
         (expression_syntax callee.now) (expression_marks record {
           place = nowhere;
           literal = use_view literal.entry;
@@ -249,12 +247,12 @@ fn callee_or<'a>(
 }
 
 #[cycle(marks)]
-pub fn expressions<'a>(
-    marks: &mut Vec<Mark<'a>>,
-    spot: Spot<'a>,
+pub fn expressions<'m, 'a>(
+    marks: &mut Marks<'m, 'a>,
+    spot: Spot<'m, 'a>,
     list: &'a [Expr],
 ) -> Result<(), AllocError>
-    ensures { OnOk result (Adds marks.old.items marks.new.items
+    ensures { OnOk result (Adds marks.old.list.items marks.new.list.items
         (expressions_marks (spot_view spot.entry) (expressions_syntax list.now))) }
 {
     for item in list {
@@ -264,12 +262,12 @@ pub fn expressions<'a>(
 }
 
 #[cycle(marks)]
-pub fn optional<'a>(
-    marks: &mut Vec<Mark<'a>>,
+pub fn optional<'m, 'a>(
+    marks: &mut Marks<'m, 'a>,
     site: u32,
     present: &'a Option<Box<Expr>>,
 ) -> Result<(), AllocError>
-    ensures { OnOk result (Adds marks.old.items marks.new.items
+    ensures { OnOk result (Adds marks.old.list.items marks.new.list.items
         (optional_marks site (optional_expression_syntax present.now))) }
 {
     match present {
@@ -280,14 +278,14 @@ pub fn optional<'a>(
 
 /// The arguments of a call.
 #[cycle(marks)]
-fn all_arguments<'a>(
-    marks: &mut Vec<Mark<'a>>,
-    call: Option<Call<'a>>,
+fn all_arguments<'m, 'a>(
+    marks: &mut Marks<'m, 'a>,
+    call: Option<&'m Call<'m, 'a>>,
     site: u32,
     list: &'a [Expr],
 ) -> Result<(), AllocError>
-    ensures { OnOk result (Adds marks.old.items marks.new.items
-        (arguments_marks (option_map call_view call.entry) site 0 (expressions_syntax list.now))) }
+    ensures { OnOk result (Adds marks.old.list.items marks.new.list.items
+        (arguments_marks (optional_call call.entry) site 0 (expressions_syntax list.now))) }
 {
     for (index, item) in list.iter().enumerate() {
         let position = Position {
@@ -309,18 +307,18 @@ fn is_last(index: usize, list: &[Expr]) -> bool
 
 /// The argument at that position; under `...` it is at none.
 #[cycle(marks)]
-fn argument<'a>(
-    marks: &mut Vec<Mark<'a>>,
-    call: Option<Call<'a>>,
+fn argument<'m, 'a>(
+    marks: &mut Marks<'m, 'a>,
+    call: Option<&'m Call<'m, 'a>>,
     site: u32,
     position: Position,
     argument: &'a Expr,
 ) -> Result<(), AllocError>
-    ensures { OnOk result (Adds marks.old.items marks.new.items
-        (argument_at (option_map call_view call.entry) site position.index
+    ensures { OnOk result (Adds marks.old.list.items marks.new.list.items
+        (argument_at (optional_call call.entry) site position.index
         position.is_last (expression_syntax argument.now) (expression_marks record {
           place = nowhere;
-          literal = argument_use (option_map call_view call.entry);
+          literal = argument_use (optional_call call.entry);
           site = site;
         } (expression_syntax argument.now)))) }
 {
@@ -343,24 +341,25 @@ fn argument<'a>(
 
 /// The argument of that number: `n`, `n.m`, `&n`, or another expression, which stands at the spot.
 #[cycle(marks)]
-fn argument_of<'a>(
-    marks: &mut Vec<Mark<'a>>,
-    call: Call<'a>,
-    spot: Spot<'a>,
+fn argument_of<'m, 'a>(
+    marks: &mut Marks<'m, 'a>,
+    call: &'m Call<'m, 'a>,
+    spot: Spot<'m, 'a>,
     index: usize,
     argument: &'a Expr,
 ) -> Result<(), AllocError>
-    ensures { OnOk result (Adds marks.old.items marks.new.items (argument_or (call_view call.entry) spot.entry.site
+    ensures { OnOk result (Adds marks.old.list.items marks.new.list.items
+        (argument_or (call_view call.now) spot.entry.site
         index (expression_syntax argument.now) (expression_marks (spot_view spot.entry)
         (expression_syntax argument.now)))) }
 {
     match &argument.kind {
         ExprKind::Unary(operator, operand) => {
-            let role = Role::Argument(index, true, call);
+            let role = Role::Argument(true, index, call);
             named_at(marks, addressed(*operator, operand), role, spot, argument)
         }
         _ => {
-            let role = Role::Argument(index, false, call);
+            let role = Role::Argument(false, index, call);
             named_at(marks, as_named(argument), role, spot, argument)
         }
     }
@@ -368,8 +367,9 @@ fn argument_of<'a>(
 
 /// The items of a return list.
 #[cycle(marks)]
-fn items<'a>(marks: &mut Vec<Mark<'a>>, site: u32, list: &'a [Expr]) -> Result<(), AllocError>
-    ensures { OnOk result (Adds marks.old.items marks.new.items (items_marks site 0 (expressions_syntax list.now))) }
+fn items<'m, 'a>(marks: &mut Marks<'m, 'a>, site: u32, list: &'a [Expr]) -> Result<(), AllocError>
+    ensures { OnOk result (Adds marks.old.list.items marks.new.list.items
+        (items_marks site 0 (expressions_syntax list.now))) }
 {
     for (index, item) in list.iter().enumerate() {
         expression(marks, whole(CallPlace::ReturnItem(index), site), item)?;
@@ -379,14 +379,14 @@ fn items<'a>(marks: &mut Vec<Mark<'a>>, site: u32, list: &'a [Expr]) -> Result<(
 
 /// The left sides of a row.
 #[cycle(marks)]
-fn lefts<'a>(
-    marks: &mut Vec<Mark<'a>>,
-    row: Row<'a>,
+fn lefts<'m, 'a>(
+    marks: &mut Marks<'m, 'a>,
+    row: &'m Row<'a>,
     site: u32,
     list: &'a [Expr],
 ) -> Result<(), AllocError>
-    ensures { OnOk result (Adds marks.old.items marks.new.items
-        (lefts_marks (row_view row.entry) site 0 (expressions_syntax list.now))) }
+    ensures { OnOk result (Adds marks.old.list.items marks.new.list.items
+        (lefts_marks (row_view row.now) site 0 (expressions_syntax list.now))) }
 {
     for (index, item) in list.iter().enumerate() {
         let role = Role::Left(index, row);
@@ -397,14 +397,14 @@ fn lefts<'a>(
 
 /// The type of a row's names.
 #[cycle(marks)]
-fn names_type<'a>(
-    marks: &mut Vec<Mark<'a>>,
-    row: Row<'a>,
+fn names_type<'m, 'a>(
+    marks: &mut Marks<'m, 'a>,
+    row: &'m Row<'a>,
     site: u32,
     present: &'a Option<Box<Expr>>,
 ) -> Result<(), AllocError>
-    ensures { OnOk result (Adds marks.old.items marks.new.items
-        (names_type_marks (row_view row.entry) site (optional_expression_syntax present.now))) }
+    ensures { OnOk result (Adds marks.old.list.items marks.new.list.items
+        (names_type_marks (row_view row.now) site (optional_expression_syntax present.now))) }
 {
     match present {
         Some(kind) => {
@@ -417,12 +417,12 @@ fn names_type<'a>(
 
 /// The types of parameters and results.
 #[cycle(marks)]
-pub fn signature<'a>(
-    marks: &mut Vec<Mark<'a>>,
+pub fn signature<'m, 'a>(
+    marks: &mut Marks<'m, 'a>,
     site: u32,
     signature: &'a Signature,
 ) -> Result<(), AllocError>
-    ensures { OnOk result (Adds marks.old.items marks.new.items
+    ensures { OnOk result (Adds marks.old.list.items marks.new.list.items
         (signature_marks site (signature_syntax signature.now))) }
 {
     parameters(marks, true, site, &signature.params)?;
@@ -430,13 +430,13 @@ pub fn signature<'a>(
 }
 
 #[cycle(marks)]
-pub fn parameters<'a>(
-    marks: &mut Vec<Mark<'a>>,
+pub fn parameters<'m, 'a>(
+    marks: &mut Marks<'m, 'a>,
     are_parameters: bool,
     site: u32,
     list: &'a [Param],
 ) -> Result<(), AllocError>
-    ensures { OnOk result (Adds marks.old.items marks.new.items
+    ensures { OnOk result (Adds marks.old.list.items marks.new.list.items
         (parameters_marks are_parameters site (parameters_syntax list.now))) }
 {
     for item in list {
@@ -446,13 +446,13 @@ pub fn parameters<'a>(
 }
 
 #[cycle(marks)]
-fn parameter<'a>(
-    marks: &mut Vec<Mark<'a>>,
+fn parameter<'m, 'a>(
+    marks: &mut Marks<'m, 'a>,
     are_parameters: bool,
     site: u32,
     param: &'a Param,
 ) -> Result<(), AllocError>
-    ensures { OnOk result (Adds marks.old.items marks.new.items
+    ensures { OnOk result (Adds marks.old.list.items marks.new.list.items
         (parameters_marks are_parameters site (parameter_and param.now no_parameter))) }
 {
     match param {
@@ -485,13 +485,13 @@ fn is_plain_type(is_parameter: bool, has_ellipsis: bool) -> bool
 
 /// The type of a parameter, `*T` as a whole unless `...` stands before it; that of a result never.
 #[cycle(marks)]
-fn parameter_type<'a>(
-    marks: &mut Vec<Mark<'a>>,
+fn parameter_type<'m, 'a>(
+    marks: &mut Marks<'m, 'a>,
     is_plain: bool,
     site: u32,
     kind: &'a Expr,
 ) -> Result<(), AllocError>
-    ensures { OnOk result (Adds marks.old.items marks.new.items
+    ensures { OnOk result (Adds marks.old.list.items marks.new.list.items
         (parameter_type_or is_plain
         (expression_syntax kind.now) site (expression_marks (part_of site)
         (expression_syntax kind.now)))) }
@@ -504,8 +504,9 @@ fn parameter_type<'a>(
 }
 
 #[cycle(marks)]
-fn fields<'a>(marks: &mut Vec<Mark<'a>>, site: u32, list: &'a [Field]) -> Result<(), AllocError>
-    ensures { OnOk result (Adds marks.old.items marks.new.items (fields_marks site (fields_syntax list.now))) }
+fn fields<'m, 'a>(marks: &mut Marks<'m, 'a>, site: u32, list: &'a [Field]) -> Result<(), AllocError>
+    ensures { OnOk result (Adds marks.old.list.items marks.new.list.items
+        (fields_marks site (fields_syntax list.now))) }
 {
     for item in list {
         field(marks, site, item)?;
@@ -514,8 +515,9 @@ fn fields<'a>(marks: &mut Vec<Mark<'a>>, site: u32, list: &'a [Field]) -> Result
 }
 
 #[cycle(marks)]
-fn field<'a>(marks: &mut Vec<Mark<'a>>, site: u32, field: &'a Field) -> Result<(), AllocError>
-    ensures { OnOk result (Adds marks.old.items marks.new.items (fields_marks site (field_and field.now no_field))) }
+fn field<'m, 'a>(marks: &mut Marks<'m, 'a>, site: u32, field: &'a Field) -> Result<(), AllocError>
+    ensures { OnOk result (Adds marks.old.list.items marks.new.list.items
+        (fields_marks site (field_and field.now no_field))) }
 {
     match field {
         Field::Named(_, kind, _, _) => part(marks, site, kind),
@@ -525,12 +527,12 @@ fn field<'a>(marks: &mut Vec<Mark<'a>>, site: u32, field: &'a Field) -> Result<(
 }
 
 #[cycle(marks)]
-fn statement<'a>(
-    marks: &mut Vec<Mark<'a>>,
+fn statement<'m, 'a>(
+    marks: &mut Marks<'m, 'a>,
     standing: Standing,
     statement: &'a Stmt,
 ) -> Result<(), AllocError>
-    ensures { OnOk result (Adds marks.old.items marks.new.items
+    ensures { OnOk result (Adds marks.old.list.items marks.new.list.items
         (statement_marks (standing_view standing) (statement_syntax statement.now))) }
 {
     statement_form(marks, standing, statement.span.start, &statement.kind)
@@ -538,13 +540,13 @@ fn statement<'a>(
 
 /// The marks of a statement that begins at the offset.
 #[cycle(marks)]
-fn statement_form<'a>(
-    marks: &mut Vec<Mark<'a>>,
+fn statement_form<'m, 'a>(
+    marks: &mut Marks<'m, 'a>,
     standing: Standing,
     at: u32,
     kind: &'a StmtKind,
 ) -> Result<(), AllocError>
-    ensures { OnOk result (Adds marks.old.items marks.new.items
+    ensures { OnOk result (Adds marks.old.list.items marks.new.list.items
         (statement_form_marks (standing_view standing) at (statement_form kind.now))) }
 {
     match kind {
@@ -565,12 +567,12 @@ fn statement_form<'a>(
         StmtKind::Increment(operand) => part(marks, at, operand),
         StmtKind::Decrement(operand) => part(marks, at, operand),
         StmtKind::Assign(left, values) => {
-            let row = Row {
+            let row = marks.keep_row(Row {
                 form: RowForm::Assigns(left),
                 values,
                 statement: at,
                 standing,
-            };
+            })?;
             expressions(marks, value_spot(row, at), values)?;
             lefts(marks, row, at, left)
         }
@@ -579,12 +581,12 @@ fn statement_form<'a>(
             part(marks, at, right)
         }
         StmtKind::Define(names, values) => {
-            let row = Row {
+            let row = marks.keep_row(Row {
                 form: RowForm::Defines(names),
                 values,
                 statement: at,
                 standing,
-            };
+            })?;
             expressions(marks, value_spot(row, at), values)?;
             left_names(marks, row, at, names)
         }
@@ -658,8 +660,9 @@ fn statement_form<'a>(
 }
 
 #[cycle(marks)]
-pub fn statements<'a>(marks: &mut Vec<Mark<'a>>, list: &'a [Stmt]) -> Result<(), AllocError>
-    ensures { OnOk result (Adds marks.old.items marks.new.items (statements_marks (statements_syntax list.now))) }
+pub fn statements<'m, 'a>(marks: &mut Marks<'m, 'a>, list: &'a [Stmt]) -> Result<(), AllocError>
+    ensures { OnOk result (Adds marks.old.list.items marks.new.list.items
+        (statements_marks (statements_syntax list.now))) }
 {
     for item in list {
         statement(marks, Standing::Ordinary, item)?;
@@ -668,12 +671,12 @@ pub fn statements<'a>(marks: &mut Vec<Mark<'a>>, list: &'a [Stmt]) -> Result<(),
 }
 
 #[cycle(marks)]
-fn optional_statement<'a>(
-    marks: &mut Vec<Mark<'a>>,
+fn optional_statement<'m, 'a>(
+    marks: &mut Marks<'m, 'a>,
     standing: Standing,
     present: &'a Option<Box<Stmt>>,
 ) -> Result<(), AllocError>
-    ensures { OnOk result (Adds marks.old.items marks.new.items
+    ensures { OnOk result (Adds marks.old.list.items marks.new.list.items
         (optional_statement_marks (standing_view standing) (optional_statement_syntax present.now))) }
 {
     match present {
@@ -684,13 +687,13 @@ fn optional_statement<'a>(
 
 /// The clauses of a switch that begins at the offset, with the name of a type switch.
 #[cycle(marks)]
-fn cases<'a>(
-    marks: &mut Vec<Mark<'a>>,
+fn cases<'m, 'a>(
+    marks: &mut Marks<'m, 'a>,
     at: u32,
     guard: Option<&'a Identifier>,
     clauses: &'a [CaseClause],
 ) -> Result<(), AllocError>
-    ensures { OnOk result (Adds marks.old.items marks.new.items (cases_marks at (option_map
+    ensures { OnOk result (Adds marks.old.list.items marks.new.list.items (cases_marks at (option_map
         (λ n. identifier_syntax n.now) guard.entry) (cases_syntax clauses.now))) }
 {
     for clause in clauses {
@@ -702,11 +705,11 @@ fn cases<'a>(
 }
 
 #[cycle(marks)]
-fn communications<'a>(
-    marks: &mut Vec<Mark<'a>>,
+fn communications<'m, 'a>(
+    marks: &mut Marks<'m, 'a>,
     clauses: &'a [CommClause],
 ) -> Result<(), AllocError>
-    ensures { OnOk result (Adds marks.old.items marks.new.items
+    ensures { OnOk result (Adds marks.old.list.items marks.new.list.items
         (communications_marks (communications_syntax clauses.now))) }
 {
     for clause in clauses {
@@ -718,13 +721,14 @@ fn communications<'a>(
 
 /// The specs of a declaration that begins at the offset.
 #[cycle(marks)]
-fn specs<'a>(
-    marks: &mut Vec<Mark<'a>>,
+fn specs<'m, 'a>(
+    marks: &mut Marks<'m, 'a>,
     keyword: DeclKeyword,
     at: u32,
     list: &'a [Spec],
 ) -> Result<(), AllocError>
-    ensures { OnOk result (Adds marks.old.items marks.new.items (specs_marks keyword at (specs_syntax list.now))) }
+    ensures { OnOk result (Adds marks.old.list.items marks.new.list.items
+        (specs_marks keyword at (specs_syntax list.now))) }
 {
     for item in list {
         spec(marks, keyword, at, item)?;
@@ -733,22 +737,23 @@ fn specs<'a>(
 }
 
 #[cycle(marks)]
-fn spec<'a>(
-    marks: &mut Vec<Mark<'a>>,
+fn spec<'m, 'a>(
+    marks: &mut Marks<'m, 'a>,
     keyword: DeclKeyword,
     at: u32,
     spec: &'a Spec,
 ) -> Result<(), AllocError>
-    ensures { OnOk result (Adds marks.old.items marks.new.items (specs_marks keyword at (spec_and spec.now no_spec))) }
+    ensures { OnOk result (Adds marks.old.list.items marks.new.list.items
+        (specs_marks keyword at (spec_and spec.now no_spec))) }
 {
     match spec {
         Spec::Value(names, kind, values, span) => {
-            let row = Row {
+            let row = marks.keep_row(Row {
                 form: RowForm::Declares(keyword, names, kind),
                 values,
                 statement: at,
                 standing: Standing::Ordinary,
-            };
+            })?;
             names_type(marks, row, span.start, kind)?;
             expressions(marks, value_spot(row, span.start), values)?;
             left_names(marks, row, span.start, names)

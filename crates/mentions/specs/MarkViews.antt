@@ -1,5 +1,6 @@
 -- What the marks that the program keeps stand for.
-use Rattle.std.specs.Prelude.{List, option_map, map, ◌≡◌, ◌++◌}
+use Rattle.std.specs.Prelude.{List, Option, option_map, map, ◌≡◌, ◌++◌}
+use Rattle.std.specs.Borrow.{Bor}
 use Rattle.mentions.specs.declared.mark.Named.{Named as KeptNamed}
 use Rattle.mentions.specs.declared.mark.RowForm.{RowForm as KeptForm}
 use Rattle.mentions.specs.declared.mark.RowForm.TheVariants.{Defines, Assigns, Declares}
@@ -45,7 +46,7 @@ row_view r = record {
 abbrev pub place_view : KeptPlace → CallPlace
 place_view Nowhere = nowhere
 place_view Statement = as_statement
-place_view (OnlyValue row) = only_value (row_view row)
+place_view (OnlyValue row) = only_value (row_view row.now)
 place_view (ReturnItem k) = return_item k
 place_view Deferred = deferred
 
@@ -57,6 +58,10 @@ call_view c = record {
   place = place_view c.place;
 }
 
+-- a call that is kept, if there is one
+abbrev pub optional_call : Option (Bor KeptCall) → Option Call
+optional_call c = option_map (λ (k : Bor KeptCall). call_view k.now) c
+
 abbrev pub use_view : KeptUse → LiteralUse
 use_view Other = other_use
 use_view DeferredCall = deferred_call
@@ -64,13 +69,13 @@ use_view (StartedBy n) = started_by (named_view n)
 
 abbrev pub role_view : KeptRole → Role
 role_view Elsewhere = elsewhere
-role_view (Called c) = called (call_view c)
+role_view (Called c) = called (call_view c.now)
 role_view CalledInBrackets = called_in_brackets
-role_view (Argument k has_address c) = argument k has_address (call_view c)
+role_view (Argument has_address k c) = argument k has_address (call_view c.now)
 role_view (Returned k) = returned k
-role_view (Left k row) = left k (row_view row)
-role_view (NamesType row) = names_type (row_view row)
-role_view (NewLiteral row) = new_literal (row_view row)
+role_view (Left k row) = left k (row_view row.now)
+role_view (NamesType row) = names_type (row_view row.now)
+role_view (NewLiteral row) = new_literal (row_view row.now)
 role_view ParameterPointer = parameter_pointer
 
 abbrev pub mention_view : KeptMention → Mention
@@ -96,7 +101,7 @@ abbrev pub mark_view : KeptMark → Mark
 mark_view (Mentions m) = mentions (mention_view m)
 mark_view (DefersLiteral site at) = defers_literal site at
 mark_view (Returns at es) = returns at (expressions_syntax es.now)
-mark_view (Opens b) = opens (body_view b)
+mark_view (Opens b) = opens (body_view b.now)
 mark_view Closes = closes
 
 abbrev pub marks_view : List KeptMark → List Mark

@@ -3,11 +3,13 @@
 #![tactic(auto)]
 
 mod around;
+mod kept;
 pub mod mark;
 pub mod named;
 pub mod parts;
 
 pub use around::is_body;
+pub use kept::Marks;
 pub use mark::{
     BodyPlace, Call, CallPlace, LiteralUse, Mark, Mention, Named, Role, Row, RowForm, Spot,
     Standing,

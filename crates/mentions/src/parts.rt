@@ -2,16 +2,17 @@
 
 ghost use Rattle.std.specs.Prelude.{◌≡◌, ◌&&◌, not, [], ◌∷◌, OnOk, option_map, map};
 ghost use Rattle.meaning.specs.Mentions.{part_of, whole, is_start, elsewhere, call_of, argument_use, callee_use, place_in, name_role, is_one, value_spot, mention, declaring, number_of, left_names, declared_elsewhere, guard_in_clause};
-ghost use Rattle.mentions.specs.MarkViews.{Adds, named_view, row_view, place_view, call_view, use_view, role_view, standing_view, spot_view};
+ghost use Rattle.mentions.specs.MarkViews.{Adds, named_view, row_view, place_view, call_view, optional_call, use_view, role_view, standing_view, spot_view};
 ghost use Rattle.tree.specs.View.{expression_syntax, expressions_syntax, identifier_syntax};
 
+use crate::kept::Marks;
 use crate::mark::{Call, CallPlace, LiteralUse, Mark, Mention, Named, Role, Row, Spot, Standing};
 use crate::named::as_named;
 use std::alloc::AllocError;
 use tree::{BLANK, Expr, Identifier, Span};
 
 /// A part of an expression: it stands nowhere as a whole.
-pub fn part_of<'a>(site: u32) -> Spot<'a>
+pub fn part_of<'m, 'a>(site: u32) -> Spot<'m, 'a>
     ensures { spot_view result ≡ part_of site }
 {
     Spot {
@@ -22,7 +23,7 @@ pub fn part_of<'a>(site: u32) -> Spot<'a>
 }
 
 /// An expression at a place.
-pub fn whole(place: CallPlace<'_>, site: u32) -> Spot<'_>
+pub fn whole<'m, 'a>(place: CallPlace<'m, 'a>, site: u32) -> Spot<'m, 'a>
     ensures { spot_view result ≡ whole (place_view place.entry) site }
 {
     Spot {
@@ -33,7 +34,7 @@ pub fn whole(place: CallPlace<'_>, site: u32) -> Spot<'_>
 }
 
 /// No call of what a `select` waits for stands as a whole.
-pub fn place_in<'a>(standing: Standing, place: CallPlace<'a>) -> CallPlace<'a>
+pub fn place_in<'m, 'a>(standing: Standing, place: CallPlace<'m, 'a>) -> CallPlace<'m, 'a>
     ensures { place_view result ≡ place_in (standing_view standing) (place_view place.entry) }
 {
     match standing {
@@ -51,8 +52,8 @@ fn is_one(list: &[Expr]) -> bool
 }
 
 /// Where the values of a row stand: one alone as a whole.
-pub fn value_spot(row: Row<'_>, site: u32) -> Spot<'_>
-    ensures { spot_view result ≡ value_spot (row_view row.entry) site }
+pub fn value_spot<'m, 'a>(row: &'m Row<'a>, site: u32) -> Spot<'m, 'a>
+    ensures { spot_view result ≡ value_spot (row_view row.now) site }
 {
     if is_one(row.values) {
         whole(place_in(row.standing, CallPlace::OnlyValue(row)), site)
@@ -62,12 +63,12 @@ pub fn value_spot(row: Row<'_>, site: u32) -> Spot<'_>
 }
 
 /// A call of `n` or `n.m`.
-pub fn call_of<'a>(
-    place: CallPlace<'a>,
+pub fn call_of<'m, 'a>(
+    place: CallPlace<'m, 'a>,
     callee: &'a Expr,
     arguments: &'a [Expr],
     has_ellipsis: bool,
-) -> Option<Call<'a>>
+) -> Option<Call<'m, 'a>>
     ensures { option_map call_view result ≡ call_of (place_view place.entry) (expression_syntax callee.now)
         (expressions_syntax arguments.now) has_ellipsis }
 {
@@ -93,16 +94,16 @@ fn is_start(named: Named<'_>) -> bool
 }
 
 /// Whether the call may start its argument: it has one, without `...`.
-fn starts_argument(call: Call<'_>) -> bool
-    ensures { result ≡ (is_start (named_view call.entry.callee)
-        && (is_one (expressions_syntax call.entry.arguments.now) && not call.entry.has_ellipsis)) }
+fn starts_argument(call: &Call<'_, '_>) -> bool
+    ensures { result ≡ (is_start (named_view call.now.callee)
+        && (is_one (expressions_syntax call.now.arguments.now) && not call.now.has_ellipsis)) }
 {
     is_start(call.callee) && is_one(call.arguments) && !call.has_ellipsis
 }
 
 /// How a literal is used that is an argument of the call.
-pub fn argument_use(call: Option<Call<'_>>) -> LiteralUse<'_>
-    ensures { use_view result ≡ argument_use (option_map call_view call.entry) }
+pub fn argument_use<'a>(call: Option<&Call<'_, 'a>>) -> LiteralUse<'a>
+    ensures { use_view result ≡ argument_use (optional_call call.entry) }
 {
     match call {
         Some(call) => {
@@ -117,7 +118,7 @@ pub fn argument_use(call: Option<Call<'_>>) -> LiteralUse<'_>
 }
 
 /// How a literal is used that is called at the place.
-pub fn callee_use<'a>(place: CallPlace<'_>) -> LiteralUse<'a>
+pub fn callee_use<'a>(place: CallPlace<'_, '_>) -> LiteralUse<'a>
     ensures { use_view result ≡ callee_use (place_view place.entry) }
 {
     match place {
@@ -127,7 +128,7 @@ pub fn callee_use<'a>(place: CallPlace<'_>) -> LiteralUse<'a>
 }
 
 /// What the place asks of a name that stands there as a whole.
-pub fn name_role<'a>(place: CallPlace<'_>) -> Role<'a>
+pub fn name_role<'m, 'a>(place: CallPlace<'_, '_>) -> Role<'m, 'a>
     ensures { role_view result ≡ name_role (place_view place.entry) }
 {
     match place {
@@ -137,13 +138,13 @@ pub fn name_role<'a>(place: CallPlace<'_>) -> Role<'a>
 }
 
 /// Adds a mention that declares nothing.
-pub fn mention<'a>(
-    marks: &mut Vec<Mark<'a>>,
+pub fn mention<'m, 'a>(
+    marks: &mut Marks<'m, 'a>,
     site: u32,
-    role: Role<'a>,
+    role: Role<'m, 'a>,
     named: Named<'a>,
 ) -> Result<(), AllocError>
-    ensures { OnOk result (Adds marks.old.items marks.new.items (mention site (role_view role.entry)
+    ensures { OnOk result (Adds marks.old.list.items marks.new.list.items (mention site (role_view role.entry)
         (named_view named.entry) ∷ [])) }
 {
     marks.push(Mark::Mentions(Mention {
@@ -151,19 +152,18 @@ pub fn mention<'a>(
         role,
         site,
         declares: None,
-    }))?;
-    Ok(())
+    }))
 }
 
 /// Adds a name that is declared, or perhaps only assigned to by `:=`.
-fn declare<'a>(
-    marks: &mut Vec<Mark<'a>>,
+fn declare<'m, 'a>(
+    marks: &mut Marks<'m, 'a>,
     site: u32,
-    role: Role<'a>,
+    role: Role<'m, 'a>,
     name: &'a Identifier,
     declares: Option<u32>,
 ) -> Result<(), AllocError>
-    ensures { OnOk result (Adds marks.old.items marks.new.items (declaring site (role_view role.entry)
+    ensures { OnOk result (Adds marks.old.list.items marks.new.list.items (declaring site (role_view role.entry)
         (identifier_syntax name.now) declares ∷ [])) }
 {
     let named = Named {
@@ -176,8 +176,7 @@ fn declare<'a>(
         role,
         site,
         declares,
-    }))?;
-    Ok(())
+    }))
 }
 
 /// The number of the local that a name declares.
@@ -192,13 +191,13 @@ fn number_of(name: &Identifier) -> Option<u32>
 }
 
 /// Adds the names of a row's left side.
-pub fn left_names<'a>(
-    marks: &mut Vec<Mark<'a>>,
-    row: Row<'a>,
+pub fn left_names<'m, 'a>(
+    marks: &mut Marks<'m, 'a>,
+    row: &'m Row<'a>,
     site: u32,
     names: &'a [Identifier],
 ) -> Result<(), AllocError>
-    ensures { OnOk result (Adds marks.old.items marks.new.items (left_names (row_view row.entry) site 0
+    ensures { OnOk result (Adds marks.old.list.items marks.new.list.items (left_names (row_view row.now) site 0
         (map identifier_syntax names.now))) }
 {
     for (index, name) in names.iter().enumerate() {
@@ -208,12 +207,12 @@ pub fn left_names<'a>(
 }
 
 /// Adds a name that is declared where no row is.
-pub fn declare_elsewhere<'a>(
-    marks: &mut Vec<Mark<'a>>,
+pub fn declare_elsewhere<'m, 'a>(
+    marks: &mut Marks<'m, 'a>,
     site: u32,
     name: &'a Identifier,
 ) -> Result<(), AllocError>
-    ensures { OnOk result (Adds marks.old.items marks.new.items (declaring site
+    ensures { OnOk result (Adds marks.old.list.items marks.new.list.items (declaring site
         elsewhere (identifier_syntax name.now)
         (number_of (identifier_syntax name.now)) ∷ [])) }
 {
@@ -221,12 +220,12 @@ pub fn declare_elsewhere<'a>(
 }
 
 /// Adds names that are declared where no row is.
-pub fn declared_elsewhere<'a>(
-    marks: &mut Vec<Mark<'a>>,
+pub fn declared_elsewhere<'m, 'a>(
+    marks: &mut Marks<'m, 'a>,
     site: u32,
     names: &'a [Identifier],
 ) -> Result<(), AllocError>
-    ensures { OnOk result (Adds marks.old.items marks.new.items (declared_elsewhere site
+    ensures { OnOk result (Adds marks.old.list.items marks.new.list.items (declared_elsewhere site
         (map identifier_syntax names.now))) }
 {
     for name in names {
@@ -236,13 +235,13 @@ pub fn declared_elsewhere<'a>(
 }
 
 /// Adds the name of a type switch, if it has one, as each clause declares it anew.
-pub fn guard_in_clause<'a>(
-    marks: &mut Vec<Mark<'a>>,
+pub fn guard_in_clause<'m, 'a>(
+    marks: &mut Marks<'m, 'a>,
     site: u32,
     guard: Option<&'a Identifier>,
     clause: Span,
 ) -> Result<(), AllocError>
-    ensures { OnOk result (Adds marks.old.items marks.new.items (guard_in_clause site (option_map
+    ensures { OnOk result (Adds marks.old.list.items marks.new.list.items (guard_in_clause site (option_map
         (λ n. identifier_syntax n.now) guard.entry) clause)) }
 {
     match guard {

@@ -5,7 +5,7 @@ mod words;
 
 ghost use Rattle.named_words.specs.NamedWords.{NamesAreWords, LackedWordsAreNoNames};
 
-pub use words::names_one;
+pub use words::{names_one, occurs_one};
 
 /// In the tree of a text each name that a mark mentions is the text of an identifier token, and so are the other
 /// names that it is looked at by.

@@ -73,6 +73,14 @@ fn is_refusal(fault: LexFault) -> bool
     matches!(fault, LexFault::OutOfMemory)
 }
 
+/// Whether the bytes of one of the words stand in the source, maybe in a comment or as part of a longer word. Where
+/// they don't, no name of it is one of the words.
+pub fn occurs_one(source: &Source, words: &[&str]) -> bool
+    ensures { result ≡ false → LacksEach (bytes_of words.now) source.now.bytes.items }
+{
+    occur(&source.bytes, words)
+}
+
 /// Whether one of the words stands in the source as a name: it is an identifier token of it. A source with a fault has
 /// no tokens, and so no names. The source is cut into tokens only where the bytes of one of the words stand in it.
 ///
@@ -83,7 +91,7 @@ pub fn names_one(alloc: Global, source: &Source, words: &[&str]) -> Result<bool,
     ensures lacks { IfOk result (λ is. is ≡ false → LacksEach (bytes_of words.now) source.now.bytes.items) }
     ensures names { IfOk result (λ is. is ≡ true → NamesOne (bytes_of words.now) source.now.bytes.items) }
 {
-    if !occur(&source.bytes, words) {
+    if !occurs_one(source, words) {
         return Ok(false);
     }
     match lex(alloc, source) {

@@ -10,7 +10,7 @@ use Rattle.facts.specs.FactViews.{facts_in_table, facts_by_path}
 use Rattle.imports.specs.Ranks.{Package, Imports}
 use Rattle.imports.specs.Settling.{place_from}
 use Rattle.imports.proofs.GivenImports.{first_there}
-use Rattle.calls_flags.specs.KnownCalls.{is_called_in, flags_by_path}
+use Rattle.called_parameters.specs.Called.{is_called_in, flags_by_path}
 use Rattle.declared_tables.specs.declared.tables.PackageTable.{PackageTable as KeptTable}
 use Rattle.declared_tables.specs.DeclaredTables.{table_if_any}
 use Rattle.declared_tables.specs.MarkedGivers.{AllMarkGivers}

@@ -1,7 +1,7 @@
 -- The certificates of bodies that rules for files make beside what they say of these, and which of them are kept of a
 -- package that was judged. Rules need not make any.
 use Rattle.std.specs.Prelude.{ℕ, ◌≡◌, List, [], map}
-use Rattle.calls_flags.specs.KnownCalls.{is_called}
+use Rattle.called_parameters.specs.Called.{is_called}
 use Rattle.certificate_json.specs.Certificates.{BodyEntry, body_of}
 use Rattle.gathering.specs.Results.{AreRightBelow, HaveResults, Results}
 use Rattle.meaning_packages.specs.CallsFlags.{Flags}

@@ -8,7 +8,7 @@ use Rattle.declared_tables.specs.MarkedGivers.{MarksGivers}
 use Rattle.facts.specs.FactViews.{facts_by_path}
 use Rattle.imports.specs.Ranks.{Imports}
 use Rattle.imports.specs.Views.{at_path}
-use Rattle.calls_flags.specs.KnownCalls.{flags_by_path}
+use Rattle.called_parameters.specs.Called.{flags_by_path}
 use Rattle.whole_packages.specs.declared.loaded_package.LoadedPackage.{LoadedPackage as KeptPackage}
 use Rattle.whole_packages.specs.WholeEntries.{is_set, TellsOrder}
 use Rattle.names.specs.Answers.{at_name, names_by_path}

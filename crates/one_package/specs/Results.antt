@@ -8,7 +8,7 @@ use Rattle.names.specs.Maps.{only_at}
 use Rattle.imports.specs.Ranks.{HasRank, Imports}
 use Rattle.imports.specs.Views.{at_path}
 use Rattle.facts.specs.FactViews.{table_by_path}
-use Rattle.calls_flags.specs.KnownCalls.{called_by_path}
+use Rattle.called_parameters.specs.Called.{called_by_path}
 use Rattle.declared_tables.specs.declared.tables.PackageTable.{PackageTable as KeptTable}
 use Rattle.declared_tables.specs.DeclaredTables.{table_if_any}
 use Rattle.declared_tables.specs.MarkedGivers.{MarksGivers}

@@ -2,7 +2,7 @@
 -- for.
 use Rattle.std.specs.Prelude.{ℕ, ◌≡◌, ◌↔◌, Bool, true, false, List, map, Option, None, Some, Contains, ⊤}
 use Rattle.facts.specs.FactViews.{facts_by_name}
-use Rattle.calls_flags.specs.KnownCalls.{is_called}
+use Rattle.called_parameters.specs.Called.{is_called}
 use Rattle.calls_flags.specs.ToldFiles.{TellAllSeen}
 use Rattle.calls_flags.specs.FilesBodies.{HaveBodies, with_all_credits}
 use Rattle.meaning_packages.specs.CallsFlags.{FileWithCredits, AreMost}

@@ -4,7 +4,7 @@ ghost use Rattle.std.specs.Prelude.{◌≡◌, ℕ, Bool, List, IfOk, Some, map,
 ghost use Rattle.one_package.specs.Certified.{CertificateRule};
 ghost use Rattle.one_package.specs.Judgments.{TellsAround};
 ghost use Rattle.one_package.specs.ToldPackages.{AreFoundFiles, IsToldPackage};
-ghost use Rattle.calls_flags.specs.KnownCalls.{is_called};
+ghost use Rattle.called_parameters.specs.Called.{is_called};
 ghost use Rattle.certificate_json.specs.Certificates.{body_of};
 ghost use Rattle.whole_packages.specs.LoadedViews.{TellsPackage};
 ghost use Rattle.meaning_reports.specs.Loaded.{LoadedPackage as MeantPackage, Tables};
@@ -14,7 +14,7 @@ ghost use Rattle.meaning_reports.specs.WholeFaults.{HasNoWholeFault};
 
 use crate::judged::Around;
 use crate::told_package::ToldPackage;
-use calls_flags::Called;
+use called_parameters::Called;
 use certificate_json::Body;
 use report::Diagnostic;
 use std::alloc::{AllocError, Global};

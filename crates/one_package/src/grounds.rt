@@ -1,8 +1,8 @@
 //! What a package is judged by.
 
-ghost use Rattle.std.specs.Prelude.{◌≡◌, ℕ, Bool, List, IfOk, None, Some, slice_get};
+ghost use Rattle.std.specs.Prelude.{◌≡◌, ℕ, Bool, List, IfOk, IfSome, None, Some, slice_get};
 ghost use Rattle.one_package.specs.Judgments.{TellsAround};
-ghost use Rattle.one_package.specs.ToldPackages.{IsToldIf, AreGrounds, AreMarkedGrounds};
+ghost use Rattle.one_package.specs.ToldPackages.{IsMarked, IsToldIf, AreGrounds, AreMarkedGrounds};
 ghost use Rattle.meaning.specs.TwoFunctions.{second_function};
 ghost use Rattle.meaning_reports.specs.Loaded.{LoadedPackage as MeantPackage, Tables, trees_of};
 ghost use Rattle.whole_packages.specs.LoadedViews.{TellsPackage};
@@ -97,9 +97,10 @@ pub fn told_of<'a>(
     loaded: &'a LoadedPackage,
     around: Around<'_, 'a>,
 ) -> Result<Option<ToldPackage<'a>>, AllocError>
-    ensures { IfOk result (λ told. (ps : List MeantPackage) (tables : Tables) (i : ℕ) (p : MeantPackage)
+    ensures told { IfOk result (λ told. (ps : List MeantPackage) (tables : Tables) (i : ℕ) (p : MeantPackage)
         → slice_get ps i ≡ Some p → TellsPackage p loaded.now → TellsAround ps tables p around.entry
         → IsToldIf ps tables i p told) }
+    ensures marked { IfOk result (λ told. IfSome told IsMarked) }
 {
     match find_grounds(alloc, loaded, around, true)? {
         Grounds::WholeFaults(_faults) => Ok(None),

@@ -3,7 +3,8 @@
 ghost use Rattle.std.specs.Prelude.{◌↔◌, List, IfOk, Contains, map};
 ghost use Rattle.calls_flags.specs.Claims.{HaveFacts};
 ghost use Rattle.calls_flags.specs.FilesBodies.{HaveBodies, TellAll};
-ghost use Rattle.calls_flags.specs.KnownCalls.{is_called, flags_by_path, known_calls};
+ghost use Rattle.called_parameters.specs.Called.{is_called, flags_by_path};
+ghost use Rattle.calls_flags.specs.KnownCalls.{known_calls};
 ghost use Rattle.calls_flags.specs.ToldFiles.{TellAllSeen};
 ghost use Rattle.facts.specs.FactViews.{facts_by_name};
 ghost use Rattle.findings.specs.FoundEntries.{IsFoundIn};
@@ -11,9 +12,8 @@ ghost use Rattle.meaning.specs.Uses.{Seen};
 ghost use Rattle.meaning_packages.specs.CallsFlags.{AreMost, FileWithCredits};
 ghost use Rattle.report.specs.Entries.{Entry, entry_of};
 
-use calls_flags::{
-    Called, FileBodies, ImportedCalls, KnownCalls, ToldFile, bodies_of_files, find_called,
-};
+use called_parameters::{Called, ImportedCalls};
+use calls_flags::{FileBodies, KnownCalls, ToldFile, bodies_of_files, find_called};
 use facts::Table;
 use findings::find_faults;
 use report::Diagnostic;

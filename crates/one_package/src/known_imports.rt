@@ -1,7 +1,7 @@
 //! What is known of a package's imports by what is said of them, and by what is declared of those that are not given.
 
 ghost use Rattle.std.specs.Prelude.{◌≡◌, ◌++◌, ◌∷◌, ℕ, List, [], OnOk, None, option_map};
-ghost use Rattle.calls_flags.specs.KnownCalls.{called_by_path};
+ghost use Rattle.called_parameters.specs.Called.{called_by_path};
 ghost use Rattle.facts.specs.FactViews.{table_by_path};
 ghost use Rattle.files_to_walk.specs.Givers.{giver_by_path};
 ghost use Rattle.imports.specs.Views.{text_views};
@@ -14,7 +14,7 @@ ghost use Rattle.one_package.specs.declared.judged.Judged.{Judged};
 use crate::given::Given;
 use crate::judged::Judged;
 use crate::verdicts::is_yes;
-use calls_flags::ImportedCalls;
+use called_parameters::ImportedCalls;
 use facts::Imported;
 use files_to_walk::Givers;
 use indexmap::IndexMap;

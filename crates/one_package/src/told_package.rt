@@ -3,7 +3,7 @@
 ghost use Rattle.std.specs.Prelude.{◌≡◌, ◌||◌, ℕ, Bool, List, IfOk, Some, slice_get};
 ghost use Rattle.one_package.specs.Judgments.{TellsAround};
 ghost use Rattle.one_package.specs.ToldPackages.{IsMarked, IsToldPackage, HasPackageBodies};
-ghost use Rattle.calls_flags.specs.KnownCalls.{flags_by_path};
+ghost use Rattle.called_parameters.specs.Called.{flags_by_path};
 ghost use Rattle.whole_packages.specs.LoadedViews.{TellsPackage};
 ghost use Rattle.names.specs.Answers.{declared_at};
 ghost use Rattle.meaning_reports.specs.WholeFaults.{HasNoWholeFault};
@@ -11,7 +11,8 @@ ghost use Rattle.meaning_reports.specs.Loaded.{LoadedPackage as MeantPackage, Ta
 
 use crate::hands::Hands;
 use crate::judged::Around;
-use calls_flags::{Called, FileBodies, ImportedCalls, ToldFile, tell_files};
+use called_parameters::{Called, ImportedCalls};
+use calls_flags::{FileBodies, ToldFile, tell_files};
 use facts::{Table, signatures};
 use files_to_walk::{gives_some, walked_files};
 use names::Names;

@@ -3,7 +3,8 @@
 use crate::building::build_all;
 use crate::claims::find_called_with;
 use crate::solving::solve_all;
-use calls_flags::{Called, FileBodies, ImportedCalls, KnownCalls, ToldFile, bodies_of_files};
+use called_parameters::{Called, ImportedCalls};
+use calls_flags::{FileBodies, KnownCalls, ToldFile, bodies_of_files};
 use facts::Table;
 use findings::find_faults;
 use one_package::Hands;

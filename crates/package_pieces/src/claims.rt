@@ -3,15 +3,14 @@
 ghost use Rattle.std.specs.Prelude.{◌≡◌, ◌≤◌, ℕ, Bool, List, IfOk, length, map, slice_get, unwrap_or, false};
 ghost use Rattle.calls_flags.specs.Claims.{claim_view, AreClaims, HaveFacts, KeepsClaim, Sieves};
 ghost use Rattle.calls_flags.specs.FilesBodies.{TellAll};
-ghost use Rattle.calls_flags.specs.KnownCalls.{is_called, flags_by_path};
+ghost use Rattle.called_parameters.specs.Called.{is_called, flags_by_path};
 ghost use Rattle.facts.specs.FactViews.{facts_by_name};
 ghost use Rattle.meaning.specs.Uses.{Callee};
 ghost use Rattle.meaning_packages.specs.CallsFlags.{AreMost, FileWithCredits};
 ghost use Rattle.package_pieces.specs.Marks.{is_marked, AreMarks};
 
-use calls_flags::{
-    Called, Claim, FileBodies, ImportedCalls, KnownCalls, Sieve, find_called_by, keeps_claim,
-};
+use called_parameters::{Called, ImportedCalls};
+use calls_flags::{Claim, FileBodies, KnownCalls, Sieve, find_called_by, keeps_claim};
 use facts::Table;
 use pieces::{Free, Helpers, Piece, PieceFault, work_all};
 use std::alloc::{AllocError, Global};

@@ -1,7 +1,7 @@
 //! Rules for files by which several threads can judge one package.
 
 ghost use Rattle.std.specs.Prelude.{◌≡◌, ℕ, List, IfOk, Some, map, slice_get};
-ghost use Rattle.calls_flags.specs.KnownCalls.{is_called};
+ghost use Rattle.called_parameters.specs.Called.{is_called};
 ghost use Rattle.certificate_json.specs.Certificates.{body_of};
 ghost use Rattle.meaning_reports.specs.Loaded.{LoadedPackage as MeantPackage, Tables};
 ghost use Rattle.meaning_reports.specs.WholeFaults.{HasNoWholeFault};

@@ -53,7 +53,8 @@ fn job_of<'g, 'a, B: Naming>(
 ) -> Option<Job<'g, 'a, B>>
     requires packages { packages_view given.now.lists.items ≡ B.packages }
     requires imports { AreImportsIn B.packages (state_in B.packages core.now).phases place }
-    ensures { IfSome result (IsJob B.packages given.now.packages.now given.now.lists.items) }
+    ensures job { IfSome result (IsJob B.packages given.now.packages.now given.now.lists.items) }
+    ensures at { IfSome result (λ job. job.place ≡ place) }
 {
     let loaded = given.packages.get(place)?;
     let list = given.lists.get(place)?;

@@ -114,6 +114,8 @@ fn one_operand<F: Fn(Wanted, TokenPlace) -> Read<Expr>>(
     let end = source.behind(place);
     if let Some(operator) = source.next_assigning_operator(place) {
         let (right, end) = holding!(expression: left; expression(source, parts, header, 1, end));
+        let left = holding!(expression: right; memory boxed::expression(source.alloc, left));
+        let right = holding!(boxed_expression: left; memory boxed::expression(source.alloc, right));
         let span = source.span_to(from, end);
         return Ok((
             make::statement::operator_assignment(operator, left, right, span),
@@ -122,8 +124,11 @@ fn one_operand<F: Fn(Wanted, TokenPlace) -> Read<Expr>>(
     }
     if source.stands(place, TokenKind::Arrow) {
         let (value, end) = holding!(expression: left; expression(source, parts, header, 1, end));
+        let channel = holding!(expression: value; memory boxed::expression(source.alloc, left));
+        let value =
+            holding!(boxed_expression: channel; memory boxed::expression(source.alloc, value));
         let span = source.span_to(from, end);
-        return Ok((make::statement::send_statement(left, value, span), end));
+        return Ok((make::statement::send_statement(channel, value, span), end));
     }
     let span = source.span_to(from, end);
     if source.stands(place, TokenKind::Increment) {

@@ -286,9 +286,11 @@ fn slice<F: Fn(Wanted, TokenPlace) -> Read<Expr>>(
     let sliced =
         holding!(optional_expression: low, optional_expression: high, optional_expression: most; memory
             boxed::expression(source.alloc, operand));
+    let made = make::expression::bounds(low, high, most);
+    let bounds = holding!(boxed_expression: sliced; memory boxed::bounds(source.alloc, made));
     let span = source.span_to(from, end);
     Ok((
-        make::expression::slice_expression(sliced, low, high, most, span),
+        make::expression::slice_expression(sliced, bounds, span),
         end,
     ))
 }

@@ -1,2 +1,3 @@
 -- What comes of the pieces of a list.
 pub mod Pieces
+pub mod Faults

@@ -1,7 +1,9 @@
 //! Several threads that work on pieces.
 
-ghost use Rattle.std.specs.Prelude.{◌≡◌, ℕ, ◌+◌, ◌<◌, ◌^◌, ◌++◌, IfOk, IsOkAnd, length};
+ghost use Rattle.std.specs.Prelude.{◌≡◌, ℕ, ◌+◌, ◌<◌, ◌^◌, ◌++◌, IfErr, IfOk, IsOkAnd, length};
 ghost use Rattle.pieces.specs.Pieces.{ComeOf};
+ghost use Rattle.pieces.specs.Faults.{IsFaultOf};
+ghost use Rattle.workers.specs.Counts.{count_of};
 
 use crate::gates::BodyGate;
 use crate::part::{Part, work_on};
@@ -22,6 +24,10 @@ pub enum PieceFault {
 }
 
 impl From<AllocError> for PieceFault {
+    ghost use Rattle.pieces.specs.declared.helpers.PieceFault.TheVariants.{Memory};
+
+    ghost from_gives = { λ _ fault. fault ≡ Memory };
+
     fn from(_fault: AllocError) -> Self {
         PieceFault::Memory
     }
@@ -77,8 +83,9 @@ fn all_in<'s, E, R: Threads, T: Sync, X: Send + Drop + 's, J: Piece<T, X> + Sync
     helpers: usize,
 ) -> Result<Vec<X>, PieceFault>
     requires { part.first + length part.items.now < 2 ^ 64 }
-    ensures { IfOk result
+    ensures all { IfOk result
         (λ found. ComeOf (J.gives part.entry.job.now) part.entry.first part.entry.items.now found.items) }
+    ensures fault { IfErr result (IsFaultOf helpers) }
 {
     let (first, items, job) = (part.first, part.items, part.job);
     if helpers <= 1 || items.len() <= 1 {
@@ -120,7 +127,8 @@ fn all_by<R: Threads + Wait, T: Sync, X: Send + Drop, J: Piece<T, X> + Sync>(
     job: &J,
     helpers: usize,
 ) -> Result<Vec<X>, PieceFault>
-    ensures { IfOk result (λ found. ComeOf (J.gives job.now) 0 items.now found.items) }
+    ensures all { IfOk result (λ found. ComeOf (J.gives job.now) 0 items.now found.items) }
+    ensures fault { IfErr result (IsFaultOf helpers) }
 {
     let _ = items.len();
     thread::scope(
@@ -128,7 +136,8 @@ fn all_by<R: Threads + Wait, T: Sync, X: Send + Drop, J: Piece<T, X> + Sync>(
         rt,
         |scope| -> Result<Vec<X>, PieceFault>
             requires { length items.now < 2 ^ 64 }
-            ensures { IfOk result (λ found. ComeOf (J.gives job.entry.now) 0 items.entry.now found.items) }
+            ensures all { IfOk result (λ found. ComeOf (J.gives job.entry.now) 0 items.entry.now found.items) }
+            ensures fault { IfErr result (IsFaultOf helpers) }
         {
             let part = Part {
                 first: 0,
@@ -153,7 +162,8 @@ pub fn work_all<
     X: Send + Drop,
     J: Piece<T, X> + Sync,
 >(alloc: Global, helpers: &Helpers<'_, R, G>, items: &[T], job: &J) -> Result<Vec<X>, PieceFault>
-    ensures { IfOk result (λ found. ComeOf (J.gives job.now) 0 items.now found.items) }
+    ensures all { IfOk result (λ found. ComeOf (J.gives job.now) 0 items.now found.items) }
+    ensures fault { IfErr result (IsFaultOf (count_of helpers.now.count)) }
 {
     let gated = Gated {
         job,

@@ -1,20 +1,13 @@
 -- The tables of packages as plain values: what they say of each function, in the order of the names' bytes.
-use Rattle.std.specs.Prelude.{ℕ, ◌+◌, ◌≡◌, Bool, true, false, ◌&&◌, if◌then◌else◌, List, [], ◌∷◌, flat_map, length, map, Option, None, Some, is_some, option_map, slice_get, Contains, ⊤}
+use Rattle.std.specs.Prelude.{ℕ, ◌≡◌, Bool, true, false, ◌&&◌, if◌then◌else◌, List, [], ◌∷◌, flat_map, Option, None, Some, is_some, option_map, Contains}
 use Rattle.std.specs.List.Sorted.{IsStrictlySortedBy}
 use Rattle.tree.specs.Syntax.{SourceFile, TopLevelDeclaration, function_declaration, general_declaration}
-use Rattle.tree.specs.View.{file_syntax}
 use Rattle.meaning.specs.FunctionFacts.{CancelType, plain, with_cause, is_same_type, TrackedType, cancel_type, group_type, TrackedParameter, CancelResult, FunctionFacts}
-use Rattle.whole_packages.specs.declared.loaded_package.LoadedPackage.{LoadedPackage as KeptPackage}
-use Rattle.whole_packages.specs.LoadedViews.{TellPackages, HaveDistinctPaths}
 use Rattle.table_json.specs.declared.table.Parameter.{Parameter}
 use Rattle.table_json.specs.declared.table.Parameter.TheVariants.{Cancel, Cause, Group}
-use Rattle.table_json.specs.declared.table.Table.{Table}
-use Rattle.table_json.specs.Tables.{Entry, by_bytes, entries_of}
+use Rattle.table_json.specs.Tables.{Entry, by_bytes}
 use Rattle.table_json.specs.TableValues.{if_fits}
-use Rattle.meaning_reports.specs.Loaded.{LoadedPackage, PackageTable, Tables}
-use Rattle.one_package.specs.declared.judged.Judged.{Judged}
-use Rattle.one_package.specs.Judgments.{table_view}
-use Rattle.all_packages.specs.Reports.{AreReports}
+use Rattle.meaning_reports.specs.Loaded.{PackageTable}
 
 abbrev pub as_list : {A : Type 0} → Option A → List A
 as_list None = []
@@ -87,33 +80,3 @@ pub record IsPlain (table : PackageTable) (entries : List Entry) : Type 0 where
   pub rise : IsStrictlySortedBy by_bytes names
   pub are_all : (name : List ℕ) → is_some (table.signatures name) ≡ true → Contains names name
   pub are_told : entries ≡ flat_map (entries_for table) names
-
-abbrev pub names_of_kept : Option KeptPackage → List (List ℕ)
-names_of_kept None = []
-names_of_kept (Some k) = declared_names (map file_syntax k.trees.items)
-
--- it has what was found of the package of that place
-abbrev pub IsTableAt : List KeptPackage → ℕ → Judged → Table → Type 0
-IsTableAt kept i j table = TellsNames (names_of_kept (slice_get kept i)) (table_view j) (entries_of table)
-
--- each of these has its table, where the first has the place `n`
-abbrev pub AreTablesFrom : List KeptPackage → ℕ → List Judged → List Table → Type 0
-AreTablesFrom kept n [] [] = ⊤
-AreTablesFrom kept n [] (t ∷ ts) = ⊥
-AreTablesFrom kept n (j ∷ js) [] = ⊥
-AreTablesFrom kept n (j ∷ js) (t ∷ ts) = IsTableAt kept n j t × AreTablesFrom kept (n + 1) js ts
-
--- They are the final tables of the packages that are kept so, whichever these are, where this is declared of others: a
--- table of each, in their order.
-pub record TellsTables (declared : Tables) (kept : List KeptPackage) (tables : List Table) : Type 0 where
-  pub said : List Judged
-  pub are_reports : (ps : List LoadedPackage)
-      → TellPackages ps kept
-      → HaveDistinctPaths ps
-      → AreReports declared ps kept said
-  pub are_as_many : length tables ≡ length said
-  pub are_plain : (ps : List LoadedPackage) → TellPackages ps kept → HaveDistinctPaths ps
-      → (i : ℕ) (j : Judged) (table : Table)
-      → slice_get said i ≡ Some j
-      → slice_get tables i ≡ Some table
-      → IsPlain (table_view j) (entries_of table)

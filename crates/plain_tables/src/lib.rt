@@ -4,4 +4,4 @@
 
 mod tables;
 
-pub use tables::{final_tables, package_table};
+pub use tables::package_table;

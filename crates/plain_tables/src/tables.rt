@@ -2,23 +2,19 @@
 
 ghost use Rattle.std.specs.Prelude.{◌≡◌, ◌++◌, ℕ, List, IfOk, OnOk, flat_map, map};
 ghost use Rattle.one_package.specs.Judgments.{table_view};
-ghost use Rattle.plain_tables.specs.Tables.{as_list, declared_name, declared_names, entries_for, entry_told, if_told, is_none_of, parameter_kept, parameter_told, result_told, AreInOrder, AreTablesFrom, IsPlain, IsTableAt, TellsNames, TellsTables};
-ghost use Rattle.declared_tables.specs.DeclaredTables.{declared_tables};
+ghost use Rattle.plain_tables.specs.Tables.{as_list, declared_name, declared_names, entries_for, entry_told, if_told, is_none_of, parameter_kept, parameter_told, result_told, AreInOrder, IsPlain, TellsNames};
 ghost use Rattle.facts.specs.FactViews.{cancel_result_view, facts_view, parameter_view, tracked_type_view, type_view};
 ghost use Rattle.imports.specs.Views.{text_views};
-ghost use Rattle.calls_flags.specs.KnownCalls.{is_called};
+ghost use Rattle.called_parameters.specs.Called.{is_called};
 ghost use Rattle.meaning_reports.specs.Loaded.{LoadedPackage as MeantPackage, Tables};
 ghost use Rattle.meaning_reports.specs.PackageTables.{IsTable};
-ghost use Rattle.outside_json.specs.Outside.{packages_of};
 ghost use Rattle.table_json.specs.Tables.{entries_of, entry_of};
 ghost use Rattle.tree.specs.View.{file_syntax, top_level_syntax};
 ghost use Rattle.whole_packages.specs.LoadedViews.{TellsPackage};
 
-use all_packages::check;
-use calls_flags::Called;
+use called_parameters::Called;
 use facts::{CancelResult, CancelType, FunctionFacts, TrackedParameter, TrackedType};
 use one_package::Judged;
-use outside_json::Outside;
 use std::alloc::{AllocError, Global};
 use table_json::{Function, Parameter, Table, if_fits};
 use tree::{File, TopLevelDecl};
@@ -257,54 +253,4 @@ pub fn package_table(
         → IsPlain (table_view judged.now) (entries_of table)) }
 {
     table_of(alloc, &loaded.trees, judged)
-}
-
-/// The table of the package of that place.
-fn table_at(
-    alloc: Global,
-    packages: &[LoadedPackage],
-    place: usize,
-    judged: &Judged<'_>,
-) -> Result<Table, AllocError>
-    ensures { IfOk result (IsTableAt packages.now place judged.now) }
-{
-    match packages.get(place) {
-        Some(loaded) => table_of(alloc, &loaded.trees, judged),
-        None => Ok(Table {
-            functions: Vec::new(alloc),
-        }),
-    }
-}
-
-fn tables_of(
-    alloc: Global,
-    packages: &[LoadedPackage],
-    judged: &[Judged<'_>],
-) -> Result<Vec<Table>, AllocError>
-    ensures { IfOk result (λ tables. AreTablesFrom packages.now 0 judged.now tables.items) }
-{
-    let mut tables = Vec::new(alloc);
-    for (place, one) in judged.iter().enumerate() {
-        tables.push(table_at(alloc, packages, place, one)?)?;
-    }
-    Ok(tables)
-}
-
-/// Judges packages of different paths, where this is declared of packages that are not given, and tells what is known
-/// of their functions: a table of each, in their order. A function of which nothing is told is left out, and so is a
-/// position that is not below 2^32.
-///
-/// # Errors
-///
-/// Memory was refused.
-pub fn final_tables(
-    alloc: Global,
-    packages: &[LoadedPackage],
-    outside: &Outside,
-) -> Result<Vec<Table>, AllocError>
-    ensures { IfOk result (λ tables. TellsTables (declared_tables (packages_of outside.now)) packages.now
-        tables.items) }
-{
-    let judged = check(alloc, packages, outside)?;
-    tables_of(alloc, packages, &judged)
 }

@@ -59,16 +59,11 @@ fn expression_form<'a>(
             expression(namings, operand)?;
             expression(namings, index)
         }
-        ExprKind::Slice {
-            operand,
-            low,
-            high,
-            max,
-        } => {
+        ExprKind::Slice(operand, bounds) => {
             expression(namings, operand)?;
-            optional(namings, low)?;
-            optional(namings, high)?;
-            optional(namings, max)
+            optional(namings, &bounds.low)?;
+            optional(namings, &bounds.high)?;
+            optional(namings, &bounds.max)
         }
         ExprKind::TypeAssert(operand, kind) => {
             expression(namings, operand)?;

@@ -3,4 +3,5 @@ pub mod SilentPackages
 pub mod SilentSignatures
 pub mod DeclaredGivers
 pub mod WalkedFiles
+pub mod OneMore
 pub mod SilentWords

@@ -1,7 +1,7 @@
 -- Files of a package of which some are not walked. What is to be found is sought in the others alone: a file that may
 -- be skipped is looked at as if it had no marks. So it keeps its place and its number.
 -- (This tool's rules.)
-use Rattle.std.specs.Prelude.{ℕ, ◌+◌, ◌≡◌, ◌↔◌, Bool, true, false, List, [], ◌∷◌, Some, slice_get}
+use Rattle.std.specs.Prelude.{ℕ, ◌+◌, ◌≡◌, ◌↔◌, Bool, true, false, List, [], ◌∷◌, Some, slice_get, unwrap_or}
 use Rattle.tree.specs.Syntax.{SourceFile}
 use Rattle.meaning.specs.Tracked.{Known}
 use Rattle.meaning.specs.Uses.{Callee, Seen, seen_in}
@@ -13,6 +13,10 @@ use Rattle.meaning_reports.specs.PackageReports.{IsFileFinding, SaysByPaths}
 use Rattle.meaning_reports.specs.WholeFaults.{HasNoWholeFault}
 use Rattle.report.specs.Entries.{Entry}
 use Rattle.silent_files.specs.SilentPackages.{MayBeSkipped}
+
+-- whether the file of that number is walked, by marks of files: it is where it has none
+abbrev pub is_walked : List Bool → ℕ → Bool
+is_walked marks number = unwrap_or (slice_get marks number) true
 
 -- a file as it is seen, or as if it had no marks
 abbrev pub seen_if : Bool → Known → SourceFile → Seen

@@ -13,12 +13,12 @@ use std::alloc::AllocError;
 /// # Errors
 ///
 /// Memory was refused.
-pub fn enter<'a>(bodies: &mut Vec<BodyPlace<'a>>, mark: Mark<'a>) -> Result<(), AllocError>
+pub fn enter<'a>(bodies: &mut Vec<BodyPlace<'a>>, mark: Mark<'_, 'a>) -> Result<(), AllocError>
     ensures { OnOk result (map body_view bodies.new.items ≡ bodies_at (map body_view bodies.old.items)
         (mark_view mark.entry)) }
 {
     match mark {
-        Mark::Opens(body) => bodies.insert(0, body)?,
+        Mark::Opens(body) => bodies.insert(0, *body)?,
         Mark::Closes => leave(bodies),
         _ => {}
     }

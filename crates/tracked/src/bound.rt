@@ -23,7 +23,7 @@ pub fn is_cancel(kind: Option<VariableKind>) -> bool
 }
 
 /// The kind of the local on the left side of that number.
-pub fn kind_at(seen: &Seen<'_, '_>, row: Row<'_>, index: usize) -> Option<VariableKind>
+pub fn kind_at(seen: &Seen<'_, '_, '_>, row: Row<'_>, index: usize) -> Option<VariableKind>
     requires { SeesLocals seen.now }
     ensures { option_map kind_view result ≡ kind_at (seen_view seen.now) (row_view row.entry) index }
 {
@@ -31,7 +31,7 @@ pub fn kind_at(seen: &Seen<'_, '_>, row: Row<'_>, index: usize) -> Option<Variab
 }
 
 /// Whether cancel variables stand on each of these left sides.
-pub fn are_cancels(seen: &Seen<'_, '_>, row: Row<'_>, gives: &[CancelResult]) -> bool
+pub fn are_cancels(seen: &Seen<'_, '_, '_>, row: Row<'_>, gives: &[CancelResult]) -> bool
     requires { SeesLocals seen.now }
     ensures { result ≡ list_all (λ g. is_cancel (kind_at (seen_view seen.now) (row_view row.entry) g.position))
         (map cancel_result_view gives.now) }
@@ -45,7 +45,7 @@ pub fn are_cancels(seen: &Seen<'_, '_>, row: Row<'_>, gives: &[CancelResult]) ->
 }
 
 /// Whether the row binds all cancel variables that it obtains.
-pub fn row_binds(seen: &Seen<'_, '_>, row: Row<'_>) -> bool
+pub fn row_binds(seen: &Seen<'_, '_, '_>, row: Row<'_>) -> bool
     requires { SeesLocals seen.now }
     ensures { result ≡ row_binds (seen_view seen.now) (row_view row.entry) }
 {

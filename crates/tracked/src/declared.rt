@@ -178,7 +178,7 @@ fn row_typed(known: Known<'_, '_>, form: RowForm<'_>) -> Option<TrackedType>
     }
 }
 
-fn role_typed(known: Known<'_, '_>, role: Role<'_>) -> Option<TrackedType>
+fn role_typed(known: Known<'_, '_>, role: Role<'_, '_>) -> Option<TrackedType>
     ensures { option_map tracked_type_view result ≡ role_typed (known_view known.entry) (role_view role.entry) }
 {
     match role {
@@ -188,7 +188,7 @@ fn role_typed(known: Known<'_, '_>, role: Role<'_>) -> Option<TrackedType>
 }
 
 /// The local that a mention declares.
-pub fn declared_by(known: Known<'_, '_>, mention: Mention<'_>) -> Option<u32>
+pub fn declared_by(known: Known<'_, '_>, mention: Mention<'_, '_>) -> Option<u32>
     ensures { result ≡ declared_by (known_view known.entry) (mention_view mention.entry) }
 {
     match meaning(known, mention.named.at) {
@@ -201,7 +201,7 @@ pub fn declared_by(known: Known<'_, '_>, mention: Mention<'_>) -> Option<u32>
 fn add_declared<'a>(
     known: Known<'_, 'a>,
     bodies: &[BodyPlace<'a>],
-    mention: Mention<'a>,
+    mention: Mention<'_, 'a>,
     locals: &mut Locals<'a>,
 ) -> Result<(), AllocError>
     ensures { OnOk result (AddsLocals locals.old locals.new (declared_local (known_view known.entry)
@@ -230,7 +230,7 @@ pub fn add_locals<'a>(
     alloc: Global,
     known: Known<'_, 'a>,
     bodies: &[BodyPlace<'a>],
-    mark: Mark<'a>,
+    mark: Mark<'_, 'a>,
     locals: &mut Locals<'a>,
 ) -> Result<(), AllocError>
     ensures { OnOk result (AddsLocals locals.old locals.new (locals_there (known_view known.entry)
@@ -238,7 +238,7 @@ pub fn add_locals<'a>(
 {
     match mark {
         Mark::Mentions(mention) => add_declared(known, bodies, mention, locals),
-        Mark::Opens(body) => add_body(alloc, known, body, locals),
+        Mark::Opens(body) => add_body(alloc, known, *body, locals),
         _ => Ok(()),
     }
 }

@@ -14,30 +14,30 @@ use std::alloc::AllocError;
 use tracked_rows::{Known, local_meant, row_makes, row_obtains};
 
 /// The local that a mention means or declares.
-pub fn variable_of(known: Known<'_, '_>, mention: Mention<'_>) -> Option<u32>
+pub fn variable_of(known: Known<'_, '_>, mention: Mention<'_, '_>) -> Option<u32>
     ensures { result ≡ variable_of (known_view known.entry) (mention_view mention.entry) }
 {
     local_meant(known, mention.named.at, mention.declares)
 }
 
 /// Whether the mention is a left side that its row obtains.
-fn is_obtained(known: Known<'_, '_>, mention: Mention<'_>) -> bool
+fn is_obtained(known: Known<'_, '_>, mention: Mention<'_, '_>) -> bool
     ensures { result ≡ is_obtained_by (known_view known.entry) (mention_view mention.entry)
         (mention_view mention.entry).role }
 {
     match mention.role {
-        Role::Left(index, row) => row_obtains(known, row, index),
+        Role::Left(index, row) => row_obtains(known, *row, index),
         _ => false,
     }
 }
 
 /// Whether the mention is a left side that its row makes.
-fn is_made(known: Known<'_, '_>, mention: Mention<'_>) -> bool
+fn is_made(known: Known<'_, '_>, mention: Mention<'_, '_>) -> bool
     ensures { result ≡ is_made_by (known_view known.entry) (mention_view mention.entry)
         (mention_view mention.entry).role }
 {
     match mention.role {
-        Role::Left(index, row) => row_makes(known, row, index).is_some(),
+        Role::Left(index, row) => row_makes(known, *row, index).is_some(),
         _ => false,
     }
 }
@@ -46,7 +46,7 @@ fn is_made(known: Known<'_, '_>, mention: Mention<'_>) -> bool
 fn noted<'a>(
     known: Known<'_, 'a>,
     bodies: &[BodyPlace<'a>],
-    mention: Mention<'a>,
+    mention: Mention<'_, 'a>,
     entry: SeenLocal<'a>,
 ) -> SeenLocal<'a>
     ensures { (n : ℕ) → variable_of (known_view known.entry) (mention_view mention.entry) ≡ Some n →
@@ -69,7 +69,7 @@ fn noted<'a>(
 pub fn note<'a>(
     known: Known<'_, 'a>,
     bodies: &[BodyPlace<'a>],
-    mark: Mark<'a>,
+    mark: Mark<'_, 'a>,
     entries: &mut Entries<'a>,
 ) -> Result<(), AllocError>
     ensures { OnOk result (NotesMark (known_view known.entry) (map body_view bodies.now) (mark_view mark.entry)
@@ -84,7 +84,7 @@ pub fn note<'a>(
 fn note_mention<'a>(
     known: Known<'_, 'a>,
     bodies: &[BodyPlace<'a>],
-    mention: Mention<'a>,
+    mention: Mention<'_, 'a>,
     entries: &mut Entries<'a>,
 ) -> Result<(), AllocError>
     ensures { OnOk result (NotesMark (known_view known.entry) (map body_view bodies.now)

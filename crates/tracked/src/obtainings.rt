@@ -55,7 +55,12 @@ pub fn type_from(number: usize, giving: Option<Giving<'_>>) -> CancelType
 }
 
 /// What the left side of that number, with its name at the offset, obtains where its row binds.
-fn obtained_by_row(seen: &Seen<'_, '_>, at: u32, index: usize, row: Row<'_>) -> Option<Obtaining>
+fn obtained_by_row(
+    seen: &Seen<'_, '_, '_>,
+    at: u32,
+    index: usize,
+    row: Row<'_>,
+) -> Option<Obtaining>
     requires { SeesLocals seen.now }
     ensures { option_map obtaining_view result ≡ obtained_by_row (seen_view seen.now) at index
         (row_view row.entry) }
@@ -74,13 +79,13 @@ fn obtained_by_row(seen: &Seen<'_, '_>, at: u32, index: usize, row: Row<'_>) -> 
     None
 }
 
-fn obtained_by(seen: &Seen<'_, '_>, mention: Mention<'_>) -> Option<Obtaining>
+fn obtained_by(seen: &Seen<'_, '_, '_>, mention: Mention<'_, '_>) -> Option<Obtaining>
     requires { SeesLocals seen.now }
     ensures { option_map obtaining_view result ≡ obtained_in_role (seen_view seen.now)
         (mention_view mention.entry).named.at (mention_view mention.entry).role }
 {
     match mention.role {
-        Role::Left(index, row) => obtained_by_row(seen, mention.named.at, index, row),
+        Role::Left(index, row) => obtained_by_row(seen, mention.named.at, index, *row),
         _ => None,
     }
 }
@@ -136,8 +141,8 @@ impl Obtainings {
 
 /// Notes what a mention obtains.
 fn note_mention(
-    seen: &Seen<'_, '_>,
-    mention: Mention<'_>,
+    seen: &Seen<'_, '_, '_>,
+    mention: Mention<'_, '_>,
     obtainings: &mut Obtainings,
 ) -> Result<(), AllocError>
     requires { SeesLocals seen.now }
@@ -153,7 +158,11 @@ fn note_mention(
     }
 }
 
-fn note(seen: &Seen<'_, '_>, mark: Mark<'_>, obtainings: &mut Obtainings) -> Result<(), AllocError>
+fn note(
+    seen: &Seen<'_, '_, '_>,
+    mark: Mark<'_, '_>,
+    obtainings: &mut Obtainings,
+) -> Result<(), AllocError>
     requires { SeesLocals seen.now }
     ensures { OnOk result (NotesObtaining (seen_view seen.now) (mark_view mark.entry)
         obtainings.old obtainings.new) }
@@ -169,7 +178,7 @@ fn note(seen: &Seen<'_, '_>, mark: Mark<'_>, obtainings: &mut Obtainings) -> Res
 /// # Errors
 ///
 /// Memory was refused.
-pub fn first_obtainings(alloc: Global, seen: &Seen<'_, '_>) -> Result<Obtainings, AllocError>
+pub fn first_obtainings(alloc: Global, seen: &Seen<'_, '_, '_>) -> Result<Obtainings, AllocError>
     requires { SeesLocals seen.now }
     ensures { IfOk result (λ obtainings. HasFirsts obtainings (seen_view seen.now)) }
 {

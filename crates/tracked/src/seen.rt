@@ -17,6 +17,7 @@ use crate::local::{Local, SeenLocal};
 use crate::noted::note;
 use crate::obtainings::{Obtainings, first_obtainings};
 use crate::table::{Entries, Locals};
+use bumpalo::Bump;
 use facts::{CancelType, TrackedType, VariableKind};
 use marks::file_marks;
 use mentions::{BodyPlace, Mark};
@@ -26,9 +27,9 @@ use tree::File;
 
 /// A file's marks and locals, with what is known.
 #[derive(Drop)]
-pub struct Seen<'k, 'a> {
+pub struct Seen<'k, 'm, 'a> {
     pub known: Known<'k, 'a>,
-    pub marks: Vec<Mark<'a>>,
+    pub marks: Vec<Mark<'m, 'a>>,
     locals: Locals<'a>,
     obtainings: Obtainings,
 }
@@ -37,7 +38,7 @@ pub struct Seen<'k, 'a> {
 fn all_locals<'a>(
     alloc: Global,
     known: Known<'_, 'a>,
-    marks: &[Mark<'a>],
+    marks: &[Mark<'_, 'a>],
 ) -> Result<Locals<'a>, AllocError>
     ensures { IfOk result (λ locals. HasLocals locals (locals_of (known_view known.entry)
         (placed [] (marks_view marks.now)))) }
@@ -55,7 +56,7 @@ fn all_locals<'a>(
 fn note_all<'a>(
     alloc: Global,
     known: Known<'_, 'a>,
-    marks: &[Mark<'a>],
+    marks: &[Mark<'_, 'a>],
     entries: &mut Entries<'a>,
 ) -> Result<(), AllocError>
     ensures { OnOk result ((n : ℕ) → entry_in entries.new n ≡ option_map (noted_all (known_view known.entry) n
@@ -69,20 +70,21 @@ fn note_all<'a>(
     Ok(())
 }
 
-/// Looks at a file.
+/// Looks at a file. What its marks refer to stands in the arena.
 ///
 /// # Errors
 ///
 /// Memory was refused.
-pub fn see<'k, 'a>(
+pub fn see<'k, 'm, 'a>(
     alloc: Global,
+    arena: &'m Bump,
     known: Known<'k, 'a>,
     file: &'a File,
-) -> Result<Seen<'k, 'a>, AllocError>
+) -> Result<Seen<'k, 'm, 'a>, AllocError>
     ensures view { IfOk result (λ seen. seen_view seen ≡ seen_file (known_view known.entry) (file_syntax file.now)) }
     ensures sees { IfOk result (λ seen. Sees seen) }
 {
-    let marks = file_marks(alloc, file)?;
+    let marks = file_marks(alloc, arena, file)?;
     let mut locals = all_locals(alloc, known, &marks)?;
     note_all(alloc, known, &marks, &mut locals.entries)?;
     let mut seen = Seen {
@@ -95,7 +97,7 @@ pub fn see<'k, 'a>(
     Ok(seen)
 }
 
-impl<'k, 'a> Seen<'k, 'a> {
+impl<'k, 'm, 'a> Seen<'k, 'm, 'a> {
     /// The local of that number.
     pub fn entry(&self, number: Option<u32>) -> Option<SeenLocal<'a>>
         requires { SeesLocals self.now }

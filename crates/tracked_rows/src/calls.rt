@@ -106,8 +106,8 @@ pub fn only(values: &[Expr]) -> Option<&Expr>
 }
 
 /// The value of a row as a call of `n` or `n.m`.
-pub fn call_in<'a>(row: Row<'a>, value: &'a Expr) -> Option<Call<'a>>
-    ensures { option_map call_view result ≡ call_in (row_view row.entry)
+pub fn call_in<'m, 'a>(row: &'m Row<'a>, value: &'a Expr) -> Option<Call<'m, 'a>>
+    ensures { option_map call_view result ≡ call_in (row_view row.now)
         (expression_syntax value.now) }
 {
     match &value.kind {
@@ -119,8 +119,8 @@ pub fn call_in<'a>(row: Row<'a>, value: &'a Expr) -> Option<Call<'a>>
 }
 
 /// The call that is the only value of a row.
-pub fn only_call(row: Row<'_>) -> Option<Call<'_>>
-    ensures { option_map call_view result ≡ only_call (row_view row.entry) (row_view row.entry).values }
+pub fn only_call<'m, 'a>(row: &'m Row<'a>) -> Option<Call<'m, 'a>>
+    ensures { option_map call_view result ≡ only_call (row_view row.now) (row_view row.now).values }
 {
     match only(row.values) {
         Some(value) => call_in(row, value),
@@ -135,7 +135,7 @@ pub fn row_giving<'k>(known: Known<'k, '_>, row: Row<'_>) -> Option<Giving<'k>>
     if !may_bind(row) {
         return None;
     }
-    let call = only_call(row)?;
+    let call = only_call(&row)?;
     let giving = giving_of(known, call.callee)?;
     if count(row.form) == giving.results {
         Some(giving)

@@ -69,7 +69,7 @@ fn is_group_type(known: Known<'_, '_>, named: Option<Named<'_>>) -> bool
 }
 
 /// `new(errgroup.Group)`, with the universe's `new`.
-fn is_new_call(known: Known<'_, '_>, call: Call<'_>) -> bool
+fn is_new_call(known: Known<'_, '_>, call: Call<'_, '_>) -> bool
     ensures { result ≡ is_new_call (known_view known.entry) (call_view call.entry).callee
         (call_view call.entry).arguments (call_view call.entry).has_ellipsis }
 {
@@ -84,7 +84,11 @@ fn is_new_call(known: Known<'_, '_>, call: Call<'_>) -> bool
 }
 
 /// What a call makes that is the value of so many left sides.
-fn made_by_call(known: Known<'_, '_>, count: usize, call: Option<Call<'_>>) -> Option<GroupState>
+fn made_by_call(
+    known: Known<'_, '_>,
+    count: usize,
+    call: Option<Call<'_, '_>>,
+) -> Option<GroupState>
     ensures { option_map state_view result ≡ made_by_call (known_view known.entry) count
         (option_map call_view call.entry) }
 {
@@ -120,7 +124,7 @@ fn made_by_literal(
 }
 
 /// What is made by the only value of a row, which the first of its left sides gets.
-fn made_by_value(known: Known<'_, '_>, row: Row<'_>, value: &Expr) -> Option<GroupState>
+fn made_by_value<'a>(known: Known<'_, '_>, row: Row<'a>, value: &'a Expr) -> Option<GroupState>
     ensures { option_map state_view result ≡ made_by_value (known_view known.entry) (row_view row.entry)
         (length (lefts_of (row_view row.entry).form)) (expression_syntax value.now) }
 {
@@ -128,7 +132,7 @@ fn made_by_value(known: Known<'_, '_>, row: Row<'_>, value: &Expr) -> Option<Gro
         ExprKind::Unary(operator, operand) => {
             made_by_literal(known, count(row.form), as_new_literal(*operator, operand))
         }
-        _ => made_by_call(known, count(row.form), call_in(row, value)),
+        _ => made_by_call(known, count(row.form), call_in(&row, value)),
     }
 }
 

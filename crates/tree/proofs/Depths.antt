@@ -15,8 +15,8 @@ use Rattle.tree.specs.declared.statement.CaseClause.{CaseClause, out-CaseClause}
 use Rattle.tree.specs.declared.statement.CommClause.{CommClause, out-CommClause}
 use Rattle.tree.specs.declared.statement.Stmt.{Stmt}
 use Rattle.tree.specs.declared.statement.StmtKind.{StmtKind, Block as BlockStatement}
-use Rattle.tree.specs.Syntax.{Parameters, no_parameter, Fields, no_field, Specs, no_spec, CaseClauses, CommunicationClauses}
-use Rattle.tree.specs.Depth.{count_expression, count_else, expression_depth, below_expression, expressions_depth, signature_depth, parameters_depth, fields_depth, statement_depth, below_statement, statements_depth, optional_statement_depth, else_depth, cases_depth, communications_depth, specs_depth}
+use Rattle.tree.specs.Syntax.{OptionalExpression, Parameters, no_parameter, Fields, no_field, Specs, no_spec, CaseClauses, CommunicationClauses}
+use Rattle.tree.specs.Depth.{count_expression, count_else, expression_depth, below_expression, expressions_depth, optional_depth, signature_depth, parameters_depth, fields_depth, statement_depth, below_statement, statements_depth, optional_statement_depth, else_depth, cases_depth, communications_depth, specs_depth}
 use Rattle.tree.specs.View.{expression_form, statement_form, literal_syntax, parameter_and, field_and, spec_and, case_clause_and, communication_clause_and, expression_syntax, expressions_syntax, parameters_syntax, signature_syntax, fields_syntax, statement_syntax, statements_syntax, optional_statement_syntax, cases_syntax, communications_syntax, specs_syntax}
 use Rattle.tree.proofs.Views.{literal_syntax-out, block_syntax-out, case_clause_and-out, communication_clause_and-out}
 
@@ -49,6 +49,9 @@ at_expression e = capped (expression_depth (expression_syntax e))
 
 abbrev pub at_expressions : List Expr → ℕ
 at_expressions es = capped (expressions_depth (expressions_syntax es))
+
+abbrev pub at_bound : OptionalExpression → ℕ
+at_bound e = capped (optional_depth e)
 
 abbrev pub at_signature : Signature → ℕ
 at_signature s = capped (signature_depth (signature_syntax s))

@@ -1,8 +1,7 @@
 -- What the syntax of each node is, in the words of the code: one law a variant.
-use Rattle.std.proofs.Common.{◌≡◌, ℕ, List, map, Option, Some, None, option_map, Bool, string_bytes, refl, ap, ◌∙◌}
+use Rattle.std.proofs.Common.{◌≡◌, ℕ, List, map, Option, Some, None, option_map, Bool, refl, sym, ap, ◌∙◌}
 use Rattle.std.specs.declared.alloc.Global.{Global}
 use Rattle.std.specs.declared.boxed.Box.{Box}
-use Rattle.std.specs.declared.string.String.{String}
 use Rattle.std.specs.declared.vec.Vec.{Vec}
 use Rattle.tree.specs.declared.declaration.Decl.{Decl}
 use Rattle.tree.specs.declared.declaration.Spec.{Spec, Value, «Type», back-Spec-Value-1, Row_of-Expr, end_of-Expr, more_of-Expr, items-the_row-Expr, items_hidden-the_row-Expr-0}
@@ -10,6 +9,7 @@ use Rattle.tree.specs.declared.declaration.Spec.TheBlock.{hidden-the_row-Expr-0,
 use Rattle.tree.specs.declared.expression.Expr.{Expr}
 use Rattle.tree.specs.declared.expression.ExprKind.{Name, BasicLit, FuncLit, CompositeLit, LiteralValue, KeyValue, Paren, Selector, Index, Slice, TypeAssert, Call, Star, Unary, Binary, ArrayType, EllipsisArrayType, SliceType, MapType, ChanType, FuncType, StructType, InterfaceType, Row_of-Param, end_of-Param, more_of-Param, items-the_row-Param, items_hidden-the_row-Param-1, Row_of-Field, end_of-Field, more_of-Field, items-the_row-Field, items_hidden-the_row-Field-2}
 use Rattle.tree.specs.declared.expression.Field.{Field, Named as NamedField, Embedded, Method}
+use Rattle.tree.specs.declared.expression.Bounds.{Bounds, out-Bounds, roll-Bounds, rolls-Bounds', is-Bounds'}
 use Rattle.tree.specs.declared.expression.Literal.{Literal, out-Literal, roll-Literal, rolls-Literal', is-Literal'}
 use Rattle.tree.specs.declared.expression.Param.{Param, Named as NamedParam, Unnamed, NameAlone}
 use Rattle.tree.specs.declared.expression.Signature.{Signature as KeptSignature}
@@ -26,7 +26,7 @@ use Rattle.tree.specs.declared.statement.CommClause.{CommClause, out-CommClause,
 use Rattle.tree.specs.declared.statement.Stmt.{Stmt}
 use Rattle.tree.specs.declared.statement.StmtKind.{Empty, Decl as DeclStatement, Labeled, Expr as ExprStatement, Send, Increment, Decrement, Assign, AssignOp, Define, Go, Defer, Return, Break, Continue, Block as BlockStatement, If, For, RangeAssign, RangeDefine, Switch, TypeSwitch, Select, back-StmtKind-If-0, Row_of-Spec, end_of-Spec, more_of-Spec, items-the_row-Spec, items_hidden-the_row-Spec-3, Row_of-CaseClause, end_of-CaseClause, more_of-CaseClause, items-the_row-CaseClause, items_hidden-the_row-CaseClause-4, Row_of-CommClause, end_of-CommClause, more_of-CommClause, items-the_row-CommClause, items_hidden-the_row-CommClause-5}
 use Rattle.tree.specs.Syntax.{expression_node, name_expression, basic_literal, function_literal, composite_literal, literal_value, key_value, parenthesized, selector_expression, index_expression, slice_expression, type_assertion, call_expression, star_expression, unary_expression, binary_expression, array_type, ellipsis_array_type, slice_type, map_type, channel_type, function_type, struct_type, interface_type, expression_and, Signature, signature_of, Parameters, named_and, unnamed_and, name_alone_and, Fields, fields_and, embedded_and, method_and, statement_node, empty_statement, declaration_statement, labeled_statement, expression_statement, send_statement, increment_statement, decrement_statement, assignment, operator_assignment, define_statement, go_statement, defer_statement, return_statement, break_statement, continue_statement, block_statement, if_statement, for_statement, range_assignment, range_definition, switch_statement, type_switch_statement, select_statement, statement_and, CaseClauses, case_and, CommunicationClauses, communication_and, declaration_of, Specs, value_and, type_and}
-use Rattle.tree.specs.View.{identifier_syntax, type_name_syntax, block_braces, expression_form, literal_syntax, row_expressions, held_expression, row_parameters, parameter_and, row_fields, field_and, statement_form, block_statements, row_statements, held_statement, row_cases, case_clause_and, row_communications, communication_clause_and, row_specs, spec_and, expression_syntax, expressions_syntax, optional_expression_syntax, parameters_syntax, signature_syntax, fields_syntax, statement_syntax, statements_syntax, optional_statement_syntax, block_syntax, cases_syntax, communications_syntax, specs_syntax, declaration_syntax}
+use Rattle.tree.specs.View.{identifier_syntax, type_name_syntax, block_braces, expression_form, low_bound, high_bound, most_bound, literal_syntax, row_expressions, held_expression, row_parameters, parameter_and, row_fields, field_and, statement_form, block_statements, row_statements, held_statement, row_cases, case_clause_and, row_communications, communication_clause_and, row_specs, spec_and, expression_syntax, expressions_syntax, optional_expression_syntax, parameters_syntax, signature_syntax, fields_syntax, statement_syntax, statements_syntax, optional_statement_syntax, block_syntax, cases_syntax, communications_syntax, specs_syntax, declaration_syntax}
 
 pub row_expressions-items : (m : _) (es : Row_of-Expr m) → row_expressions es ≡ expressions_syntax (items-the_row-Expr m es)
 unfolding row_expressions
@@ -150,10 +150,9 @@ pub expression_form-Index : (e i : Box Expr Global) → expression_form (Index e
 unfolding expression_form
 expression_form-Index e i = refl
 
-pub expression_form-Slice : (e : Box Expr Global) (low high most : Option (Box Expr Global)) → expression_form (Slice e low high most) ≡ slice_expression (expression_syntax e.value) (optional_expression_syntax low) (optional_expression_syntax high) (optional_expression_syntax most)
+pub expression_form-Slice : (e : Box Expr Global) (b : Box Bounds Global) → expression_form (Slice e b) ≡ slice_expression (expression_syntax e.value) (low_bound b.value) (high_bound b.value) (most_bound b.value)
 unfolding expression_form
-expression_form-Slice e low high most =
-    ap (λ l. slice_expression (expression_syntax e.value) l (held_expression (back-Spec-Value-1 high)) (held_expression (back-Spec-Value-1 most))) (expression_held low) ∙ ap (λ l. slice_expression (expression_syntax e.value) (optional_expression_syntax low) l (held_expression (back-Spec-Value-1 most))) (expression_held high) ∙ ap (λ l. slice_expression (expression_syntax e.value) (optional_expression_syntax low) (optional_expression_syntax high) l) (expression_held most)
+expression_form-Slice e b = refl
 
 pub expression_form-TypeAssert : (e t : Box Expr Global) → expression_form (TypeAssert e t) ≡ type_assertion (expression_syntax e.value) (expression_syntax t.value)
 unfolding expression_form
@@ -228,7 +227,7 @@ pub statement_form-Expr : (e : Expr) → statement_form (ExprStatement e) ≡ ex
 unfolding statement_form
 statement_form-Expr e = refl
 
-pub statement_form-Send : (c v : Expr) → statement_form (Send c v) ≡ send_statement (expression_syntax c) (expression_syntax v)
+pub statement_form-Send : (c v : Box Expr Global) → statement_form (Send c v) ≡ send_statement (expression_syntax c.value) (expression_syntax v.value)
 unfolding statement_form
 statement_form-Send c v = refl
 
@@ -245,7 +244,7 @@ unfolding statement_form
 statement_form-Assign ls rs =
     ap (λ l. assignment l (row_expressions (hidden-the_row-Expr-0 rs))) (expressions_kept ls) ∙ ap (λ l. assignment (expressions_syntax ls.items) l) (expressions_kept rs)
 
-pub statement_form-AssignOp : (op : BinaryOperator) (l r : Expr) → statement_form (AssignOp op l r) ≡ operator_assignment op (expression_syntax l) (expression_syntax r)
+pub statement_form-AssignOp : (op : BinaryOperator) (l r : Box Expr Global) → statement_form (AssignOp op l r) ≡ operator_assignment op (expression_syntax l.value) (expression_syntax r.value)
 unfolding statement_form
 statement_form-AssignOp op l r = refl
 
@@ -362,6 +361,39 @@ pub block_syntax-roll : (b : _) → block_syntax (roll-Block b) ≡ record { sta
 unfolding block_statements
 block_syntax-roll b =
     ap block_syntax (rolls-Block' b) ∙ (λ i. record { statements = statements_kept b.statements i; braces = b.span })
+
+pub low_bound-out : (b : Bounds) → low_bound b ≡ optional_expression_syntax (out-Bounds b).low
+unfolding low_bound
+low_bound-out b = ap low_bound (is-Bounds' b) ∙ expression_held (out-Bounds b).low
+
+pub high_bound-out : (b : Bounds) → high_bound b ≡ optional_expression_syntax (out-Bounds b).high
+unfolding high_bound
+high_bound-out b = ap high_bound (is-Bounds' b) ∙ expression_held (out-Bounds b).high
+
+pub most_bound-out : (b : Bounds) → most_bound b ≡ optional_expression_syntax (out-Bounds b).max
+unfolding most_bound
+most_bound-out b = ap most_bound (is-Bounds' b) ∙ expression_held (out-Bounds b).max
+
+pub low_bound_of : {b kept : Bounds} → b ≡ kept → optional_expression_syntax (out-Bounds b).low ≡ low_bound kept
+low_bound_of {b} e = sym (low_bound-out b) ∙ ap low_bound e
+
+pub high_bound_of : {b kept : Bounds} → b ≡ kept → optional_expression_syntax (out-Bounds b).high ≡ high_bound kept
+high_bound_of {b} e = sym (high_bound-out b) ∙ ap high_bound e
+
+pub most_bound_of : {b kept : Bounds} → b ≡ kept → optional_expression_syntax (out-Bounds b).max ≡ most_bound kept
+most_bound_of {b} e = sym (most_bound-out b) ∙ ap most_bound e
+
+pub low_bound-roll : (b : _) → low_bound (roll-Bounds b) ≡ optional_expression_syntax b.low
+unfolding low_bound
+low_bound-roll b = ap low_bound (rolls-Bounds' b) ∙ expression_held b.low
+
+pub high_bound-roll : (b : _) → high_bound (roll-Bounds b) ≡ optional_expression_syntax b.high
+unfolding high_bound
+high_bound-roll b = ap high_bound (rolls-Bounds' b) ∙ expression_held b.high
+
+pub most_bound-roll : (b : _) → most_bound (roll-Bounds b) ≡ optional_expression_syntax b.max
+unfolding most_bound
+most_bound-roll b = ap most_bound (rolls-Bounds' b) ∙ expression_held b.max
 
 pub literal_syntax-out : (l : Literal) → literal_syntax l ≡ function_literal (signature_syntax (out-Literal l).signature) (block_syntax (out-Literal l).body).statements (block_syntax (out-Literal l).body).braces
 unfolding literal_syntax

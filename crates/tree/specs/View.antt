@@ -8,6 +8,7 @@ use Rattle.tree.specs.declared.declaration.Spec.{Spec, Value', Type', Held-Spec-
 use Rattle.tree.specs.declared.expression.Expr.{Expr}
 use Rattle.tree.specs.declared.expression.ExprKind.{ExprKind, Name, BasicLit, FuncLit', CompositeLit', LiteralValue', KeyValue', Paren', Selector', Index', Slice', TypeAssert', Call', Star', Unary', Binary', ArrayType', EllipsisArrayType', SliceType', MapType', ChanType', FuncType', StructType', InterfaceType', Row_of-Param, end_of-Param, more_of-Param, Row_of-Field, end_of-Field, more_of-Field}
 use Rattle.tree.specs.declared.expression.Field.{Field, Named' as NamedField', Embedded, Method'}
+use Rattle.tree.specs.declared.expression.Bounds.{Bounds, Bounds'}
 use Rattle.tree.specs.declared.expression.Literal.{Literal, Literal'}
 use Rattle.tree.specs.declared.expression.Param.{Param, Named' as NamedParam', Unnamed', NameAlone}
 use Rattle.tree.specs.declared.expression.Signature.{Signature as KeptSignature}
@@ -72,9 +73,9 @@ unfoldable mutual
       selector_expression (expression_node (expression_form e) span) (identifier_syntax n)
   expression_form (Index' p e e_span q i i_span) =
       index_expression (expression_node (expression_form e) e_span) (expression_node (expression_form i) i_span)
-  expression_form (Slice' p e span low high most) =
-      slice_expression (expression_node (expression_form e) span) (held_expression low) (held_expression high)
-      (held_expression most)
+  expression_form (Slice' p e span q bounds) =
+      slice_expression (expression_node (expression_form e) span) (low_bound bounds) (high_bound bounds)
+      (most_bound bounds)
   expression_form (TypeAssert' p e e_span q t t_span) =
       type_assertion (expression_node (expression_form e) e_span) (expression_node (expression_form t) t_span)
   expression_form (Call' p e span shape es ellipsis) =
@@ -95,6 +96,15 @@ unfoldable mutual
       function_type (signature_of (row_parameters ps) (row_parameters rs) brackets)
   expression_form (StructType' shape fs) = struct_type (row_fields fs)
   expression_form (InterfaceType' shape fs) = interface_type (row_fields fs)
+
+  pub low_bound : Bounds → OptionalExpression
+  low_bound (Bounds' low high most) = held_expression low
+
+  pub high_bound : Bounds → OptionalExpression
+  high_bound (Bounds' low high most) = held_expression high
+
+  pub most_bound : Bounds → OptionalExpression
+  most_bound (Bounds' low high most) = held_expression most
 
   pub literal_syntax : Literal → ExpressionForm
   literal_syntax (Literal' ps_shape ps rs_shape rs brackets body) =
@@ -138,12 +148,12 @@ unfoldable mutual
   statement_form (Labeled' n p s span) =
       labeled_statement (identifier_syntax n) (statement_node (statement_form s) span)
   statement_form (Expr' e span) = expression_statement (expression_node (expression_form e) span)
-  statement_form (Send' c c_span v v_span) =
+  statement_form (Send' p c c_span q v v_span) =
       send_statement (expression_node (expression_form c) c_span) (expression_node (expression_form v) v_span)
   statement_form (Increment' e span) = increment_statement (expression_node (expression_form e) span)
   statement_form (Decrement' e span) = decrement_statement (expression_node (expression_form e) span)
   statement_form (Assign' ls_shape ls rs_shape rs) = assignment (row_expressions ls) (row_expressions rs)
-  statement_form (AssignOp' op l l_span r r_span) =
+  statement_form (AssignOp' op p l l_span q r r_span) =
       operator_assignment op (expression_node (expression_form l) l_span) (expression_node (expression_form r) r_span)
   statement_form (Define' ns shape es) = define_statement (map identifier_syntax ns.items) (row_expressions es)
   statement_form (Go' e span) = go_statement (expression_node (expression_form e) span)

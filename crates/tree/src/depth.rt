@@ -107,14 +107,9 @@ fn below_expression(kind: &ExprKind) -> u32
         ExprKind::Paren(operand) => expression_depth(operand),
         ExprKind::Selector(operand, _) => expression_depth(operand),
         ExprKind::Index(operand, index) => expression_depth(operand).max(expression_depth(index)),
-        ExprKind::Slice {
-            operand,
-            low,
-            high,
-            max,
-        } => {
-            let bounds = optional_depth(high).max(optional_depth(max));
-            expression_depth(operand).max(optional_depth(low).max(bounds))
+        ExprKind::Slice(operand, bounds) => {
+            let last = optional_depth(&bounds.high).max(optional_depth(&bounds.max));
+            expression_depth(operand).max(optional_depth(&bounds.low).max(last))
         }
         ExprKind::TypeAssert(operand, kind) => {
             expression_depth(operand).max(expression_depth(kind))

@@ -35,13 +35,8 @@ pub enum ExprKind {
     Selector(Box<Expr>, Identifier),
     /// `operand[index]`.
     Index(Box<Expr>, Box<Expr>),
-    /// `operand[low:high:max]`, each of which may be missing.
-    Slice {
-        operand: Box<Expr>,
-        low: Option<Box<Expr>>,
-        high: Option<Box<Expr>>,
-        max: Option<Box<Expr>>,
-    },
+    /// `operand[low:high:max]`. The bounds stand in a box, so that what is seldom makes no other node larger.
+    Slice(Box<Expr>, Box<Bounds>),
     /// `operand.(Type)`.
     TypeAssert(Box<Expr>, Box<Expr>),
     /// `callee(arguments)`; whether `...` stands after the last one.
@@ -68,6 +63,15 @@ pub enum ExprKind {
     StructType(Vec<Field>),
     /// `interface{ .. }`.
     InterfaceType(Vec<Field>),
+}
+
+/// The bounds of a slice expression, each of which may be missing.
+#[derive(Drop)]
+#[cycle(node)]
+pub struct Bounds {
+    pub low: Option<Box<Expr>>,
+    pub high: Option<Box<Expr>>,
+    pub max: Option<Box<Expr>>,
 }
 
 /// A function literal. It takes the bytes of its expression.

@@ -12,7 +12,7 @@ pub mod span;
 pub mod statement;
 
 pub use declaration::{Decl, Spec};
-pub use expression::{Expr, ExprKind, Field, Literal, Param, Signature};
+pub use expression::{Bounds, Expr, ExprKind, Field, Literal, Param, Signature};
 pub use file::{File, Func, ImportDecl, ImportSpec, TopLevelDecl};
 pub use name_text::NameText;
 pub use operator::{BasicLitKind, BinaryOperator, ChanDirection, DeclKeyword, UnaryOperator};

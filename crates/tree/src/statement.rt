@@ -26,7 +26,7 @@ pub enum StmtKind {
     /// An expression as a statement.
     Expr(Expr),
     /// `channel <- value`.
-    Send(Expr, Expr),
+    Send(Box<Expr>, Box<Expr>),
     /// `operand++`.
     Increment(Expr),
     /// `operand--`.
@@ -34,7 +34,7 @@ pub enum StmtKind {
     /// `left = right`.
     Assign(Vec<Expr>, Vec<Expr>),
     /// `left += right`, and so with each arithmetic operator.
-    AssignOp(BinaryOperator, Expr, Expr),
+    AssignOp(BinaryOperator, Box<Expr>, Box<Expr>),
     /// `names := values`.
     Define(Vec<Identifier>, Vec<Expr>),
     /// `go call`.

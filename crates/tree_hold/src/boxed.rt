@@ -3,7 +3,7 @@
 ghost use Rattle.std.specs.Prelude.{◌≡◌, IfOk};
 
 use std::alloc::{AllocError, Global};
-use tree::{Expr, Literal, Signature, Stmt};
+use tree::{Bounds, Expr, Literal, Signature, Stmt};
 
 /// A part in a box.
 ///
@@ -44,6 +44,17 @@ pub fn statement(alloc: Global, part: Stmt) -> Result<Box<Stmt>, AllocError>
 ///
 /// Out of memory.
 pub fn literal(alloc: Global, part: Literal) -> Result<Box<Literal>, AllocError>
+    ensures { IfOk result (λ kept. kept.value ≡ part) }
+{
+    boxed(alloc, part)
+}
+
+/// The bounds of a slice in a box.
+///
+/// # Errors
+///
+/// Out of memory.
+pub fn bounds(alloc: Global, part: Bounds) -> Result<Box<Bounds>, AllocError>
     ensures { IfOk result (λ kept. kept.value ≡ part) }
 {
     boxed(alloc, part)

@@ -2,11 +2,11 @@
 
 ghost use Rattle.std.specs.Prelude.{◌≡◌};
 ghost use Rattle.tree.specs.Syntax.{expression_node, name_expression, basic_literal, function_literal, composite_literal, literal_value, key_value, parenthesized, selector_expression, index_expression, slice_expression, type_assertion, call_expression, star_expression, unary_expression, binary_expression};
-ghost use Rattle.tree.specs.View.{identifier_syntax, signature_syntax, block_syntax, expression_syntax, expressions_syntax, optional_expression_syntax, literal_syntax};
+ghost use Rattle.tree.specs.View.{identifier_syntax, signature_syntax, block_syntax, expression_syntax, expressions_syntax, optional_expression_syntax, low_bound, high_bound, most_bound, literal_syntax};
 
 use tree::{
-    BasicLitKind, BinaryOperator, Block, Expr, ExprKind, Identifier, Literal, NameText, Signature,
-    Span, UnaryOperator,
+    BasicLitKind, BinaryOperator, Block, Bounds, Expr, ExprKind, Identifier, Literal, NameText,
+    Signature, Span, UnaryOperator,
 };
 
 /// A name, with its text.
@@ -93,23 +93,25 @@ pub fn index_expression(operand: Box<Expr>, index: Box<Expr>, span: Span) -> Exp
     Expr { kind, span }
 }
 
-/// `operand[low:high:max]`.
-pub fn slice_expression(
-    operand: Box<Expr>,
+/// The bounds of a slice, each of which may be missing.
+pub fn bounds(
     low: Option<Box<Expr>>,
     high: Option<Box<Expr>>,
-    max: Option<Box<Expr>>,
-    span: Span,
-) -> Expr
-    ensures { expression_syntax result ≡ expression_node (slice_expression (expression_syntax operand.value)
-        (optional_expression_syntax low) (optional_expression_syntax high) (optional_expression_syntax max)) span }
+    max: Option<Box<Expr>>, // behind a second colon
+) -> Bounds
+    ensures low { low_bound result ≡ optional_expression_syntax low }
+    ensures high { high_bound result ≡ optional_expression_syntax high }
+    ensures most { most_bound result ≡ optional_expression_syntax max }
 {
-    let kind = ExprKind::Slice {
-        operand,
-        low,
-        high,
-        max,
-    };
+    Bounds { low, high, max }
+}
+
+/// `operand[low:high:max]`.
+pub fn slice_expression(operand: Box<Expr>, bounds: Box<Bounds>, span: Span) -> Expr
+    ensures { expression_syntax result ≡ expression_node (slice_expression (expression_syntax operand.value)
+        (low_bound bounds.value) (high_bound bounds.value) (most_bound bounds.value)) span }
+{
+    let kind = ExprKind::Slice(operand, bounds);
     Expr { kind, span }
 }
 

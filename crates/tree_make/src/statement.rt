@@ -41,9 +41,9 @@ pub fn expression_statement(expression: Expr, span: Span) -> Stmt
 }
 
 /// `channel <- value`.
-pub fn send_statement(channel: Expr, value: Expr, span: Span) -> Stmt
-    ensures { statement_syntax result ≡ statement_node (send_statement (expression_syntax channel)
-        (expression_syntax value)) span }
+pub fn send_statement(channel: Box<Expr>, value: Box<Expr>, span: Span) -> Stmt
+    ensures { statement_syntax result ≡ statement_node (send_statement (expression_syntax channel.value)
+        (expression_syntax value.value)) span }
 {
     let kind = StmtKind::Send(channel, value);
     Stmt { kind, span }
@@ -75,9 +75,14 @@ pub fn assignment(left: Vec<Expr>, right: Vec<Expr>, span: Span) -> Stmt
 }
 
 /// `left += right`, and so with each arithmetic operator.
-pub fn operator_assignment(operator: BinaryOperator, left: Expr, right: Expr, span: Span) -> Stmt
-    ensures { statement_syntax result ≡ statement_node (operator_assignment operator (expression_syntax left)
-        (expression_syntax right)) span }
+pub fn operator_assignment(
+    operator: BinaryOperator,
+    left: Box<Expr>,
+    right: Box<Expr>,
+    span: Span,
+) -> Stmt
+    ensures { statement_syntax result ≡ statement_node (operator_assignment operator (expression_syntax left.value)
+        (expression_syntax right.value)) span }
 {
     let kind = StmtKind::AssignOp(operator, left, right);
     Stmt { kind, span }

@@ -36,7 +36,7 @@ fn is_group(kind: Option<VariableKind>) -> bool
 }
 
 /// Whether x of `g, x := errgroup.WithContext(..)` has no tracked name, in literals neither.
-fn is_second_free(alloc: Global, seen: &Seen<'_, '_>, row: Row<'_>) -> Result<bool, AllocError>
+fn is_second_free(alloc: Global, seen: &Seen<'_, '_, '_>, row: Row<'_>) -> Result<bool, AllocError>
     requires { Sees seen.now }
     ensures { IfOk result (λ free. free ≡ is_second_free (seen_view seen.now) (row_view row.entry)
         (form_view row.entry.form)) }
@@ -54,7 +54,7 @@ fn is_second_free(alloc: Global, seen: &Seen<'_, '_>, row: Row<'_>) -> Result<bo
     }
 }
 
-fn is_group_or_none(seen: &Seen<'_, '_>, number: Option<u32>) -> bool
+fn is_group_or_none(seen: &Seen<'_, '_, '_>, number: Option<u32>) -> bool
     requires { Sees seen.now }
     ensures { result ≡ is_group_or_none (seen_view seen.now) number }
 {
@@ -65,7 +65,7 @@ fn is_group_or_none(seen: &Seen<'_, '_>, number: Option<u32>) -> bool
 }
 
 /// Whether all names of a declaration are groups, or `_`.
-fn are_all_groups(seen: &Seen<'_, '_>, row: Row<'_>) -> bool
+fn are_all_groups(seen: &Seen<'_, '_, '_>, row: Row<'_>) -> bool
     requires { Sees seen.now }
     ensures { result ≡ list_all (λ l. is_group_or_none (seen_view seen.now)
         (left_local (seen_view seen.now).known (Some l))) (lefts_of (form_view row.entry.form)) }
@@ -79,7 +79,7 @@ fn are_all_groups(seen: &Seen<'_, '_>, row: Row<'_>) -> bool
 }
 
 /// All names of `var g, h errgroup.Group` are groups; of another row the first name is.
-fn are_groups(seen: &Seen<'_, '_>, row: Row<'_>) -> bool
+fn are_groups(seen: &Seen<'_, '_, '_>, row: Row<'_>) -> bool
     requires { Sees seen.now }
     ensures { result ≡ are_groups (seen_view seen.now) (row_view row.entry) (form_view row.entry.form) }
 {
@@ -91,7 +91,7 @@ fn are_groups(seen: &Seen<'_, '_>, row: Row<'_>) -> bool
 
 fn made_binding(
     alloc: Global,
-    seen: &Seen<'_, '_>,
+    seen: &Seen<'_, '_, '_>,
     row: Row<'_>,
     state: Option<GroupState>,
 ) -> Result<Option<Binding>, AllocError>
@@ -121,7 +121,7 @@ fn made_binding(
 /// Memory was refused.
 pub fn binding_at(
     alloc: Global,
-    seen: &Seen<'_, '_>,
+    seen: &Seen<'_, '_, '_>,
     row: Row<'_>,
     index: usize,
 ) -> Result<Option<Binding>, AllocError>
@@ -156,7 +156,7 @@ fn is_made(binding: Option<Binding>) -> bool
 /// # Errors
 ///
 /// Memory was refused.
-pub fn makes_group(alloc: Global, seen: &Seen<'_, '_>, row: Row<'_>) -> Result<bool, AllocError>
+pub fn makes_group(alloc: Global, seen: &Seen<'_, '_, '_>, row: Row<'_>) -> Result<bool, AllocError>
     requires { Sees seen.now }
     ensures { IfOk result (λ makes. makes ≡ makes_group (seen_view seen.now) (row_view row.entry)) }
 {

@@ -31,7 +31,7 @@ fn add_discarded<'a>(
 
 /// A call that is the only value of a row.
 fn add_row_call<'a>(
-    seen: &Seen<'_, 'a>,
+    seen: &Seen<'_, '_, 'a>,
     named: Named<'a>,
     row: Row<'a>,
     faults: &mut Vec<UseFault<'a>>,
@@ -56,7 +56,7 @@ fn add_row_call<'a>(
 /// A call that is an item of a return list.
 fn add_item_call<'a>(
     alloc: Global,
-    at: At<'_, 'a>,
+    at: At<'_, '_, 'a>,
     giving: Giving<'_>,
     item: usize,
     faults: &mut Vec<UseFault<'a>>,
@@ -75,9 +75,9 @@ fn add_item_call<'a>(
 /// A call.
 fn add_call<'a>(
     alloc: Global,
-    at: At<'_, 'a>,
+    at: At<'_, '_, 'a>,
     giving: Giving<'_>,
-    place: CallPlace<'a>,
+    place: CallPlace<'_, 'a>,
     faults: &mut Vec<UseFault<'a>>,
 ) -> Result<(), AllocError>
     requires { Sees at.seen.now }
@@ -88,7 +88,7 @@ fn add_call<'a>(
     let named = at.mention.named;
     match place {
         CallPlace::Statement => add_discarded(faults, at.mention.site, named),
-        CallPlace::OnlyValue(row) => add_row_call(at.seen, named, row, faults),
+        CallPlace::OnlyValue(row) => add_row_call(at.seen, named, *row, faults),
         CallPlace::ReturnItem(item) => add_item_call(alloc, at, giving, item, faults),
         CallPlace::Nowhere => add_last(faults, UseCode::CancelUsedOtherwise, named),
         CallPlace::Deferred => add_last(faults, UseCode::CancelUsedOtherwise, named),
@@ -98,7 +98,7 @@ fn add_call<'a>(
 /// A maker or giver in its role: a giver may be named where it is not called, a maker not.
 fn add_role<'a>(
     alloc: Global,
-    at: At<'_, 'a>,
+    at: At<'_, '_, 'a>,
     giving: Giving<'_>,
     faults: &mut Vec<UseFault<'a>>,
 ) -> Result<(), AllocError>
@@ -127,7 +127,7 @@ fn add_role<'a>(
 /// Memory was refused.
 pub fn add_giving<'a>(
     alloc: Global,
-    at: At<'_, 'a>,
+    at: At<'_, '_, 'a>,
     faults: &mut Vec<UseFault<'a>>,
 ) -> Result<(), AllocError>
     requires { Sees at.seen.now }

@@ -27,14 +27,14 @@ fn is_selected(name: &str, named: Named<'_>) -> bool
 
 fn is_making_place(
     alloc: Global,
-    seen: &Seen<'_, '_>,
-    place: CallPlace<'_>,
+    seen: &Seen<'_, '_, '_>,
+    place: CallPlace<'_, '_>,
 ) -> Result<bool, AllocError>
     requires { Sees seen.now }
     ensures { IfOk result (λ makes. makes ≡ is_making_place (seen_view seen.now) (place_view place.entry)) }
 {
     match place {
-        CallPlace::OnlyValue(row) => makes_group(alloc, seen, row),
+        CallPlace::OnlyValue(row) => makes_group(alloc, seen, *row),
         _ => Ok(false),
     }
 }
@@ -42,8 +42,8 @@ fn is_making_place(
 /// Whether it stands in a making, or is a whole type of a parameter.
 fn is_made_or_parameter(
     alloc: Global,
-    seen: &Seen<'_, '_>,
-    mention: Mention<'_>,
+    seen: &Seen<'_, '_, '_>,
+    mention: Mention<'_, '_>,
 ) -> Result<bool, AllocError>
     requires { Sees seen.now }
     ensures { IfOk result (λ is. is ≡ is_made_or_parameter (seen_view seen.now) (mention_view mention.entry)
@@ -51,8 +51,8 @@ fn is_made_or_parameter(
 {
     match mention.role {
         Role::ParameterPointer => Ok(is_selected("Group", mention.named)),
-        Role::NamesType(row) => makes_group(alloc, seen, row),
-        Role::NewLiteral(row) => makes_group(alloc, seen, row),
+        Role::NamesType(row) => makes_group(alloc, seen, *row),
+        Role::NewLiteral(row) => makes_group(alloc, seen, *row),
         Role::Called(call) => {
             if is_selected("WithContext", mention.named) {
                 is_making_place(alloc, seen, call.place)
@@ -78,8 +78,8 @@ fn is_made_or_parameter(
 /// Memory was refused.
 pub fn add_errgroup<'a>(
     alloc: Global,
-    seen: &Seen<'_, 'a>,
-    mention: Mention<'a>,
+    seen: &Seen<'_, '_, 'a>,
+    mention: Mention<'_, 'a>,
     faults: &mut Vec<UseFault<'a>>,
 ) -> Result<(), AllocError>
     requires { Sees seen.now }

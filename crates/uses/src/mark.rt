@@ -30,7 +30,7 @@ use tree::{BLANK, Expr};
 /// What a mention gives: faults, and at most one event.
 fn mention_outcome<'a>(
     alloc: Global,
-    at: At<'_, 'a>,
+    at: At<'_, '_, 'a>,
     faults: &mut Vec<UseFault<'a>>,
 ) -> Result<Option<Event<'a>>, AllocError>
     requires { Sees at.seen.now }
@@ -114,7 +114,7 @@ fn item_variable(known: Known<'_, '_>, value: &Expr) -> Option<u32>
 
 /// Adds a local that an item of a return names, if the return hands it on.
 fn add_local(
-    seen: &Seen<'_, '_>,
+    seen: &Seen<'_, '_, '_>,
     gives: &[CancelResult],
     position: usize,
     entry: SeenLocal<'_>,
@@ -138,7 +138,7 @@ fn add_local(
 
 /// Adds what an item of a return hands on.
 fn add_handed(
-    seen: &Seen<'_, '_>,
+    seen: &Seen<'_, '_, '_>,
     gives: &[CancelResult],
     position: usize,
     value: &Expr,
@@ -157,7 +157,7 @@ fn add_handed(
 /// What a return hands on.
 fn handed_on(
     alloc: Global,
-    seen: &Seen<'_, '_>,
+    seen: &Seen<'_, '_, '_>,
     gives: &[CancelResult],
     values: &[Expr],
 ) -> Result<Vec<Handed>, AllocError>
@@ -177,11 +177,11 @@ fn handed_on(
 /// # Errors
 ///
 /// Memory was refused.
-pub fn mark_outcome<'a>(
+pub fn mark_outcome<'m, 'a>(
     alloc: Global,
-    seen: &Seen<'_, 'a>,
+    seen: &Seen<'_, 'm, 'a>,
     bodies: &[BodyPlace<'a>],
-    mark: Mark<'a>,
+    mark: Mark<'m, 'a>,
     faults: &mut Vec<UseFault<'a>>,
 ) -> Result<Option<Event<'a>>, AllocError>
     requires { Sees seen.now }
@@ -206,7 +206,7 @@ pub fn mark_outcome<'a>(
             Ok(Some(Event::Return { handed }))
         }
         Mark::Opens(body) => {
-            add_body(alloc, seen.known, body, faults)?;
+            add_body(alloc, seen.known, *body, faults)?;
             Ok(None)
         }
         Mark::Closes => Ok(None),

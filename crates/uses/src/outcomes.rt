@@ -26,8 +26,8 @@ use tracked_rows::{Callee, Event, Known, callee_of, only_call, row_giving};
 
 /// A local that was found, at a mention of it.
 #[derive(Clone, Copy)]
-struct Found<'s, 'a> {
-    at: At<'s, 'a>,
+struct Found<'s, 'm, 'a> {
+    at: At<'s, 'm, 'a>,
     entry: SeenLocal<'a>,
 }
 
@@ -36,7 +36,7 @@ fn called_in<'a>(known: Known<'_, 'a>, row: Row<'a>) -> Callee<'a>
     ensures { callee_view result ≡ called_in (known_view known.entry) (only_call (row_view row.entry)
         (row_view row.entry).values) }
 {
-    match only_call(row) {
+    match only_call(&row) {
         Some(call) => callee_of(known, call.callee),
         None => Callee {
             path: None,
@@ -49,7 +49,7 @@ fn called_in<'a>(known: Known<'_, 'a>, row: Row<'a>) -> Callee<'a>
 fn binding_event<'a>(
     known: Known<'_, 'a>,
     local: Local<'a>,
-    mention: Mention<'a>,
+    mention: Mention<'_, 'a>,
     row: Row<'a>,
     binding: Binding,
 ) -> Event<'a>
@@ -73,7 +73,7 @@ fn binding_event<'a>(
 fn add_again<'a>(
     known: Known<'_, 'a>,
     entry: SeenLocal<'a>,
-    mention: Mention<'a>,
+    mention: Mention<'_, 'a>,
     faults: &mut Vec<UseFault<'a>>,
 ) -> Result<(), AllocError>
     ensures { OnOk result (AddsFaults faults.old.items faults.new.items (again_of (known_view known.entry)
@@ -95,7 +95,7 @@ fn add_first<'a>(
     standing: Standing,
     kind: VariableKind,
     local: Local<'a>,
-    mention: Mention<'a>,
+    mention: Mention<'_, 'a>,
     faults: &mut Vec<UseFault<'a>>,
 ) -> Result<(), AllocError>
     ensures { OnOk result (AddsFaults faults.old.items faults.new.items (first_faults (standing_view standing)
@@ -109,7 +109,7 @@ fn add_first<'a>(
 
 /// A binding that obtains from a position of the other type.
 fn add_type<'a>(
-    found: Found<'_, 'a>,
+    found: Found<'_, '_, 'a>,
     row: Row<'a>,
     binding: Binding,
     faults: &mut Vec<UseFault<'a>>,
@@ -140,7 +140,7 @@ fn add_type<'a>(
 
 /// A binding of a variable of that kind.
 fn binding_outcome<'a>(
-    found: Found<'_, 'a>,
+    found: Found<'_, '_, 'a>,
     kind: VariableKind,
     row: Row<'a>,
     binding: Binding,
@@ -184,7 +184,7 @@ fn parameter_bound<'a>(
     known: Known<'_, 'a>,
     entry: SeenLocal<'a>,
     kind: VariableKind,
-    mention: Mention<'a>,
+    mention: Mention<'_, 'a>,
     faults: &mut Vec<UseFault<'a>>,
 ) -> Result<Option<Event<'a>>, AllocError>
     ensures { IfOk result (λ event. Gives faults.old.items faults.new.items event (only_faults
@@ -200,7 +200,7 @@ fn parameter_bound<'a>(
 fn use_outcome<'a>(
     kind: VariableKind,
     local: Local<'a>,
-    mention: Mention<'a>,
+    mention: Mention<'_, 'a>,
     allowed: Use<'a>,
     faults: &mut Vec<UseFault<'a>>,
 ) -> Result<Option<Event<'a>>, AllocError>
@@ -220,7 +220,7 @@ fn use_outcome<'a>(
 /// A mention that binds nothing, of what may be tracked as that kind.
 fn mention_outcome<'a>(
     alloc: Global,
-    found: Found<'_, 'a>,
+    found: Found<'_, '_, 'a>,
     faults: &mut Vec<UseFault<'a>>,
 ) -> Result<Option<Event<'a>>, AllocError>
     requires { Sees found.at.seen.now }
@@ -248,7 +248,7 @@ fn mention_outcome<'a>(
 /// A left side.
 fn left_outcome<'a>(
     alloc: Global,
-    found: Found<'_, 'a>,
+    found: Found<'_, '_, 'a>,
     index: usize,
     row: Row<'a>,
     faults: &mut Vec<UseFault<'a>>,
@@ -274,7 +274,7 @@ fn left_outcome<'a>(
 /// A mention of a local that was found.
 fn entry_outcome<'a>(
     alloc: Global,
-    found: Found<'_, 'a>,
+    found: Found<'_, '_, 'a>,
     faults: &mut Vec<UseFault<'a>>,
 ) -> Result<Option<Event<'a>>, AllocError>
     requires { Sees found.at.seen.now }
@@ -284,7 +284,7 @@ fn entry_outcome<'a>(
         (role_view found.entry.at.mention.role))) }
 {
     match found.at.mention.role {
-        Role::Left(index, row) => left_outcome(alloc, found, index, row, faults),
+        Role::Left(index, row) => left_outcome(alloc, found, index, *row, faults),
         _ => mention_outcome(alloc, found, faults),
     }
 }
@@ -296,7 +296,7 @@ fn entry_outcome<'a>(
 /// Memory was refused.
 pub fn variable_outcome<'a>(
     alloc: Global,
-    at: At<'_, 'a>,
+    at: At<'_, '_, 'a>,
     faults: &mut Vec<UseFault<'a>>,
 ) -> Result<Option<Event<'a>>, AllocError>
     requires { Sees at.seen.now }

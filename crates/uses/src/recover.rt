@@ -26,7 +26,7 @@ fn is_universe(meaning: Option<NameMeaning<'_>>) -> bool
 /// Adds the fault of a mention of the universe's `recover`.
 pub fn add_recover<'a>(
     known: Known<'_, 'a>,
-    mention: Mention<'a>,
+    mention: Mention<'_, 'a>,
     faults: &mut Vec<UseFault<'a>>,
 ) -> Result<(), AllocError>
     ensures { OnOk result (AddsFaults faults.old.items faults.new.items (recover_faults (known_view known.entry)

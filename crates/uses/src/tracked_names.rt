@@ -10,6 +10,7 @@ ghost use Rattle.std.specs.List.{list_any};
 ghost use Rattle.meaning.specs.Tracked.{placed};
 
 use allowed_uses::literal_at;
+use bumpalo::Bump;
 use facts::VariableKind;
 use marks::expression_marks;
 use mentions::{BodyPlace, Mark};
@@ -17,7 +18,7 @@ use std::alloc::{AllocError, Global};
 use tracked::{Seen, enter, tracked_kind, variable_of};
 use tree::Expr;
 
-fn names_tracked(seen: &Seen<'_, '_>, mark: Mark<'_>) -> bool
+fn names_tracked(seen: &Seen<'_, '_, '_>, mark: Mark<'_, '_>) -> bool
     requires { Sees seen.now }
     ensures { result ≡ names_tracked (seen_view seen.now) (mark_view mark.entry) }
 {
@@ -28,7 +29,7 @@ fn names_tracked(seen: &Seen<'_, '_>, mark: Mark<'_>) -> bool
 }
 
 /// What the local of that number is tracked as.
-pub fn tracked_as(seen: &Seen<'_, '_>, number: Option<u32>) -> Option<VariableKind>
+pub fn tracked_as(seen: &Seen<'_, '_, '_>, number: Option<u32>) -> Option<VariableKind>
     requires { Sees seen.now }
     ensures { option_map kind_view result ≡ tracked_kind (seen_view seen.now) (found (seen_view seen.now) number) }
 {
@@ -38,7 +39,7 @@ pub fn tracked_as(seen: &Seen<'_, '_>, number: Option<u32>) -> Option<VariableKi
     }
 }
 
-fn any_tracked(seen: &Seen<'_, '_>, marks: &[Mark<'_>]) -> bool
+fn any_tracked(seen: &Seen<'_, '_, '_>, marks: &[Mark<'_, '_>]) -> bool
     requires { Sees seen.now }
     ensures { result ≡ list_any (names_tracked (seen_view seen.now)) (marks_view marks.now) }
 {
@@ -55,16 +56,21 @@ fn any_tracked(seen: &Seen<'_, '_>, marks: &[Mark<'_>]) -> bool
 /// # Errors
 ///
 /// Memory was refused.
-pub fn has_tracked(alloc: Global, seen: &Seen<'_, '_>, value: &Expr) -> Result<bool, AllocError>
+pub fn has_tracked(alloc: Global, seen: &Seen<'_, '_, '_>, value: &Expr) -> Result<bool, AllocError>
     requires { Sees seen.now }
     ensures { IfOk result (λ has. has ≡ has_tracked (seen_view seen.now) (expression_syntax value.now)) }
 {
-    let marks = expression_marks(alloc, value)?;
+    let arena = Bump::new(alloc);
+    let marks = expression_marks(alloc, &arena, value)?;
     Ok(any_tracked(seen, &marks))
 }
 
 /// Whether a mark in these bodies stands in none and names one.
-fn names_tracked_outside(seen: &Seen<'_, '_>, bodies: &[BodyPlace<'_>], mark: Mark<'_>) -> bool
+fn names_tracked_outside(
+    seen: &Seen<'_, '_, '_>,
+    bodies: &[BodyPlace<'_>],
+    mark: Mark<'_, '_>,
+) -> bool
     requires { Sees seen.now }
     ensures { result ≡ (is_outside (map body_view bodies.now) && names_tracked (seen_view seen.now)
         (mark_view mark.entry)) }
@@ -79,7 +85,11 @@ fn is_outside(bodies: &[BodyPlace<'_>]) -> bool
 }
 
 /// Whether one is named among the marks outside all bodies that open there.
-fn any_outside(alloc: Global, seen: &Seen<'_, '_>, marks: &[Mark<'_>]) -> Result<bool, AllocError>
+fn any_outside(
+    alloc: Global,
+    seen: &Seen<'_, '_, '_>,
+    marks: &[Mark<'_, '_>],
+) -> Result<bool, AllocError>
     requires { Sees seen.now }
     ensures { IfOk result (λ has. has ≡ list_any (names_tracked_outside (seen_view seen.now))
         (placed [] (marks_view marks.now))) }
@@ -99,11 +109,16 @@ fn any_outside(alloc: Global, seen: &Seen<'_, '_>, marks: &[Mark<'_>]) -> Result
 /// # Errors
 ///
 /// Memory was refused.
-fn has_tracked_outside(alloc: Global, seen: &Seen<'_, '_>, value: &Expr) -> Result<bool, AllocError>
+fn has_tracked_outside(
+    alloc: Global,
+    seen: &Seen<'_, '_, '_>,
+    value: &Expr,
+) -> Result<bool, AllocError>
     requires { Sees seen.now }
     ensures { IfOk result (λ has. has ≡ has_tracked_outside (seen_view seen.now) (expression_syntax value.now)) }
 {
-    let marks = expression_marks(alloc, value)?;
+    let arena = Bump::new(alloc);
+    let marks = expression_marks(alloc, &arena, value)?;
     any_outside(alloc, seen, &marks)
 }
 
@@ -114,7 +129,7 @@ fn has_tracked_outside(alloc: Global, seen: &Seen<'_, '_>, value: &Expr) -> Resu
 /// Memory was refused.
 pub fn is_free(
     alloc: Global,
-    seen: &Seen<'_, '_>,
+    seen: &Seen<'_, '_, '_>,
     argument: Option<&Expr>,
 ) -> Result<bool, AllocError>
     requires { Sees seen.now }

@@ -20,9 +20,9 @@ use tracked::Seen;
 /// A call of a method of a group.
 fn group_called<'a>(
     alloc: Global,
-    seen: &Seen<'_, 'a>,
-    here: LocalMention<'_, 'a>,
-    call: Call<'a>,
+    seen: &Seen<'_, '_, 'a>,
+    here: LocalMention<'_, '_, 'a>,
+    call: Call<'_, 'a>,
 ) -> Result<Use<'a>, AllocError>
     requires { Sees seen.now }
     ensures { IfOk result (λ allowed. use_view allowed ≡ group_called (seen_view seen.now)
@@ -53,8 +53,8 @@ fn group_called<'a>(
 /// What a mention of a group does, if it is allowed.
 fn group_use<'a>(
     alloc: Global,
-    seen: &Seen<'_, 'a>,
-    here: LocalMention<'_, 'a>,
+    seen: &Seen<'_, '_, 'a>,
+    here: LocalMention<'_, '_, 'a>,
 ) -> Result<Use<'a>, AllocError>
     requires { Sees seen.now }
     ensures { IfOk result (λ allowed. use_view allowed ≡ group_use (seen_view seen.now)
@@ -62,8 +62,8 @@ fn group_use<'a>(
         (role_view here.entry.mention.role)) }
 {
     match here.mention.role {
-        Role::Called(call) => group_called(alloc, seen, here, call),
-        Role::Argument(position, _, call) => Ok(group_lent(seen.known, here, position, call)),
+        Role::Called(call) => group_called(alloc, seen, here, *call),
+        Role::Argument(_, position, call) => Ok(group_lent(seen.known, here, position, *call)),
         _ => Ok(Use::NotAllowed),
     }
 }
@@ -75,8 +75,8 @@ fn group_use<'a>(
 /// Memory was refused.
 pub fn kind_use<'a>(
     alloc: Global,
-    seen: &Seen<'_, 'a>,
-    here: LocalMention<'_, 'a>,
+    seen: &Seen<'_, '_, 'a>,
+    here: LocalMention<'_, '_, 'a>,
     kind: VariableKind,
 ) -> Result<Use<'a>, AllocError>
     requires { Sees seen.now }

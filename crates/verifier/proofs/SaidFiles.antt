@@ -3,7 +3,7 @@ use Rattle.std.proofs.Common.{◌≡◌, ℕ, zero, suc, ◌+◌, ◌<◌, ◌�
 use Rattle.std.specs.Prelude.{◌↔◌, slice_get}
 use Rattle.std.proofs.lemmas.List.{length-map, length-take-le, take_all, take_more}
 use Rattle.std.proofs.lemmas.Option.{none-some, get_or_from_slice_get, slice_get_within}
-use Rattle.calls_flags.proofs.KeptFiles.{last_or_before}
+use Rattle.silent_files.proofs.OneMore.{last_or_before}
 use Rattle.meaning.proofs.Membership.{contains_nil}
 use Rattle.meaning.specs.Uses.{Callee, Seen}
 use Rattle.meaning_packages.specs.CallsFlags.{Flags, FileWithCredits}

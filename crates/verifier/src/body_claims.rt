@@ -1,10 +1,10 @@
 //! What is known of a body's own parameters.
 
 ghost use Rattle.std.specs.Prelude.{option_map};
-ghost use Rattle.calls_flags.specs.KnownCalls.{is_called};
+ghost use Rattle.called_parameters.specs.Called.{is_called};
 ghost use Rattle.verifier.specs.Verified.{flags_of_name};
 
-use calls_flags::Called;
+use called_parameters::Called;
 use checker::Claims;
 
 /// The parameters that a function is known to call, by its name; a method and a literal have none.

@@ -2,7 +2,8 @@
 
 ghost use Rattle.std.specs.Prelude.{◌≡◌, ℕ, [], IfOk, Some, option_map};
 ghost use Rattle.bodies.specs.Bodies.{TellsBody, IsOrderedGraph, code_in};
-ghost use Rattle.calls_flags.specs.KnownCalls.{is_called, known_calls};
+ghost use Rattle.called_parameters.specs.Called.{is_called};
+ghost use Rattle.calls_flags.specs.KnownCalls.{known_calls};
 ghost use Rattle.certificate_json.specs.Certificates.{rows_of};
 ghost use Rattle.credits.specs.CreditViews.{has};
 ghost use Rattle.events.specs.ToldViews.{TellsFile};

@@ -3,7 +3,7 @@
 ghost use Rattle.std.specs.Prelude.{◌≡◌, List, IfOk, map};
 ghost use Rattle.calls_flags.specs.Claims.{claim_view, HaveFacts};
 ghost use Rattle.calls_flags.specs.FilesBodies.{TellAll};
-ghost use Rattle.calls_flags.specs.KnownCalls.{is_called};
+ghost use Rattle.called_parameters.specs.Called.{is_called};
 ghost use Rattle.facts.specs.FactViews.{facts_by_name};
 ghost use Rattle.meaning_packages.specs.CallsFlags.{FileWithCredits};
 ghost use Rattle.verifier.specs.BelievedClaims.{believes, is_believed};
@@ -11,7 +11,8 @@ ghost use Rattle.verifier.specs.GivenViews.{TellsGiven, claim_in, params_at};
 ghost use Rattle.verifier.specs.Verified.{AreClaimed, Given as MeantGiven};
 
 use crate::given::{GivenClaims, GivenPackage};
-use calls_flags::{Called, Claim, FileBodies, called_by, find_claims};
+use called_parameters::Called;
+use calls_flags::{Claim, FileBodies, called_by, find_claims};
 use facts::{Table, TrackedType};
 use std::alloc::{AllocError, Global};
 

@@ -3,7 +3,8 @@
 ghost use Rattle.std.specs.Prelude.{◌≡◌, ◌++◌, ℕ, List, IfOk, OnOk, map};
 ghost use Rattle.bodies.specs.Bodies.{TellsBody, TellBodies};
 ghost use Rattle.calls_flags.specs.FilesBodies.{TellAll};
-ghost use Rattle.calls_flags.specs.KnownCalls.{is_called, known_calls};
+ghost use Rattle.called_parameters.specs.Called.{is_called};
+ghost use Rattle.calls_flags.specs.KnownCalls.{known_calls};
 ghost use Rattle.credits.specs.CreditViews.{has};
 ghost use Rattle.events.specs.ToldViews.{TellsFile};
 ghost use Rattle.findings.specs.FoundEntries.{AddsEntries};

@@ -14,4 +14,4 @@ pub returns : goal.returns
 returns g c = λ fs tell.
     let calls = known_calls c.args.calls in
     subst (λ es. AreOfFiles calls 0 fs (map body_of es)) (sym c.in_ok-joined.ensures)
-    (entries_joined calls fs c.args.files.now c.in_ok-lists.lists.items tell c.in_ok-lists.ensures)
+    (entries_joined calls fs c.args.files.now c.in_ok-lists.lists.items tell c.in_ok-lists.ensures.all)

@@ -1,6 +1,6 @@
 use Rattle.std.proofs.Common.{◌≡◌, ℕ, List, ◌||◌, map, drop}
 use Rattle.calls_flags.specs.Claims.{claim_view, flags_claimed}
-use Rattle.calls_flags.specs.KnownCalls.{is_called}
+use Rattle.called_parameters.specs.Called.{is_called}
 use Rattle.calls_flags.proofs.rounds.called_by.Given as goal
 
 -- what was added, or is claimed by what is left, is what all claim

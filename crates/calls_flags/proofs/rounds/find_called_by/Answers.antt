@@ -3,7 +3,7 @@ use Rattle.std.proofs.lemmas.List.{length-map}
 use Rattle.facts.specs.FactViews.{facts_by_name}
 use Rattle.meaning_packages.specs.CallsFlags.{AreMost, calls_by}
 use Rattle.calls_flags.specs.Claims.{claim_view, flags_claimed, AreClaims, KeepsClaim, Sieves}
-use Rattle.calls_flags.specs.KnownCalls.{flags_by_path}
+use Rattle.called_parameters.specs.Called.{flags_by_path}
 use Rattle.calls_flags.proofs.GreatestFlags.{at_first, next_round, last_round}
 use Rattle.calls_flags.proofs.rounds.find_called_by.Goals as goal
 

@@ -2,7 +2,7 @@ use Rattle.std.proofs.Common.{List, length, map}
 use Rattle.facts.specs.FactViews.{facts_by_name}
 use Rattle.meaning_packages.specs.CallsFlags.{FileWithCredits}
 use Rattle.calls_flags.specs.Claims.{claim_view, HaveFacts}
-use Rattle.calls_flags.specs.KnownCalls.{flags_by_path}
+use Rattle.called_parameters.specs.Called.{flags_by_path}
 use Rattle.calls_flags.specs.FilesBodies.{TellAll}
 use Rattle.calls_flags.proofs.GreatestFlags.{AreEnough}
 use Rattle.calls_flags.proofs.rounds.find_called_by.Given as goal

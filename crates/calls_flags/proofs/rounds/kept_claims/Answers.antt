@@ -2,7 +2,7 @@ use Rattle.std.proofs.Common.{map, subst}
 use Rattle.std.proofs.lemmas.Result.{IfOk-weaker}
 use Rattle.meaning_packages.specs.CallsFlags.{calls_by}
 use Rattle.calls_flags.specs.Claims.{claim_view, KeepsClaim, Sieves}
-use Rattle.calls_flags.specs.KnownCalls.{flags_by_path}
+use Rattle.called_parameters.specs.Called.{flags_by_path}
 use Rattle.calls_flags.proofs.rounds.kept_claims.Goals as goal
 
 pub returns-clause-sieves : goal.returns-clause-sieves

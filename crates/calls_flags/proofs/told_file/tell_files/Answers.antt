@@ -4,7 +4,7 @@ use Rattle.facts.specs.FactViews.{facts_by_name, facts_by_path}
 use Rattle.meaning.specs.Tracked.{Known}
 use Rattle.names.specs.Answers.{declared_at}
 use Rattle.tree.specs.View.{file_syntax}
-use Rattle.calls_flags.specs.ToldFiles.{is_walked}
+use Rattle.silent_files.specs.WalkedFiles.{is_walked}
 use Rattle.calls_flags.proofs.ToldInOrder.{tells_first, tells_next, all_are_told}
 use Rattle.calls_flags.proofs.KeptClaims.{drop_one}
 use Rattle.calls_flags.proofs.told_file.tell_files.Goals as goal

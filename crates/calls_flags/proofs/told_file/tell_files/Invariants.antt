@@ -3,7 +3,7 @@ use Rattle.facts.specs.FactViews.{facts_by_name, facts_by_path}
 use Rattle.names.specs.Answers.{declared_at}
 use Rattle.tree.specs.View.{file_syntax}
 use Rattle.calls_flags.proofs.ToldInOrder.{TellsOn}
-use Rattle.calls_flags.specs.ToldFiles.{is_walked}
+use Rattle.silent_files.specs.WalkedFiles.{is_walked}
 use Rattle.calls_flags.proofs.told_file.tell_files.Given as goal
 
 -- what was told, with what is told of the files that are left, is told of all

@@ -1,7 +1,7 @@
 use Rattle.std.proofs.Common.{ap, bytes_eq, drop}
 use Rattle.std.specs.List.{list_any}
 use Rattle.std.proofs.lemmas.List.{drop_all, get_or_default}
-use Rattle.calls_flags.specs.KnownCalls.{is_called}
+use Rattle.called_parameters.specs.Called.{is_called}
 use Rattle.declared_tables.specs.DeclaredTables.{is_called_at}
 use Rattle.declared_tables.proofs.AddedCalls.{call_last, call_next}
 use Rattle.declared_tables.proofs.functions.add_calls.Goals as goal

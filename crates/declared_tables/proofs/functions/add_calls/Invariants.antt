@@ -1,6 +1,6 @@
 use Rattle.std.proofs.Common.{◌≡◌, ℕ, ◌&&◌, ◌||◌, List, bytes_eq, drop}
 use Rattle.std.specs.List.{list_any}
-use Rattle.calls_flags.specs.KnownCalls.{is_called}
+use Rattle.called_parameters.specs.Called.{is_called}
 use Rattle.declared_tables.specs.DeclaredTables.{is_called_at}
 use Rattle.declared_tables.proofs.functions.add_calls.Given as goal
 

@@ -1,6 +1,6 @@
 use Rattle.std.proofs.Common.{ap, drop, map, not, option_map, is_some}
 use Rattle.std.proofs.lemmas.List.{drop_all}
-use Rattle.calls_flags.specs.KnownCalls.{is_called}
+use Rattle.called_parameters.specs.Called.{is_called}
 use Rattle.facts.specs.FactViews.{facts_by_name}
 use Rattle.outside_json.specs.Outside.{function_of}
 use Rattle.declared_tables.specs.DeclaredTables.{calls_in, facts_of, function_in}

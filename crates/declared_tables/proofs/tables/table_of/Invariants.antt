@@ -1,6 +1,6 @@
 use Rattle.std.proofs.Common.{◌≡◌, ℕ, ◌&&◌, ◌||◌, not, List, drop, is_some, map, option_map}
 use Rattle.facts.specs.FactViews.{facts_by_name}
-use Rattle.calls_flags.specs.KnownCalls.{is_called}
+use Rattle.called_parameters.specs.Called.{is_called}
 use Rattle.meaning.specs.OuterBlocks.{or_else}
 use Rattle.outside_json.specs.Outside.{function_of}
 use Rattle.declared_tables.specs.DeclaredTables.{calls_in, facts_of, function_in}

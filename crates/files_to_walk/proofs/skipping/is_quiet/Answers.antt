@@ -6,6 +6,6 @@ pub returns : goal.returns
 returns c = λ is. record {
   no_group = sym c.imports_picked.ensures ∙ c.if-imports_picked.false;
   no_giver = sym c.imports_picked-2.ensures ∙ c.if-imports_picked-2.false;
-  no_maker = c.in_ok-may_name.ensures c.if-may_name.false;
+  no_maker = c.may_name_makers.ensures c.if-may_name_makers.false;
   no_recover = c.in_ok-recovers.ensures (not_true c.in_ok-recovers.recovers is);
 }

@@ -1,6 +1,6 @@
 use Rattle.std.proofs.Common.{true≢false, map, ap, sym, ◌∙◌, subst}
 use Rattle.std.proofs.lemmas.Result.{IfOk-weaker}
-use Rattle.calls_flags.specs.ToldFiles.{is_walked}
+use Rattle.silent_files.specs.WalkedFiles.{is_walked}
 use Rattle.tree.specs.View.{file_syntax}
 use Rattle.files_to_walk.specs.Givers.{may_give}
 use Rattle.files_to_walk.specs.Skipping.{AreQuiet}

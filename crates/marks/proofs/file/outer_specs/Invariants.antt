@@ -7,5 +7,5 @@ use Rattle.marks.proofs.file.outer_specs.Given as goal
 -- what was added with what the rest adds is the whole
 abbrev pub invariant-loop-item : goal.invariant-loop-item
 invariant-loop-item l =
-    marks_view l.marks.items ++ outer_specs_marks (specs_syntax (drop l.item-index l.list))
-    ≡ marks_view l.initial.marks.items ++ outer_specs_marks (specs_syntax l.list)
+    marks_view l.marks.list.items ++ outer_specs_marks (specs_syntax (drop l.item-index l.list))
+    ≡ marks_view l.initial.marks.list.items ++ outer_specs_marks (specs_syntax l.list)

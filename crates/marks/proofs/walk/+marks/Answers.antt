@@ -1,21 +1,21 @@
-use Rattle.std.proofs.Common.{[], ◌∷◌, ◌+◌, drop, map, refl, sym, ap, ◌∙◌, true, false, Bor, option_map}
+use Rattle.std.proofs.Common.{[], ◌∷◌, ◌+◌, drop, refl, sym, ap, ◌∙◌, true, false, Bor, option_map}
 use Rattle.tree.specs.declared.expression.Expr.{Expr}
 use Rattle.tree.specs.declared.span.Identifier.{Identifier}
-use Rattle.tree.specs.View.{identifier_syntax, expression_syntax, expressions_syntax, parameters_syntax, fields_syntax, statements_syntax, cases_syntax, communications_syntax, specs_syntax}
+use Rattle.tree.specs.View.{identifier_syntax, expression_syntax, expressions_syntax, optional_expression_syntax, parameters_syntax, fields_syntax, statements_syntax, cases_syntax, communications_syntax, specs_syntax}
 use Rattle.tree.proofs.Depths.{drop_item, drop_past}
-use Rattle.tree.proofs.Views.{expression_form-Name, expression_form-BasicLit, expression_form-FuncLit, expression_form-CompositeLit, expression_form-LiteralValue, expression_form-KeyValue, expression_form-Paren, expression_form-Selector, expression_form-Index, expression_form-Slice, expression_form-TypeAssert, expression_form-Call, expression_form-Star, expression_form-Unary, expression_form-Binary, expression_form-ArrayType, expression_form-EllipsisArrayType, expression_form-SliceType, expression_form-MapType, expression_form-ChanType, expression_form-FuncType, expression_form-StructType, expression_form-InterfaceType, statement_form-Empty, statement_form-Decl, statement_form-Labeled, statement_form-Expr, statement_form-Send, statement_form-Increment, statement_form-Decrement, statement_form-Assign, statement_form-AssignOp, statement_form-Define, statement_form-Go, statement_form-Defer, statement_form-Return, statement_form-Break, statement_form-Continue, statement_form-Block, statement_form-If, statement_form-For, statement_form-RangeAssign, statement_form-RangeDefine, statement_form-Switch, statement_form-TypeSwitch, statement_form-Select, block_statements-out, parameter_and-Named, parameter_and-Unnamed, parameter_and-NameAlone, field_and-Named, field_and-Embedded, field_and-Method, spec_and-Value, spec_and-Type}
-use Rattle.mentions.specs.MarkViews.{named_view, place_view, call_view, role_view, row_view, spot_view, standing_view, use_view}
+use Rattle.tree.proofs.Views.{expression_form-Name, expression_form-BasicLit, expression_form-FuncLit, expression_form-CompositeLit, expression_form-LiteralValue, expression_form-KeyValue, expression_form-Paren, expression_form-Selector, expression_form-Index, expression_form-Slice, low_bound_of, high_bound_of, most_bound_of, expression_form-TypeAssert, expression_form-Call, expression_form-Star, expression_form-Unary, expression_form-Binary, expression_form-ArrayType, expression_form-EllipsisArrayType, expression_form-SliceType, expression_form-MapType, expression_form-ChanType, expression_form-FuncType, expression_form-StructType, expression_form-InterfaceType, statement_form-Empty, statement_form-Decl, statement_form-Labeled, statement_form-Expr, statement_form-Send, statement_form-Increment, statement_form-Decrement, statement_form-Assign, statement_form-AssignOp, statement_form-Define, statement_form-Go, statement_form-Defer, statement_form-Return, statement_form-Break, statement_form-Continue, statement_form-Block, statement_form-If, statement_form-For, statement_form-RangeAssign, statement_form-RangeDefine, statement_form-Switch, statement_form-TypeSwitch, statement_form-Select, block_statements-out, parameter_and-Named, parameter_and-Unnamed, parameter_and-NameAlone, field_and-Named, field_and-Embedded, field_and-Method, spec_and-Value, spec_and-Type}
+use Rattle.mentions.specs.MarkViews.{named_view, place_view, call_view, optional_call, role_view, row_view, spot_view, standing_view, use_view}
 use Rattle.meaning.specs.Mentions.{bare, addressed, as_bare, as_statement, argument, argument_at, argument_or, argument_use, callee_use, deferral, deferred, left, named_or, names_type, place_in, return_item, as_named, select_from, call_of, mention, elsewhere, part_of, whole, expression_marks, form_marks, expressions_marks, optional_marks, arguments_marks, items_marks, lefts_marks, names_type_marks, signature_marks, parameters_marks, fields_marks, statement_marks, statement_form_marks, statements_marks, optional_statement_marks, cases_marks, communications_marks, specs_marks}
-use Rattle.mentions.proofs.Adding.{adds_nothing, adds_same, adds_pushed, adds_next, adds_all, then_adds, same_adds, three_adds, four_adds, alone_adds, then_alone_adds}
-use Rattle.marks.proofs.WalkLists.{adds_case, adds_communication, adds_body, parameters_more, fields_more, specs_more, cases_more, communications_more, literal_marks, guard_same}
-use Rattle.marks.proofs.WalkSteps.{at_spot, all_at_spot, adds_at_spot, named_at_spot, named_adds, call_adds, assignment_adds, definition_adds, spec_adds, return_adds, no_operator, operator_argument, argument_first, item_first, left_first, used_at, alone_adds_argument}
+use Rattle.mentions.proofs.Adding.{adds_nothing, adds_same, adds_next, adds_all, then_adds, same_adds, three_adds, four_adds, alone_adds, then_alone_adds}
+use Rattle.marks.proofs.WalkLists.{adds_case, adds_communication, adds_body, opens_kept, parameters_more, fields_more, specs_more, cases_more, communications_more, literal_marks, guard_same}
+use Rattle.marks.proofs.WalkSteps.{at_spot, all_at_spot, adds_at_spot, named_at_spot, named_adds, call_adds, assigned_row, assignment_adds, defined_row, definition_adds, declared_same, spec_adds, return_adds, no_operator, operator_argument, argument_first, item_first, left_first, used_at, alone_adds_argument}
 use Rattle.marks.proofs.walk.+marks.Goals as goal
 
 pub expression_form-returns-in-Name : goal.expression_form-returns-in-Name
 unfolding form_marks
 expression_form-returns-in-Name t c =
     rw (c.in-Name.is, expression_form-Name)
-    (same_adds _ _ _ _ _ (λ i. mention c.args.spot.site (c.name_role.ensures i) (bare (c.as_str.ensures i) c.args.span.start) ∷ []) c.mention.ensures)
+    (same_adds _ _ _ _ _ (λ i. mention c.args.spot.site (c.name_role-role.ensures i) (bare (c.as_str.ensures i) c.args.span.start) ∷ []) c.mention.ensures)
 
 pub expression_form-returns-in-BasicLit : goal.expression_form-returns-in-BasicLit
 unfolding form_marks
@@ -33,14 +33,14 @@ expression_form-returns-in_ok-part-in-CompositeLit t c =
     rw (c.in-CompositeLit.is, expression_form-CompositeLit, ← c.deref-in-CompositeLit.ensures, ← c.deref-in-CompositeLit-2.ensures.value)
     (then_adds _ _ _ _ _ (expressions_marks (part_of c.args.spot.site) (expressions_syntax c.deref-in-CompositeLit-2.result.now))
     c.in_ok-part-in-CompositeLit.ensures
-    (all_at_spot c.expressions.result c.part.new.marks.items c.expressions.new.marks.items (spot_view c.part_of.result)
+    (all_at_spot c.expressions.result c.part.new.marks.list.items c.expressions.new.marks.list.items (spot_view c.part_of.result)
     (part_of c.args.spot.site) (expressions_syntax c.deref-in-CompositeLit-2.result.now) c.part_of.ensures c.expressions.ensures))
 
 pub expression_form-returns-in-LiteralValue : goal.expression_form-returns-in-LiteralValue
 unfolding form_marks
 expression_form-returns-in-LiteralValue t c =
     rw (c.in-LiteralValue.is, expression_form-LiteralValue, ← c.deref-in-LiteralValue.ensures.value)
-    (all_at_spot c.expressions-in-LiteralValue.result c.args.marks.now.items c.expressions-in-LiteralValue.new.marks.items
+    (all_at_spot c.expressions-in-LiteralValue.result c.args.marks.now.list.items c.expressions-in-LiteralValue.new.marks.list.items
     (spot_view c.part_of-in-LiteralValue.result) (part_of c.args.spot.site) (expressions_syntax c.deref-in-LiteralValue.result.now)
     c.part_of-in-LiteralValue.ensures c.expressions-in-LiteralValue.ensures)
 
@@ -60,7 +60,7 @@ pub expression_form-returns-in-Selector : goal.expression_form-returns-in-Select
 unfolding form_marks
 expression_form-returns-in-Selector t c =
     rw (c.in-Selector.is, expression_form-Selector, ← c.deref-in-Selector.ensures)
-    (named_adds c.named_or.result c.args.marks.now.items c.named_or.new.marks.items (option_map named_view c.select_from-named.result)
+    (named_adds c.named_or.result c.args.marks.now.list.items c.named_or.new.marks.list.items (option_map named_view c.select_from-named.result)
     (select_from (as_bare (expression_syntax c.deref-in-Selector.result.now)) (identifier_syntax c.in-Selector.member)) c.args.spot.site
     elsewhere (expression_marks (part_of c.args.spot.site) (expression_syntax c.deref-in-Selector-2.result.now))
     (expression_marks (part_of c.args.spot.site) (expression_syntax c.deref-in-Selector.result.now))
@@ -77,7 +77,14 @@ expression_form-returns-in_ok-part-in-Index t c =
 pub expression_form-returns-in_ok-optional-in-Slice-2 : goal.expression_form-returns-in_ok-optional-in-Slice-2
 unfolding form_marks
 expression_form-returns-in_ok-optional-in-Slice-2 t c =
-    rw (c.in-Slice.is, expression_form-Slice, ← c.deref-in-Slice.ensures)
+    rw (
+      c.in-Slice.is,
+      expression_form-Slice,
+      ← c.deref-in-Slice.ensures,
+      ← low_bound_of c.deref-in-Slice-2.ensures,
+      ← high_bound_of c.deref-in-Slice-3.ensures,
+      ← most_bound_of c.deref-in-Slice-4.ensures,
+    )
     (four_adds _ _ _ _ _ _ _ _ _ _ c.in_ok-part-in-Slice.ensures c.in_ok-optional-in-Slice.ensures c.in_ok-optional-in-Slice-2.ensures
     c.optional-in-Slice-2.ensures)
 
@@ -91,13 +98,13 @@ pub expression_form-returns-in_ok-callee_or-in-Call : goal.expression_form-retur
 unfolding form_marks
 expression_form-returns-in_ok-callee_or-in-Call t c =
     rw (c.in-Call.is, expression_form-Call, ← c.deref-in-Call-3.ensures, ← c.deref-in-Call-4.ensures.value)
-    (call_adds c.all_arguments.result c.args.marks.now.items c.callee_or.new.marks.items c.all_arguments.new.marks.items c.args.spot.site
-    (option_map call_view c.call_of-call.result)
+    (call_adds c.all_arguments.result c.args.marks.now.list.items c.callee_or.new.marks.list.items c.all_arguments.new.marks.list.items c.args.spot.site
+    (optional_call c.in_ok-call-in-Call.call)
     (call_of (place_view c.args.spot.place) (expression_syntax c.deref-in-Call-3.result.now)
     (expressions_syntax c.deref-in-Call-4.result.now) c.in-Call.has_ellipsis)
     (use_view c.callee_use.result) (callee_use (place_view c.args.spot.place))
     (expression_syntax c.deref-in-Call-3.result.now) (expressions_syntax c.deref-in-Call-4.result.now)
-    (c.call_of-call.ensures
+    (c.in_ok-call-in-Call.ensures ∙ c.call_of.ensures
     ∙ (λ i. call_of (place_view c.args.spot.place) (expression_syntax ((c.deref-in-Call.ensures ∙ sym c.deref-in-Call-3.ensures) i))
     (expressions_syntax ((c.deref-in-Call-2.ensures.value ∙ sym c.deref-in-Call-4.ensures.value) i)) c.in-Call.has_ellipsis))
     c.callee_use.ensures c.in_ok-callee_or-in-Call.ensures c.all_arguments.ensures)
@@ -188,14 +195,14 @@ pub statement_form-returns-in-Expr : goal.statement_form-returns-in-Expr
 unfolding statement_form_marks
 statement_form-returns-in-Expr t c =
     rw (c.in-Expr.is, statement_form-Expr)
-    (at_spot c.expression.result c.args.marks.now.items c.expression.new.marks.items (spot_view c.whole.result)
+    (at_spot c.expression.result c.args.marks.now.list.items c.expression.new.marks.list.items (spot_view c.whole.result)
     (whole (place_in (standing_view c.args.standing) as_statement) c.args.at) (expression_syntax c.in-Expr.value)
     (c.whole.ensures ∙ ap (λ p. whole p c.args.at) c.place_in-place.ensures) c.expression.ensures)
 
 pub statement_form-returns-in_ok-part-in-Send : goal.statement_form-returns-in_ok-part-in-Send
 unfolding statement_form_marks
 statement_form-returns-in_ok-part-in-Send t c =
-    rw (c.in-Send.is, statement_form-Send)
+    rw (c.in-Send.is, statement_form-Send, ← c.deref-in-Send.ensures, ← c.deref-in-Send-2.ensures)
     (then_adds _ _ _ _ _ _ c.in_ok-part-in-Send.ensures c.part-in-Send.ensures)
 
 pub statement_form-returns-in-Increment : goal.statement_form-returns-in-Increment
@@ -214,21 +221,27 @@ pub statement_form-returns-in_ok-expressions-in-Assign : goal.statement_form-ret
 unfolding statement_form_marks
 statement_form-returns-in_ok-expressions-in-Assign t c =
     rw (c.in-Assign.is, statement_form-Assign)
-    (assignment_adds _ _ _ _ _ _ _ _ _ _ _ _ _ c.deref-in-Assign.ensures.value c.deref-in-Assign-2.ensures.value c.deref-in-Assign-3.ensures.value
-    c.deref-in-Assign-4.ensures.value c.value_spot.ensures c.in_ok-expressions-in-Assign.ensures c.lefts.ensures)
+    (assignment_adds _ _ _ _ _ _ _ _ _ _ _ _
+    (c.in_ok-row-in-Assign.ensures
+    ∙ assigned_row (standing_view c.args.standing) c.args.at _ _ _ _ c.deref-in-Assign.ensures.value c.deref-in-Assign-2.ensures.value)
+    c.deref-in-Assign-3.ensures.value c.deref-in-Assign-4.ensures.value c.value_spot.ensures c.in_ok-expressions-in-Assign.ensures
+    c.lefts.ensures)
 
 pub statement_form-returns-in_ok-part-in-AssignOp : goal.statement_form-returns-in_ok-part-in-AssignOp
 unfolding statement_form_marks
 statement_form-returns-in_ok-part-in-AssignOp t c =
-    rw (c.in-AssignOp.is, statement_form-AssignOp)
+    rw (c.in-AssignOp.is, statement_form-AssignOp, ← c.deref-in-AssignOp.ensures, ← c.deref-in-AssignOp-2.ensures)
     (then_adds _ _ _ _ _ _ c.in_ok-part-in-AssignOp.ensures c.part-in-AssignOp-2.ensures)
 
 pub statement_form-returns-in_ok-expressions-in-Define : goal.statement_form-returns-in_ok-expressions-in-Define
 unfolding statement_form_marks
 statement_form-returns-in_ok-expressions-in-Define t c =
     rw (c.in-Define.is, statement_form-Define)
-    (definition_adds _ _ _ _ _ _ _ _ _ _ _ _ _ c.deref-in-Define.ensures.value c.deref-in-Define-2.ensures.value c.deref-in-Define-3.ensures.value
-    c.deref-in-Define-4.ensures.value c.value_spot-in-Define.ensures c.in_ok-expressions-in-Define.ensures c.left_names.ensures)
+    (definition_adds _ _ _ _ _ _ _ _ _ _ _ _
+    (c.in_ok-row-in-Define.ensures
+    ∙ defined_row (standing_view c.args.standing) c.args.at _ _ _ _ c.deref-in-Define.ensures.value c.deref-in-Define-2.ensures.value)
+    c.deref-in-Define-3.ensures.value c.deref-in-Define-4.ensures.value c.value_spot-in-Define.ensures c.in_ok-expressions-in-Define.ensures
+    c.left_names.ensures)
 
 pub statement_form-returns-in-Go : goal.statement_form-returns-in-Go
 unfolding statement_form_marks
@@ -240,7 +253,7 @@ pub statement_form-returns-in-Defer : goal.statement_form-returns-in-Defer
 unfolding statement_form_marks
 statement_form-returns-in-Defer t c =
     rw (c.in-Defer.is, statement_form-Defer)
-    (at_spot c.expression-in-Defer.result c.args.marks.now.items c.expression-in-Defer.new.marks.items (spot_view c.whole-in-Defer.result)
+    (at_spot c.expression-in-Defer.result c.args.marks.now.list.items c.expression-in-Defer.new.marks.list.items (spot_view c.whole-in-Defer.result)
     (whole deferred c.args.at) (expression_syntax c.in-Defer.call) c.whole-in-Defer.ensures c.expression-in-Defer.ensures)
 
 pub statement_form-returns-in_ok-push-in-Return : goal.statement_form-returns-in_ok-push-in-Return
@@ -248,7 +261,7 @@ unfolding statement_form_marks
 statement_form-returns-in_ok-push-in-Return t c =
     rw (c.in-Return.is, statement_form-Return)
     (return_adds _ _ _ _ _ _ _ c.deref-in-Return.ensures.value c.deref-in-Return-2.ensures.value c.in_ok-items-in-Return.ensures
-    (adds_pushed _ _ _ c.in_ok-push-in-Return.ensures.items))
+    c.in_ok-push-in-Return.ensures)
 
 pub statement_form-returns-in-Break : goal.statement_form-returns-in-Break
 unfolding statement_form_marks
@@ -289,7 +302,7 @@ statement_form-returns-in_ok-part-in-RangeAssign t c =
       ← c.deref-in-RangeAssign-2.ensures,
       ← c.deref-in-RangeAssign-3.ensures.value,
     )
-    (three_adds _ _ _ _ _ _ _ _ (adds_at_spot c.args.marks.now.items c.expressions-in-RangeAssign.new.marks.items (spot_view c.part_of.result)
+    (three_adds _ _ _ _ _ _ _ _ (adds_at_spot c.args.marks.now.list.items c.expressions-in-RangeAssign.new.marks.list.items (spot_view c.part_of.result)
     (part_of c.args.at) (expressions_syntax c.deref-in-RangeAssign.result.now) c.part_of.ensures c.in_ok-expressions-in-RangeAssign.ensures)
     c.in_ok-part-in-RangeAssign.ensures c.statements-in-RangeAssign.ensures)
 
@@ -344,7 +357,7 @@ part-returns t c =
 
 pub named_or-returns : goal.named_or-returns
 named_or-returns t c =
-    named_at_spot c.named_at.result c.args.marks.now.items c.named_at.new.marks.items (option_map named_view c.args.named)
+    named_at_spot c.named_at.result c.args.marks.now.list.items c.named_at.new.marks.list.items (option_map named_view c.args.named)
     (role_view c.args.role) (spot_view c.part_of.result) (part_of c.args.site) (expression_syntax c.args.other.now)
     c.part_of.ensures c.named_at.ensures
 
@@ -359,29 +372,29 @@ named_at-returns-in-None t c =
 pub function_literal-returns-in_ok-push-in-DeferredCall : goal.function_literal-returns-in_ok-push-in-DeferredCall
 function_literal-returns-in_ok-push-in-DeferredCall t c =
     rw (literal_marks, ← c.deref-list.ensures.value)
-    (adds_body c.args.marks.now.items _ _ _ _ _ _ _ _ (deferral (use_view c.args.spot.literal) c.args.spot.site c.args.span.start)
-    (adds_pushed _ _ _ c.in_ok-push.ensures.items) c.in_ok-signature.ensures
+    (adds_body c.args.marks.now.list.items _ _ _ _ _ _ _ _ (deferral (use_view c.args.spot.literal) c.args.spot.site c.args.span.start)
+    (opens_kept _ _ c.in_ok-body.body _ c.in_ok-body.ensures c.in_ok-push.ensures) c.in_ok-signature.ensures
     c.in_ok-statements.ensures
-    (adds_pushed _ _ _ c.in_ok-push-2.ensures.items)
-    (adds_same _ _ _ _ (ap (λ u. deferral (use_view u) c.args.spot.site c.args.span.start) (sym c.in-DeferredCall.is)) (adds_pushed _ _ _ c.in_ok-push-in-DeferredCall.ensures.items)))
+    c.in_ok-push-2.ensures
+    (adds_same _ _ _ _ (ap (λ u. deferral (use_view u) c.args.spot.site c.args.span.start) (sym c.in-DeferredCall.is)) c.in_ok-push-in-DeferredCall.ensures))
 
 pub function_literal-returns-in-Other : goal.function_literal-returns-in-Other
 function_literal-returns-in-Other t c =
     rw (literal_marks, ← c.deref-list.ensures.value)
-    (adds_body c.args.marks.now.items _ _ _ _ _ _ _ _ (deferral (use_view c.args.spot.literal) c.args.spot.site c.args.span.start)
-    (adds_pushed _ _ _ c.in_ok-push.ensures.items) c.in_ok-signature.ensures
+    (adds_body c.args.marks.now.list.items _ _ _ _ _ _ _ _ (deferral (use_view c.args.spot.literal) c.args.spot.site c.args.span.start)
+    (opens_kept _ _ c.in_ok-body.body _ c.in_ok-body.ensures c.in_ok-push.ensures) c.in_ok-signature.ensures
     c.in_ok-statements.ensures
-    (adds_pushed _ _ _ c.in_ok-push-2.ensures.items)
-    (adds_same _ _ _ _ (ap (λ u. deferral (use_view u) c.args.spot.site c.args.span.start) (sym c.in-Other.is)) (adds_nothing c.push-2.new.self.items)))
+    c.in_ok-push-2.ensures
+    (adds_same _ _ _ _ (ap (λ u. deferral (use_view u) c.args.spot.site c.args.span.start) (sym c.in-Other.is)) (adds_nothing c.push-2.new.self.list.items)))
 
 pub function_literal-returns-in-StartedBy : goal.function_literal-returns-in-StartedBy
 function_literal-returns-in-StartedBy t c =
     rw (literal_marks, ← c.deref-list.ensures.value)
-    (adds_body c.args.marks.now.items _ _ _ _ _ _ _ _ (deferral (use_view c.args.spot.literal) c.args.spot.site c.args.span.start)
-    (adds_pushed _ _ _ c.in_ok-push.ensures.items) c.in_ok-signature.ensures
+    (adds_body c.args.marks.now.list.items _ _ _ _ _ _ _ _ (deferral (use_view c.args.spot.literal) c.args.spot.site c.args.span.start)
+    (opens_kept _ _ c.in_ok-body.body _ c.in_ok-body.ensures c.in_ok-push.ensures) c.in_ok-signature.ensures
     c.in_ok-statements.ensures
-    (adds_pushed _ _ _ c.in_ok-push-2.ensures.items)
-    (adds_same _ _ _ _ (ap (λ u. deferral (use_view u) c.args.spot.site c.args.span.start) (sym c.in-StartedBy.is)) (adds_nothing c.push-2.new.self.items)))
+    c.in_ok-push-2.ensures
+    (adds_same _ _ _ _ (ap (λ u. deferral (use_view u) c.args.spot.site c.args.span.start) (sym c.in-StartedBy.is)) (adds_nothing c.push-2.new.self.list.items)))
 
 pub unary-returns-in-OnlyValue : goal.unary-returns-in-OnlyValue
 unary-returns-in-OnlyValue t c =
@@ -407,8 +420,8 @@ pub names_type-returns-in-Some : goal.names_type-returns-in-Some
 unfolding names_type_marks
 names_type-returns-in-Some t c =
     rw (c.in-Some.is, ← c.deref.ensures)
-    (named_adds c.named_or.result c.args.marks.now.items c.named_or.new.marks.items (option_map named_view c.as_named.result)
-    (as_named (expression_syntax c.deref.result.now)) c.args.site (names_type (row_view c.args.row))
+    (named_adds c.named_or.result c.args.marks.now.list.items c.named_or.new.marks.list.items (option_map named_view c.as_named.result)
+    (as_named (expression_syntax c.deref.result.now)) c.args.site (names_type (row_view c.args.row.now))
     (expression_marks (part_of c.args.site) (expression_syntax c.deref-in-Some.result.now))
     (expression_marks (part_of c.args.site) (expression_syntax c.deref.result.now)) c.as_named.ensures
     (ap (λ (e : Expr). expression_marks (part_of c.args.site) (expression_syntax e)) (c.deref-in-Some.ensures ∙ sym c.deref.ensures))
@@ -463,8 +476,9 @@ pub spec-returns-in_ok-expressions-in-Value : goal.spec-returns-in_ok-expression
 unfolding specs_marks
 spec-returns-in_ok-expressions-in-Value t c =
     rw (c.in-Value.is, spec_and-Value)
-    (spec_adds _ _ _ _ _ _ _ _ _ _ _ _ _ _ _ _ c.deref.ensures.value c.deref-in-Value.ensures.value c.deref-in-Value-2.ensures.value
-    c.deref-in-Value-3.ensures.value c.value_spot.ensures c.in_ok-names_type-in-Value.ensures c.in_ok-expressions-in-Value.ensures c.left_names.ensures)
+    (spec_adds _ c.args.marks.now.list.items _ _ _ _ (optional_expression_syntax c.in-Value.kind) _ _ _ _ _ _ _
+    (c.in_ok-row-in-Value.ensures ∙ declared_same c.args.keyword c.args.at _ _ _ _ _ c.deref.ensures.value c.deref-in-Value.ensures.value)
+    c.deref-in-Value-2.ensures.value c.deref-in-Value-3.ensures.value c.value_spot.ensures c.in_ok-names_type-in-Value.ensures c.in_ok-expressions-in-Value.ensures c.left_names.ensures)
 
 pub spec-returns-in_ok-declare_elsewhere-in-Type : goal.spec-returns-in_ok-declare_elsewhere-in-Type
 unfolding specs_marks
@@ -482,7 +496,7 @@ pub expressions-returns : goal.expressions-returns
 unfolding expressions_marks
 expressions-returns t c =
     let nothing = drop_past c.args.list.now c.loop-item.item-index c.loop-item-test.false in
-    adds_all c.args.marks.now.items _ _ (expressions_marks (spot_view c.args.spot) (expressions_syntax c.args.list.now)) c.loop-item.invariant
+    adds_all c.args.marks.now.list.items _ _ (expressions_marks (spot_view c.args.spot) (expressions_syntax c.args.list.now)) c.loop-item.invariant
     (ap (λ l. expressions_marks (spot_view c.args.spot) (expressions_syntax l)) nothing)
 
 pub statements-loop-item-preserved : goal.statements-loop-item-preserved
@@ -495,7 +509,7 @@ pub statements-returns : goal.statements-returns
 unfolding statements_marks
 statements-returns t c =
     let nothing = drop_past c.args.list.now c.loop-item.item-index c.loop-item-test.false in
-    adds_all c.args.marks.now.items _ _ (statements_marks (statements_syntax c.args.list.now)) c.loop-item.invariant
+    adds_all c.args.marks.now.list.items _ _ (statements_marks (statements_syntax c.args.list.now)) c.loop-item.invariant
     (ap (λ l. statements_marks (statements_syntax l)) nothing)
 
 pub parameters-loop-item-preserved : goal.parameters-loop-item-preserved
@@ -508,7 +522,7 @@ pub parameters-returns : goal.parameters-returns
 unfolding parameters_marks
 parameters-returns t c =
     let nothing = drop_past c.args.list.now c.loop-item.item-index c.loop-item-test.false in
-    adds_all c.args.marks.now.items _ _ (parameters_marks c.args.are_parameters c.args.site (parameters_syntax c.args.list.now)) c.loop-item.invariant
+    adds_all c.args.marks.now.list.items _ _ (parameters_marks c.args.are_parameters c.args.site (parameters_syntax c.args.list.now)) c.loop-item.invariant
     (ap (λ l. parameters_marks c.args.are_parameters c.args.site (parameters_syntax l)) nothing)
 
 pub fields-loop-item-preserved : goal.fields-loop-item-preserved
@@ -521,7 +535,7 @@ pub fields-returns : goal.fields-returns
 unfolding fields_marks
 fields-returns t c =
     let nothing = drop_past c.args.list.now c.loop-item.item-index c.loop-item-test.false in
-    adds_all c.args.marks.now.items _ _ (fields_marks c.args.site (fields_syntax c.args.list.now)) c.loop-item.invariant
+    adds_all c.args.marks.now.list.items _ _ (fields_marks c.args.site (fields_syntax c.args.list.now)) c.loop-item.invariant
     (ap (λ l. fields_marks c.args.site (fields_syntax l)) nothing)
 
 pub specs-loop-item-preserved : goal.specs-loop-item-preserved
@@ -535,7 +549,7 @@ pub specs-returns : goal.specs-returns
 unfolding specs_marks
 specs-returns t c =
     let nothing = drop_past c.args.list.now c.loop-item.item-index c.loop-item-test.false in
-    adds_all c.args.marks.now.items _ _ (specs_marks c.args.keyword c.args.at (specs_syntax c.args.list.now)) c.loop-item.invariant
+    adds_all c.args.marks.now.list.items _ _ (specs_marks c.args.keyword c.args.at (specs_syntax c.args.list.now)) c.loop-item.invariant
     (ap (λ l. specs_marks c.args.keyword c.args.at (specs_syntax l)) nothing)
 
 pub cases-loop-clause-preserved : goal.cases-loop-clause-preserved
@@ -551,7 +565,7 @@ unfolding cases_marks
 cases-returns t c =
     let guard = option_map (λ (n : Bor Identifier). identifier_syntax n.now) c.args.guard in
     let nothing = drop_past c.args.clauses.now c.loop-clause.clause-index c.loop-clause-test.false in
-    adds_all c.args.marks.now.items _ _ (cases_marks c.args.at guard (cases_syntax c.args.clauses.now)) c.loop-clause.invariant
+    adds_all c.args.marks.now.list.items _ _ (cases_marks c.args.at guard (cases_syntax c.args.clauses.now)) c.loop-clause.invariant
     (ap (λ l. cases_marks c.args.at guard (cases_syntax l)) nothing)
 
 pub communications-loop-clause-preserved : goal.communications-loop-clause-preserved
@@ -564,7 +578,7 @@ pub communications-returns : goal.communications-returns
 unfolding communications_marks
 communications-returns t c =
     let nothing = drop_past c.args.clauses.now c.loop-clause.clause-index c.loop-clause-test.false in
-    adds_all c.args.marks.now.items _ _ (communications_marks (communications_syntax c.args.clauses.now)) c.loop-clause.invariant
+    adds_all c.args.marks.now.list.items _ _ (communications_marks (communications_syntax c.args.clauses.now)) c.loop-clause.invariant
     (ap (λ l. communications_marks (communications_syntax l)) nothing)
 
 pub all_arguments-loop-index-preserved : goal.all_arguments-loop-index-preserved
@@ -572,7 +586,7 @@ all_arguments-loop-index-preserved t c =
     let e = c.index-list-index.result in
     let items = drop_item c.args.list.now c.loop-index.index e c.loop-index-test.true c.index-list-index.is in
     let rest = expressions_syntax (drop (c.loop-index.index + 1) c.args.list.now) in
-    let call = option_map call_view c.args.call in
+    let call = optional_call c.args.call in
     adds_next _ _ _
     (argument_at call c.args.site c.loop-index.index c.is_last.result (expression_syntax e)
     (expression_marks (used_at (argument_use call) c.args.site) (expression_syntax e)))
@@ -585,8 +599,8 @@ pub all_arguments-returns : goal.all_arguments-returns
 unfolding arguments_marks
 all_arguments-returns t c =
     let nothing = drop_past c.args.list.now c.loop-index.index c.loop-index-test.false in
-    adds_all c.args.marks.now.items _ _ (arguments_marks (option_map call_view c.args.call) c.args.site 0 (expressions_syntax c.args.list.now)) c.loop-index.invariant
-    (ap (λ l. arguments_marks (option_map call_view c.args.call) c.args.site c.loop-index.index (expressions_syntax l)) nothing)
+    adds_all c.args.marks.now.list.items _ _ (arguments_marks (optional_call c.args.call) c.args.site 0 (expressions_syntax c.args.list.now)) c.loop-index.invariant
+    (ap (λ l. arguments_marks (optional_call c.args.call) c.args.site c.loop-index.index (expressions_syntax l)) nothing)
 
 pub items-loop-index-preserved : goal.items-loop-index-preserved
 items-loop-index-preserved t c =
@@ -597,7 +611,7 @@ items-loop-index-preserved t c =
     (items_marks c.args.site (c.loop-index.index + 1) rest) _ c.loop-index.invariant
     (ap (λ l. items_marks c.args.site c.loop-index.index (expressions_syntax l)) items
     ∙ item_first c.args.site c.loop-index.index (expression_syntax e) rest)
-    (adds_same c.loop-index.marks.items c.expression.new.marks.items (expression_marks (spot_view c.whole.result) (expression_syntax e))
+    (adds_same c.loop-index.marks.list.items c.expression.new.marks.list.items (expression_marks (spot_view c.whole.result) (expression_syntax e))
     (expression_marks (whole (return_item c.loop-index.index) c.args.site) (expression_syntax e))
     (ap (λ s. expression_marks s (expression_syntax e)) c.whole.ensures) c.in_ok-expression.ensures)
 
@@ -605,7 +619,7 @@ pub items-returns : goal.items-returns
 unfolding items_marks
 items-returns t c =
     let nothing = drop_past c.args.list.now c.loop-index.index c.loop-index-test.false in
-    adds_all c.args.marks.now.items _ _ (items_marks c.args.site 0 (expressions_syntax c.args.list.now)) c.loop-index.invariant
+    adds_all c.args.marks.now.list.items _ _ (items_marks c.args.site 0 (expressions_syntax c.args.list.now)) c.loop-index.invariant
     (ap (λ l. items_marks c.args.site c.loop-index.index (expressions_syntax l)) nothing)
 
 pub lefts-loop-index-preserved : goal.lefts-loop-index-preserved
@@ -613,13 +627,13 @@ lefts-loop-index-preserved t c =
     let e = c.index-list-index.result in
     let items = drop_item c.args.list.now c.loop-index.index e c.loop-index-test.true c.index-list-index.is in
     let rest = expressions_syntax (drop (c.loop-index.index + 1) c.args.list.now) in
-    let row = row_view c.args.row in
+    let row = row_view c.args.row.now in
     let marks = expression_marks (part_of c.args.site) (expression_syntax e) in
     adds_next _ _ _ (named_or (as_bare (expression_syntax e)) c.args.site (left c.loop-index.index row) marks)
     (lefts_marks row c.args.site (c.loop-index.index + 1) rest) _ c.loop-index.invariant
     (ap (λ l. lefts_marks row c.args.site c.loop-index.index (expressions_syntax l)) items
     ∙ left_first row c.args.site c.loop-index.index (expression_syntax e) rest)
-    (adds_same c.loop-index.marks.items c.named_or.new.marks.items
+    (adds_same c.loop-index.marks.list.items c.named_or.new.marks.list.items
     (named_or (option_map named_view c.as_bare.result) c.args.site (left c.loop-index.index row) marks)
     (named_or (as_bare (expression_syntax e)) c.args.site (left c.loop-index.index row) marks)
     (ap (λ n. named_or n c.args.site (left c.loop-index.index row) marks) c.as_bare.ensures) c.in_ok-named_or.ensures)
@@ -628,20 +642,20 @@ pub lefts-returns : goal.lefts-returns
 unfolding lefts_marks
 lefts-returns t c =
     let nothing = drop_past c.args.list.now c.loop-index.index c.loop-index-test.false in
-    adds_all c.args.marks.now.items _ _ (lefts_marks (row_view c.args.row) c.args.site 0 (expressions_syntax c.args.list.now)) c.loop-index.invariant
-    (ap (λ l. lefts_marks (row_view c.args.row) c.args.site c.loop-index.index (expressions_syntax l)) nothing)
+    adds_all c.args.marks.now.list.items _ _ (lefts_marks (row_view c.args.row.now) c.args.site 0 (expressions_syntax c.args.list.now)) c.loop-index.invariant
+    (ap (λ l. lefts_marks (row_view c.args.row.now) c.args.site c.loop-index.index (expressions_syntax l)) nothing)
 
 pub argument-returns-in-None : goal.argument-returns-in-None
 argument-returns-in-None t c =
-    alone_adds_argument _ _ _ _ _ _ _ _ _ (ap (option_map call_view) c.in-None.is) c.argument_use.ensures c.expression-in-None.ensures
+    alone_adds_argument _ _ _ _ _ _ _ _ _ (ap optional_call c.in-None.is) c.argument_use.ensures c.expression-in-None.ensures
 
 pub argument_of-returns-in-Unary : goal.argument_of-returns-in-Unary
 argument_of-returns-in-Unary t c =
     let marks = expression_marks (spot_view c.args.spot) (expression_syntax c.args.argument.now) in
-    same_adds c.named_at.result c.args.marks.now.items c.named_at.new.marks.items
-    (named_or (option_map named_view c.addressed.result) c.args.spot.site (argument c.args.index true (call_view c.args.call)) marks)
-    (argument_or (call_view c.args.call) c.args.spot.site c.args.index (expression_syntax c.args.argument.now) marks)
-    (operator_argument c.args.argument.now.kind c.in-Unary.operator c.in-Unary.operand c.args.argument.now.span (call_view c.args.call)
+    same_adds c.named_at.result c.args.marks.now.list.items c.named_at.new.marks.list.items
+    (named_or (option_map named_view c.addressed.result) c.args.spot.site (argument c.args.index true (call_view c.args.call.now)) marks)
+    (argument_or (call_view c.args.call.now) c.args.spot.site c.args.index (expression_syntax c.args.argument.now) marks)
+    (operator_argument c.args.argument.now.kind c.in-Unary.operator c.in-Unary.operand c.args.argument.now.span (call_view c.args.call.now)
     c.args.spot.site c.args.index (option_map named_view c.addressed.result) marks c.in-Unary.is
     (c.addressed.ensures ∙ ap (λ (e : Expr). addressed c.in-Unary.operator (expression_syntax e)) c.deref.ensures))
     c.named_at.ensures
@@ -649,9 +663,9 @@ argument_of-returns-in-Unary t c =
 pub argument_of-returns-in_default : goal.argument_of-returns-in_default
 argument_of-returns-in_default t c =
     let marks = expression_marks (spot_view c.args.spot) (expression_syntax c.args.argument.now) in
-    same_adds c.named_at-in_default.result c.args.marks.now.items c.named_at-in_default.new.marks.items
-    (named_or (option_map named_view c.as_named.result) c.args.spot.site (argument c.args.index false (call_view c.args.call)) marks)
-    (argument_or (call_view c.args.call) c.args.spot.site c.args.index (expression_syntax c.args.argument.now) marks)
-    (ap (λ n. named_or n c.args.spot.site (argument c.args.index false (call_view c.args.call)) marks) c.as_named.ensures
-    ∙ no_operator c.args.argument.now.kind c.args.argument.now.span (call_view c.args.call) c.args.spot.site c.args.index marks c.in_default.not-Unary)
+    same_adds c.named_at-in_default.result c.args.marks.now.list.items c.named_at-in_default.new.marks.list.items
+    (named_or (option_map named_view c.as_named.result) c.args.spot.site (argument c.args.index false (call_view c.args.call.now)) marks)
+    (argument_or (call_view c.args.call.now) c.args.spot.site c.args.index (expression_syntax c.args.argument.now) marks)
+    (ap (λ n. named_or n c.args.spot.site (argument c.args.index false (call_view c.args.call.now)) marks) c.as_named.ensures
+    ∙ no_operator c.args.argument.now.kind c.args.argument.now.span (call_view c.args.call.now) c.args.spot.site c.args.index marks c.in_default.not-Unary)
     c.named_at-in_default.ensures

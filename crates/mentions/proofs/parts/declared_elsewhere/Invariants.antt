@@ -7,5 +7,5 @@ use Rattle.mentions.proofs.parts.declared_elsewhere.Given as goal
 -- what was added with what the other names add is the whole
 abbrev pub invariant-loop-name : goal.invariant-loop-name
 invariant-loop-name l =
-    marks_view l.marks.items ++ declared_elsewhere l.site (map identifier_syntax (drop l.name-index l.names))
-    ≡ marks_view l.initial.marks.items ++ declared_elsewhere l.site (map identifier_syntax l.names)
+    marks_view l.marks.list.items ++ declared_elsewhere l.site (map identifier_syntax (drop l.name-index l.names))
+    ≡ marks_view l.initial.marks.list.items ++ declared_elsewhere l.site (map identifier_syntax l.names)

@@ -1,6 +1,6 @@
 use Rattle.std.proofs.Common.{◌≡◌, ap, sym, subst}
 use Rattle.calls_flags.proofs.CreditedFiles.{all_credited, all_told}
-use Rattle.calls_flags.specs.KnownCalls.{is_called, flags_by_path}
+use Rattle.called_parameters.specs.Called.{is_called, flags_by_path}
 use Rattle.calls_flags.specs.FilesBodies.{TellAll}
 use Rattle.findings.specs.FoundEntries.{IsFoundIn}
 use Rattle.meaning_packages.specs.CallsFlags.{calls_by}

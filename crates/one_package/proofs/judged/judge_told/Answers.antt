@@ -1,5 +1,5 @@
 use Rattle.std.proofs.Common.{refl}
-use Rattle.calls_flags.specs.KnownCalls.{is_called}
+use Rattle.called_parameters.specs.Called.{is_called}
 use Rattle.meaning_reports.specs.PackageTables.{full}
 use Rattle.one_package.proofs.judged.judge_told.Goals as goal
 

@@ -1,6 +1,6 @@
 use Rattle.std.proofs.Common.{option_map}
 use Rattle.std.proofs.lemmas.List.{get_or_default}
-use Rattle.calls_flags.specs.KnownCalls.{called_by_path}
+use Rattle.called_parameters.specs.Called.{called_by_path}
 use Rattle.declared_tables.specs.declared.tables.PackageTable.{PackageTable as KeptTable}
 use Rattle.facts.specs.FactViews.{table_by_path}
 use Rattle.imports.specs.Views.{text_views}

@@ -1,5 +1,5 @@
 use Rattle.std.proofs.Common.{◌≡◌, ℕ, List, drop, option_map}
-use Rattle.calls_flags.specs.KnownCalls.{called_by_path}
+use Rattle.called_parameters.specs.Called.{called_by_path}
 use Rattle.facts.specs.FactViews.{table_by_path}
 use Rattle.imports.specs.Views.{text_views}
 use Rattle.meaning.specs.OuterBlocks.{or_else}

@@ -1,7 +1,7 @@
 use Rattle.std.proofs.Common.{◌≡◌, sym, subst}
 use Rattle.facts.specs.FactViews.{facts_by_name}
 use Rattle.calls_flags.proofs.CreditedFiles.{all_told}
-use Rattle.calls_flags.specs.KnownCalls.{is_called, flags_by_path}
+use Rattle.called_parameters.specs.Called.{is_called, flags_by_path}
 use Rattle.calls_flags.specs.FilesBodies.{TellAll, with_all_credits}
 use Rattle.calls_flags.specs.ToldFiles.{TellAllSeen}
 use Rattle.meaning_packages.specs.CallsFlags.{AreMost}

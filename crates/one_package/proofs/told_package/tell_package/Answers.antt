@@ -1,6 +1,6 @@
 use Rattle.std.proofs.Common.{ℕ, List, ◌≡◌, ◌∙◌, false, ◌||◌, ap, sym, subst, map}
 use Rattle.std.specs.List.{list_any}
-use Rattle.calls_flags.specs.ToldFiles.{is_walked}
+use Rattle.silent_files.specs.WalkedFiles.{is_walked}
 use Rattle.facts.specs.FactViews.{facts_by_name, facts_by_path}
 use Rattle.meaning.specs.FunctionFacts.{package_facts}
 use Rattle.names.specs.Answers.{declared_at}

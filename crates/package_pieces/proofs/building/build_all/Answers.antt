@@ -16,4 +16,4 @@ work_all-requires-sync-J g c κs within = search (sendable, building_sync)
 
 pub returns : goal.returns
 returns g c =
-    IfOk-weaker c.work_all.result _ _ (λ made come. bodies_built c.args.files.now made.items come) c.work_all.ensures
+    IfOk-weaker c.work_all.result _ _ (λ made come. bodies_built c.args.files.now made.items come) c.work_all.ensures.all

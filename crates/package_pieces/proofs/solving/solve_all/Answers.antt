@@ -15,4 +15,4 @@ pub returns : goal.returns
 returns g c = λ fs tell x.
     let calls = known_calls c.args.calls in
     subst (λ ds. Contains (map entry_of ds) x ↔ IsFoundIn fs calls x) (sym c.in_ok-joined.ensures)
-    (found_joined calls c.args.files.now c.in_ok-found.found.items c.in_ok-found.ensures fs tell x)
+    (found_joined calls c.args.files.now c.in_ok-found.found.items c.in_ok-found.ensures.all fs tell x)

@@ -5,8 +5,8 @@ use Rattle.pieces.specs.Pieces.{ComeOf}
 use Rattle.pieces.proofs.Parts.{comes_joined}
 use Rattle.pieces.proofs.helpers.+all_in.Goals as goal
 
-pub returns-in-Ok : goal.returns-in-Ok
-returns-in-Ok g t c =
+pub returns-in-Ok-clause-all : goal.returns-in-Ok-clause-all
+returns-in-Ok-clause-all g t c =
     let n = c.div_ceil.result in
     let items = c.args.part.items.now in
     let first = c.args.part.first in
@@ -21,4 +21,4 @@ returns-in-Ok g t c =
     let kept = ap (λ p. IfOk c.join.result (λ found. ComeOf (g.J.Piece.gives p.job.now) p.first p.items.now found.items))
     c.in-Ok.ensures.ok in
     subst P whole (comes_joined gives (λ v. v.items) first front back c.join.result c.all_in-rest.result c.both.result
-    (subst (λ (A : Type 0). A) kept c.join.ensures) c.all_in-rest.ensures c.both.ensures)
+    (subst (λ (A : Type 0). A) kept c.join.ensures) c.all_in-rest.ensures.all c.both.ensures)

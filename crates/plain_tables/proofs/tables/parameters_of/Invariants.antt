@@ -1,7 +1,7 @@
 use Rattle.std.proofs.Common.{◌≡◌, ◌++◌, map, drop}
 use Rattle.std.specs.Prelude.{flat_map}
 use Rattle.facts.specs.FactViews.{parameter_view}
-use Rattle.calls_flags.specs.KnownCalls.{is_called}
+use Rattle.called_parameters.specs.Called.{is_called}
 use Rattle.plain_tables.specs.Tables.{as_list, parameter_told}
 use Rattle.plain_tables.proofs.tables.parameters_of.Given as goal
 

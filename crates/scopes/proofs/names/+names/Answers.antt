@@ -7,7 +7,7 @@ use Rattle.tree.specs.declared.span.Span.{Span}
 use Rattle.tree.specs.declared.statement.Block.{out-Block}
 use Rattle.tree.specs.View.{identifier_syntax, expressions_syntax, parameters_syntax, signature_syntax, fields_syntax, statement_form, statements_syntax, cases_syntax, communications_syntax, specs_syntax}
 use Rattle.tree.proofs.Depths.{drop_item, drop_past}
-use Rattle.tree.proofs.Views.{expression_form-Name, expression_form-BasicLit, expression_form-FuncLit, expression_form-CompositeLit, expression_form-LiteralValue, expression_form-KeyValue, expression_form-Paren, expression_form-Selector, expression_form-Index, expression_form-Slice, expression_form-TypeAssert, expression_form-Call, expression_form-Star, expression_form-Unary, expression_form-Binary, expression_form-ArrayType, expression_form-EllipsisArrayType, expression_form-SliceType, expression_form-MapType, expression_form-ChanType, expression_form-FuncType, expression_form-StructType, expression_form-InterfaceType, statement_form-Empty, statement_form-Decl, statement_form-Labeled, statement_form-Expr, statement_form-Send, statement_form-Increment, statement_form-Decrement, statement_form-Assign, statement_form-AssignOp, statement_form-Define, statement_form-Go, statement_form-Defer, statement_form-Return, statement_form-Break, statement_form-Continue, statement_form-Block, statement_form-If, statement_form-For, statement_form-RangeAssign, statement_form-RangeDefine, statement_form-Switch, statement_form-TypeSwitch, statement_form-Select, block_statements-out, parameter_and-Named, parameter_and-Unnamed, parameter_and-NameAlone, field_and-Named, field_and-Embedded, field_and-Method, spec_and-Value, spec_and-Type}
+use Rattle.tree.proofs.Views.{expression_form-Name, expression_form-BasicLit, expression_form-FuncLit, expression_form-CompositeLit, expression_form-LiteralValue, expression_form-KeyValue, expression_form-Paren, expression_form-Selector, expression_form-Index, expression_form-Slice, low_bound_of, high_bound_of, most_bound_of, expression_form-TypeAssert, expression_form-Call, expression_form-Star, expression_form-Unary, expression_form-Binary, expression_form-ArrayType, expression_form-EllipsisArrayType, expression_form-SliceType, expression_form-MapType, expression_form-ChanType, expression_form-FuncType, expression_form-StructType, expression_form-InterfaceType, statement_form-Empty, statement_form-Decl, statement_form-Labeled, statement_form-Expr, statement_form-Send, statement_form-Increment, statement_form-Decrement, statement_form-Assign, statement_form-AssignOp, statement_form-Define, statement_form-Go, statement_form-Defer, statement_form-Return, statement_form-Break, statement_form-Continue, statement_form-Block, statement_form-If, statement_form-For, statement_form-RangeAssign, statement_form-RangeDefine, statement_form-Switch, statement_form-TypeSwitch, statement_form-Select, block_statements-out, parameter_and-Named, parameter_and-Unnamed, parameter_and-NameAlone, field_and-Named, field_and-Embedded, field_and-Method, spec_and-Value, spec_and-Type}
 use Rattle.meaning.specs.Scopes.{uses_name, declared_names, signature_declared, expression_names, expression_form_names, expressions_names, optional_names, signature_names, parameters_names, fields_names, statement_names, statement_form_names, statements_names, optional_statement_names, cases_names, communications_names, specs_names}
 use Rattle.scopes.proofs.Adding.{adds_nothing, adds_same, adds_pushed, adds_next, adds_all, then_adds, same_adds, three_adds, four_adds, alone_adds, then_alone_adds, adds_case, adds_communication, parameters_more, fields_more, specs_more, cases_more, communications_more, block_braces-out, literal_names, guard_same}
 use Rattle.scopes.proofs.names.+names.Goals as goal
@@ -84,7 +84,14 @@ expression_form-returns-in_ok-expression-in-Index t c =
 pub expression_form-returns-in_ok-optional-in-Slice-2 : goal.expression_form-returns-in_ok-optional-in-Slice-2
 unfolding expression_form_names
 expression_form-returns-in_ok-optional-in-Slice-2 t c =
-    rw (c.in-Slice.is, expression_form-Slice, ← c.deref-in-Slice.ensures)
+    rw (
+      c.in-Slice.is,
+      expression_form-Slice,
+      ← c.deref-in-Slice.ensures,
+      ← low_bound_of c.deref-in-Slice-2.ensures,
+      ← high_bound_of c.deref-in-Slice-3.ensures,
+      ← most_bound_of c.deref-in-Slice-4.ensures,
+    )
     (four_adds _ _ _ _ _ _ _ _ _ _ c.in_ok-expression-in-Slice.ensures c.in_ok-optional-in-Slice.ensures c.in_ok-optional-in-Slice-2.ensures
     c.optional-in-Slice-2.ensures)
 
@@ -191,7 +198,7 @@ statement_form-returns-in-Expr t c =
 pub statement_form-returns-in_ok-expression-in-Send : goal.statement_form-returns-in_ok-expression-in-Send
 unfolding statement_form_names
 statement_form-returns-in_ok-expression-in-Send t c =
-    rw (c.in-Send.is, statement_form-Send)
+    rw (c.in-Send.is, statement_form-Send, ← c.deref-in-Send.ensures, ← c.deref-in-Send-2.ensures)
     (then_adds _ _ _ _ _ _ c.in_ok-expression-in-Send.ensures c.expression-in-Send-2.ensures)
 
 pub statement_form-returns-in-Increment : goal.statement_form-returns-in-Increment
@@ -215,7 +222,7 @@ statement_form-returns-in_ok-expressions-in-Assign t c =
 pub statement_form-returns-in_ok-expression-in-AssignOp : goal.statement_form-returns-in_ok-expression-in-AssignOp
 unfolding statement_form_names
 statement_form-returns-in_ok-expression-in-AssignOp t c =
-    rw (c.in-AssignOp.is, statement_form-AssignOp)
+    rw (c.in-AssignOp.is, statement_form-AssignOp, ← c.deref-in-AssignOp.ensures, ← c.deref-in-AssignOp-2.ensures)
     (then_adds _ _ _ _ _ _ c.in_ok-expression-in-AssignOp.ensures c.expression-in-AssignOp-2.ensures)
 
 pub statement_form-returns-in_ok-expressions-in-Define : goal.statement_form-returns-in_ok-expressions-in-Define

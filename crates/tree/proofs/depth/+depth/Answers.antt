@@ -3,8 +3,8 @@ use Rattle.tree.specs.declared.expression.Literal.{Literal, out-Literal}
 use Rattle.tree.specs.declared.statement.Block.{out-Block}
 use Rattle.tree.specs.Depth.{expression_depth, below_expression, expressions_depth, optional_depth, signature_depth, parameters_depth, fields_depth, statement_depth, below_statement, statements_depth, optional_statement_depth, else_depth, cases_depth, communications_depth, specs_depth}
 use Rattle.tree.specs.View.{expressions_syntax, statements_syntax, parameters_syntax, fields_syntax, specs_syntax, cases_syntax, communications_syntax}
-use Rattle.tree.proofs.Views.{expression_form-ArrayType, expression_form-BasicLit, expression_form-Binary, expression_form-Call, expression_form-ChanType, expression_form-CompositeLit, expression_form-EllipsisArrayType, expression_form-FuncLit, expression_form-FuncType, expression_form-Index, expression_form-InterfaceType, expression_form-KeyValue, expression_form-LiteralValue, expression_form-MapType, expression_form-Name, expression_form-Paren, expression_form-Selector, expression_form-Slice, expression_form-SliceType, expression_form-Star, expression_form-StructType, expression_form-TypeAssert, expression_form-Unary, statement_form-Assign, statement_form-AssignOp, statement_form-Block, statement_form-Break, statement_form-Continue, statement_form-Decl, statement_form-Decrement, statement_form-Defer, statement_form-Define, statement_form-Empty, statement_form-Expr, statement_form-For, statement_form-Go, statement_form-If, statement_form-Increment, statement_form-Labeled, statement_form-RangeAssign, statement_form-RangeDefine, statement_form-Return, statement_form-Select, statement_form-Send, statement_form-Switch, statement_form-TypeSwitch, block_statements-out, parameter_and-Named, parameter_and-Unnamed, parameter_and-NameAlone, field_and-Named, field_and-Embedded, field_and-Method, spec_and-Value, spec_and-Type}
-use Rattle.tree.proofs.Depths.{capped, drop_item, drop_past, at_end, deeper_of, one_more, and_next, at_expression, at_expressions, at_signature, at_parameters, at_fields, at_statement, at_statements, at_cases, at_communications, at_specs, literal_below, max-zero, parameters_more, fields_more, specs_more, cases_more, communications_more, pair_counts_nothing, other_counts_one, else_of_block, else_of_if}
+use Rattle.tree.proofs.Views.{expression_form-ArrayType, expression_form-BasicLit, expression_form-Binary, expression_form-Call, expression_form-ChanType, expression_form-CompositeLit, expression_form-EllipsisArrayType, expression_form-FuncLit, expression_form-FuncType, expression_form-Index, expression_form-InterfaceType, expression_form-KeyValue, expression_form-LiteralValue, expression_form-MapType, expression_form-Name, expression_form-Paren, expression_form-Selector, expression_form-Slice, low_bound_of, high_bound_of, most_bound_of, expression_form-SliceType, expression_form-Star, expression_form-StructType, expression_form-TypeAssert, expression_form-Unary, statement_form-Assign, statement_form-AssignOp, statement_form-Block, statement_form-Break, statement_form-Continue, statement_form-Decl, statement_form-Decrement, statement_form-Defer, statement_form-Define, statement_form-Empty, statement_form-Expr, statement_form-For, statement_form-Go, statement_form-If, statement_form-Increment, statement_form-Labeled, statement_form-RangeAssign, statement_form-RangeDefine, statement_form-Return, statement_form-Select, statement_form-Send, statement_form-Switch, statement_form-TypeSwitch, block_statements-out, parameter_and-Named, parameter_and-Unnamed, parameter_and-NameAlone, field_and-Named, field_and-Embedded, field_and-Method, spec_and-Value, spec_and-Type}
+use Rattle.tree.proofs.Depths.{capped, drop_item, drop_past, at_end, deeper_of, one_more, and_next, at_expression, at_expressions, at_bound, at_signature, at_parameters, at_fields, at_statement, at_statements, at_cases, at_communications, at_specs, literal_below, max-zero, parameters_more, fields_more, specs_more, cases_more, communications_more, pair_counts_nothing, other_counts_one, else_of_block, else_of_if}
 use Rattle.tree.proofs.depth.+depth.Goals as goal
 
 pub below_expression-returns-in-Name : goal.below_expression-returns-in-Name
@@ -57,7 +57,9 @@ below_expression-returns-in-Index t c =
 pub below_expression-returns-in-Slice : goal.below_expression-returns-in-Slice
 unfolding below_expression
 below_expression-returns-in-Slice t c =
-    rw (c.in-Slice.is, expression_form-Slice) (deeper_of _ _ _ _ _ c.max-in-Slice-2.ensures (c.expression_depth-in-Slice.ensures ∙ ap at_expression c.deref-in-Slice.ensures) (deeper_of _ _ _ _ _ c.max-in-Slice.ensures c.optional_depth-in-Slice-2.ensures (deeper_of _ _ _ _ _ c.max-bounds.ensures c.optional_depth.ensures c.optional_depth-in-Slice.ensures)))
+    rw (c.in-Slice.is, expression_form-Slice) (deeper_of _ _ _ _ _ c.max-in-Slice-2.ensures (c.expression_depth-in-Slice.ensures ∙ ap at_expression c.deref-in-Slice-3.ensures) (deeper_of _ _ _ _ _ c.max-in-Slice.ensures
+    (c.optional_depth-in-Slice-2.ensures ∙ ap at_bound (low_bound_of c.deref-in-Slice-4.ensures)) (deeper_of _ _ _ _ _ c.max-last.ensures
+    (c.optional_depth.ensures ∙ ap at_bound (high_bound_of c.deref-in-Slice.ensures)) (c.optional_depth-in-Slice.ensures ∙ ap at_bound (most_bound_of c.deref-in-Slice-2.ensures)))))
 
 pub below_expression-returns-in-TypeAssert : goal.below_expression-returns-in-TypeAssert
 unfolding below_expression
@@ -147,7 +149,7 @@ below_statement-returns-in-Expr t c =
 pub below_statement-returns-in-Send : goal.below_statement-returns-in-Send
 unfolding below_statement
 below_statement-returns-in-Send t c =
-    rw (c.in-Send.is, statement_form-Send) (deeper_of _ _ _ _ _ c.max.ensures c.expression_depth-in-Send.ensures c.expression_depth-in-Send-2.ensures)
+    rw (c.in-Send.is, statement_form-Send) (deeper_of _ _ _ _ _ c.max.ensures (c.expression_depth-in-Send.ensures ∙ ap at_expression c.deref-in-Send.ensures) (c.expression_depth-in-Send-2.ensures ∙ ap at_expression c.deref-in-Send-2.ensures))
 
 pub below_statement-returns-in-Increment : goal.below_statement-returns-in-Increment
 unfolding below_statement
@@ -167,7 +169,7 @@ below_statement-returns-in-Assign t c =
 pub below_statement-returns-in-AssignOp : goal.below_statement-returns-in-AssignOp
 unfolding below_statement
 below_statement-returns-in-AssignOp t c =
-    rw (c.in-AssignOp.is, statement_form-AssignOp) (deeper_of _ _ _ _ _ c.max-in-AssignOp.ensures c.expression_depth-in-AssignOp.ensures c.expression_depth-in-AssignOp-2.ensures)
+    rw (c.in-AssignOp.is, statement_form-AssignOp) (deeper_of _ _ _ _ _ c.max-in-AssignOp.ensures (c.expression_depth-in-AssignOp.ensures ∙ ap at_expression c.deref-in-AssignOp.ensures) (c.expression_depth-in-AssignOp-2.ensures ∙ ap at_expression c.deref-in-AssignOp-2.ensures))
 
 pub below_statement-returns-in-Define : goal.below_statement-returns-in-Define
 unfolding below_statement

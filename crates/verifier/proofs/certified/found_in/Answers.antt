@@ -1,7 +1,8 @@
 use Rattle.std.proofs.Common.{◌≡◌, ℕ, true, option_map, ap, ◌∙◌, subst, arith}
 use Rattle.std.specs.Prelude.{◌↔◌, IsTrue}
 use Rattle.calls_flags.specs.Claims.{function_name}
-use Rattle.calls_flags.specs.KnownCalls.{is_called, known_calls}
+use Rattle.called_parameters.specs.Called.{is_called}
+use Rattle.calls_flags.specs.KnownCalls.{known_calls}
 use Rattle.certificate_json.specs.Certificates.{rows_of}
 use Rattle.checker.specs.Certificates.{Holds}
 use Rattle.checker.specs.LaidOutViews.{LaysOut, body_of, states_view}

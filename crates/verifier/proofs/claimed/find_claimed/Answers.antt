@@ -1,7 +1,7 @@
 use Rattle.std.proofs.Common.{ap, ◌∙◌, map}
 use Rattle.std.proofs.lemmas.Result.{IfOk-weaker}
 use Rattle.calls_flags.specs.Claims.{claim_view, flags_claimed}
-use Rattle.calls_flags.specs.KnownCalls.{is_called}
+use Rattle.called_parameters.specs.Called.{is_called}
 use Rattle.facts.specs.FactViews.{facts_by_name}
 use Rattle.verifier.proofs.BelievedFlags.{are_claimed, same_believed}
 use Rattle.verifier.specs.GivenViews.{claim_in, params_at}

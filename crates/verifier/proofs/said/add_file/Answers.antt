@@ -1,6 +1,7 @@
 use Rattle.std.proofs.Common.{◌++◌, map, ap, ◌∙◌}
 use Rattle.facts.proofs.FactParts.{on_ok}
-use Rattle.calls_flags.specs.KnownCalls.{is_called, known_calls}
+use Rattle.called_parameters.specs.Called.{is_called}
+use Rattle.calls_flags.specs.KnownCalls.{known_calls}
 use Rattle.credits.specs.CreditViews.{has}
 use Rattle.findings.specs.FoundEntries.{use_entries}
 use Rattle.report.specs.Entries.{entry_of}

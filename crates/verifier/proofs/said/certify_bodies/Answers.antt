@@ -2,7 +2,8 @@ use Rattle.std.proofs.Common.{◌≡◌, ◌+◌, ◌-◌, ◌<◌, length, refl
 use Rattle.std.proofs.lemmas.Option.{slice_get_read}
 use Rattle.std.proofs.lemmas.Slice.Zip.{AllZip-long}
 use Rattle.bodies.specs.Bodies.{TellsBody}
-use Rattle.calls_flags.specs.KnownCalls.{is_called, known_calls}
+use Rattle.called_parameters.specs.Called.{is_called}
+use Rattle.calls_flags.specs.KnownCalls.{known_calls}
 use Rattle.credit_search.proofs.PairedLists.{pair_at}
 use Rattle.credits.specs.CreditViews.{has}
 use Rattle.meaning.specs.BodyEvents.{bodies_of}

@@ -1,6 +1,7 @@
 use Rattle.std.proofs.Common.{ℕ, ◌≤◌, length}
 use Rattle.bodies.specs.Bodies.{TellBodies}
-use Rattle.calls_flags.specs.KnownCalls.{is_called, known_calls}
+use Rattle.called_parameters.specs.Called.{is_called}
+use Rattle.calls_flags.specs.KnownCalls.{known_calls}
 use Rattle.credits.specs.CreditViews.{has}
 use Rattle.events.specs.ToldViews.{TellsFile}
 use Rattle.meaning.specs.Uses.{Seen}

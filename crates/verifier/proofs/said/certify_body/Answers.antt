@@ -1,6 +1,7 @@
 use Rattle.std.proofs.Common.{subst, option_map}
 use Rattle.facts.proofs.FactParts.{on_ok}
-use Rattle.calls_flags.specs.KnownCalls.{is_called, known_calls}
+use Rattle.called_parameters.specs.Called.{is_called}
+use Rattle.calls_flags.specs.KnownCalls.{known_calls}
 use Rattle.credits.specs.CreditViews.{has}
 use Rattle.verifier.proofs.SaidParts.{found_some, found_none}
 use Rattle.verifier.specs.FoundBodies.{with_table, IsFound}

@@ -2,7 +2,8 @@ use Rattle.std.proofs.Common.{◌<◌, length, map, refl, sym, ap, ◌∙◌, su
 use Rattle.std.proofs.lemmas.List.{length-map}
 use Rattle.std.proofs.lemmas.Option.{slice_get_read, slice_get-map}
 use Rattle.bodies.specs.Bodies.{TellBodies}
-use Rattle.calls_flags.specs.KnownCalls.{is_called, known_calls}
+use Rattle.called_parameters.specs.Called.{is_called}
+use Rattle.calls_flags.specs.KnownCalls.{known_calls}
 use Rattle.meaning_packages.specs.CallsFlags.{FileWithCredits}
 use Rattle.path_faults.proofs.Places.{element_at}
 use Rattle.verifier.proofs.SaidFiles.{none_said, next_said, all_said}

@@ -1,6 +1,7 @@
 use Rattle.std.proofs.Common.{List, map, take}
 use Rattle.calls_flags.specs.FilesBodies.{TellAll}
-use Rattle.calls_flags.specs.KnownCalls.{is_called, known_calls}
+use Rattle.called_parameters.specs.Called.{is_called}
+use Rattle.calls_flags.specs.KnownCalls.{known_calls}
 use Rattle.meaning_packages.specs.CallsFlags.{FileWithCredits}
 use Rattle.verifier.specs.GivenViews.{TellsGiven}
 use Rattle.verifier.specs.SaidEntries.{AreSaid}

@@ -1,7 +1,7 @@
 use Rattle.std.proofs.Common.{true, map, refl, sym, subst}
 use Rattle.all_certificates.proofs.CertifiedFiles.{of_all_walked}
 use Rattle.calls_flags.specs.FilesBodies.{TellAll}
-use Rattle.calls_flags.specs.KnownCalls.{flags_by_path, is_called}
+use Rattle.called_parameters.specs.Called.{flags_by_path, is_called}
 use Rattle.certificate_json.specs.Certificates.{body_of}
 use Rattle.all_certificates.proofs.certifying.CertifyingFileRules.find.Goals as goal
 

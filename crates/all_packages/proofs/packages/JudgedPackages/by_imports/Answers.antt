@@ -1,5 +1,5 @@
 use Rattle.std.proofs.Common.{ap, sym, ◌∙◌, subst, filter_map, option_map}
-use Rattle.calls_flags.specs.KnownCalls.{is_called_in}
+use Rattle.called_parameters.specs.Called.{is_called_in}
 use Rattle.imports.specs.Views.{text_views}
 use Rattle.meaning_reports.specs.Loaded.{imported_paths}
 use Rattle.meaning_reports.specs.PackageReports.{by_paths}
@@ -26,9 +26,10 @@ returns c = λ declared ps i p are is_p tells names row judged.
     are.are_judged.were_judged all.given given tables are.are_tables in
     let its = are.are_tables.each i p (said_view c.args.judged.now) is_p (ap (option_map said_view) judged) in
     record {
+      is_kept = judged;
       is_judgment = record { is_table = its.1.is_table; are_findings = its.1.are_findings };
       is_table = sym its.0;
-      is_told = c.in_ok-told.ensures ps tables i p is_p tells (c.around.ensures.known declared ps tables p js given knows have
+      is_told = c.in_ok-told.ensures.told ps tables i p is_p tells (c.around.ensures.known declared ps tables p js given knows have
           (are_marked (by_paths declared) ps all.given.packages.now given.tell slots are.are_judged.are_right i));
       are_calls = λ path name k.
           ap (λ t. is_called_in t name k) (knows.are_calls path) ∙ calls_so ps tables p all.given js have path name k;

@@ -1,12 +1,12 @@
 use Rattle.std.proofs.Common.{length, refl, sym, ap, ◌∙◌}
 use Rattle.std.specs.Prelude.{slice_get}
-use Rattle.std.proofs.lemmas.Option.{slice_get_read}
+use Rattle.std.proofs.lemmas.Option.{none-some, slice_get_read}
 use Rattle.all_packages.specs.Progress.{slots_in}
 use Rattle.all_packages.proofs.FoundPackages.{has_judged, imports_so, list_so}
 use Rattle.all_packages.proofs.packages.JudgedPackages.judged_by.Goals as goal
 
-pub returns-in_ok-by_imports-in-Some : goal.returns-in_ok-by_imports-in-Some
-returns-in_ok-by_imports-in-Some c = λ declared ps p are is_p.
+pub returns-in_ok-by_imports-in-Some-clause-found : goal.returns-in_ok-by_imports-in-Some-clause-found
+returns-in_ok-by_imports-in-Some-clause-found c = λ declared ps p are is_p.
     let all = c.args.self.now in
     let given = all.given in
     let place = c.args.place in
@@ -28,8 +28,16 @@ returns-in_ok-by_imports-in-Some c = λ declared ps p are is_p.
     (list_so declared ps given are.are_given place p is_p list is_list)
     (c.as_slice.ensures.value ∙ imports_so declared ps given are.are_given place row is_row) (sym c.in-Some.ensures)
 
-pub returns-in-None : goal.returns-in-None
-returns-in-None c = λ declared ps p are is_p.
+pub returns-in_ok-by_imports-in-Some-clause-past : goal.returns-in_ok-by_imports-in-Some-clause-past
+returns-in_ok-by_imports-in-Some-clause-past c = λ past.
+    let loaded = c.in-Some-Some-Some.loaded.now in
+    let packages = c.args.self.now.given.packages.now in
+    let is = slice_get_read packages (length packages) c.args.place loaded refl c.in-Some-Some-Some.ensures.lookup.3.0
+    c.in-Some-Some-Some.ensures.lookup.1 in
+    absurd (none-some loaded (sym past ∙ is))
+
+pub returns-in-None-clause-found : goal.returns-in-None-clause-found
+returns-in-None-clause-found c = λ declared ps p are is_p.
     let all = c.args.self.now in
     has_judged declared ps all.given are.are_given c.args.place p is_p (slots_in all.progress) are.are_judged.were_judged
     (sym c.in-None.ensures)

@@ -16,4 +16,4 @@ returns-clause-sieves g c = λ fs tell are.
     c.in_ok-marked.ensures.sieves fs calls are
     (subst (AreMarks fs calls claims) (sym c.deref.ensures.value)
     (come_so _ (λ place. IsMark fs calls) (λ place claim mark so. so fs tell) 0 claims c.in_ok-marks.marks.items
-    c.in_ok-marks.ensures))
+    c.in_ok-marks.ensures.all))

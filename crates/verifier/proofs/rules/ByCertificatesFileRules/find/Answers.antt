@@ -2,7 +2,7 @@ use Rattle.std.proofs.Common.{refl, sym, ap, ◌∙◌, subst}
 use Rattle.calls_flags.proofs.KeptFiles.{as_seen, tell_all}
 use Rattle.calls_flags.specs.FilesBodies.{TellAll, with_all_credits}
 use Rattle.calls_flags.specs.ToldFiles.{TellAllSeen}
-use Rattle.calls_flags.specs.KnownCalls.{is_called, flags_by_path}
+use Rattle.called_parameters.specs.Called.{is_called, flags_by_path}
 use Rattle.facts.specs.FactViews.{facts_by_name}
 use Rattle.meaning_reports.specs.Loaded.{seen_files}
 use Rattle.silent_files.proofs.WalkedFiles.{walks_are_enough}

@@ -1,6 +1,6 @@
 use Rattle.std.proofs.Common.{sym, ◌∙◌}
 use Rattle.facts.proofs.FactMaps.{inserted-seen}
-use Rattle.calls_flags.proofs.known_calls.ImportedCalls.insert.Goals as goal
+use Rattle.called_parameters.proofs.called.ImportedCalls.insert.Goals as goal
 
 pub returns-in_ok-insert-clause-ok : goal.returns-in_ok-insert-clause-ok
 returns-in_ok-insert-clause-ok c =

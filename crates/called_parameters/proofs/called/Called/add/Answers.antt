@@ -1,6 +1,6 @@
 use Rattle.std.proofs.Common.{refl}
-use Rattle.calls_flags.proofs.AddedParameters.{added}
-use Rattle.calls_flags.proofs.known_calls.Called.add.Goals as goal
+use Rattle.called_parameters.proofs.AddedParameters.{added}
+use Rattle.called_parameters.proofs.called.Called.add.Goals as goal
 
 pub returns-clause-ok : goal.returns-clause-ok
 returns-clause-ok c = λ name k.

@@ -1,6 +1,6 @@
 use Rattle.std.proofs.Common.{drop}
-use Rattle.plain_tables.proofs.PlainTables.{TablesOn}
-use Rattle.plain_tables.proofs.tables.tables_of.Given as goal
+use Rattle.inspect_packages.proofs.FinalTables.{TablesOn}
+use Rattle.inspect_packages.proofs.final_tables.tables_of.Given as goal
 
 -- the tables of those that are left complete the tables of all
 abbrev pub invariant-loop-place : goal.invariant-loop-place

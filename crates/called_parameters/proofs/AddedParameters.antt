@@ -1,5 +1,5 @@
 -- Parameters that are added to those that functions are known to call.
-use Rattle.std.proofs.Common.{◌≡◌, ℕ, Bool, true, false, ◌||◌, List, refl, sym, ap, ◌∙◌}
+use Rattle.std.proofs.Common.{◌≡◌, ℕ, Bool, true, false, ◌||◌, List, refl, sym, ◌∙◌}
 use Rattle.std.specs.Prelude.{◌==◌}
 use Rattle.std.specs.List.{list_any}
 use Rattle.std.specs.Map.{IsKeyTest, AreApart}
@@ -8,8 +8,8 @@ use Rattle.std.specs.Str.{bytes_eq}
 use Rattle.std.proofs.lemmas.Bool.{and_parts, and_from, true≢false}
 use Rattle.std.proofs.lemmas.Bool.Decides.{Decides-eqb}
 use Rattle.std.proofs.lemmas.Slice.Eq.{bytes_eq-Decides}
-use Rattle.calls_flags.specs.declared.known_calls.FunctionParameter.{FunctionParameter}
-use Rattle.calls_flags.specs.KnownCalls.{is_parameter}
+use Rattle.called_parameters.specs.declared.called.FunctionParameter.{FunctionParameter}
+use Rattle.called_parameters.specs.Called.{is_parameter}
 
 -- the test of the name and the position of a parameter that passes it
 same_test : (name : List ℕ) (k : ℕ) (x y : FunctionParameter) → is_parameter name k x ≡ true
@@ -36,13 +36,9 @@ or_true : (t : Bool) → true ≡ (t || true)
 or_true true = refl
 or_true false = refl
 
-pub or_false : (t : Bool) → t ≡ (t || false)
+or_false : (t : Bool) → t ≡ (t || false)
 or_false true = refl
 or_false false = refl
-
-or_assoc : (t p rest : Bool) → (t || p || rest) ≡ (t || (p || rest))
-or_assoc true p rest = refl
-or_assoc false p rest = refl
 
 module _ (eq : FunctionParameter → FunctionParameter → Bool)
     (eq_is : (x y : FunctionParameter) → eq x y ≡ is_parameter x.name.now x.position y) where
@@ -71,11 +67,3 @@ module _ (eq : FunctionParameter → FunctionParameter → Bool)
       by false is =
           others (is_parameter name k) (is_key_test name k) (apart name k p is)
           ∙ or_false (list_any (is_parameter name k) before)
-
--- what was added, or is claimed by what is left
-pub claimed_next : (before after p rest all : Bool) → after ≡ (before || p) → (before || (p || rest)) ≡ all
-    → (after || rest) ≡ all
-claimed_next before after p rest all e h = ap (λ t. t || rest) e ∙ (or_assoc before p rest ∙ h)
-
-pub claimed_last : (found rest all : Bool) → rest ≡ false → (found || rest) ≡ all → found ≡ all
-claimed_last found rest all none h = or_false found ∙ (ap (λ t. found || t) (sym none) ∙ h)

@@ -1,7 +1,7 @@
 use Rattle.std.proofs.Common.{◌+◌, drop}
 use Rattle.std.proofs.lemmas.List.{drop_all}
-use Rattle.plain_tables.proofs.PlainTables.{drop_one, tables_none, tables_next, tables_all}
-use Rattle.plain_tables.proofs.tables.tables_of.Goals as goal
+use Rattle.inspect_packages.proofs.FinalTables.{drop_one, tables_none, tables_next, tables_all}
+use Rattle.inspect_packages.proofs.final_tables.tables_of.Goals as goal
 
 pub loop-place-init : goal.loop-place-init
 loop-place-init c = tables_none c.args.packages.now c.args.judged.now c.new-tables.result.items c.new-tables.ensures.items

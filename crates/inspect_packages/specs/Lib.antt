@@ -1,0 +1,2 @@
+-- For a reader of the contracts: what the tables of all packages say.
+pub mod FinalTables

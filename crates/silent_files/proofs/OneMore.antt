@@ -1,0 +1,13 @@
+-- Lists that grow by one element at a time, such as marks of files: what stands at a place.
+use Rattle.std.proofs.Common.{◌≡◌, ℕ, zero, suc, ◌⊎◌, inl, inr, List, [], ◌∷◌, ◌++◌, length, Some, refl, ap}
+use Rattle.std.specs.Prelude.{slice_get}
+use Rattle.std.proofs.lemmas.Option.{none-some, same_Some}
+
+-- a list with one element more
+pub last_or_before : {X : Type 0} (xs : List X) (y : X) (i : ℕ) (z : X) → slice_get (xs ++ y ∷ []) i ≡ Some z
+    → (slice_get xs i ≡ Some z) ⊎ ((i ≡ length xs) × (y ≡ z))
+last_or_before [] y zero z e = inr (refl, same_Some y z e)
+last_or_before [] y (suc i) z e = absurd (none-some z e)
+last_or_before (x ∷ xs) y zero z e = inl e
+last_or_before (x ∷ xs) y (suc i) z e =
+    elim (last_or_before xs y i z e) [ inl before ↦ inl before | inr last ↦ inr (ap suc last.0, last.1) ]
