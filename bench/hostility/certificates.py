@@ -2,11 +2,11 @@
 
 import json
 
-from common import verdicts
+from hostility.agreement import excused, findings, unfounded
 from hostility.huge import huge_texts
 from hostility.runs import Section, trouble_of_form
 from hostility.worked import (
-    DEFERRED, DEFERRED_IN_A_LOOP, HEAD, LOOP, ON_ONE_BRANCH, RECURSION, WORKED, report_of, words_of
+    DEFERRED, DEFERRED_IN_A_LOOP, HEAD, LEFT_TO_TWO_GROUPS, LOOP, ON_ONE_BRANCH, RECURSION, WORKED, report_of, words_of
 )
 
 FILE = "certificates.json"
@@ -71,6 +71,23 @@ def deferred_text(masks=MASKS, facts="[]", version=1):
     return f'{{"packages":[{{"bodies":[{body}],"facts":{facts},"path":"a"}}],"version":{version}}}'
 
 
+# Masks of LEFT_TO_TWO_GROUPS, by the offset of each body. Those of `check`, but that at the return of the first literal
+# its cancel function may be open. So the literal is not relied on, the function leaves its cancel function to its own
+# group alone, and no path has a fault: it is yes by them, and has LC10 by `check`. Its runs are quiet by either.
+WEAKER_MASKS = {
+    64: "[[4,1,1],[4,1,1],[4,2,1],[4,2,2],[4,2,2],[4,4,16],[4,2,4]]",
+    175: "[[2],[2],[6],[0]]",
+    220: "[[2],[2],[4],[0]]",
+}
+
+
+def weaker_text(version):
+    bodies = ",".join(f'{{"at":{at},"file":0,"states":{masks}}}' for at, masks in WEAKER_MASKS.items())
+    causes = '"causes":[],' if version == 2 else ""
+    facts = f'[{{{causes}"gives":[],"name":"f","params":[{{"at":1,"kind":"group"}}]}}]'
+    return f'{{"packages":[{{"bodies":[{bodies}],"facts":{facts},"path":"a"}}],"version":{version}}}'
+
+
 CLAIM = '[{"gives":[],"name":"NAME","params":[{"at":0,"calls":true,"kind":"cancel"}]}]'
 BLANK = HEAD + """func f(_ context.CancelFunc) {
 }
@@ -94,6 +111,8 @@ READ = (
     (DEFERRED, deferred_text("[]"), IS_MISSING),
     (DEFERRED, '{"packages":[],"version":1}', IS_MISSING),
     (DEFERRED, f'{{"packages":[{NO_BODIES}],"version":1}}', IS_MISSING),
+    (LEFT_TO_TWO_GROUPS, weaker_text(version=1), ["yes a"]),
+    (LEFT_TO_TWO_GROUPS, weaker_text(version=2), ["yes a"]),
     # The way round by `continue` is hidden.
     (HEAD + LOOP, deferred_text("[[1],[5],[5],[2],[2],[2],[2],[5]]"), IS_MISSING),
     (
@@ -112,6 +131,7 @@ def certificates(bench, long):
     read_texts(section)
     for text in (DEFERRED, DEFERRED_IN_A_LOOP):
         smaller_masks(section, text)
+    smaller_masks(section, LEFT_TO_TWO_GROUPS, weaker_text(version=2))
     for text in (DEFERRED, ON_ONE_BRANCH, RECURSION):
         damaged_bytes(section, text)
     other_sources(section)
@@ -126,20 +146,21 @@ def verify(bench, words, text):
 
 
 def certified(bench, words):
-    """The verdicts of a check, and the certificates that it writes."""
+    """What a check finds in each package, and the certificates that it writes."""
     end = bench.run(["check", "--cert", bench.at(FILE), *words])
-    return verdicts(end.out), bench.read(FILE)
+    return findings(end.out), bench.read(FILE)
 
 
-def trouble_of_verdicts(end, checked):
-    """What is wrong with an answer by certificates: a yes for a package that is no by `check`, or no answer."""
-    said = verdicts(end.out)
-    unsound = [path for path in said if said[path] == "yes" and checked.get(path) != "yes"]
+def trouble_of_yes(end, checked, excused_codes):
+    """What is wrong with an answer by certificates, where a check found that: a yes for a package in which it found what
+    certificates don't excuse, or no answer."""
+    said = findings(end.out)
     if trouble := trouble_of_form(end):
         return trouble
     if end.status != 2 and list(said) != list(checked):
         return f"other packages than were given: {end.out[:200]!r}"
-    return f"yes, and no by check: {unsound}" if unsound else None
+    unsound = unfounded(said, checked, excused_codes)
+    return f"yes, and what check finds is not excused: {unsound}" if unsound else None
 
 
 def faulty_texts(section):
@@ -169,12 +190,12 @@ def text_of(value):
     return json.dumps(value, separators=(",", ":"), sort_keys=True).encode()
 
 
-def smaller_masks(section, source):
-    """Any one mask made smaller by one of its bits takes the yes away."""
+def smaller_masks(section, source, text=None):
+    """Any one mask of a text made smaller by one of its bits takes the yes away; the text of `check`, or this one."""
     bench = section.bench
     bench.empty_case()
     words = words_of(bench, {"a": source})
-    _, text = certified(bench, words)
+    text = text.encode() if text else certified(bench, words)[1]
     value = json.loads(text)
     section.note(end := verify(bench, words, text), None if end.status == 0 else f"{end.says()!r}"[:400])
     for body in value["packages"][0]["bodies"]:
@@ -201,15 +222,20 @@ def damaged_bytes(section, source):
         section.note(end, None if end.says() == (2, b"", NOT_JSON) else f"a beginning: {end.says()!r}"[:400])
         for other in (b"", byte + byte, *(bytes([one]) for one in DAMAGES)):
             end = verify(bench, words, before + other + after)
-            trouble = trouble_of_verdicts(end, checked)
+            trouble = trouble_of_yes(end, checked, excused([source.encode()]))
             if end.status == 2 and end.err not in TEXT_FAULTS:
                 trouble = trouble or f"no fault of certificates: {end.err[:200]!r}"
             section.note(end, trouble)
 
 
+def yes_of(found):
+    """The packages in which nothing was found."""
+    return [path for path, codes in found.items() if not codes]
+
+
 def other_sources(section):
-    """The certificates of each worked run, for each other: no more is yes than by `check`."""
-    bench, texts = section.bench, []
+    """The certificates of each worked run, and weaker ones, for each; by its own just that is yes which is so by `check`."""
+    bench, texts = section.bench, [weaker_text(version=2).encode()]
     for packages, _ in WORKED.values():
         bench.empty_case()
         texts.append(certified(bench, words_of(bench, packages))[1])
@@ -217,10 +243,11 @@ def other_sources(section):
         bench.empty_case()
         words = words_of(bench, packages)
         checked, own = certified(bench, words)
+        excused_codes = excused(text.encode() for text in packages.values())
         for text in texts:
             end = verify(bench, words, text)
-            trouble = trouble_of_verdicts(end, checked)
-            if text == own and verdicts(end.out) != checked:
+            trouble = trouble_of_yes(end, checked, excused_codes)
+            if text == own and yes_of(findings(end.out)) != yes_of(checked):
                 trouble = trouble or f"not as by check: {end.out[:300]!r}"
             section.note(end, trouble)
 

@@ -14,6 +14,12 @@ DEFERRED = HEAD + """func f(p context.Context, d int) {
 }
 """
 
+DISCARDED = HEAD + """func f(p context.Context, d int) {
+	ctx, _ := context.WithCancel(p)
+	use(ctx)
+}
+"""
+
 ON_ONE_BRANCH = HEAD + """func f(p context.Context, b bool) {
 	ctx, cancel := context.WithCancel(p)
 	if b {
@@ -142,6 +148,16 @@ GROUP_OF_THE_CALLER = GROUP_HEAD + """func f(p context.Context, g *errgroup.Grou
 }
 """
 
+# Its cancel function is left to the caller's group first, and then to one of its own, for which it waits.
+LEFT_TO_TWO_GROUPS = GROUP_HEAD + """func f(p context.Context, g *errgroup.Group) {
+	var h errgroup.Group
+	_, cancel := context.WithCancel(p)
+	g.Go(func() error { cancel(); return nil })
+	h.Go(func() error { cancel(); return nil })
+	h.Wait()
+}
+"""
+
 NOTIFIED = """package a
 
 import (
@@ -204,15 +220,13 @@ IMPORT_IS_NOT_YES = {"a": ON_ONE_BRANCH, "b": importing("b", "a")}
 
 OVERWRITTEN = "LC04 cancel overwritten before it is called"
 LOST = "LC05 cancel may not have been called at this return"
+LEFT = "LC10 cancel left to a group that may be live at this return"
 OTHERWISE = "cancel function used in another way"
 
 WORKED = {
     "deferred": ({"a": DEFERRED}, ["yes a"]),
     "called on one branch": ({"a": ON_ONE_BRANCH}, [f"a 12:1: {LOST}", "no a"]),
-    "discarded": (
-        {"a": DEFERRED.replace("ctx, cancel", "ctx, _").replace("\tdefer cancel()\n", "")},
-        ["a 6:2: LC03 WithTimeout cancel function discarded", "no a"],
-    ),
+    "discarded": ({"a": DISCARDED}, ["a 6:2: LC03 WithCancel cancel function discarded", "no a"]),
     "cut in a body": ({"a": "package a\n\nfunc f() {\n\treturn"}, ["a 4:8: LC02 - unexpected token", "no a"]),
     "lost in a loop": ({"a": HEAD + LOOP}, [f"a 7:8: {OVERWRITTEN}", f"a 14:1: {LOST}", "no a"]),
     "deferred in a loop": ({"a": DEFERRED_IN_A_LOOP}, ["yes a"]),
@@ -246,10 +260,8 @@ WORKED = {
     ),
     "asked whether it is nil": ({"a": ASKED}, [f"a 7:5: LC06 cancel {OTHERWISE}", f"a 10:1: {LOST}", "no a"]),
     "bound in a branch": ({"a": BOUND_IN_A_BRANCH}, ["yes a"]),
-    "left to a group of the caller": (
-        {"a": GROUP_OF_THE_CALLER},
-        ["a 14:1: LC10 cancel left to a group that may be live at this return", "no a"],
-    ),
+    "left to a group of the caller": ({"a": GROUP_OF_THE_CALLER}, [f"a 14:1: {LEFT}", "no a"]),
+    "left to a group of the caller and to an own one": ({"a": LEFT_TO_TWO_GROUPS}, [f"a 14:1: {LEFT}", "no a"]),
     "string not ended": ({"a": 'package a\n\nvar s = "x\n'}, ["a 3:9: LC01 - string not ended", "no a"]),
 }
 
