@@ -6,7 +6,8 @@ from hostility.agreement import excused, findings, unfounded
 from hostility.huge import huge_texts
 from hostility.runs import Section, trouble_of_form
 from hostility.worked import (
-    DEFERRED, DEFERRED_IN_A_LOOP, HEAD, LEFT_TO_TWO_GROUPS, LOOP, ON_ONE_BRANCH, RECURSION, WORKED, report_of, words_of
+    DEFERRED, DEFERRED_IN_A_LOOP, HEAD, LEFT_TO_TWO_GROUPS, LOOP, ON_ONE_BRANCH, PASSED_TO_TWO_GROUPS, RECURSION, WORKED,
+    report_of, words_of
 )
 
 FILE = "certificates.json"
@@ -66,26 +67,40 @@ TEXTS = {
 MASKS = "[[1],[1],[2],[4],[4]]"
 
 
+def text_with(bodies, facts="[]", version=1):
+    """Certificates of the package `a`: the masks of its bodies, by the offset of each."""
+    listed = ",".join(f'{{"at":{at},"file":0,"states":{masks}}}' for at, masks in bodies.items())
+    return f'{{"packages":[{{"bodies":[{listed}],"facts":{facts},"path":"a"}}],"version":{version}}}'
+
+
 def deferred_text(masks=MASKS, facts="[]", version=1):
-    body = f'{{"at":29,"file":0,"states":{masks}}}'
-    return f'{{"packages":[{{"bodies":[{body}],"facts":{facts},"path":"a"}}],"version":{version}}}'
+    return text_with({29: masks}, facts, version)
 
 
-# Masks of LEFT_TO_TWO_GROUPS, by the offset of each body. Those of `check`, but that at the return of the first literal
-# its cancel function may be open. So the literal is not relied on, the function leaves its cancel function to its own
-# group alone, and no path has a fault: it is yes by them, and has LC10 by `check`. Its runs are quiet by either.
-WEAKER_MASKS = {
-    64: "[[4,1,1],[4,1,1],[4,2,1],[4,2,2],[4,2,2],[4,4,16],[4,2,4]]",
-    175: "[[2],[2],[6],[0]]",
-    220: "[[2],[2],[4],[0]]",
+# Sources that have findings by `check` and are yes by weaker certificates: the masks of their bodies, and the parameters
+# of their functions. By these what the first literal calls may be open where it returns. So nobody relies on that
+# literal, and its cancel function is left to the own group alone, which is waited for.
+CALLED_BY_MEMBER = "[[2],[2],[4],[0]]"
+MAY_BE_OPEN = "[[2],[2],[6],[0]]"
+GROUP_AT_1 = '{"at":1,"kind":"group"}'
+WEAKER = {
+    LEFT_TO_TWO_GROUPS: (
+        {64: "[[4,1,1],[4,1,1],[4,2,1],[4,2,2],[4,2,2],[4,4,16],[4,2,4]]", 175: MAY_BE_OPEN, 220: CALLED_BY_MEMBER},
+        {"f": GROUP_AT_1},
+    ),
+    PASSED_TO_TWO_GROUPS: (
+        {64: "[[2,4,1],[2,4,1],[2,4,2],[2,4,2],[16,4,4],[4,4,2]]", 145: MAY_BE_OPEN, 185: CALLED_BY_MEMBER,
+         232: "[[4,1],[4,1],[4,2],[4,4],[4,4]]"},
+        {"f": GROUP_AT_1, "stop": '{"at":0,"calls":true,"kind":"cancel"},' + GROUP_AT_1},
+    ),
 }
 
 
-def weaker_text(version):
-    bodies = ",".join(f'{{"at":{at},"file":0,"states":{masks}}}' for at, masks in WEAKER_MASKS.items())
-    causes = '"causes":[],' if version == 2 else ""
-    facts = f'[{{{causes}"gives":[],"name":"f","params":[{{"at":1,"kind":"group"}}]}}]'
-    return f'{{"packages":[{{"bodies":[{bodies}],"facts":{facts},"path":"a"}}],"version":{version}}}'
+def weaker_text(source, version):
+    bodies, functions = WEAKER[source]
+    front = '"causes":[],"gives":[]' if version == 2 else '"gives":[]'
+    facts = ",".join(f'{{{front},"name":"{name}","params":[{params}]}}' for name, params in functions.items())
+    return text_with(bodies, f"[{facts}]", version)
 
 
 CLAIM = '[{"gives":[],"name":"NAME","params":[{"at":0,"calls":true,"kind":"cancel"}]}]'
@@ -111,8 +126,7 @@ READ = (
     (DEFERRED, deferred_text("[]"), IS_MISSING),
     (DEFERRED, '{"packages":[],"version":1}', IS_MISSING),
     (DEFERRED, f'{{"packages":[{NO_BODIES}],"version":1}}', IS_MISSING),
-    (LEFT_TO_TWO_GROUPS, weaker_text(version=1), ["yes a"]),
-    (LEFT_TO_TWO_GROUPS, weaker_text(version=2), ["yes a"]),
+    *((source, weaker_text(source, version), ["yes a"]) for source in WEAKER for version in (1, 2)),
     # The way round by `continue` is hidden.
     (HEAD + LOOP, deferred_text("[[1],[5],[5],[2],[2],[2],[2],[5]]"), IS_MISSING),
     (
@@ -131,7 +145,8 @@ def certificates(bench, long):
     read_texts(section)
     for text in (DEFERRED, DEFERRED_IN_A_LOOP):
         smaller_masks(section, text)
-    smaller_masks(section, LEFT_TO_TWO_GROUPS, weaker_text(version=2))
+    for source in WEAKER:
+        smaller_masks(section, source, weaker_text(source, version=2))
     for text in (DEFERRED, ON_ONE_BRANCH, RECURSION):
         damaged_bytes(section, text)
     other_sources(section)
@@ -235,7 +250,7 @@ def yes_of(found):
 
 def other_sources(section):
     """The certificates of each worked run, and weaker ones, for each; by its own just that is yes which is so by `check`."""
-    bench, texts = section.bench, [weaker_text(version=2).encode()]
+    bench, texts = section.bench, [weaker_text(source, version=2).encode() for source in WEAKER]
     for packages, _ in WORKED.values():
         bench.empty_case()
         texts.append(certified(bench, words_of(bench, packages))[1])

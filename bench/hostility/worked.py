@@ -158,6 +158,20 @@ LEFT_TO_TWO_GROUPS = GROUP_HEAD + """func f(p context.Context, g *errgroup.Group
 }
 """
 
+# By its first literal the parameter is left to the caller's group.
+PASSED_TO_TWO_GROUPS = GROUP_HEAD + """func stop(c context.CancelFunc, g *errgroup.Group) {
+	var h errgroup.Group
+	g.Go(func() error { c(); return nil })
+	h.Go(func() error { c(); return nil })
+	h.Wait()
+}
+
+func f(p context.Context, g *errgroup.Group) {
+	_, cancel := context.WithCancel(p)
+	stop(cancel, g)
+}
+"""
+
 NOTIFIED = """package a
 
 import (
@@ -262,6 +276,9 @@ WORKED = {
     "bound in a branch": ({"a": BOUND_IN_A_BRANCH}, ["yes a"]),
     "left to a group of the caller": ({"a": GROUP_OF_THE_CALLER}, [f"a 14:1: {LEFT}", "no a"]),
     "left to a group of the caller and to an own one": ({"a": LEFT_TO_TWO_GROUPS}, [f"a 14:1: {LEFT}", "no a"]),
+    "passed to a function that leaves it to a group of its caller": (
+        {"a": PASSED_TO_TWO_GROUPS}, [f"a 17:7: LC06 cancel {OTHERWISE}", f"a 18:1: {LOST}", "no a"]
+    ),
     "string not ended": ({"a": 'package a\n\nvar s = "x\n'}, ["a 3:9: LC01 - string not ended", "no a"]),
 }
 
