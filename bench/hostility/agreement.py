@@ -7,8 +7,8 @@ certificate does. These may be fewer, which is fair, and is how a certificate ca
 
 - a cancel function that `check` has as pending in a group of the caller stays open, and so is left to another group
   that is waited for: no LC10 where the function returns, and no LC04 where it is bound again;
-- so a literal may settle a variable that it does not settle for `check`, and a function may call a parameter. Without
-  that `check` has LC05 where it is used, and LC06 of a pass to the function;
+- so a literal may settle a variable that it does not settle for `check`, and a function may call a parameter. For `check`
+  it is then open where it is used (LC04, LC05), and a pass to the function is LC06;
 - packages that import one of these have LC13.
 
 Of groups it is otherwise: whoever relies on more literals finds fewer of them live. So LC07 and LC08 of `check` are faults
@@ -17,10 +17,10 @@ by certificates too. Where no package has a literal, nothing is relied on, and a
 
 import re
 
-# What is found at all, by path, of a report: the lines of findings before the line of the verdict.
+# Lines of a report: a package's verdict, with its path, and before that its findings.
 VERDICT = re.compile(rb"(?:yes|no) (.*)")
 CODE = re.compile(rb".*:[1-9]\d*:[1-9]\d*: (LC\d\d) ")
-# What certificates can excuse.
+# What certificates can excuse. The code LC06 does not tell a pass, which they can, from another use, which they can't.
 EXCUSED = frozenset((b"LC04", b"LC05", b"LC06", b"LC10", b"LC13"))
 # A `func` within a line: of a literal or of a type. Those of declarations begin theirs.
 LITERAL = re.compile(rb"[^\n]\bfunc\b")
