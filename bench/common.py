@@ -119,15 +119,11 @@ def write(folder, name, data):
 
 
 def built(program):
-    """Where a program of the repository lies once it is built."""
-    return os.path.join(ROOT, "crates", program, "out", program)
-
-
-def build(program):
-    """Builds a program of the repository by its script, where it isn't built yet, and gives the path of what was built."""
-    if subprocess.run([os.path.join(ROOT, program), "--help"], stdout=subprocess.DEVNULL).returncode != 0:
+    """The path of a program of the repository, as its script starts it. It is built first, where it must be."""
+    where = subprocess.run([os.path.join(ROOT, "scripts", "where"), program], stdout=subprocess.PIPE, text=True)
+    if where.returncode != 0:
         sys.exit(f"{sys.argv[0]}: {program} could not be built")
-    return built(program)
+    return where.stdout.strip()
 
 
 def build_go(folder, name):

@@ -5,7 +5,6 @@ Such a run has a folder of its own with copies of crates, which stands for a rep
 checkout and leaves nothing in it; and what it proves is kept where the toolchain keeps what the gate passed, by the
 sums of all that a proof reads. There the gate finds it, and a later run here.
 """
-import hashlib
 import os
 import re
 import shutil
@@ -50,13 +49,10 @@ def files_of(name, parts=PROVED):
     return sorted(found)
 
 
-def digest(names):
-    """A sum of all that the proofs of these crates read of the repository."""
-    made = hashlib.sha256(repr([(name, listed()[name]) for name in names]).encode())
-    for path in [f"{ROOT}/HANDLES", *(path for name in names for path in files_of(name))]:
-        with open(path, "rb") as file:
-            made.update(repr((os.path.relpath(path, ROOT), hashlib.sha256(file.read()).hexdigest())).encode())
-    return made.hexdigest()
+def sums(*programs):
+    """For each of these programs a sum of all that it is made of, as scripts/sums has it."""
+    lines = subprocess.run([f"{ROOT}/scripts/sums", *programs], stdout=subprocess.PIPE, text=True, check=True).stdout
+    return dict(line.split() for line in lines.splitlines())
 
 
 def copy(names, room):
