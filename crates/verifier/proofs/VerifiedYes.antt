@@ -1,5 +1,5 @@
--- Of a package of whose files nothing is said by certificates, what its table knows of functions holds, and no finding
--- of `check` is to be said of it. So the promise is that of `yes_is_quiet`.
+-- Of a package of whose files nothing is said by certificates, what its table knows of functions holds, and the rules of
+-- paths find nothing in it under its credits. So the promise is that of `yes_is_quiet`.
 use Rattle.std.proofs.Common.{◌≡◌, ℕ, ◌+◌, List, [], ◌∷◌, ◌++◌, Some, Contains, refl, sym, ap, ◌∙◌, subst}
 use Rattle.std.specs.Prelude.{slice_get}
 use Rattle.checker.specs.CheckerLaws.{LeavesNoFault, KeepsClaims, SettlesWhatItSays}
