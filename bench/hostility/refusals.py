@@ -1,6 +1,8 @@
 """What becomes of a run that is refused memory or threads, and how many requests for memory it makes."""
 
+import json
 import math
+import os
 
 from hostility.runs import NO_THREAD, OUT_OF_MEMORY, Section, trouble_of_form
 from hostility.worked import (
@@ -99,6 +101,20 @@ def commands_with_facts(bench):
     ]
 
 
+def commands_with_a_list(bench):
+    """The commands that are refused something while they have a list of packages, and its text."""
+    bench.empty_case()
+    named = [word.split("=", 1) for word in words_of(bench, IMPORT_IS_NOT_YES)]
+    entries = [{"ImportPath": path, "Dir": folder, "GoFiles": sorted(os.listdir(folder))} for path, folder in named]
+    text = "".join(json.dumps(entry, indent="\t") + "\n" for entry in entries)
+    kept, given = bench.at("kept.json"), bench.put("list", text.encode())
+    bench.run(["check", "--packages", given, "--cert", kept], "")
+    return [
+        Command(bench, ["check", "--packages", given], False),
+        Command(bench, ["verify", "--cert", kept, "--packages", given], False),
+    ]
+
+
 def each_refused(section, command, setting, refused_of, judge):
     """Runs the command with the first call refused, then with the second, and so on until none meets a refusal."""
     number, calm, refused = 0, 0, 0
@@ -118,6 +134,7 @@ def memory(bench, long):
     for packages in (IMPORT_IS_NOT_YES, WIDE) if long else (IMPORT_IS_NOT_YES,):
         memory_of(section, commands(bench, packages))
     memory_of(section, commands_with_facts(bench))
+    memory_of(section, commands_with_a_list(bench))
     return section
 
 

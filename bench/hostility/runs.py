@@ -42,7 +42,7 @@ FAULTS = {
 OUT_OF_MEMORY = b"ctxvet: out of memory\n"
 NO_THREAD = b"ctxvet: a thread could not be started\n"
 UNWRITTEN = b"ctxvet: cannot write: standard output\n"
-NOTE = rb"ctxvet: note: no Go files in [^\n]*\n"
+NOTE = rb"ctxvet: note: (?:no Go files in [^\n]*|\d+ packages: \d+ yes, \d+ no; \d+ findings)\n"
 
 # The texts of findings, by code.
 TEXTS = {

@@ -15,7 +15,7 @@ use Rattle.agreement.proofs.PackageFiles.{IsOfText, file_seen_at, of_text}
 use Rattle.agreement.specs.CertificateLaws.{given_in, CanBeWritten, CertificatesAgree}
 use Rattle.agreement.specs.PackageLaws.{IsGivenByPaths, AreGivenByPaths}
 use Rattle.all_certificates.specs.CertifiedBodies.{AreOfFiles}
-use Rattle.all_certificates.specs.CertifiedPackages.{IsCertificateOf, AreCertificatesBy}
+use Rattle.all_certificates.specs.CertifiedPackages.{IsCertificateOf, AreCertificatesBy, AreCertificatesOfAll}
 use Rattle.plain_tables.specs.Tables.{is_none_of, entries_for, IsPlain}
 use Rattle.certificate_json.specs.Certificates.{PackageEntry}
 use Rattle.meaning.specs.FunctionFacts.{cancel, cancel_type, CancelType, FunctionFacts}
@@ -89,7 +89,7 @@ not_empty : (ps : List Parameter) (k : ℕ) (t : CancelType) → claim_at ps k �
 not_empty [] k t e = cc
 not_empty (p ∷ ps) k t e = refl
 
-some_facts : (k : ℕ) (o : Option FunctionFacts) → facts_take cancel k o ≡ true
+pub some_facts : (k : ℕ) (o : Option FunctionFacts) → facts_take cancel k o ≡ true
     → (f : FunctionFacts) × (o ≡ Some f) × (list_any (has_kind_at cancel k) f.parameters ≡ true)
 some_facts k None e = absurd (false≢true e)
 some_facts k (Some f) e = (f, refl, e)
@@ -212,12 +212,23 @@ module _ (bodies : BodiesAreApart) (declared : Tables) (ps : List LoadedPackage)
         absurd (omega (arith, low, long, out))
   ]
 
+-- so it is by the tables of `check`
+pub given_by_check : BodiesAreApart → (declared : Tables) (ps : List LoadedPackage) (entries : List PackageEntry)
+    (tables : Tables)
+    → AreTables declared ps tables
+    → HaveDistinctPaths ps
+    → AreCertificatesOfAll declared ps entries
+    → ((i : ℕ) (p : LoadedPackage) → slice_get ps i ≡ Some p → AreTreesOfTexts p)
+    → ((i : ℕ) (p : LoadedPackage) → slice_get ps i ≡ Some p → CanBeWritten tables p)
+    → AreGivenByPaths (given_in entries) ps tables
+given_by_check bodies declared ps entries tables are distinct certificates texts fits =
+    given_by_paths bodies declared ps entries tables distinct are
+    (subst (λ t. AreCertificatesBy ps t entries)
+    (one_way AreFlagsByPaths flags_by_paths declared ps certificates.tables tables certificates.are_tables are)
+    certificates.are_certificates)
+    texts fits
+
 pub certificates_agree : LowerLaws → BodiesAreApart → CertificatesAgree
 certificates_agree laws bodies declared ps entries checked verified is_checked is_verified distinct certificates texts fits =
     reports_agree laws bodies declared (given_in entries) ps checked verified is_checked is_verified texts
-    (given_by_paths bodies declared ps entries is_checked.tables distinct is_checked.are_tables
-    (subst (λ t. AreCertificatesBy ps t entries)
-    (one_way AreFlagsByPaths flags_by_paths declared ps certificates.tables is_checked.tables certificates.are_tables
-    is_checked.are_tables)
-    certificates.are_certificates)
-    texts fits)
+    (given_by_check bodies declared ps entries is_checked.tables is_checked.are_tables distinct certificates texts fits)

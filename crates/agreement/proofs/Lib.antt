@@ -17,3 +17,9 @@ mod PackageAgreement
 mod GivenClaims
 mod GivenRowsFound
 mod CertificateAgreement
+mod FewParameters
+mod MoreFaults
+mod FullCredits
+mod WrittenNumbers
+mod AlikePackages
+mod GivenReports

@@ -256,12 +256,12 @@ no_entry [] none = refl
 no_entry (x ∷ xs) none = absurd (none x (contains_here x xs))
 
 module _ (rules : Rules) (ps : List LoadedPackage) (report : List Said) (is : IsReportBy rules ps report) where
-  is_yes : (i : ℕ) → IsYesIn ps report i → IsYesBy rules ps is.tables i
+  pub is_yes : (i : ℕ) → IsYesIn ps report i → IsYesBy rules ps is.tables i
   is_yes i its_yes x h =
       let w = is.of_package i its_yes.loaded its_yes.said its_yes.is_package its_yes.is_said in
       contains_nil x (subst (λ xs. Contains xs x) its_yes.is_yes ((w.1.each x).1 h))
 
-  said_yes : (i : ℕ) (p : LoadedPackage) → slice_get ps i ≡ Some p → IsYesBy rules ps is.tables i → IsYesIn ps report i
+  pub said_yes : (i : ℕ) (p : LoadedPackage) → slice_get ps i ≡ Some p → IsYesBy rules ps is.tables i → IsYesIn ps report i
   said_yes i p is_package its_yes = elim (slice_get_cases report i).1 [
     | inl w ↦
         let said = is.of_package i p w.0 is_package w.2 in
@@ -279,27 +279,43 @@ module _ (rules : Rules) (ps : List LoadedPackage) (report : List Said) (is : Is
         absurd (omega (arith, low, long, out))
   ]
 
+-- by the tables of both
+pub tables_agree : LowerLaws → BodiesAreApart → (declared : Tables) (given : GivenByPath) (ps : List LoadedPackage)
+    (checked verified : Tables)
+    → AreTablesBy AreFlagsByPaths declared ps checked
+    → AreTablesBy (AreFlagsByCertificates given) declared ps verified
+    → ((i : ℕ) (p : LoadedPackage) → slice_get ps i ≡ Some p → AreTreesOfTexts p)
+    → AreGivenByPaths given ps checked
+    → (checked ≡ verified)
+    × ((i : ℕ) → IsYesBy (by_paths declared) ps checked i ↔ IsYesBy (by_certificates given declared) ps verified i)
+tables_agree laws bodies declared given ps checked verified by_path by_cert texts least =
+    (same, λ i. subst (λ t. IsYesBy (by_paths declared) ps checked i ↔ IsYesBy (by_certificates given declared) ps t i) same (agree i))
+  where
+    same : checked ≡ verified
+    same =
+        one_way (AreFlagsByClaims given) (determined given) declared ps checked verified
+        (tables_by_paths declared given ps checked least by_path)
+        (tables_by_certificates declared given ps verified by_cert)
+
+    agree : (i : ℕ) → IsYesBy (by_paths declared) ps checked i ↔ IsYesBy (by_certificates given declared) ps checked i
+    agree =
+        same_yes laws bodies declared given ps checked texts least by_path
+        (subst (AreTablesBy (AreFlagsByCertificates given) declared ps) (sym same) by_cert)
+
 pub reports_agree : LowerLaws → BodiesAreApart → ReportsAgree
 reports_agree laws bodies declared given ps checked verified is_checked is_verified texts least = (
-  same,
+  agree.0,
   λ i. (
     λ its_yes. said_yes (by_certificates given declared) ps verified is_verified i its_yes.loaded its_yes.is_package
-        (subst (λ t. IsYesBy (by_certificates given declared) ps t i) same
-        ((agree i).0 (is_yes (by_paths declared) ps checked is_checked i its_yes))),
+        ((agree.1 i).0 (is_yes (by_paths declared) ps checked is_checked i its_yes)),
     λ its_yes. said_yes (by_paths declared) ps checked is_checked i its_yes.loaded its_yes.is_package
-        ((agree i).1 (subst (λ t. IsYesBy (by_certificates given declared) ps t i) (sym same)
-        (is_yes (by_certificates given declared) ps verified is_verified i its_yes))),
+        ((agree.1 i).1 (is_yes (by_certificates given declared) ps verified is_verified i its_yes)),
   ),
 )
   where
-    same : is_checked.tables ≡ is_verified.tables
-    same =
-        one_way (AreFlagsByClaims given) (determined given) declared ps is_checked.tables is_verified.tables
-        (tables_by_paths declared given ps is_checked.tables least is_checked.are_tables)
-        (tables_by_certificates declared given ps is_verified.tables is_verified.are_tables)
-
-    agree : (i : ℕ) → IsYesBy (by_paths declared) ps is_checked.tables i
-        ↔ IsYesBy (by_certificates given declared) ps is_checked.tables i
+    agree : (is_checked.tables ≡ is_verified.tables)
+        × ((i : ℕ) → IsYesBy (by_paths declared) ps is_checked.tables i
+        ↔ IsYesBy (by_certificates given declared) ps is_verified.tables i)
     agree =
-        same_yes laws bodies declared given ps is_checked.tables texts least is_checked.are_tables
-        (subst (AreTablesBy (AreFlagsByCertificates given) declared ps) (sym same) is_verified.are_tables)
+        tables_agree laws bodies declared given ps is_checked.tables is_verified.tables is_checked.are_tables
+        is_verified.are_tables texts least

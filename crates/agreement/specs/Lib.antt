@@ -1,4 +1,7 @@
--- To be trusted: where `check` and `verify` agree.
+-- To be trusted: where `check` and `verify` agree, of the bytes of files.
+pub mod GivenPackages
+pub mod FullCredits
+-- The same of trees.
 pub mod AgreementLaws
 pub mod PackageLaws
 pub mod CertificateLaws

@@ -5,6 +5,8 @@
 ghost use Rattle.agreement.specs.AgreementLaws.{LeastCertificatesAreBelieved, WhatIsBelievedHasNoFinding};
 ghost use Rattle.agreement.specs.PackageLaws.{ReportsAgree};
 ghost use Rattle.agreement.specs.CertificateLaws.{CertificatesAgree};
+ghost use Rattle.agreement.specs.FullCredits.{YesWithFullCreditsIsYes};
+ghost use Rattle.agreement.specs.GivenPackages.{FullCreditsAreBelieved, WrittenCertificatesAreBelieved};
 ghost use Rattle.agreement.specs.OwnGroups.{StartsHaveOwnGroups, TextsStartNoOutermost};
 
 /// Each group in which a node of a body starts a literal is one of the body's variables, in each file in which no local
@@ -53,4 +55,34 @@ pub fn certificates_agree()
     meaning_runs::bodies_are_apart();
     verifier::credits_are_fair();
     verifier::nothing_is_found();
+}
+
+/// Where certificates hold, whichever they are, and rely on all that may be relied on of literals, in a package and in
+/// every given package below it, `check` says yes of the package too.
+pub fn yes_with_full_credits_is_yes()
+    ensures { YesWithFullCreditsIsYes }
+{
+    meaning_runs::bodies_are_apart();
+    verifier::claims_are_consistent();
+    verifier::nothing_is_found();
+}
+
+/// The same of the bytes of files, and of the reports that `check` and `verify` make of them.
+pub fn full_credits_are_believed()
+    ensures { FullCreditsAreBelieved }
+{
+    meaning_runs::bodies_are_apart();
+    verifier::claims_are_consistent();
+    verifier::nothing_is_found();
+}
+
+/// By the certificates that `check` writes of given packages, `verify` says yes of exactly the packages of which
+/// `check` does.
+pub fn written_certificates_are_believed()
+    ensures { WrittenCertificatesAreBelieved }
+{
+    meaning_runs::bodies_are_apart();
+    verifier::credits_are_fair();
+    verifier::nothing_is_found();
+    all_certificates::certificates_read_back();
 }

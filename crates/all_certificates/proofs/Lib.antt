@@ -1,6 +1,7 @@
 mod AddedEntries
 mod CertifiedFiles
 mod JoinedEntries
+mod SharedJobs
 mod AllCertified
 mod MadeCertificates
 mod RisingLists

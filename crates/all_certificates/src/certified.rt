@@ -9,6 +9,7 @@ ghost use Rattle.workers.specs.Counts.{count_of};
 
 use crate::certifying::Certifying;
 use crate::packages::{CertifiedPackages, certified_packages};
+use crate::settings::Settings;
 use all_packages::{Report, report_from};
 use certificate_json::Certificates;
 use outside_json::Outside;
@@ -17,7 +18,6 @@ use std::alloc::Global;
 use std::sync::Wait;
 use std::thread::Threads;
 use whole_packages::LoadedPackage;
-use workers::Workers;
 
 /// The report of packages, and their certificates.
 #[derive(Drop)]
@@ -27,8 +27,9 @@ pub struct Certified {
 }
 
 /// Lets so many workers judge packages of different paths by the paths of bodies, where this is declared of packages
-/// that are not given, and tells what is to be said of them, with their certificates: the same for any number of
-/// workers. Certificates are made while a package is judged, so that nothing is told of it a second time.
+/// that are not given, and tells what is to be said of them, in the format of the settings, with their certificates:
+/// the same for any number of workers. Certificates are made while a package is judged, so that nothing is told of it a
+/// second time.
 ///
 /// # Errors
 ///
@@ -38,14 +39,15 @@ pub fn certified_report_by<R: Threads + Wait + Sync>(
     alloc: Global,
     packages: &[LoadedPackage],
     outside: &Outside,
-    workers: Workers,
+    settings: Settings,
 ) -> Result<Certified, CheckFault>
-    ensures certified { IfOk result (TellsCertified (declared_tables (packages_of outside.now)) packages.now) }
-    ensures fault { IfErr result (IsFaultOf (count_of workers) (length packages.now)) }
+    ensures certified { IfOk result
+        (TellsCertified settings.format (declared_tables (packages_of outside.now)) packages.now) }
+    ensures fault { IfErr result (IsFaultOf (count_of settings.workers) (length packages.now)) }
 {
     let crew = Crew {
         rt,
-        workers,
+        workers: settings.workers,
         gate: &Open,
     };
     let judged = check_by_workers(alloc, crew, packages, outside, &Certifying)?;
@@ -53,7 +55,7 @@ pub fn certified_report_by<R: Threads + Wait + Sync>(
         reports,
         certificates,
     } = certified_packages(alloc, packages, judged)?;
-    let report = report_from(alloc, &reports)?;
+    let report = report_from(alloc, settings.format, &reports)?;
     Ok(Certified {
         report,
         certificates,

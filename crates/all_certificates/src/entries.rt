@@ -58,7 +58,11 @@ fn entry_of<'a>(
 }
 
 /// Adds the least certificate of a body, if it has one.
-fn add_entry<'a>(
+///
+/// # Errors
+///
+/// Memory was refused.
+pub fn add_entry<'a>(
     alloc: Global,
     grounds: Grounds<'_, 'a>,
     body: &Body<'_, 'a>,

@@ -2,16 +2,19 @@
 
 ghost use Rattle.std.specs.Prelude.{ℕ, List, IfOk, OnOk, map};
 ghost use Rattle.all_certificates.specs.AddedEntries.{Adds};
-ghost use Rattle.all_certificates.specs.CertifiedBodies.{AreOfFile, AreOfFiles};
+ghost use Rattle.all_certificates.specs.CertifiedBodies.{AreOfBody, AreOfFile, AreOfFiles};
+ghost use Rattle.bodies.specs.Bodies.{TellsBody};
 ghost use Rattle.calls_flags.specs.FilesBodies.{TellAll, TellsWithCredits};
 ghost use Rattle.calls_flags.specs.KnownCalls.{known_calls};
 ghost use Rattle.certificate_json.specs.Certificates.{body_of};
+ghost use Rattle.meaning.specs.Mentions.{BodyPlace};
 ghost use Rattle.meaning_packages.specs.CallsFlags.{FileWithCredits};
 
-use crate::entries::{Grounds, add_entries};
+use crate::entries::{Grounds, add_entries, add_entry};
+use bodies::Body;
 use calls_flags::{FileBodies, KnownCalls};
 use certificate_json::Body as Entry;
-use package_pieces::have_bodies;
+use package_pieces::{BodyNumber, have_several, numbers_kept};
 use pieces::{Free, Helpers, Piece, PieceFault, joined, work_all};
 use std::alloc::{AllocError, Global};
 use std::sync::Wait;
@@ -56,37 +59,63 @@ pub fn entries_of_files<'a>(
     Ok(entries)
 }
 
-/// By what the certificates of a file's bodies are made.
-#[derive(Clone, Copy)]
-struct CertifyingFiles<'k, 'a> {
-    calls: KnownCalls<'k, 'a>,
+/// Adds the least certificate of a body of this file.
+fn add_body<'f, 'a>(
+    alloc: Global,
+    calls: KnownCalls<'f, 'a>,
+    file: &'f FileBodies<'f, 'a>,
+    body: &Body<'_, 'a>,
+    entries: &mut Vec<Entry>,
+) -> Result<(), AllocError>
+    ensures { OnOk result ((number : ℕ) (f : FileWithCredits) → TellsWithCredits number f file.now
+        → (b : BodyPlace) → TellsBody number f.seen b body.now
+        → Adds (AreOfBody (known_calls calls.entry) f.credits number f.seen b) (map body_of entries.old.items)
+        (map body_of entries.new.items)) }
+{
+    let grounds = Grounds {
+        told: file.told,
+        calls,
+        credits: &file.credits,
+    };
+    add_entry(alloc, grounds, body, entries)
 }
 
-impl<'k, 'e, 'a> Piece<FileBodies<'e, 'a>, Vec<Entry>> for CertifyingFiles<'k, 'a> {
+/// By what the certificates of bodies are made, and the files of which they are.
+#[derive(Clone, Copy)]
+struct CertifyingBodies<'k, 'c, 'e, 'a> {
+    files: &'k [FileBodies<'e, 'a>],
+    calls: KnownCalls<'c, 'a>,
+}
+
+impl<'k, 'c, 'e, 'a> Piece<BodyNumber, Vec<Entry>> for CertifyingBodies<'k, 'c, 'e, 'a> {
     ghost use Rattle.std.specs.Prelude.{map};
-    ghost use Rattle.all_certificates.specs.CertifiedBodies.{AreOfFile};
-    ghost use Rattle.calls_flags.specs.FilesBodies.{TellsWithCredits};
+    ghost use Rattle.all_certificates.specs.AddedEntries.{AreOfNumber};
     ghost use Rattle.calls_flags.specs.KnownCalls.{known_calls};
     ghost use Rattle.certificate_json.specs.Certificates.{body_of};
-    ghost use Rattle.meaning_packages.specs.CallsFlags.{FileWithCredits};
 
-    ghost gives = { λ certifying number file entries. (f : FileWithCredits) → TellsWithCredits number f file
-        → AreOfFile (known_calls certifying.calls) number f (map body_of entries.items) };
+    ghost gives = { λ certifying place number entries.
+        AreOfNumber (known_calls certifying.calls) certifying.files.now number (map body_of entries.items) };
 
     fn work(
         &self,
         alloc: Global,
         _place: usize,
-        item: &FileBodies<'e, 'a>,
+        item: &BodyNumber,
     ) -> Result<Vec<Entry>, AllocError> {
+        let Some(file) = self.files.get(item.file) else {
+            return Err(AllocError);
+        };
+        let Some(body) = file.bodies.get(item.body) else {
+            return Err(AllocError);
+        };
         let mut entries = Vec::new(alloc);
-        add_file(alloc, self.calls, item, &mut entries)?;
+        add_body(alloc, self.calls, file, body, &mut entries)?;
         Ok(entries)
     }
 }
 
-/// The least certificates of the bodies of these files, file by file, made by these helpers, if more than one file has
-/// a body.
+/// The least certificates of the bodies of these files, file by file, made by these helpers a body at a time, if there
+/// is more than one.
 ///
 /// # Errors
 ///
@@ -100,9 +129,10 @@ pub fn entries_with<'a, R: Threads + Wait>(
     ensures { IfOk result (λ entries. (fs : List FileWithCredits) → TellAll fs files.now
         → AreOfFiles (known_calls calls.entry) 0 fs (map body_of entries.items)) }
 {
-    if !have_bodies(files) {
+    if !have_several(files) {
         return Ok(entries_of_files(alloc, calls, files)?);
     }
-    let lists = work_all(alloc, helpers, files, &CertifyingFiles { calls })?;
+    let numbers = numbers_kept(alloc, files)?;
+    let lists = work_all(alloc, helpers, &numbers, &CertifyingBodies { files, calls })?;
     Ok(joined(alloc, lists)?)
 }

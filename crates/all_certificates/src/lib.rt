@@ -8,6 +8,8 @@ mod entries;
 mod files;
 mod laws;
 mod packages;
+mod settings;
 
 pub use certified::{Certified, certified_report_by};
 pub use laws::{certificates_are_in_order, certificates_read_back};
+pub use settings::Settings;

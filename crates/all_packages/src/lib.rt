@@ -11,4 +11,4 @@ pub use packages::{
     JudgedBy, JudgedPackages, check, check_by, judge_left, judge_packages, judge_packages_by,
 };
 pub use progress::Progress;
-pub use reports::{Report, report_from, told, whole_report, whole_report_by};
+pub use reports::{Counts, Report, report_from, told};

@@ -3,17 +3,13 @@
 ghost use Rattle.std.specs.Prelude.{◌≡◌, IfOk, map};
 ghost use Rattle.std.specs.List.{list_all};
 ghost use Rattle.one_package.specs.Judgments.{is_yes};
-ghost use Rattle.all_packages.specs.Reports.{report_in, AreTold, IsTold, TellsReport, TellsReportBy};
-ghost use Rattle.declared_tables.specs.DeclaredTables.{declared_tables};
-ghost use Rattle.outside_json.specs.Outside.{packages_of};
-ghost use Rattle.report.specs.ReportText.{report_text};
+ghost use Rattle.all_packages.specs.Reports.{report_in, AreCounted, AreTold, IsTold};
+ghost use Rattle.report_formats.specs.Formats.{text_in};
 
-use crate::packages::check_by;
-use one_package::{ByPaths, FileRules, Judged, is_yes};
-use outside_json::Outside;
-use report::{PackageReport, PutFault, Sink, write_text};
+use one_package::{Judged, is_yes};
+use report::{PackageReport, PutFault, Sink};
+use report_formats::{Format, write_report};
 use std::alloc::{AllocError, Global};
-use whole_packages::LoadedPackage;
 
 /// What is said of packages, without what is known of their functions.
 fn reports_of<'a>(
@@ -50,15 +46,16 @@ impl Sink for Text {
     }
 }
 
-/// The report's text. It is made as a whole before any of it is printed, so that a fault leaves nothing printed.
-fn text_of(alloc: Global, reports: &[PackageReport]) -> Result<Vec<u8>, AllocError>
-    ensures { IfOk result (λ text. text.items ≡ report_text reports.now) }
+/// The report's text in this format. It is made as a whole before any of it is printed, so that a fault leaves nothing
+/// printed.
+fn text_of(alloc: Global, format: Format, reports: &[PackageReport]) -> Result<Vec<u8>, AllocError>
+    ensures { IfOk result (λ text. text.items ≡ text_in format reports.now) }
 {
     let mut text = Text {
         bytes: Vec::new(alloc),
         refusals: 0,
     };
-    match write_text(reports, &mut text) {
+    match write_report(format, reports, &mut text) {
         Ok(()) => Ok(text.bytes),
         Err(_) => Err(AllocError),
     }
@@ -76,68 +73,70 @@ fn are_yes(reports: &[PackageReport]) -> bool
     true
 }
 
-/// The report of packages: its text, and whether each of them is yes.
+/// How much a report tells.
+#[derive(Clone, Copy, Debug, PartialEq, Eq)]
+pub struct Counts {
+    /// How many packages there are.
+    pub packages: usize,
+    /// How many of them are yes.
+    pub yes: usize,
+    /// How many findings there are on all of them. Where there are more than a `usize` holds, it is the largest one.
+    pub findings: usize,
+}
+
+/// The counts of a report.
+fn counts_of(reports: &[PackageReport]) -> Counts
+    ensures { AreCounted reports.now result }
+{
+    let mut yes: usize = 0;
+    let mut findings: usize = 0;
+    for report in reports {
+        findings = findings.saturating_add(report.diagnostics.len());
+        if is_yes(report) {
+            yes += 1;
+        }
+    }
+    Counts {
+        packages: reports.len(),
+        yes,
+        findings,
+    }
+}
+
+/// The report of packages: its text in some format, whether each of them is yes, and its counts.
 #[derive(Debug, Drop)]
 pub struct Report {
     pub text: Vec<u8>,
     pub yes: bool,
+    pub counts: Counts,
 }
 
-/// The report of packages of which this is said.
+/// The report in this format of packages of which this is said.
 ///
 /// # Errors
 ///
 /// Memory was refused.
-pub fn report_from(alloc: Global, reports: &[PackageReport]) -> Result<Report, AllocError>
-    ensures { IfOk result (AreTold reports.now) }
+pub fn report_from(
+    alloc: Global,
+    format: Format,
+    reports: &[PackageReport],
+) -> Result<Report, AllocError>
+    ensures { IfOk result (AreTold format reports.now) }
 {
-    let text = text_of(alloc, reports)?;
+    let text = text_of(alloc, format, reports)?;
     let yes = are_yes(reports);
-    Ok(Report { text, yes })
+    let counts = counts_of(reports);
+    Ok(Report { text, yes, counts })
 }
 
-/// The report of packages that were judged so.
+/// The report in this format of packages that were judged so.
 ///
 /// # Errors
 ///
 /// Memory was refused.
-pub fn told(alloc: Global, judged: Vec<Judged<'_>>) -> Result<Report, AllocError>
-    ensures { IfOk result (IsTold judged.entry.items) }
+pub fn told(alloc: Global, format: Format, judged: Vec<Judged<'_>>) -> Result<Report, AllocError>
+    ensures { IfOk result (IsTold format judged.entry.items) }
 {
     let reports = reports_of(alloc, judged)?;
-    report_from(alloc, &reports)
-}
-
-/// Judges packages of different paths, and their files by these rules, where this is declared of packages that are not
-/// given, and tells what is to be said of them.
-///
-/// # Errors
-///
-/// Memory was refused.
-pub fn whole_report_by<R: FileRules>(
-    alloc: Global,
-    packages: &[LoadedPackage],
-    outside: &Outside,
-    rules: &R,
-) -> Result<Report, AllocError>
-    ensures { IfOk result (TellsReportBy (R.rules rules.now (declared_tables (packages_of outside.now))) packages.now) }
-{
-    let judged = check_by(alloc, packages, outside, rules)?;
-    told(alloc, judged)
-}
-
-/// Judges packages of different paths by the paths of bodies, where this is declared of packages that are not given,
-/// and tells what is to be said of them.
-///
-/// # Errors
-///
-/// Memory was refused.
-pub fn whole_report(
-    alloc: Global,
-    packages: &[LoadedPackage],
-    outside: &Outside,
-) -> Result<Report, AllocError>
-    ensures { IfOk result (TellsReport (declared_tables (packages_of outside.now)) packages.now) }
-{
-    whole_report_by(alloc, packages, outside, &ByPaths)
+    report_from(alloc, format, &reports)
 }

@@ -60,8 +60,13 @@ fn graph_if<'e, 'a>(
     Ok(Some(graph))
 }
 
-/// The body at that place.
-fn body_at<'e, 'a>(
+/// The body at that place, one of those that the file of that number opens. The file was told of, and these are the
+/// variables of its bodies.
+///
+/// # Errors
+///
+/// Memory was refused.
+pub fn body_at<'e, 'a>(
     alloc: Global,
     file: usize,
     told: &'e Told<'a>,

@@ -10,7 +10,7 @@ mod body_sites;
 mod graph;
 mod node;
 
-pub use body::{Body, bodies};
+pub use body::{Body, bodies, body_at};
 pub use graph::{BodyGraph, ordered_graph};
 pub use node::NodeEvent;
 

@@ -1,53 +1,48 @@
 -- What a command with words behind it asks for, by what is kept of these.
-use Rattle.std.proofs.Common.{◌≡◌, ℕ, List, [], ◌∷◌, Option, codes, sym, ap, ◌∙◌}
-use Rattle.std.specs.Borrow.{Bor}
-use Rattle.workers.specs.Counts.{count_of}
-use Rattle.workers.specs.declared.count.Workers.{Workers}
-use Rattle.command_line.specs.Words.{option_texts, texts_of, AreWorkers, AskForWorkers, IsAsked, IsCommand}
-use Rattle.command_line.specs.KeptWords.{AreKept, IsAskedBy}
+use Rattle.std.proofs.Common.{◌≡◌, ℕ, List, ◌∷◌, codes, refl, ap, ◌∙◌}
+use Rattle.command_line.specs.Words.{named_by, IsAsked, IsCommand}
+use Rattle.command_line.specs.KeptWords.{named_of, AreKept, IsAskedBy}
+use Rattle.command_line.specs.declared.kept.Kept.{Kept}
 use Rattle.command_line.specs.declared.words.Asked.{Asked}
 use Rattle.command_line.specs.declared.words.Asked.TheVariants.{Check, Certify, Verify, Help, Wrong}
-use Rattle.command_line.specs.declared.words.Kept.{Kept}
 
 module _ (words rest : List (List ℕ)) (command : List ℕ) (kept : Kept) (is : words ≡ command ∷ rest)
     (are : AreKept rest kept) where
-  -- the words are this command, with the files and the packages that are kept
-  is_command : (meant : List ℕ) (files : List (List ℕ)) (facts : Option (Bor (List ℕ))) (packages : List (Bor (List ℕ)))
-      → command ≡ meant
-      → texts_of kept.files.items ≡ files
-      → texts_of kept.facts.items ≡ option_texts facts
-      → packages ≡ kept.packages.items
-      → IsCommand meant words files (option_texts facts) (texts_of packages)
-  is_command meant files facts packages is_meant are_files are_facts are_packages = record {
+  -- what is kept is what the words behind the command name
+  are_named : named_of kept ≡ named_by rest
+  are_named = rw (are.files, are.facts, are.lists, are.formats, are.numbers, are.packages) refl
+
+  is_command : (meant : List ℕ) → command ≡ meant → IsCommand meant words (named_of kept)
+  is_command meant is_meant = record {
     rest = rest;
     is_command = is ∙ ap (λ c. c ∷ rest) is_meant;
-    are_files = sym are_files ∙ are.files;
-    are_facts = sym are_facts ∙ are.facts;
-    are_packages = ap texts_of are_packages ∙ are.packages;
+    is_named = are_named;
   }
 
-  -- the words ask for the workers of the numbers that are kept
-  ask_for : (workers : Workers) → AreWorkers (texts_of kept.numbers.items) (count_of workers) → AskForWorkers words workers
-  ask_for workers are_workers = record {
-    numbers = texts_of kept.numbers.items;
-    named = record { command = command; rest = rest; is_command = is; are_numbers = are.numbers };
-    are_workers = are_workers;
+  pub is_asked : (asked : Asked) → IsAskedBy command (named_of kept) asked → IsAsked words asked
+  is_asked (Check asked) by = record {
+    named = named_of kept;
+    is_command = is_command (codes "check") by.0;
+    no_file = by.1;
+    are_sources = by.2;
+    is_format = by.3;
+    are_workers = by.4;
   }
-
-  pub is_asked : (asked : Asked) → IsAskedBy command kept asked → IsAsked words asked
-  is_asked (Check asked) by = (
-    is_command (codes "check") [] asked.facts asked.packages.items by.0 by.1 by.3 (ap (λ p. p.items) by.4),
-    ask_for asked.workers by.2,
-  )
-  is_asked (Certify asked) by = (
-    is_command (codes "check") (asked.file.now ∷ []) asked.facts asked.packages.items by.0 by.1 by.3
-        (ap (λ p. p.items) by.4),
-    ask_for asked.workers by.2,
-  )
-  is_asked (Verify asked) by = (
-    is_command (codes "verify") (asked.file.now ∷ []) asked.facts asked.packages.items by.0 by.1 by.3
-        (ap (λ p. p.items) by.4),
-    record { command = command; rest = rest; is_command = is; are_numbers = sym by.2 ∙ are.numbers },
-  )
+  is_asked (Certify asked) by = record {
+    named = named_of kept;
+    is_command = is_command (codes "check") by.0;
+    is_file = by.1;
+    are_sources = by.2;
+    is_format = by.3;
+    are_workers = by.4;
+  }
+  is_asked (Verify asked) by = record {
+    named = named_of kept;
+    is_command = is_command (codes "verify") by.0;
+    is_file = by.1;
+    are_sources = by.2;
+    is_format = by.3;
+    no_number = by.4;
+  }
   is_asked (Help text) by = absurd by
   is_asked (Wrong text) by = tt

@@ -1,103 +1,110 @@
 -- What the words of the command line, those after the program's name, ask for.
 -- (The documentation of clap: `-h`, `--help`, `help`, `-V` and `--version` ask for help or the version; the value of an
 -- option is the word after it, or stands in its own word behind `=`; and behind `--` no word is an option.)
-use Rattle.std.specs.Prelude.{◌≡◌, ◌⊎◌, ⊤, ℕ, if◌then◌else◌, nat_eq, List, [], ◌∷◌, Option, Some, None, Contains, codes, drop, length, map}
+use Rattle.std.specs.Prelude.{◌≡◌, ◌⊎◌, ⊤, ℕ, if◌then◌else◌, nat_eq, List, [], ◌∷◌, Option, Some, None, is_some, Contains, codes, drop, length, map, option_map}
 use Rattle.std.specs.Borrow.{Bor}
 use Rattle.std.specs.List.{starts_with}
 use Rattle.std.specs.Str.{bytes_eq}
 use Rattle.std.specs.Str.Parse.{digits_value, without_leading_plus, IsNumeral}
+use Rattle.report_formats.specs.declared.formats.Format.{Format}
+use Rattle.report_formats.specs.declared.formats.Format.TheVariants.{Text, Json, Sarif}
 use Rattle.workers.specs.Counts.{count_of}
-use Rattle.workers.specs.declared.count.Workers.{Workers}
-use Rattle.command_line.specs.declared.words.Awaited.{Awaited}
-use Rattle.command_line.specs.declared.words.Awaited.TheVariants.{Nothing, File, Facts, Number}
+use Rattle.command_line.specs.declared.options.ValueOption.{ValueOption}
+use Rattle.command_line.specs.declared.options.ValueOption.TheVariants.{Certificates, Facts, PackageList, ReportFormat, WorkerCount}
 use Rattle.command_line.specs.declared.words.Asked.{Asked}
 use Rattle.command_line.specs.declared.words.Asked.TheVariants.{Check, Certify, Verify, Help, Wrong}
+use Rattle.command_line.specs.declared.words.CheckWords.{CheckWords}
+use Rattle.command_line.specs.declared.words.CertifyWords.{CertifyWords}
+use Rattle.command_line.specs.declared.words.Sources.{Sources}
+use Rattle.command_line.specs.declared.words.VerifyWords.{VerifyWords}
 
 -- one of the words asks for help or the version
 abbrev pub AsksForHelp : List (List ℕ) → Type 0
 AsksForHelp words = Contains words (codes "-h") ⊎ Contains words (codes "--help") ⊎ Contains words (codes "help")
     ⊎ Contains words (codes "-V") ⊎ Contains words (codes "--version")
 
--- the file that stands in a word behind `--cert=`
-abbrev pub file_in : List ℕ → Option (List ℕ)
-file_in word =
-    if starts_with nat_eq word (codes "--cert=") then Some (drop (length (codes "--cert=")) word)
+-- the option that this word is, whose value is the word after it
+abbrev pub option_of : List ℕ → Option ValueOption
+option_of word =
+    if bytes_eq word (codes "--cert") then Some Certificates
+    else if bytes_eq word (codes "--facts") then Some Facts
+    else if bytes_eq word (codes "--packages") then Some PackageList
+    else if bytes_eq word (codes "--format") then Some ReportFormat
+    else if bytes_eq word (codes "-j") then Some WorkerCount
     else None
 
--- the file of declared facts that stands in a word behind `--facts=`
-abbrev pub facts_in : List ℕ → Option (List ℕ)
-facts_in word =
-    if starts_with nat_eq word (codes "--facts=") then Some (drop (length (codes "--facts=")) word)
-    else None
+-- what stands in a word behind these bytes, with which it begins
+abbrev pub behind : List ℕ → List ℕ → List ℕ
+behind start word = drop (length start) word
 
 -- the number that stands in a word behind `-j`, or behind `-j=`
 abbrev pub number_in : List ℕ → Option (List ℕ)
 number_in word =
-    if starts_with nat_eq word (codes "-j=") then Some (drop (length (codes "-j=")) word)
-    else if starts_with nat_eq word (codes "-j") then Some (drop (length (codes "-j")) word)
+    if starts_with nat_eq word (codes "-j=") then Some (behind (codes "-j=") word)
+    else if starts_with nat_eq word (codes "-j") then Some (behind (codes "-j") word)
     else None
 
--- what words behind a command name: files by `--cert`, files of declared facts by `--facts`, numbers by `-j`, and
--- packages
+-- a list of packages, a format or a number that stands in a word with its option
+abbrev pub run_option_in : List ℕ → Option (ValueOption × List ℕ)
+run_option_in word =
+    if starts_with nat_eq word (codes "--packages=") then Some (PackageList, behind (codes "--packages=") word)
+    else if starts_with nat_eq word (codes "--format=") then Some (ReportFormat, behind (codes "--format=") word)
+    else option_map (λ number. (WorkerCount, number)) (number_in word)
+
+-- the option that this word has with its value in itself, and that value
+abbrev pub option_in : List ℕ → Option (ValueOption × List ℕ)
+option_in word =
+    if starts_with nat_eq word (codes "--cert=") then Some (Certificates, behind (codes "--cert=") word)
+    else if starts_with nat_eq word (codes "--facts=") then Some (Facts, behind (codes "--facts=") word)
+    else run_option_in word
+
+-- what words behind a command name: files of certificates by `--cert`, files of declared facts by `--facts`, lists of
+-- packages by `--packages`, formats by `--format`, numbers by `-j`, and packages
 pub record Named : Type 0 where
   pub files : List (List ℕ)
   pub facts : List (List ℕ)
+  pub lists : List (List ℕ)
+  pub formats : List (List ℕ)
   pub numbers : List (List ℕ)
   pub packages : List (List ℕ)
 
 abbrev pub only_packages : List (List ℕ) → Named
-only_packages words = record { files = []; facts = []; numbers = []; packages = words }
+only_packages words = record { files = []; facts = []; lists = []; formats = []; numbers = []; packages = words }
 
-abbrev pub with_file : List ℕ → Named → Named
-with_file file named = record named { files = file ∷ named.files }
-
-abbrev pub with_facts : List ℕ → Named → Named
-with_facts file named = record named { facts = file ∷ named.facts }
-
-abbrev pub with_number : List ℕ → Named → Named
-with_number number named = record named { numbers = number ∷ named.numbers }
+-- and this value of the option, before the others
+abbrev pub with_value : ValueOption → List ℕ → Named → Named
+with_value Certificates file named = record named { files = file ∷ named.files }
+with_value Facts file named = record named { facts = file ∷ named.facts }
+with_value PackageList file named = record named { lists = file ∷ named.lists }
+with_value ReportFormat format named = record named { formats = format ∷ named.formats }
+with_value WorkerCount number named = record named { numbers = number ∷ named.numbers }
 
 abbrev pub with_package : List ℕ → Named → Named
 with_package word named = record named { packages = word ∷ named.packages }
 
--- a word that is no option without its value names the file or the number that stands in it, or else a package
-abbrev pub with_word : Option (List ℕ) → Option (List ℕ) → Option (List ℕ) → List ℕ → Named → Named
-with_word (Some file) facts number word named = with_file file named
-with_word None (Some file) number word named = with_facts file named
-with_word None None (Some number) word named = with_number number named
-with_word None None None word named = with_package word named
+-- a word that is no option without its value has one with its value, or else is that of a package
+abbrev pub with_word : Option (ValueOption × List ℕ) → List ℕ → Named → Named
+with_word (Some held) word named = with_value held.0 held.1 named
+with_word None word named = with_package word named
 
 -- What these words name, one after the other. The first of them may be the value of an option that stands before it.
 -- Behind the first `--` each is the word of a package.
-abbrev pub named_after : Awaited → List (List ℕ) → Named
+abbrev pub named_after : Option ValueOption → List (List ℕ) → Named
 named_after awaited [] = only_packages []
-named_after File (w ∷ ws) = with_file w (named_after Nothing ws)
-named_after Facts (w ∷ ws) = with_facts w (named_after Nothing ws)
-named_after Number (w ∷ ws) = with_number w (named_after Nothing ws)
-named_after Nothing (w ∷ ws) =
+named_after (Some option) (w ∷ ws) = with_value option w (named_after None ws)
+named_after None (w ∷ ws) =
     if bytes_eq w (codes "--") then only_packages ws
-    else if bytes_eq w (codes "--cert") then named_after File ws
-    else if bytes_eq w (codes "--facts") then named_after Facts ws
-    else if bytes_eq w (codes "-j") then named_after Number ws
-    else with_word (file_in w) (facts_in w) (number_in w) w (named_after Nothing ws)
+    else if is_some (option_of w) then named_after (option_of w) ws
+    else with_word (option_in w) w (named_after None ws)
 
 abbrev pub named_by : List (List ℕ) → Named
-named_by = named_after Nothing
+named_by = named_after None
 
--- the words are this command, and then name these files by `--cert`, these by `--facts`, and these packages
-pub record IsCommand (command : List ℕ) (words files facts packages : List (List ℕ)) : Type 0 where
+-- the words are this command, and those behind it name this
+pub record IsCommand (command : List ℕ) (words : List (List ℕ)) (named : Named) : Type 0 where
   pub rest : List (List ℕ)
   pub is_command : words ≡ command ∷ rest
-  pub are_files : files ≡ (named_by rest).files
-  pub are_facts : facts ≡ (named_by rest).facts
-  pub are_packages : packages ≡ (named_by rest).packages
-
--- behind their command the words name these numbers by `-j`
-pub record NameNumbers (words numbers : List (List ℕ)) : Type 0 where
-  pub command : List ℕ
-  pub rest : List (List ℕ)
-  pub is_command : words ≡ command ∷ rest
-  pub are_numbers : numbers ≡ (named_by rest).numbers
+  pub is_named : named ≡ named_by rest
 
 -- the text is the number as Rust reads one: decimal digits, before which a `+` may stand
 abbrev pub IsNumber : List ℕ → ℕ → Type 0
@@ -109,11 +116,16 @@ AreWorkers [] n = n ≡ 1
 AreWorkers (number ∷ []) n = IsNumber number n
 AreWorkers (number ∷ another ∷ more) n = ⊥
 
--- the words ask for so many workers
-pub record AskForWorkers (words : List (List ℕ)) (workers : Workers) : Type 0 where
-  pub numbers : List (List ℕ)
-  pub named : NameNumbers words numbers
-  pub are_workers : AreWorkers numbers (count_of workers)
+abbrev pub format_text : Format → List ℕ
+format_text Text = codes "text"
+format_text Json = codes "json"
+format_text Sarif = codes "sarif"
+
+-- this format is asked for by these words: that of a text where there is none, and two words ask for nothing
+abbrev pub AreFormat : List (List ℕ) → Format → Type 0
+AreFormat [] format = format ≡ Text
+AreFormat (word ∷ []) format = word ≡ format_text format
+AreFormat (word ∷ another ∷ more) format = ⊥
 
 abbrev pub texts_of : List (Bor (List ℕ)) → List (List ℕ)
 texts_of = map (λ t. t.now)
@@ -123,18 +135,43 @@ abbrev pub option_texts : Option (Bor (List ℕ)) → List (List ℕ)
 option_texts None = []
 option_texts (Some t) = t.now ∷ []
 
--- `check` names no file, or the one for its certificates, and may say how many workers there are. `verify` names the
--- file that has certificates, and says nothing of workers. Both may name a file of declared facts. Help is given where
--- a word asks for it. Words may be wrong for any reason.
+-- what is read for a report is what is named: at most one file of declared facts, at most one list, and the packages
+pub record AreSources (named : Named) (sources : Sources) : Type 0 where
+  pub are_facts : named.facts ≡ option_texts sources.facts
+  pub is_list : named.lists ≡ option_texts sources.list
+  pub are_packages : named.packages ≡ texts_of sources.packages.items
+
+-- `check` without a file of certificates
+pub record AsksForCheck (words : List (List ℕ)) (asked : CheckWords) : Type 0 where
+  pub named : Named
+  pub is_command : IsCommand (codes "check") words named
+  pub no_file : named.files ≡ []
+  pub are_sources : AreSources named asked.sources
+  pub is_format : AreFormat named.formats asked.format
+  pub are_workers : AreWorkers named.numbers (count_of asked.workers)
+
+-- `check` with a file for certificates
+pub record AsksForCertificates (words : List (List ℕ)) (asked : CertifyWords) : Type 0 where
+  pub named : Named
+  pub is_command : IsCommand (codes "check") words named
+  pub is_file : named.files ≡ asked.file.now ∷ []
+  pub are_sources : AreSources named asked.sources
+  pub is_format : AreFormat named.formats asked.format
+  pub are_workers : AreWorkers named.numbers (count_of asked.workers)
+
+-- `verify` with a file that has certificates; it says nothing of workers
+pub record AsksForVerification (words : List (List ℕ)) (asked : VerifyWords) : Type 0 where
+  pub named : Named
+  pub is_command : IsCommand (codes "verify") words named
+  pub is_file : named.files ≡ asked.file.now ∷ []
+  pub are_sources : AreSources named asked.sources
+  pub is_format : AreFormat named.formats asked.format
+  pub no_number : named.numbers ≡ []
+
+-- Help is given where a word asks for it. Words may be wrong for any reason.
 abbrev pub IsAsked : List (List ℕ) → Asked → Type 0
-IsAsked words (Check asked) =
-    IsCommand (codes "check") words [] (option_texts asked.facts) (texts_of asked.packages.items)
-    × AskForWorkers words asked.workers
-IsAsked words (Certify asked) =
-    IsCommand (codes "check") words (asked.file.now ∷ []) (option_texts asked.facts) (texts_of asked.packages.items)
-    × AskForWorkers words asked.workers
-IsAsked words (Verify asked) =
-    IsCommand (codes "verify") words (asked.file.now ∷ []) (option_texts asked.facts) (texts_of asked.packages.items)
-    × NameNumbers words []
+IsAsked words (Check asked) = AsksForCheck words asked
+IsAsked words (Certify asked) = AsksForCertificates words asked
+IsAsked words (Verify asked) = AsksForVerification words asked
 IsAsked words (Help text) = AsksForHelp words
 IsAsked words (Wrong text) = ⊤

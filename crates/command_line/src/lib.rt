@@ -1,6 +1,10 @@
-//! The words of the command line: which package they name, or what they ask for instead.
+//! The words of the command line: which packages they name, or what they ask for instead.
 #![tactic(auto)]
 
+mod command;
+mod kept;
+mod options;
+mod values;
 mod words;
 
-pub use words::{Asked, CertifyWords, CheckWords, VerifyWords, read_words};
+pub use words::{Asked, CertifyWords, CheckWords, Sources, VerifyWords, read_words};

@@ -5,6 +5,8 @@
 #[cfg(test)]
 mod certificate_runs;
 #[cfg(test)]
+mod memory;
+#[cfg(test)]
 mod packages;
 #[cfg(test)]
 mod real_folders;

@@ -1,6 +1,6 @@
 //! Runs of the program over writers that take everything.
 
-use driver::run;
+use driver::{Surroundings, run};
 use std::alloc::{AllocError, Global};
 use std::convert::AsStr;
 use std::process::Abort;
@@ -18,7 +18,7 @@ pub struct Ended {
 }
 
 /// Runs the program with these words.
-pub fn run_words<R: Files + AllocGlobal + Threads + Wait + Sync, S: AsStr>(
+pub fn run_words<R: Files + Surroundings + AllocGlobal + Threads + Wait + Sync, S: AsStr>(
     rt: &R,
     words: &[S],
 ) -> Result<Ended, Fail> {
@@ -44,7 +44,7 @@ pub fn words_of<'a>(alloc: Global, line: &'a str) -> Result<Vec<&'a str>, AllocE
 /// What a run with these words leaves: what stands on standard output, a line `status N`, and what stands on standard
 /// error. In the words and in this text a `DIR` stands for the folder, and in the words a `FORGED` for a line that does
 /// not belong there.
-pub fn outcome<R: Files + AllocGlobal + Threads + Wait + Sync>(
+pub fn outcome<R: Files + Surroundings + AllocGlobal + Threads + Wait + Sync>(
     rt: &R,
     folder: &str,
     words: &[&str],
@@ -60,7 +60,7 @@ pub fn outcome<R: Files + AllocGlobal + Threads + Wait + Sync>(
 }
 
 /// Runs `check` on the package `a` in the folder, and compares the outcome.
-pub fn expect_check<R: Files + AllocGlobal + Threads + Wait + Sync + Abort>(
+pub fn expect_check<R: Files + Surroundings + AllocGlobal + Threads + Wait + Sync + Abort>(
     rt: &R,
     folder: &str,
     wanted: &str,
@@ -72,7 +72,7 @@ pub fn expect_check<R: Files + AllocGlobal + Threads + Wait + Sync + Abort>(
 
 /// Goes through a transcript, and compares it with what is found: after `$ ` stand the words of a run, and in the lines
 /// after that its outcome. A line that begins with `#` is a remark.
-pub fn expect_transcript<R: Files + AllocGlobal + Threads + Wait + Sync + Abort>(
+pub fn expect_transcript<R: Files + Surroundings + AllocGlobal + Threads + Wait + Sync + Abort>(
     rt: &R,
     folder: &str,
     transcript: &str,

@@ -1,5 +1,6 @@
 //! A system that refuses all but the names in its folders.
 
+use driver::Surroundings;
 use std::alloc::{Allocator, Global};
 use std::fs::{File, Metadata, OpenOptions};
 use std::io::{self, ErrorKind};
@@ -33,6 +34,18 @@ impl<R: AllocGlobal> Alloc for StandIn<R> {
 impl<R: Threads> Threads for StandIn<R> {}
 
 impl<R: Wait> Wait for StandIn<R> {}
+
+impl<R> Surroundings for StandIn<R> {
+    type Input = &'static [u8];
+
+    fn standard_input(&self) -> &'static [u8] {
+        b""
+    }
+
+    fn current_folder(&self, _alloc: Global) -> io::Result<String> {
+        self.refuse()
+    }
+}
 
 impl<R> Files for StandIn<R> {
     type File = File;

@@ -2,8 +2,9 @@
 
 use crate::real_folders::folder_with;
 use crate::runs::{outcome, words_of};
+use all_packages::{Report, told};
 use calls_flags::{KnownCalls, find_called};
-use evidence_rows::together::{ENTRIES, PACKAGES, REPORT};
+use evidence_rows::together::{ENTRIES, MEETINGS, OPEN, PACKAGES, REPORT};
 use lexer::Source;
 use load::{GivenPackage, load, release};
 use one_package::{
@@ -12,8 +13,9 @@ use one_package::{
 };
 use outside_json::Outside;
 use package_pieces::{PieceRules, build_all, solve_all};
-use package_workers::{Crew, Gate, whole_report_by_workers};
+use package_workers::{CheckFault, Crew, Gate, Open, check_by_workers};
 use pieces::{BodyGate, Free, Helpers, PieceFault};
+use report_formats::Format;
 use std::alloc::{AllocError, Global};
 use std::sync::Wait;
 use std::sync::atomic::{AtomicU64, Ordering};
@@ -28,11 +30,12 @@ use workers::Workers;
 const MOST_TURNS: u32 = 10_000;
 
 /// Judges by paths, and is what workers pass before that. At each of the two it counts the packages, and goes on with
-/// the first only once a second one came there: so whoever waits there has nothing that the other worker waits for. It
-/// is what helpers pass before a piece, too, and counts these with the packages that come to it.
+/// the first only once as many came there as are to meet: so who waits there has nothing that the other worker waits
+/// for. It is what helpers pass before a piece, too, and counts these with the packages that come to it.
 #[derive(Drop)]
 struct Meeting<'r, R> {
     rt: &'r R,
+    to_meet: u64,
     passed: AtomicU64,
     begun: AtomicU64,
     helpers: AtomicU64,
@@ -40,9 +43,10 @@ struct Meeting<'r, R> {
 }
 
 impl<'r, R> Meeting<'r, R> {
-    fn new(rt: &'r R) -> Self {
+    fn new(rt: &'r R, to_meet: u64) -> Self {
         Meeting {
             rt,
+            to_meet,
             passed: AtomicU64::new(0),
             begun: AtomicU64::new(0),
             helpers: AtomicU64::new(0),
@@ -52,13 +56,13 @@ impl<'r, R> Meeting<'r, R> {
 }
 
 impl<'r, R: Clock> Meeting<'r, R> {
-    /// Counts one who comes. The first waits for another, or gives up.
+    /// Counts one who comes. The first waits for the others, or gives up.
     fn meet(&self, come: &AtomicU64) {
         if come.fetch_add(1, Ordering::SeqCst) > 0 {
             return;
         }
         for _ in 0..MOST_TURNS {
-            if come.load(Ordering::SeqCst) > 1 {
+            if come.load(Ordering::SeqCst) >= self.to_meet {
                 return;
             }
             thread::sleep(self.rt, Duration::from_millis(1));
@@ -126,7 +130,7 @@ impl<'r, R: Clock> PieceRules for Meeting<'r, R> {
 }
 
 /// A package of this path with a file of each of these texts.
-fn package(alloc: Global, path: &str, texts: &[&str]) -> Result<GivenPackage, AllocError> {
+pub fn package(alloc: Global, path: &str, texts: &[&str]) -> Result<GivenPackage, AllocError> {
     let mut sources = Vec::new(alloc);
     for text in texts {
         let mut bytes = Vec::new(alloc);
@@ -142,41 +146,72 @@ fn package(alloc: Global, path: &str, texts: &[&str]) -> Result<GivenPackage, Al
     })
 }
 
-#[test]
-fn two_packages_meet(rt: HostRuntime) -> Result<(), Fail> {
-    let Some(five) = Workers::new(5) else {
-        return Err(Fail::new("no workers"));
-    };
-    let mut given = Vec::new(rt.alloc());
-    let text = "package a\n\nfunc f() {}\n";
-    given.push(package(rt.alloc(), "a", &[text])?)?;
-    given.push(package(rt.alloc(), "b", &[text])?)?;
-    let meeting = Meeting::new(&rt);
-    let crew = Crew {
-        rt: &rt,
-        workers: five,
-        gate: &meeting,
-    };
-    let outside = Outside {
-        packages: Vec::new(rt.alloc()),
-    };
-    let packages = load(rt.alloc(), given)?;
-    let answer = whole_report_by_workers(rt.alloc(), crew, &packages, &outside, &meeting);
-    release(packages);
-    assert_eq!(rt; answer?.text.as_slice(), b"yes a\nyes b\n".as_slice());
-    assert_eq!(rt; meeting.passed.load(Ordering::SeqCst), 2);
-    assert_eq!(rt; meeting.begun.load(Ordering::SeqCst), 2);
-    assert_eq!(rt; meeting.gave_up.load(Ordering::SeqCst), 0);
-    // Two packages share five workers: each has two helpers.
-    assert_eq!(rt; meeting.helpers.load(Ordering::SeqCst), 4);
-    Ok(())
+/// The report of the packages, as these judge them.
+pub fn report_by_workers<R: PieceRules + Send + Sync, T: Threads + Wait + Sync, G: Gate + Sync>(
+    alloc: Global,
+    crew: Crew<'_, T, G>,
+    packages: &[LoadedPackage],
+    outside: &Outside,
+    rules: &R,
+) -> Result<Report, CheckFault> {
+    let judged = check_by_workers(alloc, crew, packages, outside, rules)?;
+    Ok(told(alloc, Format::Text, judged)?)
 }
 
-/// Two files of one package, each with a body in which a cancel function is not called.
-const OPEN: &[&str] = &[
-    "package a\n\nimport \"context\"\n\nfunc f(p context.Context) {\n\t_, c := context.WithCancel(p)\n}\n",
-    "package a\n\nimport \"context\"\n\nfunc ff(p context.Context) {\n\t_, c := context.WithCancel(p)\n}\n",
-];
+/// What this crew says by these rules of two packages with these texts.
+fn report_of<T: AllocGlobal + Threads + Wait + Sync, R: PieceRules + Send + Sync, G: Gate + Sync>(
+    crew: Crew<'_, T, G>,
+    texts: [&str; 2],
+    rules: &R,
+) -> Result<Vec<u8>, Fail> {
+    let alloc = crew.rt.alloc();
+    let mut given = Vec::new(alloc);
+    given.push(package(alloc, "a", &[texts[0]])?)?;
+    given.push(package(alloc, "b", &[texts[1]])?)?;
+    let outside = Outside {
+        packages: Vec::new(alloc),
+    };
+    let packages = load(alloc, given)?;
+    let answer = report_by_workers(alloc, crew, &packages, &outside, rules);
+    release(packages);
+    Ok(answer?.text)
+}
+
+/// Each package passes the gate once, with one worker too, and two at the same time where there are two workers.
+#[test]
+fn two_packages_meet(rt: HostRuntime) -> Result<(), Fail> {
+    for (texts, wanted, count, to_meet, begun, helpers) in MEETINGS {
+        let Some(workers) = Workers::new(count) else {
+            return Err(Fail::new("no workers"));
+        };
+        let meeting = Meeting::new(&rt, to_meet);
+        let crew = Crew {
+            rt: &rt,
+            workers,
+            gate: &meeting,
+        };
+        let alone = Crew {
+            rt: &rt,
+            workers: Workers::one(),
+            gate: &Open,
+        };
+        let found = report_of(crew, texts, &meeting)?;
+        assert_eq!(rt; found.as_slice(), wanted.as_bytes(), "by {count}");
+        assert_eq!(rt;
+            found.as_slice(),
+            report_of(alone, texts, &ByPaths)?.as_slice()
+        );
+        assert_eq!(rt; meeting.passed.load(Ordering::SeqCst), 2, "by {count}");
+        assert_eq!(rt; meeting.begun.load(Ordering::SeqCst), begun, "by {count}");
+        assert_eq!(rt; meeting.gave_up.load(Ordering::SeqCst), 0, "by {count}");
+        assert_eq!(rt;
+            meeting.helpers.load(Ordering::SeqCst),
+            helpers,
+            "by {count}"
+        );
+    }
+    Ok(())
+}
 
 /// Where something is to be said of a package of which this was told: files, and offsets in them. These helpers make
 /// its bodies, and those solve them.
@@ -215,7 +250,7 @@ fn solved_alone<'a, R: Threads + Wait, G: BodyGate + Sync>(
 }
 
 /// The same of the first of these packages.
-fn solved<R: Threads + Wait, G: BodyGate + Sync>(
+fn solved_first<R: Threads + Wait, G: BodyGate + Sync>(
     alloc: Global,
     builders: &Helpers<'_, R, G>,
     solvers: &Helpers<'_, R, G>,
@@ -228,41 +263,54 @@ fn solved<R: Threads + Wait, G: BodyGate + Sync>(
     solved_alone(alloc, builders, solvers, &given, packages.first()?)
 }
 
+/// The same of a package with a file of each of these texts.
+fn solved<R: Threads + Wait, G: BodyGate + Sync>(
+    alloc: Global,
+    builders: &Helpers<'_, R, G>,
+    solvers: &Helpers<'_, R, G>,
+    texts: &[&str],
+) -> Option<Vec<(usize, u32)>> {
+    let mut given = Vec::new(alloc);
+    given.push(package(alloc, "a", texts).ok()?).ok()?;
+    let packages = load(alloc, given).ok()?;
+    let places = solved_first(alloc, builders, solvers, &packages);
+    release(packages);
+    places
+}
+
 #[test]
 fn helpers_of_one_package_meet(rt: HostRuntime) -> Result<(), Fail> {
     let Some(two) = Workers::new(2) else {
         return Err(Fail::new("no workers"));
-    };
-    let (builds, solves) = (Meeting::new(&rt), Meeting::new(&rt));
-    let builders = Helpers {
-        rt: &rt,
-        count: two,
-        gate: &builds,
-    };
-    let solvers = Helpers {
-        rt: &rt,
-        count: two,
-        gate: &solves,
     };
     let alone = Helpers {
         rt: &rt,
         count: Workers::one(),
         gate: &Free,
     };
-    let mut given = Vec::new(rt.alloc());
-    given.push(package(rt.alloc(), "a", OPEN)?)?;
-    let packages = load(rt.alloc(), given)?;
-    let by_two = solved(rt.alloc(), &builders, &solvers, &packages);
-    let by_one = solved(rt.alloc(), &alone, &alone, &packages);
-    release(packages);
-    let (Some(by_two), Some(by_one)) = (by_two, by_one) else {
-        return Err(Fail::new("nothing was solved"));
-    };
-    assert_eq!(rt; by_two.as_slice(), [(0, 88), (1, 89)].as_slice());
-    assert_eq!(rt; by_one.as_slice(), [(0, 88), (1, 89)].as_slice());
-    for gate in [&builds, &solves] {
-        assert_eq!(rt; gate.passed.load(Ordering::SeqCst), 2);
-        assert_eq!(rt; gate.gave_up.load(Ordering::SeqCst), 0);
+    for (texts, wanted) in OPEN {
+        let (builds, solves) = (Meeting::new(&rt, 2), Meeting::new(&rt, 2));
+        let builders = Helpers {
+            rt: &rt,
+            count: two,
+            gate: &builds,
+        };
+        let solvers = Helpers {
+            rt: &rt,
+            count: two,
+            gate: &solves,
+        };
+        let by_two = solved(rt.alloc(), &builders, &solvers, texts);
+        let by_one = solved(rt.alloc(), &alone, &alone, texts);
+        let (Some(by_two), Some(by_one)) = (by_two, by_one) else {
+            return Err(Fail::new("nothing was solved"));
+        };
+        assert_eq!(rt; by_two.as_slice(), wanted.as_slice());
+        assert_eq!(rt; by_one.as_slice(), wanted.as_slice());
+        for gate in [&builds, &solves] {
+            assert_eq!(rt; gate.passed.load(Ordering::SeqCst), 2);
+            assert_eq!(rt; gate.gave_up.load(Ordering::SeqCst), 0);
+        }
     }
     Ok(())
 }

@@ -1,15 +1,15 @@
 //! Transcripts of runs over folders of real files.
 
-use crate::real_folders::{NAMED, NAMED_TRANSCRIPT, folder_with};
+use crate::real_folders::folder_with;
 use crate::runs::expect_transcript;
-use evidence_rows::{certificate_files, declared_facts, packages};
+use evidence_rows::{certificate_files, declared_facts, named_folders, packages};
 use std::fs;
 use std::test::Fail;
 
 #[test]
 fn names_of_folders(rt: HostRuntime) -> Result<(), Fail> {
-    let folder = folder_with(&rt, "names", NAMED)?;
-    expect_transcript(&rt, folder.as_str(), NAMED_TRANSCRIPT)?;
+    let folder = folder_with(&rt, "names", named_folders::ENTRIES)?;
+    expect_transcript(&rt, folder.as_str(), named_folders::TRANSCRIPT)?;
     Ok(fs::remove_dir_all(&rt, folder.as_str())?)
 }
 

@@ -1,19 +1,22 @@
 -- Faults of what is read and judged are faults of the command that asks for it.
-use Rattle.std.proofs.Common.{ℕ, List, [], ◌∷◌, Option, refl}
+use Rattle.std.proofs.Common.{◌≡◌, inl, inr, ℕ, Bool, true, false, ◌||◌, true≢false, List, [], ◌∷◌, Result, IsErrAnd, refl, subst, sym}
+use Rattle.std.proofs.lemmas.Result.{err_from_is_err_and}
+use Rattle.command_line.specs.Words.{option_texts, texts_of}
+use Rattle.command_line.specs.declared.words.Sources.{Sources}
 use Rattle.load.specs.declared.packages.GivenPackage.{GivenPackage}
 use Rattle.certificate_json.specs.declared.certificates.Certificates.{Certificates}
 use Rattle.outside_json.specs.Outside.{packages_of}
 use Rattle.outside_json.specs.declared.outside.Outside.{Outside}
 use Rattle.folders.specs.ReadFaults.{IsReadFault}
 use Rattle.folders.specs.declared.fault.Fault.{Fault}
-use Rattle.folders.specs.declared.fault.Fault.TheVariants.{BadPackage, CannotRead, CannotWrite, CannotWriteFile, CertificateNotJson, CertificateWrongShape, CertificateWrongVersion, CertificateTooOld, FactsNotJson, FactsWrongShape, FactsWrongVersion, FactsReserved, FactsNameGiven, TwoPackages, TooManyPackages, OutOfMemory}
-use Rattle.folders.specs.declared.whole_files.ReadFile.{ReadFile}
-use Rattle.driver.specs.declared.packages.NamedPackage.{NamedPackage}
+use Rattle.folders.specs.declared.fault.Fault.TheVariants.{BadPackage, CannotRead, CannotWrite, CannotWriteFile, CertificateNotJson, CertificateWrongShape, CertificateWrongVersion, CertificateTooOld, FactsNotJson, FactsWrongShape, FactsWrongVersion, FactsReserved, FactsNameGiven, ListNotJson, ListWrongShape, ListIncomplete, TwoPackages, TooManyPackages, OutOfMemory}
+use Rattle.driver.specs.declared.input.FilesRead.{FilesRead}
 use Rattle.driver.specs.Certificates.{IsInputFault, StandIn}
-use Rattle.driver.specs.DeclaredFacts.{AreDeclaredBy, IsFactsFault, IsReadFactsFault}
-use Rattle.driver.specs.Packages.{AreGiven, AreNamed}
-use Rattle.driver.specs.Faults.{IsCertifyFault, IsCheckFault, IsReadingFault, IsVerdictFault, IsVerificationFault, IsVerifiedFault, IsWordsFault}
-use Rattle.driver.proofs.ReadGiven.{none_bad}
+use Rattle.driver.specs.DeclaredFacts.{IsFactsFault, IsReadFactsFault}
+use Rattle.driver.specs.PackageLists.{IsListBytesFault, IsReadListFault, IsReadSourcesFault}
+use Rattle.driver.specs.Packages.{AreReadFor}
+use Rattle.driver.specs.Printing.{is_of_writing, refused_by}
+use Rattle.driver.specs.Faults.{is_of_output, HasBadSource, IsCertifyFault, IsCheckFault, IsReadingFault, IsVerdictFault, IsVerificationFault, IsVerifiedFault, IsWordsFault}
 
 -- what is read
 pub of_read : (facts : List (List ℕ)) (fault : Fault) → IsReadFault fault → IsReadFactsFault facts fault
@@ -29,20 +32,84 @@ of_bytes name bytes (FactsReserved path) is = record { name = name; is_named = r
 of_bytes name bytes OutOfMemory is = tt
 of_bytes name bytes _ is = absurd is
 
--- a fault of a check is one of a check that writes certificates
-pub of_check : (words facts : List (List ℕ)) (workers : ℕ) (fault : Fault) → IsCheckFault words facts workers fault
-    → IsCertifyFault words facts workers fault
-of_check words facts workers (CannotWriteFile name) is = absurd is
-of_check words facts workers _ is = is
+pub of_list_bytes : (name bytes : List ℕ) (fault : Fault) → IsListBytesFault bytes fault → IsReadListFault (name ∷ []) fault
+of_list_bytes name bytes ListNotJson is = record { name = name; is_named = refl; bytes = bytes; is_fault = is }
+of_list_bytes name bytes ListWrongShape is = record { name = name; is_named = refl; bytes = bytes; is_fault = is }
+of_list_bytes name bytes (ListIncomplete path) is = record { name = name; is_named = refl; bytes = bytes; is_fault = is }
+of_list_bytes name bytes (BadPackage path) is = record { name = name; is_named = refl; bytes = bytes; is_fault = is }
+of_list_bytes name bytes OutOfMemory is = tt
+of_list_bytes name bytes _ is = absurd is
 
-module _ (words facts : List (List ℕ)) where
+pub of_list_read : (lists : List (List ℕ)) (fault : Fault) → IsReadFault fault → IsReadListFault lists fault
+of_list_read lists (CannotRead name) is = tt
+of_list_read lists OutOfMemory is = tt
+of_list_read lists _ is = absurd is
+
+-- what is read is no output
+pub words_are_no_output : (words : List (List ℕ)) (fault : Fault) → IsWordsFault words fault → is_of_output fault ≡ false
+words_are_no_output words CannotWrite is = absurd is
+words_are_no_output words (CannotWriteFile name) is = absurd is
+words_are_no_output words _ is = refl
+
+pub sources_are_no_output : (sources : Sources) (fault : Fault) → IsReadSourcesFault sources fault → is_of_output fault ≡ false
+sources_are_no_output sources CannotWrite is = absurd is.is_fault
+sources_are_no_output sources (CannotWriteFile name) is = absurd is.is_fault
+sources_are_no_output sources _ is = refl
+
+pub no_output_is_written : (fault : Fault) → is_of_output fault ≡ false → is_of_writing fault ≡ false
+no_output_is_written CannotWrite is = absurd (true≢false is)
+no_output_is_written _ is = refl
+
+as_before : (before : Bool) → before ≡ before || false
+as_before true = refl
+as_before false = refl
+
+-- so where it ends a call, no write was refused
+pub none_refused : {T : Type 0} (before : Bool) (r : Result T Fault) (fault : Fault) → IsErrAnd r (λ told. told ≡ fault)
+    → is_of_output fault ≡ false
+    → before ≡ refused_by before r
+none_refused before r fault h is =
+    let told = err_from_is_err_and r h in
+    subst (λ x. before ≡ refused_by before x) (sym told.1)
+    (subst (λ x. before ≡ before || x) (sym (no_output_is_written told.0 (subst (λ x. is_of_output x ≡ false) (sym told.2) is)))
+    (as_before before))
+
+-- a fault of a check is one of a check that writes certificates
+pub of_check : (sources : Sources) (workers : ℕ) (fault : Fault) → IsCheckFault sources workers fault
+    → IsCertifyFault sources workers fault
+of_check sources workers (CannotWriteFile name) is = absurd is
+of_check sources workers _ is = is
+
+module _ (sources : Sources) where
+  -- faults of what is read for a report
+  pub of_facts : (fault : Fault) → IsReadFactsFault (option_texts sources.facts) fault → IsReadSourcesFault sources fault
+  of_facts (BadPackage text) is = absurd is.is_fault
+  of_facts ListNotJson is = absurd is.is_fault
+  of_facts ListWrongShape is = absurd is.is_fault
+  of_facts (ListIncomplete text) is = absurd is.is_fault
+  of_facts _ is = is
+
+  pub of_list : (fault : Fault) → IsReadListFault (option_texts sources.list) fault → IsReadSourcesFault sources fault
+  of_list (CannotRead name) is = tt
+  of_list OutOfMemory is = tt
+  of_list (BadPackage text) is = is
+  of_list ListNotJson is = is
+  of_list ListWrongShape is = is
+  of_list (ListIncomplete text) is = is
+  of_list _ is = absurd is.is_fault
+
+  pub of_folders : (fault : Fault) → IsReadFault fault → IsReadSourcesFault sources fault
+  of_folders (CannotRead name) is = tt
+  of_folders OutOfMemory is = tt
+  of_folders _ is = absurd is
+
   -- a fault of words is one of reading
-  pub of_words : (fault : Fault) → IsWordsFault words fault → IsReadingFault words facts fault
-  of_words (BadPackage text) is = is
+  pub of_words : (fault : Fault) → IsWordsFault (texts_of sources.packages.items) fault → IsReadingFault sources fault
+  of_words (BadPackage text) is = inl is
   of_words OutOfMemory is = tt
   of_words _ is = absurd is
 
-  pub of_read_input : (fault : Fault) → IsReadingFault words facts fault → IsVerificationFault words facts fault
+  pub of_read_input : (fault : Fault) → IsReadingFault sources fault → IsVerificationFault sources fault
   of_read_input CannotWrite is = absurd is
   of_read_input (CertificateTooOld path) is = absurd is
   of_read_input (FactsNameGiven path) is = absurd is
@@ -50,42 +117,44 @@ module _ (words facts : List (List ℕ)) where
   of_read_input TooManyPackages is = absurd is
   of_read_input _ is = is
 
-module _ (words facts : List (List ℕ)) (packages : List NamedPackage) (named : AreNamed words packages) where
-  pub of_input : (fault : Fault) → IsInputFault fault → IsReadingFault words facts fault
-  of_input (CannotRead name) is = none_bad words packages named
+module _ (sources : Sources) (well : HasBadSource sources → ⊥) where
+  pub of_input : (fault : Fault) → IsInputFault fault → IsReadingFault sources fault
+  of_input (CannotRead name) is = well
   of_input OutOfMemory is = tt
-  of_input CertificateNotJson is = (none_bad words packages named, is)
-  of_input CertificateWrongShape is = (none_bad words packages named, is)
-  of_input CertificateWrongVersion is = (none_bad words packages named, is)
+  of_input CertificateNotJson is = (well, is)
+  of_input CertificateWrongShape is = (well, is)
+  of_input CertificateWrongVersion is = (well, is)
   of_input _ is = absurd is.is_fault
 
-  pub of_facts : (fault : Fault) → IsReadFactsFault facts fault → IsReadingFault words facts fault
-  of_facts (CannotRead name) is = none_bad words packages named
-  of_facts OutOfMemory is = tt
-  of_facts FactsNotJson is = (none_bad words packages named, is)
-  of_facts FactsWrongShape is = (none_bad words packages named, is)
-  of_facts FactsWrongVersion is = (none_bad words packages named, is)
-  of_facts (FactsReserved path) is = (none_bad words packages named, is)
-  of_facts _ is = absurd is.is_fault
+  pub of_sources : (fault : Fault) → IsReadSourcesFault sources fault → IsReadingFault sources fault
+  of_sources (BadPackage text) is = inr (well, is)
+  of_sources (CannotRead name) is = well
+  of_sources OutOfMemory is = tt
+  of_sources FactsNotJson is = (well, is)
+  of_sources FactsWrongShape is = (well, is)
+  of_sources FactsWrongVersion is = (well, is)
+  of_sources (FactsReserved text) is = (well, is)
+  of_sources ListNotJson is = (well, is)
+  of_sources ListWrongShape is = (well, is)
+  of_sources (ListIncomplete text) is = (well, is)
+  of_sources _ is = absurd is.is_fault
 
-module _ (words facts : List (List ℕ)) (given : List GivenPackage) (file : Option ReadFile) (outside : Outside)
-    (certificates : Certificates) (are : AreGiven words given) (declared : AreDeclaredBy facts file outside)
-    (stand : StandIn certificates) where
+module _ (sources : Sources) (given : List GivenPackage) (files : FilesRead) (outside : Outside)
+    (certificates : Certificates) (are : AreReadFor sources files outside given) (stand : StandIn certificates) where
   of_verified : (fault : Fault) → IsVerdictFault (packages_of outside) given certificates fault
-      → IsVerifiedFault words facts fault
+      → IsVerifiedFault sources fault
   of_verified fault is = record {
     given = given;
-    are_given = are;
-    file = file;
+    files = files;
     outside = outside;
-    are_declared = declared;
+    are_read = are;
     certificates = certificates;
     stand_in = stand;
     is_fault = is;
   }
 
   pub of_verdict : (fault : Fault) → IsVerdictFault (packages_of outside) given certificates fault
-      → IsVerificationFault words facts fault
+      → IsVerificationFault sources fault
   of_verdict (FactsNameGiven path) is = of_verified (FactsNameGiven path) is
   of_verdict (TwoPackages path) is = of_verified (TwoPackages path) is
   of_verdict TooManyPackages is = of_verified TooManyPackages is

@@ -1,4 +1,5 @@
 mod AskedReports
 mod FaultsOfCommands
+mod ListedPackages
 mod ReadGiven
 mod WrittenParts

@@ -1,5 +1,5 @@
 -- With which faults a run ends, by its words.
-use Rattle.std.specs.Prelude.{◌≡◌, ◌⊎◌, ⊤, ℕ, Bool, true, false, List, [], ◌∷◌, Option, codes}
+use Rattle.std.specs.Prelude.{◌≡◌, ◌⊎◌, ⊤, ℕ, Bool, true, false, List, [], ◌∷◌, Option}
 use Rattle.load.specs.declared.packages.GivenPackage.{GivenPackage}
 use Rattle.load.specs.declared.packages.LoadFault.{LoadFault}
 use Rattle.load.specs.declared.packages.LoadFault.TheVariants as load_fault
@@ -15,14 +15,18 @@ use Rattle.judge.specs.declared.verified.VerifyFault.{VerifyFault}
 use Rattle.judge.specs.declared.verified.VerifyFault.TheVariants as verify_fault
 use Rattle.folders.specs.Packages.{IsPackageWord}
 use Rattle.folders.specs.declared.fault.Fault.{Fault}
-use Rattle.folders.specs.declared.fault.Fault.TheVariants.{BadPackage, CannotRead, CannotWrite, CannotWriteFile, CertificateNotJson, CertificateWrongShape, CertificateWrongVersion, CertificateTooOld, FactsNotJson, FactsWrongShape, FactsWrongVersion, FactsReserved, FactsNameGiven, TwoPackages, TooManyPackages, NoThread, OutOfMemory}
-use Rattle.folders.specs.declared.whole_files.ReadFile.{ReadFile}
-use Rattle.command_line.specs.Words.{AskForWorkers, AsksForHelp, IsCommand}
+use Rattle.folders.specs.declared.fault.Fault.TheVariants.{BadPackage, CannotRead, CannotWrite, CannotWriteFile, CertificateNotJson, CertificateWrongShape, CertificateWrongVersion, CertificateTooOld, FactsNotJson, FactsWrongShape, FactsWrongVersion, FactsReserved, FactsNameGiven, ListNotJson, ListWrongShape, ListIncomplete, TwoPackages, TooManyPackages, NoThread, OutOfMemory}
+use Rattle.command_line.specs.Words.{option_texts, texts_of, AsksForCertificates, AsksForCheck, AsksForHelp, AsksForVerification}
+use Rattle.command_line.specs.declared.words.CertifyWords.{CertifyWords}
+use Rattle.command_line.specs.declared.words.CheckWords.{CheckWords}
+use Rattle.command_line.specs.declared.words.Sources.{Sources}
+use Rattle.command_line.specs.declared.words.VerifyWords.{VerifyWords}
 use Rattle.workers.specs.Counts.{count_of}
-use Rattle.workers.specs.declared.count.Workers.{Workers}
 use Rattle.driver.specs.Certificates.{HaveFault, StandIn}
-use Rattle.driver.specs.DeclaredFacts.{AreDeclaredBy, HaveFactsFault}
-use Rattle.driver.specs.Packages.{AreGiven}
+use Rattle.driver.specs.DeclaredFacts.{HaveFactsFault}
+use Rattle.driver.specs.PackageLists.{HaveListFault}
+use Rattle.driver.specs.Packages.{AreReadFor}
+use Rattle.driver.specs.declared.input.FilesRead.{FilesRead}
 
 -- no package is the one that the word names
 abbrev pub NamesNone : List ℕ → Type 0
@@ -64,40 +68,48 @@ abbrev pub IsSharedReportFault : List PackageEntry → List GivenPackage → ℕ
 IsSharedReportFault outside given workers NoThread = NeedThreads outside given workers
 IsSharedReportFault outside given workers fault = IsReportFault outside given fault
 
--- the words name packages, as they are read, declared facts are read too, and it is the fault of these, which so many
--- workers should judge
-pub record IsGivenFault (words facts : List (List ℕ)) (workers : ℕ) (fault : Fault) : Type 0 where
+-- what the words name is read, and it is the fault of the packages, which so many workers should judge
+pub record IsGivenFault (sources : Sources) (workers : ℕ) (fault : Fault) : Type 0 where
   pub given : List GivenPackage
-  pub are_given : AreGiven words given
-  pub file : Option ReadFile
+  pub files : FilesRead
   pub outside : Outside
-  pub are_declared : AreDeclaredBy facts file outside
+  pub are_read : AreReadFor sources files outside given
   pub is_fault : IsSharedReportFault (packages_of outside) given workers fault
 
--- the words name packages, and the fault is that of the bytes of a file of declared facts
-abbrev pub IsFactsFaultOf : List (List ℕ) → List (List ℕ) → Fault → Type 0
-IsFactsFaultOf words facts fault = (HasBadWord words → ⊥) × HaveFactsFault facts fault
+-- one of the words of packages names none
+abbrev pub HasBadSource : Sources → Type 0
+HasBadSource sources = HasBadWord (texts_of sources.packages.items)
 
--- the fault of a check of these words, with these files of declared facts, by so many workers
-abbrev pub IsCheckFault : List (List ℕ) → List (List ℕ) → ℕ → Fault → Type 0
-IsCheckFault words facts workers (BadPackage text) = HasBadWord words
-IsCheckFault words facts workers (CannotRead name) = HasBadWord words → ⊥
-IsCheckFault words facts workers CannotWrite = HasBadWord words → ⊥
-IsCheckFault words facts workers FactsNotJson = IsFactsFaultOf words facts FactsNotJson
-IsCheckFault words facts workers FactsWrongShape = IsFactsFaultOf words facts FactsWrongShape
-IsCheckFault words facts workers FactsWrongVersion = IsFactsFaultOf words facts FactsWrongVersion
-IsCheckFault words facts workers (FactsReserved text) = IsFactsFaultOf words facts (FactsReserved text)
-IsCheckFault words facts workers (FactsNameGiven path) = IsGivenFault words facts workers (FactsNameGiven path)
-IsCheckFault words facts workers (TwoPackages path) = IsGivenFault words facts workers (TwoPackages path)
-IsCheckFault words facts workers TooManyPackages = IsGivenFault words facts workers TooManyPackages
-IsCheckFault words facts workers NoThread = IsGivenFault words facts workers NoThread
-IsCheckFault words facts workers OutOfMemory = ⊤
-IsCheckFault words facts workers _ = ⊥
+-- each of them names one, and the fault is that of the bytes of a file of declared facts, or of a list of packages
+abbrev pub IsFactsFaultOf : Sources → Fault → Type 0
+IsFactsFaultOf sources fault = (HasBadSource sources → ⊥) × HaveFactsFault (option_texts sources.facts) fault
 
--- the fault of a check of these words that writes certificates: one of a check, or that the file can't be written
-abbrev pub IsCertifyFault : List (List ℕ) → List (List ℕ) → ℕ → Fault → Type 0
-IsCertifyFault words facts workers (CannotWriteFile name) = HasBadWord words → ⊥
-IsCertifyFault words facts workers fault = IsCheckFault words facts workers fault
+abbrev pub IsListFaultOf : Sources → Fault → Type 0
+IsListFaultOf sources fault = (HasBadSource sources → ⊥) × HaveListFault (option_texts sources.list) fault
+
+-- the fault of a check of these sources by so many workers
+abbrev pub IsCheckFault : Sources → ℕ → Fault → Type 0
+IsCheckFault sources workers (BadPackage text) = HasBadSource sources ⊎ IsListFaultOf sources (BadPackage text)
+IsCheckFault sources workers (CannotRead name) = HasBadSource sources → ⊥
+IsCheckFault sources workers CannotWrite = HasBadSource sources → ⊥
+IsCheckFault sources workers FactsNotJson = IsFactsFaultOf sources FactsNotJson
+IsCheckFault sources workers FactsWrongShape = IsFactsFaultOf sources FactsWrongShape
+IsCheckFault sources workers FactsWrongVersion = IsFactsFaultOf sources FactsWrongVersion
+IsCheckFault sources workers (FactsReserved text) = IsFactsFaultOf sources (FactsReserved text)
+IsCheckFault sources workers ListNotJson = IsListFaultOf sources ListNotJson
+IsCheckFault sources workers ListWrongShape = IsListFaultOf sources ListWrongShape
+IsCheckFault sources workers (ListIncomplete text) = IsListFaultOf sources (ListIncomplete text)
+IsCheckFault sources workers (FactsNameGiven path) = IsGivenFault sources workers (FactsNameGiven path)
+IsCheckFault sources workers (TwoPackages path) = IsGivenFault sources workers (TwoPackages path)
+IsCheckFault sources workers TooManyPackages = IsGivenFault sources workers TooManyPackages
+IsCheckFault sources workers NoThread = IsGivenFault sources workers NoThread
+IsCheckFault sources workers OutOfMemory = ⊤
+IsCheckFault sources workers _ = ⊥
+
+-- the fault of a check that writes certificates: one of a check, or that the file can't be written
+abbrev pub IsCertifyFault : Sources → ℕ → Fault → Type 0
+IsCertifyFault sources workers (CannotWriteFile name) = HasBadSource sources → ⊥
+IsCertifyFault sources workers fault = IsCheckFault sources workers fault
 
 -- the fault of packages that should be judged by certificates, where this is declared of others
 abbrev pub IsVerdictFault : List PackageEntry → List GivenPackage → Certificates → Fault → Type 0
@@ -112,18 +124,17 @@ IsVerdictFault outside given certificates (CertificateTooOld path) =
 IsVerdictFault outside given certificates OutOfMemory = ⊤
 IsVerdictFault outside given certificates _ = ⊥
 
--- the words name packages, as they are read, certificates and declared facts are read too, and it is the fault of these
-pub record IsVerifiedFault (words facts : List (List ℕ)) (fault : Fault) : Type 0 where
+-- what the words name is read, certificates too, and it is the fault of these
+pub record IsVerifiedFault (sources : Sources) (fault : Fault) : Type 0 where
   pub given : List GivenPackage
-  pub are_given : AreGiven words given
-  pub file : Option ReadFile
+  pub files : FilesRead
   pub outside : Outside
-  pub are_declared : AreDeclaredBy facts file outside
+  pub are_read : AreReadFor sources files outside given
   pub certificates : Certificates
   pub stand_in : StandIn certificates
   pub is_fault : IsVerdictFault (packages_of outside) given certificates fault
 
--- the fault of a file's bytes, which are no certificates or no declared facts
+-- the fault of a file's bytes, which are no certificates, no declared facts or no list of packages
 abbrev pub is_of_bytes : Fault → Bool
 is_of_bytes CertificateNotJson = true
 is_of_bytes CertificateWrongShape = true
@@ -132,61 +143,59 @@ is_of_bytes FactsNotJson = true
 is_of_bytes FactsWrongShape = true
 is_of_bytes FactsWrongVersion = true
 is_of_bytes (FactsReserved text) = true
+is_of_bytes ListNotJson = true
+is_of_bytes ListWrongShape = true
+is_of_bytes (ListIncomplete text) = true
+is_of_bytes (BadPackage text) = true
 is_of_bytes _ = false
 
--- the words name packages, and the fault is that of the bytes of a file of certificates
-abbrev pub IsCertificatesFaultOf : List (List ℕ) → Fault → Type 0
-IsCertificatesFaultOf words fault = (HasBadWord words → ⊥) × HaveFault fault
+-- each word of a package names one, and the fault is that of the bytes of a file of certificates
+abbrev pub IsCertificatesFaultOf : Sources → Fault → Type 0
+IsCertificatesFaultOf sources fault = (HasBadSource sources → ⊥) × HaveFault fault
 
--- the fault of reading for a verification of these words, which come first
-abbrev pub IsReadingFault : List (List ℕ) → List (List ℕ) → Fault → Type 0
-IsReadingFault words facts (BadPackage text) = HasBadWord words
-IsReadingFault words facts (CannotRead name) = HasBadWord words → ⊥
-IsReadingFault words facts CertificateNotJson = IsCertificatesFaultOf words CertificateNotJson
-IsReadingFault words facts CertificateWrongShape = IsCertificatesFaultOf words CertificateWrongShape
-IsReadingFault words facts CertificateWrongVersion = IsCertificatesFaultOf words CertificateWrongVersion
-IsReadingFault words facts FactsNotJson = IsFactsFaultOf words facts FactsNotJson
-IsReadingFault words facts FactsWrongShape = IsFactsFaultOf words facts FactsWrongShape
-IsReadingFault words facts FactsWrongVersion = IsFactsFaultOf words facts FactsWrongVersion
-IsReadingFault words facts (FactsReserved text) = IsFactsFaultOf words facts (FactsReserved text)
-IsReadingFault words facts OutOfMemory = ⊤
-IsReadingFault words facts _ = ⊥
+-- the fault of reading for a verification of these sources; words come first
+abbrev pub IsReadingFault : Sources → Fault → Type 0
+IsReadingFault sources (BadPackage text) = HasBadSource sources ⊎ IsListFaultOf sources (BadPackage text)
+IsReadingFault sources (CannotRead name) = HasBadSource sources → ⊥
+IsReadingFault sources CertificateNotJson = IsCertificatesFaultOf sources CertificateNotJson
+IsReadingFault sources CertificateWrongShape = IsCertificatesFaultOf sources CertificateWrongShape
+IsReadingFault sources CertificateWrongVersion = IsCertificatesFaultOf sources CertificateWrongVersion
+IsReadingFault sources FactsNotJson = IsFactsFaultOf sources FactsNotJson
+IsReadingFault sources FactsWrongShape = IsFactsFaultOf sources FactsWrongShape
+IsReadingFault sources FactsWrongVersion = IsFactsFaultOf sources FactsWrongVersion
+IsReadingFault sources (FactsReserved text) = IsFactsFaultOf sources (FactsReserved text)
+IsReadingFault sources ListNotJson = IsListFaultOf sources ListNotJson
+IsReadingFault sources ListWrongShape = IsListFaultOf sources ListWrongShape
+IsReadingFault sources (ListIncomplete text) = IsListFaultOf sources (ListIncomplete text)
+IsReadingFault sources OutOfMemory = ⊤
+IsReadingFault sources _ = ⊥
 
--- the fault of a verification of these words
-abbrev pub IsVerificationFault : List (List ℕ) → List (List ℕ) → Fault → Type 0
-IsVerificationFault words facts CannotWrite = HasBadWord words → ⊥
-IsVerificationFault words facts (CertificateTooOld path) = IsVerifiedFault words facts (CertificateTooOld path)
-IsVerificationFault words facts (FactsNameGiven path) = IsVerifiedFault words facts (FactsNameGiven path)
-IsVerificationFault words facts (TwoPackages path) = IsVerifiedFault words facts (TwoPackages path)
-IsVerificationFault words facts TooManyPackages = IsVerifiedFault words facts TooManyPackages
-IsVerificationFault words facts fault = IsReadingFault words facts fault
+-- the fault of a verification of these sources
+abbrev pub IsVerificationFault : Sources → Fault → Type 0
+IsVerificationFault sources CannotWrite = HasBadSource sources → ⊥
+IsVerificationFault sources (CertificateTooOld path) = IsVerifiedFault sources (CertificateTooOld path)
+IsVerificationFault sources (FactsNameGiven path) = IsVerifiedFault sources (FactsNameGiven path)
+IsVerificationFault sources (TwoPackages path) = IsVerifiedFault sources (TwoPackages path)
+IsVerificationFault sources TooManyPackages = IsVerifiedFault sources TooManyPackages
+IsVerificationFault sources fault = IsReadingFault sources fault
 
 -- the words ask to check packages, and it is the fault of this
 pub record IsFaultOfCheck (words : List (List ℕ)) (fault : Fault) : Type 0 where
-  pub facts : List (List ℕ)
-  pub packages : List (List ℕ)
-  pub workers : Workers
-  pub is_check : IsCommand (codes "check") words [] facts packages
-  pub are_workers : AskForWorkers words workers
-  pub is_fault : IsCheckFault packages facts (count_of workers) fault
+  pub asked : CheckWords
+  pub asks : AsksForCheck words asked
+  pub is_fault : IsCheckFault asked.sources (count_of asked.workers) fault
 
 -- the words ask to check packages and to write certificates, and it is the fault of this
 pub record IsFaultOfCertify (words : List (List ℕ)) (fault : Fault) : Type 0 where
-  pub file : List ℕ
-  pub facts : List (List ℕ)
-  pub packages : List (List ℕ)
-  pub workers : Workers
-  pub is_certify : IsCommand (codes "check") words (file ∷ []) facts packages
-  pub are_workers : AskForWorkers words workers
-  pub is_fault : IsCertifyFault packages facts (count_of workers) fault
+  pub asked : CertifyWords
+  pub asks : AsksForCertificates words asked
+  pub is_fault : IsCertifyFault asked.sources (count_of asked.workers) fault
 
 -- the words ask to judge packages by certificates, and it is the fault of this
 pub record IsFaultOfVerify (words : List (List ℕ)) (fault : Fault) : Type 0 where
-  pub file : List ℕ
-  pub facts : List (List ℕ)
-  pub packages : List (List ℕ)
-  pub is_verify : IsCommand (codes "verify") words (file ∷ []) facts packages
-  pub is_fault : IsVerificationFault packages facts fault
+  pub asked : VerifyWords
+  pub asks : AsksForVerification words asked
+  pub is_fault : IsVerificationFault asked.sources fault
 
 -- the fault of a run with these words: memory was refused, help could not be written, or it is that of their command
 abbrev pub IsRunFault : List (List ℕ) → Fault → Type 0

@@ -1,11 +1,25 @@
--- The packages that words name, and what is read of them. Which files a folder has, and their bytes, no contract can
--- say: the sources are any with names of Go files of that folder.
-use Rattle.std.specs.Prelude.{◌≡◌, ℕ, List, string_bytes}
-use Rattle.std.specs.List.{AllZip}
+-- The packages that words and a list name, and what is read of them. Which files a folder has, the bytes of files, and
+-- which folder is the current one, no contract can say: the sources of a word's package are any with names of Go files
+-- of its folder, and those of a listed one are the files that its entry names.
+use Rattle.std.specs.Prelude.{◌≡◌, ℕ, Bool, List, [], ◌∷◌, ◌++◌, Option, Some, None, filter, length, map, nat_lt, string_bytes}
+use Rattle.std.specs.List.{AllByRecursion, AllZip}
+use Rattle.command_line.specs.Words.{option_texts, texts_of}
+use Rattle.command_line.specs.declared.words.Sources.{Sources}
 use Rattle.load.specs.declared.packages.GivenPackage.{GivenPackage}
 use Rattle.folders.specs.GoFiles.{AreSourcesOf}
+use Rattle.folders.specs.ListedFiles.{shown_name, AreFilesOf}
+use Rattle.folders.specs.Names.{IsPrintable}
 use Rattle.folders.specs.Packages.{IsPackageWord}
+use Rattle.folders.specs.ReadFiles.{bytes_read, name_read}
+use Rattle.folders.specs.declared.whole_files.ReadFile.{ReadFile}
+use Rattle.package_list.specs.ListTexts.{first_incomplete, AreListedIn}
+use Rattle.package_list.specs.ListedValues.{PackageEntry}
+use Rattle.outside_json.specs.declared.outside.Outside.{Outside}
+use Rattle.driver.specs.DeclaredFacts.{AreDeclaredBy}
+use Rattle.driver.specs.declared.input.FilesRead.{FilesRead}
 use Rattle.driver.specs.declared.packages.NamedPackage.{NamedPackage}
+
+-- Packages of words
 
 -- the word names the package
 abbrev pub IsNamed : List ℕ → NamedPackage → Type 0
@@ -22,8 +36,62 @@ pub record IsRead (named : NamedPackage) (given : GivenPackage) : Type 0 where
 abbrev pub AreRead : List NamedPackage → List GivenPackage → Type 0
 AreRead = AllZip IsRead
 
--- each word names the package in its place, which is read so
-pub record AreGiven (words : List (List ℕ)) (given : List GivenPackage) : Type 0 where
+-- Packages of a list
+
+-- a report can print the paths
+abbrev pub HavePrintablePaths : List PackageEntry → Type 0
+HavePrintablePaths = AllByRecursion (λ entry. IsPrintable entry.path)
+
+-- the go command could load all of them
+abbrev pub AreComplete : List PackageEntry → Type 0
+AreComplete entries = first_incomplete entries ≡ None
+
+-- Where words name a list of packages, it was read, and these are its entries. Where they name none, there are none.
+abbrev pub AreListedBy : List (List ℕ) → Option ReadFile → List PackageEntry → Type 0
+AreListedBy [] None entries = entries ≡ []
+AreListedBy [] (Some file) entries = ⊥
+AreListedBy (name ∷ []) None entries = ⊥
+AreListedBy (name ∷ []) (Some file) entries =
+    (name_read file ≡ name) × AreListedIn (bytes_read file) entries × AreComplete entries × HavePrintablePaths entries
+AreListedBy (name ∷ another ∷ more) file entries = ⊥
+
+-- an entry without files is no package
+abbrev pub has_files : PackageEntry → Bool
+has_files entry = nat_lt 0 (length entry.files)
+
+-- how a report names the files of an entry, by the current folder
+abbrev pub shown_files : Option (List ℕ) → PackageEntry → List (List ℕ)
+shown_files here entry = map (shown_name here entry.folder) entry.files
+
+-- the package has that path, and its sources are the files of the entry, all of them, each once
+pub record IsListed (here : Option (List ℕ)) (entry : PackageEntry) (given : GivenPackage) : Type 0 where
+  pub is_path : string_bytes given.path ≡ entry.path
+  pub are_files : AreFilesOf (shown_files here entry) given.sources.items
+
+abbrev pub AreListed : Option (List ℕ) → List PackageEntry → List GivenPackage → Type 0
+AreListed here entries = AllZip (IsListed here) (filter has_files entries)
+
+-- to the packages that were given those of these entries were added, as some folder is the current one
+pub record AddListed (entries : List PackageEntry) (before after : List GivenPackage) : Type 0 where
+  pub here : Option (List ℕ)
+  pub added : List GivenPackage
+  pub are_listed : AreListed here entries added
+  pub together : after ≡ before ++ added
+
+-- All of them
+
+-- First stand the packages of words, each in its place, and then those of the list, each read so.
+pub record AreGiven (sources : Sources) (list : Option ReadFile) (given : List GivenPackage) : Type 0 where
   pub packages : List NamedPackage
-  pub are_named : AreNamed words packages
-  pub are_read : AreRead packages given
+  pub are_named : AreNamed (texts_of sources.packages.items) packages
+  pub of_words : List GivenPackage
+  pub are_read : AreRead packages of_words
+  pub entries : List PackageEntry
+  pub are_listed : AreListedBy (option_texts sources.list) list entries
+  pub of_list : AddListed entries of_words given
+
+-- What was read: the files that the words name beside those of packages, what these declare, and the packages.
+pub record AreReadFor (sources : Sources) (files : FilesRead) (outside : Outside) (given : List GivenPackage)
+    : Type 0 where
+  pub are_declared : AreDeclaredBy (option_texts sources.facts) files.facts outside
+  pub are_given : AreGiven sources files.list given

@@ -2,22 +2,26 @@
 -- for which its words ask, and nothing besides; or, where a word asks for help, what the library of the command line
 -- writes. After a fault that is nothing, or, where the fault is that of writing, a beginning of that text and nothing
 -- besides. The file for certificates is written after the report, so where it can't be, all of the report is written.
-use Rattle.std.specs.Prelude.{◌≡◌, ◌⊎◌, ℕ, Bool, true, false, List, [], ◌∷◌, Option, codes}
+use Rattle.std.specs.Prelude.{◌≡◌, ◌⊎◌, ℕ, Bool, true, false, List, Option}
 use Rattle.std.specs.Io.KnownBytes.{Appends}
 use Rattle.certificate_json.specs.declared.certificates.Certificates.{Certificates}
 use Rattle.load.specs.declared.packages.GivenPackage.{GivenPackage}
 use Rattle.outside_json.specs.Outside.{packages_of}
 use Rattle.outside_json.specs.declared.outside.Outside.{Outside}
-use Rattle.command_line.specs.Words.{AsksForHelp, IsCommand}
+use Rattle.command_line.specs.Words.{AsksForCertificates, AsksForCheck, AsksForHelp, AsksForVerification}
+use Rattle.command_line.specs.declared.words.CertifyWords.{CertifyWords}
+use Rattle.command_line.specs.declared.words.CheckWords.{CheckWords}
+use Rattle.command_line.specs.declared.words.Sources.{Sources}
+use Rattle.command_line.specs.declared.words.VerifyWords.{VerifyWords}
+use Rattle.report_formats.specs.declared.formats.Format.{Format}
 use Rattle.folders.specs.declared.fault.Fault.{Fault}
 use Rattle.folders.specs.declared.fault.Fault.TheVariants.{CannotWrite, CannotWriteFile}
-use Rattle.folders.specs.declared.whole_files.ReadFile.{ReadFile}
 use Rattle.judge.specs.Certified.{IsCertifiedReport}
 use Rattle.judge.specs.Verified.{IsVerifiedReport}
 use Rattle.judge.specs.Reports.{IsReport, Report}
 use Rattle.driver.specs.Certificates.{StandIn}
-use Rattle.driver.specs.DeclaredFacts.{AreDeclaredBy}
-use Rattle.driver.specs.Packages.{AreGiven}
+use Rattle.driver.specs.Packages.{AreReadFor}
+use Rattle.driver.specs.declared.input.FilesRead.{FilesRead}
 use Rattle.driver.specs.Faults.{IsRunFault, LeavesUnwritten}
 use Rattle.driver.specs.Printing.{AppendsFront}
 use Rattle.driver.specs.declared.status.Status.{Status}
@@ -31,65 +35,57 @@ IsWritten old new verdict report = (report.yes ≡ verdict) × Appends old new r
 abbrev pub IsBegun : Option (List ℕ) → Option (List ℕ) → Report → Type 0
 IsBegun old new report = AppendsFront old new report.text.items
 
-module _ (words facts : List (List ℕ)) (file : Option ReadFile) where
-  -- this holds of the report on the packages that these words name, with the declared facts of this file
+module _ (sources : Sources) (format : Format) (files : FilesRead) where
+  -- this holds of the report, in this form, on the packages of these sources, where these files were read for it
   pub record OfReport (holds : Report → Type 0) : Type 0 where
     pub given : List GivenPackage
-    pub are_given : AreGiven words given
     pub outside : Outside
-    pub are_declared : AreDeclaredBy facts file outside
+    pub are_read : AreReadFor sources files outside given
     pub report : Report
-    pub is_report : IsReport (packages_of outside) given report
+    pub is_report : IsReport format (packages_of outside) given report
     pub so : holds report
 
   -- the same where this is the text of their certificates
   pub record OfCertifiedReport (text : List ℕ) (holds : Report → Type 0) : Type 0 where
     pub given : List GivenPackage
-    pub are_given : AreGiven words given
     pub outside : Outside
-    pub are_declared : AreDeclaredBy facts file outside
+    pub are_read : AreReadFor sources files outside given
     pub report : Report
-    pub is_report : IsCertifiedReport (packages_of outside) given report text
+    pub is_report : IsCertifiedReport format (packages_of outside) given report text
     pub so : holds report
 
   -- the same of their report by certificates that stand in a file
   pub record OfVerifiedReport (holds : Report → Type 0) : Type 0 where
     pub given : List GivenPackage
-    pub are_given : AreGiven words given
     pub outside : Outside
-    pub are_declared : AreDeclaredBy facts file outside
+    pub are_read : AreReadFor sources files outside given
     pub certificates : Certificates
     pub stand_in : StandIn certificates
     pub report : Report
-    pub is_report : IsVerifiedReport (packages_of outside) given certificates report
+    pub is_report : IsVerifiedReport format (packages_of outside) given certificates report
     pub so : holds report
 
--- the words ask to check packages, and this holds of their report, with what is declared
+-- the words ask to check packages, and this holds of their report
 pub record OfCheck (words : List (List ℕ)) (holds : Report → Type 0) : Type 0 where
-  pub facts : List (List ℕ)
-  pub packages : List (List ℕ)
-  pub is_check : IsCommand (codes "check") words [] facts packages
-  pub read : Option ReadFile
-  pub report : OfReport packages facts read holds
+  pub asked : CheckWords
+  pub asks : AsksForCheck words asked
+  pub files : FilesRead
+  pub report : OfReport asked.sources asked.format files holds
 
 -- the words ask to check packages and to write certificates, and this holds of the report
 pub record OfCertify (words : List (List ℕ)) (holds : Report → Type 0) : Type 0 where
-  pub file : List ℕ
-  pub facts : List (List ℕ)
-  pub packages : List (List ℕ)
-  pub is_certify : IsCommand (codes "check") words (file ∷ []) facts packages
-  pub read : Option ReadFile
+  pub asked : CertifyWords
+  pub asks : AsksForCertificates words asked
+  pub files : FilesRead
   pub text : List ℕ
-  pub report : OfCertifiedReport packages facts read text holds
+  pub report : OfCertifiedReport asked.sources asked.format files text holds
 
 -- the words ask to judge packages by certificates, and this holds of the report
 pub record OfVerify (words : List (List ℕ)) (holds : Report → Type 0) : Type 0 where
-  pub file : List ℕ
-  pub facts : List (List ℕ)
-  pub packages : List (List ℕ)
-  pub is_verify : IsCommand (codes "verify") words (file ∷ []) facts packages
-  pub read : Option ReadFile
-  pub report : OfVerifiedReport packages facts read holds
+  pub asked : VerifyWords
+  pub asks : AsksForVerification words asked
+  pub files : FilesRead
+  pub report : OfVerifiedReport asked.sources asked.format files holds
 
 -- this holds of the report for which the words ask
 abbrev pub OfAsked : List (List ℕ) → (Report → Type 0) → Type 0

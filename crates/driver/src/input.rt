@@ -1,51 +1,85 @@
 //! What is read for a report.
 
-ghost use Rattle.std.specs.Prelude.{◌≡◌, true, IfErr, IfOk};
-ghost use Rattle.command_line.specs.Words.{option_texts};
-ghost use Rattle.driver.specs.DeclaredFacts.{AreDeclaredBy, IsReadFactsFault};
-ghost use Rattle.driver.specs.Faults.{is_of_bytes};
-ghost use Rattle.driver.specs.Packages.{AreRead};
+ghost use Rattle.std.specs.Prelude.{◌≡◌, ℕ, false, true, IfErr, IfOk};
+ghost use Rattle.command_line.specs.Words.{option_texts, texts_of};
+ghost use Rattle.driver.specs.Faults.{is_of_bytes, is_of_output, IsCheckFault};
+ghost use Rattle.driver.specs.Packages.{AreNamed, AreReadFor};
+ghost use Rattle.driver.specs.PackageLists.{IsReadSourcesFault};
 
 use crate::facts_input::read_facts;
-use crate::packages::{FoldersAsked, NamedPackage, read_packages};
-use folders::{Fault, ReadFile};
+use crate::list_input::read_packages_of_list;
+use crate::listed_packages::add_listed;
+use crate::packages::{FoldersAsked, NamedPackage, all_named, read_packages};
+use command_line::Sources;
+use folders::{Fault, ReadFile, Surroundings};
 use load::GivenPackage;
 use outside_json::Outside;
 use std::rt::Files;
 
-/// What is declared, with the file that was read for it; the packages; and the folders that have no Go file.
-#[derive(Drop)]
-pub struct Input<'a> {
+/// The files that were read for a report beside those of packages, where they are named: that of declared facts, and
+/// the list of packages.
+#[derive(Debug, Drop)]
+pub struct FilesRead<'a> {
     pub facts: Option<ReadFile<'a>>,
-    pub outside: Outside,
-    pub given: Vec<GivenPackage>,
-    pub empty: Vec<&'a str>,
+    pub list: Option<ReadFile<'a>>,
 }
 
-/// Reads the file of declared facts, if one is named, and after it the folders of the packages.
+/// What was read: these files, what is declared, the packages, and the folders that have no Go file, escaped.
+#[derive(Drop)]
+pub struct Input<'a> {
+    pub files: FilesRead<'a>,
+    pub outside: Outside,
+    pub given: Vec<GivenPackage>,
+    pub empty: Vec<String>,
+}
+
+/// Reads the file of declared facts, if one is named, after it the list of packages, if one is named, and then the
+/// folders of the packages that words name, which are these, and the files of the listed ones.
 ///
 /// # Errors
 ///
-/// The file can't be read, or its bytes are no declared facts; a folder can't be listed or a file in it can't be read;
-/// or memory was refused. It is the first of these.
-pub fn read_input<'a, R: Files + AllocGlobal>(
+/// The first file can't be read, or its bytes are no declared facts; the list can't be read, or is none of packages; a
+/// folder can't be listed or a file can't be read; or memory was refused. It is the first of these.
+pub fn read_input<'a, R: Files + AllocGlobal + Surroundings>(
     rt: &R,
     packages: &[NamedPackage<'a>],
-    facts: Option<&'a str>,
+    sources: &Sources<'a>,
     folders: &mut FoldersAsked,
 ) -> Result<Input<'a>, Fault>
-    ensures declared { IfOk result (λ input. AreDeclaredBy (option_texts facts.entry) input.facts input.outside) }
-    ensures given { IfOk result (λ input. AreRead packages.now input.given.items) }
-    ensures fault { IfErr result (IsReadFactsFault (option_texts facts.entry)) }
+    ensures read { IfOk result (λ input. AreNamed (texts_of sources.now.packages.items) packages.now
+        → AreReadFor sources.now input.files input.outside input.given.items) }
+    ensures fault { IfErr result (IsReadSourcesFault sources.now) }
     ensures order { IfErr result (λ fault. is_of_bytes fault ≡ true → folders.new.any ≡ folders.old.any) }
 {
-    let declared = read_facts(rt, facts)?;
+    let declared = read_facts(rt, sources.facts)?;
+    let listed = read_packages_of_list(rt, sources.list)?;
     let mut empty = Vec::new(rt.alloc());
-    let given = read_packages(rt, packages, &mut empty, folders)?;
+    let mut given = read_packages(rt, packages, &mut empty, folders)?;
+    add_listed(rt, &listed.packages, &mut given, &mut empty)?;
     Ok(Input {
-        facts: declared.file,
+        files: FilesRead {
+            facts: declared.file,
+            list: listed.file,
+        },
         outside: declared.outside,
         given,
         empty,
     })
+}
+
+/// Reads all that these words name for a check.
+///
+/// # Errors
+///
+/// The first word of a package that names none; after that, as `read_input`.
+pub fn read_sources<'a, R: Files + AllocGlobal + Surroundings>(
+    rt: &R,
+    sources: &Sources<'a>,
+) -> Result<Input<'a>, Fault>
+    ensures read { IfOk result (λ input. AreReadFor sources.now input.files input.outside input.given.items) }
+    ensures fault { IfErr result (λ fault. (workers : ℕ) → IsCheckFault sources.now workers fault) }
+    ensures other { IfErr result (λ fault. is_of_output fault ≡ false) }
+{
+    let packages = all_named(rt.alloc(), &sources.packages)?;
+    read_input(rt, &packages, sources, &mut FoldersAsked::none())
 }

@@ -46,17 +46,17 @@ pub fn all_named<'a>(alloc: Global, words: &[&'a str]) -> Result<Vec<NamedPackag
 }
 
 /// The package with the Go files of its folder. The folder is kept where it has none.
-fn read_package<'a, R: Files + AllocGlobal>(
+fn read_package<R: Files + AllocGlobal>(
     rt: &R,
-    one: NamedPackage<'a>,
-    empty: &mut Vec<&'a str>,
+    one: NamedPackage<'_>,
+    empty: &mut Vec<String>,
 ) -> Result<GivenPackage, Fault>
     ensures read { IfOk result (IsRead one.entry) }
     ensures fault { IfErr result IsReadFault }
 {
     let sources = read_folder(rt, one.folder)?;
     if sources.is_empty() {
-        empty.push(one.folder)?;
+        empty.push(escaped(rt.alloc(), one.folder)?)?;
     }
     Ok(GivenPackage {
         path: String::from_str(rt.alloc(), one.path)?,
@@ -84,10 +84,10 @@ impl FoldersAsked {
 /// # Errors
 ///
 /// The first folder that can't be listed or file that can't be read, or memory was refused.
-pub fn read_packages<'a, R: Files + AllocGlobal>(
+pub fn read_packages<R: Files + AllocGlobal>(
     rt: &R,
-    packages: &[NamedPackage<'a>],
-    empty: &mut Vec<&'a str>,
+    packages: &[NamedPackage<'_>],
+    empty: &mut Vec<String>,
     folders: &mut FoldersAsked,
 ) -> Result<Vec<GivenPackage>, Fault>
     ensures read { IfOk result (λ given. AreRead packages.now given.items) }

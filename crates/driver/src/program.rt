@@ -1,25 +1,24 @@
 //! The whole program, over two writers.
 
-ghost use Rattle.std.specs.Prelude.{◌≡◌, Bool, Option, IfErr, IfOk, map};
-ghost use Rattle.command_line.specs.Words.{option_texts, texts_of};
+ghost use Rattle.std.specs.Prelude.{◌≡◌, Bool, IfErr, IfOk, map};
+ghost use Rattle.driver.specs.declared.input.FilesRead.{FilesRead};
 ghost use Rattle.driver.specs.Faults.{IsCheckFault, IsRunFault, LeavesUnwritten};
 ghost use Rattle.driver.specs.Printing.{refused_by};
 ghost use Rattle.driver.specs.Statuses.{status_code, status_of};
 ghost use Rattle.driver.specs.WrittenReport.{EndsWith, IsBegun, IsWritten, LeavesBegun, LeavesWhole, OfReport};
-ghost use Rattle.folders.specs.declared.whole_files.ReadFile.{ReadFile};
 ghost use Rattle.workers.specs.Counts.{count_of};
 
 use crate::certify::certify;
-use crate::input::read_input;
-use crate::notes::{PROGRAM, note_empty};
-use crate::packages::{FoldersAsked, all_named};
+use crate::input::{FilesRead, read_sources};
+use crate::notes::{PROGRAM, note};
 use crate::printing::print;
 use crate::reports::report_by;
 use crate::status::Status;
 use crate::verify::verify;
 use crate::writers::Refusals;
 use command_line::{Asked, CheckWords, read_words};
-use folders::{Fault, ReadFile, fail};
+use folders::{Fault, Surroundings, fail};
+use judge::Settings;
 use load::{Leave, LetGo};
 use std::convert::AsStr;
 use std::io::Write;
@@ -31,12 +30,12 @@ use std::thread::Threads;
 /// returns its status. 0: each package is yes, or help or the version was asked for. 1: some package is no. 2: a fault,
 /// which is the first one. What a yes says, and in which runs, `judge::report_of` tells: where a file of facts is
 /// named, in those in which what it declares is true.
-pub fn run<R: Files + AllocGlobal + Threads + Wait + Sync, S: AsStr, W: Write, E: Write>(
-    rt: &R,
-    words: &[S],
-    out: &mut W,
-    err: &mut E,
-) -> u8
+pub fn run<
+    R: Files + Surroundings + AllocGlobal + Threads + Wait + Sync,
+    S: AsStr,
+    W: Write,
+    E: Write,
+>(rt: &R, words: &[S], out: &mut W, err: &mut E) -> u8
     ensures { (status : Status) × (result ≡ status_code status)
         × EndsWith (map S.text words.now) status (W.contents out.old) (W.contents out.new) }
 {
@@ -46,7 +45,7 @@ pub fn run<R: Files + AllocGlobal + Threads + Wait + Sync, S: AsStr, W: Write, E
 /// The same, where `L` says what becomes of the packages once they were judged. A program that ends then may leave them
 /// to the end of its process.
 pub fn run_leaving<
-    R: Files + AllocGlobal + Threads + Wait + Sync,
+    R: Files + Surroundings + AllocGlobal + Threads + Wait + Sync,
     S: AsStr,
     W: Write,
     E: Write,
@@ -70,13 +69,13 @@ pub fn refuse<E: Write>(err: &mut E, fault: &Fault) -> u8
 }
 
 /// Does what the words ask for. A write on `out` was refused just where the fault is that of writing.
-fn answer<R: Files + AllocGlobal + Threads + Wait + Sync, S: AsStr, W: Write, E: Write, L: Leave>(
-    rt: &R,
-    words: &[S],
-    out: &mut W,
-    err: &mut E,
-    refusals: &mut Refusals,
-) -> Result<Status, Fault>
+fn answer<
+    R: Files + Surroundings + AllocGlobal + Threads + Wait + Sync,
+    S: AsStr,
+    W: Write,
+    E: Write,
+    L: Leave,
+>(rt: &R, words: &[S], out: &mut W, err: &mut E, refusals: &mut Refusals) -> Result<Status, Fault>
     ensures written { IfOk result (λ status.
         EndsWith (map S.text words.now) status (W.contents out.old) (W.contents out.new)) }
     ensures fault { IfErr result (IsRunFault (map S.text words.now)) }
@@ -113,16 +112,21 @@ fn answer<R: Files + AllocGlobal + Threads + Wait + Sync, S: AsStr, W: Write, E:
     }
 }
 
-/// How a check ended, and the file of declared facts that was read for it.
+/// How a check ended, and the files that were read for it beside those of packages.
 #[derive(Debug, Drop)]
 struct Checked<'a> {
     status: Status,
-    facts: Option<ReadFile<'a>>,
+    files: FilesRead<'a>,
 }
 
-/// Checks the packages of these words, `PATH=DIR` each, and prints their report. Folders without a Go file are noted
-/// after it.
-fn check<'a, R: Files + AllocGlobal + Threads + Wait + Sync, W: Write, E: Write, L: Leave>(
+/// Checks the packages of these words, and prints their report. After it stand the notes.
+fn check<
+    'a,
+    R: Files + Surroundings + AllocGlobal + Threads + Wait + Sync,
+    W: Write,
+    E: Write,
+    L: Leave,
+>(
     rt: &R,
     asked: &CheckWords<'a>,
     out: &mut W,
@@ -130,23 +134,24 @@ fn check<'a, R: Files + AllocGlobal + Threads + Wait + Sync, W: Write, E: Write,
     refusals: &mut Refusals,
 ) -> Result<Checked<'a>, Fault>
     ensures written { IfOk result (λ done. (yes : Bool) × (done.status ≡ status_of yes)
-        × OfReport (texts_of asked.now.packages.items) (option_texts asked.now.facts) done.facts
+        × OfReport asked.now.sources asked.now.format done.files
         (IsWritten (W.contents out.old) (W.contents out.new) yes)) }
-    ensures fault { IfErr result (IsCheckFault (texts_of asked.now.packages.items) (option_texts asked.now.facts)
-        (count_of asked.now.workers)) }
+    ensures fault { IfErr result (IsCheckFault asked.now.sources (count_of asked.now.workers)) }
     ensures unwritten { IfErr result (λ fault. LeavesUnwritten fault (W.contents out.old) (W.contents out.new)) }
-    ensures begun { IfErr result (λ fault. fault ≡ Fault.CannotWrite → (read : Option ReadFile)
-        × OfReport (texts_of asked.now.packages.items) (option_texts asked.now.facts) read
-        (IsBegun (W.contents out.old) (W.contents out.new))) }
+    ensures begun { IfErr result (λ fault. fault ≡ Fault.CannotWrite → (files : FilesRead)
+        × OfReport asked.now.sources asked.now.format files (IsBegun (W.contents out.old) (W.contents out.new))) }
     ensures refused { refusals.new.any ≡ refused_by refusals.old.any result }
 {
-    let packages = all_named(rt.alloc(), &asked.packages)?;
-    let input = read_input(rt, &packages, asked.facts, &mut FoldersAsked::none())?;
-    let report = report_by::<R, L>(rt, input.given, input.outside, asked.workers)?;
+    let input = read_sources(rt, &asked.sources)?;
+    let settings = Settings {
+        workers: asked.workers,
+        format: asked.format,
+    };
+    let report = report_by::<R, L>(rt, input.given, input.outside, settings)?;
     print(out, &report.text, refusals)?;
-    note_empty(&input.empty, err);
+    note(&input.files, &input.empty, report.counts, err);
     Ok(Checked {
         status: Status::of_verdict(report.yes),
-        facts: input.facts,
+        files: input.files,
     })
 }

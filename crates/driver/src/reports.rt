@@ -11,13 +11,12 @@ ghost use Rattle.workers.specs.Counts.{count_of};
 use crate::facts_input::nothing_declared;
 use certificate_json::Certificates;
 use folders::Fault;
-use judge::{CertifiedReport, CheckFault, Report, VerifyFault};
+use judge::{CertifiedReport, CheckFault, Format, Report, Settings, VerifyFault};
 use load::{GivenPackage, Leave, LoadFault};
 use outside_json::Outside;
 use std::alloc::Global;
 use std::sync::Wait;
 use std::thread::Threads;
-use workers::Workers;
 
 /// Why packages are not loaded, as the program tells it.
 fn told_fault(fault: LoadFault) -> Fault
@@ -31,18 +30,18 @@ fn told_fault(fault: LoadFault) -> Fault
     }
 }
 
-/// The report of these packages, in the order of their paths, where nothing is declared of others. No thread is
-/// started.
+/// The report of these packages as a text, in the order of their paths, where nothing is declared of others. No thread
+/// is started.
 ///
 /// # Errors
 ///
 /// There are more than 10,000 packages, or more than 4,294,967,295 files of one; two packages have one path; or memory
 /// was refused.
 pub fn report_of(alloc: Global, given: Vec<GivenPackage>) -> Result<Report, Fault>
-    ensures report { IfOk result (IsReport [] given.items) }
+    ensures report { IfOk result (IsReport Format.Text [] given.items) }
     ensures fault { IfErr result (IsReportFault [] given.items) }
 {
-    match judge::report_of(alloc, given, nothing_declared(alloc)) {
+    match judge::report_of(alloc, given, nothing_declared(alloc), Format::Text) {
         Ok(report) => Ok(report),
         Err(fault) => Err(told_fault(fault)),
     }
@@ -69,12 +68,12 @@ pub fn report_by<R: AllocGlobal + Threads + Wait + Sync, L: Leave>(
     rt: &R,
     given: Vec<GivenPackage>,
     outside: Outside,
-    workers: Workers,
+    settings: Settings,
 ) -> Result<Report, Fault>
-    ensures report { IfOk result (IsReport (packages_of outside) given.items) }
-    ensures fault { IfErr result (IsSharedReportFault (packages_of outside) given.items (count_of workers)) }
+    ensures report { IfOk result (IsReport settings.format (packages_of outside) given.items) }
+    ensures fault { IfErr result (IsSharedReportFault (packages_of outside) given.items (count_of settings.workers)) }
 {
-    match judge::report_by::<R, L>(rt, rt.alloc(), given, outside, workers) {
+    match judge::report_by::<R, L>(rt, rt.alloc(), given, outside, settings) {
         Ok(report) => Ok(report),
         Err(fault) => Err(told_check_fault(fault)),
     }
@@ -90,13 +89,13 @@ pub fn certified_report_by<R: AllocGlobal + Threads + Wait + Sync, L: Leave>(
     rt: &R,
     given: Vec<GivenPackage>,
     outside: Outside,
-    workers: Workers,
+    settings: Settings,
 ) -> Result<CertifiedReport, Fault>
-    ensures report { IfOk result
-        (λ told. IsCertifiedReport (packages_of outside) given.items told.report (string_bytes told.certificates)) }
-    ensures fault { IfErr result (IsSharedReportFault (packages_of outside) given.items (count_of workers)) }
+    ensures report { IfOk result (λ told. IsCertifiedReport settings.format (packages_of outside) given.items
+        told.report (string_bytes told.certificates)) }
+    ensures fault { IfErr result (IsSharedReportFault (packages_of outside) given.items (count_of settings.workers)) }
 {
-    match judge::certified_report_by::<R, L>(rt, rt.alloc(), given, outside, workers) {
+    match judge::certified_report_by::<R, L>(rt, rt.alloc(), given, outside, settings) {
         Ok(told) => Ok(told),
         Err(fault) => Err(told_check_fault(fault)),
     }
@@ -122,11 +121,12 @@ pub fn verified_report_of<L: Leave>(
     given: Vec<GivenPackage>,
     outside: Outside,
     certificates: &Certificates,
+    format: Format,
 ) -> Result<Report, Fault>
-    ensures report { IfOk result (IsVerifiedReport (packages_of outside) given.items certificates.now) }
+    ensures report { IfOk result (IsVerifiedReport format (packages_of outside) given.items certificates.now) }
     ensures fault { IfErr result (IsVerdictFault (packages_of outside) given.items certificates.now) }
 {
-    match judge::verified_report_of::<L>(alloc, given, outside, certificates) {
+    match judge::verified_report_of::<L>(alloc, given, outside, certificates, format) {
         Ok(report) => Ok(report),
         Err(fault) => Err(told_verify_fault(fault)),
     }

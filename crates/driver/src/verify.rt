@@ -1,19 +1,17 @@
 //! A judgement by certificates.
 
-ghost use Rattle.std.specs.Prelude.{◌≡◌, Bool, true, Option, IfErr, IfOk};
-ghost use Rattle.command_line.specs.Words.{option_texts, texts_of};
+ghost use Rattle.std.specs.Prelude.{◌≡◌, Bool, true, IfErr, IfOk};
+ghost use Rattle.driver.specs.declared.input.FilesRead.{FilesRead};
 ghost use Rattle.driver.specs.Faults.{is_of_bytes, IsReadingFault, IsVerificationFault, LeavesUnwritten};
-ghost use Rattle.driver.specs.Packages.{AreGiven};
+ghost use Rattle.driver.specs.Packages.{AreReadFor};
 ghost use Rattle.driver.specs.Certificates.{StandIn};
-ghost use Rattle.driver.specs.DeclaredFacts.{AreDeclaredBy};
 ghost use Rattle.driver.specs.Printing.{refused_by};
 ghost use Rattle.driver.specs.Statuses.{status_of};
 ghost use Rattle.driver.specs.WrittenReport.{IsBegun, IsWritten, OfVerifiedReport};
-ghost use Rattle.folders.specs.declared.whole_files.ReadFile.{ReadFile};
 
 use crate::certificate_input::read_certificates;
-use crate::input::read_input;
-use crate::notes::note_empty;
+use crate::input::{FilesRead, Input, read_input};
+use crate::notes::note;
 use crate::packages::{FoldersAsked, all_named};
 use crate::printing::print;
 use crate::reports::verified_report_of;
@@ -21,60 +19,49 @@ use crate::status::Status;
 use crate::writers::Refusals;
 use certificate_json::Certificates;
 use command_line::VerifyWords;
-use folders::{Fault, ReadFile};
-use load::{GivenPackage, Leave};
-use outside_json::Outside;
+use folders::{Fault, Surroundings};
+use load::Leave;
 use std::io::Write;
 use std::rt::Files;
 
-/// What is read for it: the certificates, what is declared, with the file that was read for that, the packages, and the
-/// folders that have no Go file.
+/// What is read for it: the certificates, and what is read for any report.
 #[derive(Drop)]
 struct Evidence<'a> {
     certificates: Certificates,
-    facts: Option<ReadFile<'a>>,
-    outside: Outside,
-    given: Vec<GivenPackage>,
-    empty: Vec<&'a str>,
+    input: Input<'a>,
 }
 
-/// Reads the file of certificates, after it the file of declared facts, if one is named, and then the folders of the
-/// packages.
-fn read_evidence<'a, R: Files + AllocGlobal>(
+/// Reads the file of certificates, and after it what is read for any report.
+fn read_evidence<'a, R: Files + Surroundings + AllocGlobal>(
     rt: &R,
     asked: &VerifyWords<'a>,
     folders: &mut FoldersAsked,
 ) -> Result<Evidence<'a>, Fault>
     ensures certificates { IfOk result (λ read. StandIn read.certificates) }
-    ensures declared { IfOk result
-        (λ read. AreDeclaredBy (option_texts asked.now.facts) read.facts read.outside) }
-    ensures given { IfOk result (λ read. AreGiven (texts_of asked.now.packages.items) read.given.items) }
-    ensures fault { IfErr result
-        (IsReadingFault (texts_of asked.now.packages.items) (option_texts asked.now.facts)) }
+    ensures read { IfOk result (λ read.
+        AreReadFor asked.now.sources read.input.files read.input.outside read.input.given.items) }
+    ensures fault { IfErr result (IsReadingFault asked.now.sources) }
     ensures order { IfErr result (λ fault. is_of_bytes fault ≡ true → folders.new.any ≡ folders.old.any) }
 {
-    let packages = all_named(rt.alloc(), &asked.packages)?;
+    let packages = all_named(rt.alloc(), &asked.sources.packages)?;
     let certificates = read_certificates(rt, asked.file)?;
-    let input = read_input(rt, &packages, asked.facts, folders)?;
+    let input = read_input(rt, &packages, &asked.sources, folders)?;
     Ok(Evidence {
         certificates,
-        facts: input.facts,
-        outside: input.outside,
-        given: input.given,
-        empty: input.empty,
+        input,
     })
 }
 
-/// How a verification ended, and the file of declared facts that was read for it.
+/// How a verification ended, and the files that were read for it beside those of packages and certificates.
 #[derive(Debug, Drop)]
 pub struct Verified<'a> {
     pub status: Status,
-    pub facts: Option<ReadFile<'a>>,
+    pub files: FilesRead<'a>,
 }
 
-/// Judges the packages of these words by the certificates in the file, and prints their report. Folders without a Go
-/// file are noted after it.
-pub fn verify<'a, R: Files + AllocGlobal, W: Write, E: Write, L: Leave>(
+/// Judges the packages of these words by the certificates in the file, and prints their report. After it stand the
+/// notes.
+pub fn verify<'a, R: Files + Surroundings + AllocGlobal, W: Write, E: Write, L: Leave>(
     rt: &R,
     asked: &VerifyWords<'a>,
     out: &mut W,
@@ -82,23 +69,31 @@ pub fn verify<'a, R: Files + AllocGlobal, W: Write, E: Write, L: Leave>(
     refusals: &mut Refusals,
 ) -> Result<Verified<'a>, Fault>
     ensures written { IfOk result (λ done. (yes : Bool) × (done.status ≡ status_of yes)
-        × OfVerifiedReport (texts_of asked.now.packages.items) (option_texts asked.now.facts) done.facts
+        × OfVerifiedReport asked.now.sources asked.now.format done.files
         (IsWritten (W.contents out.old) (W.contents out.new) yes)) }
-    ensures fault { IfErr result
-        (IsVerificationFault (texts_of asked.now.packages.items) (option_texts asked.now.facts)) }
+    ensures fault { IfErr result (IsVerificationFault asked.now.sources) }
     ensures unwritten { IfErr result (λ fault. LeavesUnwritten fault (W.contents out.old) (W.contents out.new)) }
-    ensures begun { IfErr result (λ fault. fault ≡ Fault.CannotWrite → (read : Option ReadFile)
-        × OfVerifiedReport (texts_of asked.now.packages.items) (option_texts asked.now.facts) read
+    ensures begun { IfErr result (λ fault. fault ≡ Fault.CannotWrite → (files : FilesRead)
+        × OfVerifiedReport asked.now.sources asked.now.format files
         (IsBegun (W.contents out.old) (W.contents out.new))) }
     ensures refused { refusals.new.any ≡ refused_by refusals.old.any result }
 {
     let read = read_evidence(rt, asked, &mut FoldersAsked::none())?;
-    let outside = read.outside;
-    let report = verified_report_of::<L>(rt.alloc(), read.given, outside, &read.certificates)?;
+    let Evidence {
+        certificates,
+        input,
+    } = read;
+    let report = verified_report_of::<L>(
+        rt.alloc(),
+        input.given,
+        input.outside,
+        &certificates,
+        asked.format,
+    )?;
     print(out, &report.text, refusals)?;
-    note_empty(&read.empty, err);
+    note(&input.files, &input.empty, report.counts, err);
     Ok(Verified {
         status: Status::of_verdict(report.yes),
-        facts: read.facts,
+        files: input.files,
     })
 }

@@ -6,7 +6,10 @@ pub mod certificate_files;
 pub mod certificate_runs;
 pub mod declared_facts;
 mod folder_entry;
+pub mod memory;
+pub mod named_folders;
 pub mod packages;
 pub mod together;
+pub mod words;
 
 pub use folder_entry::FolderEntry;

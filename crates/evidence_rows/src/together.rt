@@ -3,6 +3,44 @@
 use crate::declared_facts::{NOTIFIED, NOTIFY};
 use crate::folder_entry::FolderEntry;
 
+/// Packages that import nothing, packages that import each other, and what is said of each two.
+const APART: [&str; 2] = ["package a\n\nfunc f() {}\n", "package b\n\nfunc f() {}\n"];
+
+const RING: [&str; 2] = ["package a\n\nimport \"b\"\n", "package b\n\nimport \"a\"\n"];
+
+const NO_RANK: &str =
+    "x.go:3:8: LC14 b import has no rank\nno a\nx.go:3:8: LC14 a import has no rank\nno b\n";
+
+/// Two packages, what one worker says of them behind a gate that does nothing, so many workers, how many packages have
+/// to meet before the first goes on, how many are judged by their files, and by how many helpers together.
+pub const MEETINGS: [([&str; 2], &str, usize, u64, u64, u64); 5] = [
+    (APART, "yes a\nyes b\n", 1, 1, 2, 2),
+    (APART, "yes a\nyes b\n", 2, 2, 2, 2),
+    (APART, "yes a\nyes b\n", 5, 2, 2, 4),
+    // No worker takes a package without a rank: who gathers the report judges it.
+    (RING, NO_RANK, 1, 1, 0, 0),
+    (RING, NO_RANK, 2, 1, 0, 0),
+];
+
+/// A package with two bodies in each of which a cancel function is not called, in two files and in one, and where this
+/// is said: files, and offsets in them.
+pub const OPEN: [(&[&str], [(usize, u32); 2]); 2] = [
+    (
+        &[
+            "package a\n\nimport \"context\"\n\nfunc f(p context.Context) {\n\t_, c := context.WithCancel(p)\n}\n",
+            "package a\n\nimport \"context\"\n\nfunc ff(p context.Context) {\n\t_, c := context.WithCancel(p)\n}\n",
+        ],
+        [(0, 88), (1, 89)],
+    ),
+    (
+        &[
+            "package a\n\nimport \"context\"\n\nfunc f(p context.Context) {\n\t_, c := context.WithCancel(p)\n}\n
+func ff(p context.Context) {\n\t_, c := context.WithCancel(p)\n}\n",
+        ],
+        [(0, 88), (0, 151)],
+    ),
+];
+
 /// A package that hands out cancel functions.
 const GIVER: &str = "package giver
 

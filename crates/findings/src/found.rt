@@ -89,8 +89,12 @@ fn add_paths<'a>(
     add_path_faults(body.file, &faults, diagnostics)
 }
 
-/// Adds what is to be said of a body: its use faults, and those of its passes and its paths.
-fn add_body<'a>(
+/// Adds what is to be said of a body of this file: its use faults, and those of its passes and its paths.
+///
+/// # Errors
+///
+/// Memory was refused.
+pub fn add_body<'a>(
     alloc: Global,
     file: &FileBodies<'_, 'a>,
     calls: KnownCalls<'_, 'a>,

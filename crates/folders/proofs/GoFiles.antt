@@ -1,23 +1,24 @@
 -- One more file joins those that were read, and names in their order.
-use Rattle.std.proofs.Common.{◌≡◌, ◌≢◌, ℕ, ◌≤◌, Bool, true, false, List, [], ◌∷◌, ◌++◌, map, Some, None, Option, IfSome, if◌then◌else◌, codes, nat_eq, option_to_list, string_bytes, string_cmp, string_eq, IsPermutation, IsSorted, All, refl, ap, ◌∙◌, subst, sym, rules}
+use Rattle.std.proofs.Common.{◌≡◌, ◌≢◌, ◌↔◌, ℕ, ◌≤◌, Bool, true, false, List, [], ◌∷◌, ◌++◌, map, Some, None, Option, IfSome, if◌then◌else◌, codes, nat_eq, option_to_list, string_bytes, string_cmp, string_eq, Contains, IsPermutation, IsSorted, All, refl, ap, ◌∙◌, subst, sym, rules}
 use Rattle.std.proofs.lemmas.List.{append-nil, append_assoc, map-append}
-use Rattle.std.proofs.lemmas.List.Sorted.{All-permutation}
+use Rattle.std.proofs.lemmas.List.Sorted.{All-permutation, Contains-permutation, IsPermutation-sym}
 use Rattle.std.proofs.lemmas.List.Filters.{All-dedup}
-use Rattle.std.proofs.lemmas.List.Kept.{IsStrictlySortedBy-dedup}
+use Rattle.std.proofs.lemmas.List.Kept.{Any-dedup, Contains-from_dedup, IsStrictlySortedBy-dedup}
 use Rattle.std.specs.Prelude.{String}
 use Rattle.std.specs.declared.alloc.Global.{Global}
 use Rattle.std.specs.Ordering.{nat_cmp, ordering_then}
 use Rattle.std.specs.Cmp.{nat_cmp_is}
-use Rattle.std.specs.Cmp.Lexicographic.{slice_cmp, texts_ties}
+use Rattle.std.specs.Cmp.Lexicographic.{slice_cmp, same_text, texts_ties}
 use Rattle.std.specs.declared.cmp.Ordering.TheVariants.{the_data as Ordering, Less, Equal}
 use Rattle.std.specs.List.{dedup, AllByRecursion}
 use Rattle.std.specs.List.Sorted.{IsStrictlySortedBy}
-use Rattle.std.specs.String.{string_cmp_total}
+use Rattle.std.specs.String.{string_cmp_total, string_eq_equiv}
 use Rattle.std.proofs.lemmas.List.Elements.{All-same, All-append, All-push, All-nil}
 use Rattle.std.specs.List.{ends_with}
 use Rattle.lexer.specs.declared.source.Source.{Source}
 use Rattle.folders.specs.Names.{IsPrintable}
 use Rattle.folders.specs.declared.names.TheConstants.{SPACE, DELETE}
+use Rattle.folders.proofs.Members.{contains_map, contains_unmap}
 use Rattle.folders.specs.GoFiles.{slash_after, source_name, IsGoName, AreGoNames, IsSourceOf, AreSourcesOf}
 
 abbrev IsPrinted : ℕ → Type 0
@@ -104,6 +105,21 @@ pub in_order : (names sorted once : List Text) → IsPermutation names sorted �
 in_order names sorted once moved ordered is =
     subst (IsStrictlySortedBy string_cmp) (sym is)
     (IsStrictlySortedBy-dedup string_cmp_total (λ x y. texts_ties (string_bytes x) (string_bytes y)) sorted ordered)
+
+pub same_names : (names sorted once : List Text) → IsPermutation names sorted → once ≡ dedup string_eq sorted
+    → (name : List ℕ)
+    → Contains (map string_bytes once) name ↔ Contains (map string_bytes names) name
+same_names names sorted once moved is name =
+    subst (λ l. Contains (map string_bytes l) name ↔ Contains (map string_bytes names) name) (sym is) (
+      λ h. (let found = contains_unmap string_bytes (dedup string_eq sorted) name h in
+          let kept = Contains-permutation sorted names found.0 (IsPermutation-sym names sorted moved) (Contains-from_dedup string_eq sorted found.0 found.1) in
+          subst (Contains (map string_bytes names)) found.2 (contains_map string_bytes names found.0 kept)),
+      λ h. (let found = contains_unmap string_bytes names name h in
+          let any = Any-dedup string_eq_equiv sorted found.0 (Contains-permutation names sorted found.0 moved found.1) in
+          subst (Contains (map string_bytes (dedup string_eq sorted)))
+          (sym (same_text (string_bytes found.0) (string_bytes any.1) (sym any.4)) ∙ found.2)
+          (contains_map string_bytes (dedup string_eq sorted) any.1 (any.0, any.2, any.3))),
+    )
 
 pub still_go : (names sorted once : List Text) → IsPermutation names sorted → once ≡ dedup string_eq sorted
     → AreGoNames names

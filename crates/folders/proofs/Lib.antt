@@ -1,2 +1,5 @@
+mod Fronts
 mod GoFiles
+mod ListedFiles
+mod Members
 mod Words

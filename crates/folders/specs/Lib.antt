@@ -3,6 +3,7 @@
 pub mod Names
 pub mod Packages
 pub mod GoFiles
+pub mod ListedFiles
 pub mod ReadFaults
 pub mod ReadFiles
 pub mod WrittenFiles

@@ -16,7 +16,8 @@ pub enum Fault {
     /// The words are none that the program of this name understands.
     #[error("wrong words: {0} --help says which there are")]
     WrongWords(&'static str),
-    /// The word has no `=`, nothing before or after its first one, or a control code before it. Escaped.
+    /// The word has no `=`, nothing before or after its first one, or a control code before it; or the path of a listed
+    /// package has a control code. Escaped.
     #[error("bad package: {0}")]
     BadPackage(String),
     /// The folder can't be listed, or the file can't be read, or is none where one of a package should be. Escaped.
@@ -55,6 +56,15 @@ pub enum Fault {
     /// Something is declared of the package of this path, which was given.
     #[error("facts name a given package: {0}")]
     FactsNameGiven(String),
+    /// The list of packages is not UTF-8, or no JSON.
+    #[error("package list is not JSON")]
+    ListNotJson,
+    /// The list of packages is JSON, but something in it is no package as the go command lists them.
+    #[error("package list has another shape")]
+    ListWrongShape,
+    /// The go command could not load the package of this path, or one below it, and says so in its list. Escaped.
+    #[error("package list is incomplete: {0}")]
+    ListIncomplete(String),
     /// Two packages have this path.
     #[error("two packages of one path: {0}")]
     TwoPackages(String),

@@ -1,6 +1,6 @@
 //! The Go files of a folder.
 
-ghost use Rattle.std.specs.Prelude.{◌≡◌, ◌++◌, OnOk, option_to_list, IfErr, IfOk, IfSome, string_bytes, string_cmp};
+ghost use Rattle.std.specs.Prelude.{◌≡◌, ◌↔◌, ℕ, List, ◌++◌, Contains, OnOk, option_to_list, IfErr, IfOk, IfSome, map, string_bytes, string_cmp};
 ghost use Rattle.std.specs.List.Sorted.{IsStrictlySortedBy};
 ghost use Rattle.folders.specs.GoFiles.{is_go_file, slash_after, source_name, AreGoNames, AreSourcesOf};
 ghost use Rattle.folders.specs.Names.{IsPrintable};
@@ -29,7 +29,7 @@ fn is_go_file(name: &[u8]) -> bool
 }
 
 /// A file's name in a report: the folder, a slash unless the folder ends in one, and its own name.
-fn source_name(alloc: Global, folder: &str, name: &str) -> Result<String, AllocError>
+pub(crate) fn source_name(alloc: Global, folder: &str, name: &str) -> Result<String, AllocError>
     ensures { IfOk result (λ text. string_bytes text ≡ source_name folder.now name.now) }
 {
     let slash = slash_after(folder);
@@ -37,7 +37,7 @@ fn source_name(alloc: Global, folder: &str, name: &str) -> Result<String, AllocE
 }
 
 /// What stands between a folder's name and its entry's.
-fn slash_after(folder: &str) -> &'static str
+pub(crate) fn slash_after(folder: &str) -> &'static str
     ensures { result.now ≡ slash_after folder.now }
 {
     if folder.as_bytes().ends_with(b"/") {
@@ -93,8 +93,10 @@ fn go_names<R: Files + AllocGlobal>(rt: &R, folder: &str) -> Result<Vec<String>,
 }
 
 /// The names in the order of their bytes, each once. A listing may have one twice where the folder changes meanwhile.
-fn in_order(names: Vec<String>) -> Vec<String>
+pub(crate) fn in_order(names: Vec<String>) -> Vec<String>
     ensures ascend { IsStrictlySortedBy string_cmp result.items }
+    ensures same { (name : List ℕ)
+        → Contains (map string_bytes result.items) name ↔ Contains (map string_bytes names.items) name }
     ensures go { AreGoNames names.items → AreGoNames result.items }
 {
     let mut ordered = names;
@@ -152,7 +154,10 @@ fn read_source<R: Files + AllocGlobal>(rt: &R, name: String) -> Result<Option<So
 
 /// The bytes of a regular file, `None` for a folder. Other kinds are an error, and are not opened:
 /// to open a pipe would wait for its writer.
-fn read_bytes<R: Files + AllocGlobal>(rt: &R, name: &str) -> io::Result<Option<Vec<u8>>> {
+pub(crate) fn read_bytes<R: Files + AllocGlobal>(
+    rt: &R,
+    name: &str,
+) -> io::Result<Option<Vec<u8>>> {
     let kind = fs::metadata(rt, name)?;
     if kind.is_dir() {
         return Ok(None);

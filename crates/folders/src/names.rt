@@ -1,6 +1,6 @@
 //! Names that a line can hold.
 
-ghost use Rattle.std.specs.Prelude.{◌↔◌, IsTrue};
+ghost use Rattle.std.specs.Prelude.{◌≡◌, ◌↔◌, IfOk, IsTrue, string_bytes};
 ghost use Rattle.folders.specs.Names.{IsPrintable};
 
 use std::alloc::{AllocError, Global};
@@ -39,7 +39,12 @@ pub fn push_escaped(line: &mut String, text: &str) -> Result<(), AllocError> {
 /// # Errors
 ///
 /// Memory was refused.
-pub fn escaped(alloc: Global, text: &str) -> Result<String, AllocError> {
+pub fn escaped(alloc: Global, text: &str) -> Result<String, AllocError>
+    ensures { IfOk result (λ line. IsPrintable text.now → string_bytes line ≡ text.now) }
+{
+    if is_printable(text.as_bytes()) {
+        return String::from_str(alloc, text);
+    }
     let mut line = String::new(alloc);
     push_escaped(&mut line, text)?;
     Ok(line)

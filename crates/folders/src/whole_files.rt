@@ -11,12 +11,12 @@ use crate::fault::{self, Fault};
 use crate::names::escaped;
 use std::alloc::{AllocError, Global};
 use std::fs::{self, File, Metadata, OpenFile, OpenOptions};
-use std::io::{self, ErrorKind, Write};
+use std::io::{self, ErrorKind, Read, Write};
 use std::path::{Path, PathBuf};
 use std::rt::Files;
 
-/// A file that was read: its name, and all its bytes. Only `read_file` makes one, so that nobody else can tell of a
-/// file that was not read.
+/// A file that was read: its name, and all its bytes. Only the calls that read make one, so that nobody else can tell
+/// of a file that was not read. The name `-` may stand for the standard input.
 #[derive(Debug, Drop)]
 pub struct ReadFile<'a> {
     name: &'a str,
@@ -46,6 +46,29 @@ pub fn read_file<'a, R: Files + AllocGlobal>(rt: &R, name: &'a str) -> Result<Re
         Err(error) => {
             let name = escaped(rt.alloc(), name)?;
             Err(fault::reading(&error, name))
+        }
+    }
+}
+
+/// Reads all bytes of the standard input, which is given here, as those of the file of this name.
+///
+/// # Errors
+///
+/// It can't be read, or memory was refused.
+pub(crate) fn read_stream<'a, I: Read>(
+    alloc: Global,
+    input: &mut I,
+    name: &'a str,
+) -> Result<ReadFile<'a>, Fault>
+    ensures read { IfOk result (λ file. name_read file ≡ name.now) }
+    ensures fault { IfErr result IsReadFault }
+{
+    let mut bytes = Vec::new(alloc);
+    match input.read_to_end(&mut bytes) {
+        Ok(_) => Ok(ReadFile { name, bytes }),
+        Err(error) => {
+            let told = String::from_str(alloc, "standard input")?;
+            Err(fault::reading(&error, told))
         }
     }
 }

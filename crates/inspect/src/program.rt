@@ -5,7 +5,7 @@ use crate::file_lines::{FileLines, lines_of_tokens, lines_of_tree};
 use crate::files::read_source;
 use crate::output::print;
 use crate::row_folders::show_folders;
-use folders::{Fault, fail};
+use folders::{Fault, Surroundings, fail};
 use inspect_packages::{Shown, read_packages, text_of_packages};
 use std::io::Write;
 use std::rt::Files;
@@ -88,7 +88,7 @@ enum AskedFor<'a> {
 /// Runs the program with the words after its name: prints what they ask for, and faults on standard error, and returns
 /// its status. `system` is the runtime once more, with what it may do as bounds: that it may start threads only `main`
 /// knows of a `HostRuntime`.
-pub fn run<R: Files + AllocGlobal + Threads + Wait + Sync>(
+pub fn run<R: Files + Surroundings + AllocGlobal + Threads + Wait + Sync>(
     rt: &HostRuntime,
     system: &R,
     words: &[String],
@@ -105,7 +105,7 @@ pub fn refuse(rt: &HostRuntime, fault: &Fault) -> u8 {
 }
 
 /// Does what the words ask for, and gives the status to end with.
-fn answer<R: Files + AllocGlobal + Threads + Wait + Sync>(
+fn answer<R: Files + Surroundings + AllocGlobal + Threads + Wait + Sync>(
     rt: &HostRuntime,
     system: &R,
     words: &[String],

@@ -9,7 +9,7 @@ use crate::package_rows::{RowKind, shown_otherwise};
 use crate::program::PROGRAM;
 use crate::report_marks::reported_otherwise;
 use crate::transcripts::{show_counts, show_examples, show_runs};
-use folders::Fault;
+use folders::{Fault, Surroundings};
 use inspect_packages::Shown;
 use std::alloc::Global;
 use std::rt::Files;
@@ -86,7 +86,7 @@ fn last_element(folder: &str) -> &str {
 ///
 /// A folder has a name for which no rows are known, and then none is gone through; a folder or a file can't be read;
 /// what is told can't be written; or memory was refused.
-pub fn show_folders<R: Files + AllocGlobal + Threads + Wait + Sync>(
+pub fn show_folders<R: Files + Surroundings + AllocGlobal + Threads + Wait + Sync>(
     rt: &HostRuntime,
     system: &R,
     folders: &[String],
@@ -106,7 +106,7 @@ pub fn show_folders<R: Files + AllocGlobal + Threads + Wait + Sync>(
 }
 
 /// Goes through a folder, and gives whether all of it that is compared is as it is to be.
-fn show_folder<R: Files + AllocGlobal + Threads + Wait + Sync>(
+fn show_folder<R: Files + Surroundings + AllocGlobal + Threads + Wait + Sync>(
     rt: &HostRuntime,
     system: &R,
     folder: &str,

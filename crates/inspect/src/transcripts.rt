@@ -4,7 +4,7 @@ use crate::counting::{Counted, count};
 use crate::files::entries;
 use crate::output::print;
 use driver::run;
-use folders::Fault;
+use folders::{Fault, Surroundings};
 use std::alloc::{AllocError, Global};
 use std::rt::Files;
 use std::sync::Wait;
@@ -16,7 +16,7 @@ use std::thread::Threads;
 /// # Errors
 ///
 /// A folder can't be listed, a transcript can't be written, or memory was refused.
-pub fn show_runs<R: Files + AllocGlobal + Threads + Wait + Sync>(
+pub fn show_runs<R: Files + Surroundings + AllocGlobal + Threads + Wait + Sync>(
     rt: &HostRuntime,
     system: &R,
     folder: &str,
@@ -29,7 +29,7 @@ pub fn show_runs<R: Files + AllocGlobal + Threads + Wait + Sync>(
 }
 
 /// Runs `ctxvet check` on all packages in this folder, each by the name of its own folder.
-fn show_packages<R: Files + AllocGlobal + Threads + Wait + Sync>(
+fn show_packages<R: Files + Surroundings + AllocGlobal + Threads + Wait + Sync>(
     rt: &HostRuntime,
     system: &R,
     folder: &str,
@@ -46,7 +46,7 @@ fn show_packages<R: Files + AllocGlobal + Threads + Wait + Sync>(
 /// # Errors
 ///
 /// The folder can't be listed, a transcript can't be written, or memory was refused.
-pub fn show_examples<R: Files + AllocGlobal + Threads + Wait + Sync>(
+pub fn show_examples<R: Files + Surroundings + AllocGlobal + Threads + Wait + Sync>(
     rt: &HostRuntime,
     system: &R,
     folder: &str,
@@ -60,7 +60,7 @@ pub fn show_examples<R: Files + AllocGlobal + Threads + Wait + Sync>(
 }
 
 /// Runs `ctxvet check` on the packages that these words name, and shows the command, what it printed, and its status.
-fn show_check<R: Files + AllocGlobal + Threads + Wait + Sync>(
+fn show_check<R: Files + Surroundings + AllocGlobal + Threads + Wait + Sync>(
     rt: &HostRuntime,
     system: &R,
     packages: &[String],

@@ -1,10 +1,10 @@
-mod QuietYes
-mod LoadedPackages
-mod SourcePlaces
+pub mod QuietYes
+pub mod LoadedPackages
+pub mod SourcePlaces
 mod Loads
 mod WorkersFaults
 mod SameTexts
-mod OneLoad
+pub mod OneLoad
 mod OneReport
 mod CertifiedReports
 mod VerifiedPlaces

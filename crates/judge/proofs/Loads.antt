@@ -19,6 +19,7 @@ use Rattle.meaning_runs.proofs.PackageYes.{yes_of_a_package_is_quiet}
 use Rattle.meaning_runs.specs.EntryPlaces.{EntriesLieInFilesBy}
 use Rattle.meaning_runs.specs.PackageYes.{YesOfAPackageIsQuietBy}
 use Rattle.outside_json.specs.Outside.{PackageEntry, packages_of}
+use Rattle.report_formats.specs.declared.formats.Format.{Format}
 use Rattle.whole_packages.specs.LoadedViews.{TellPackages}
 use Rattle.whole_packages.specs.declared.loaded_package.LoadedPackage.{LoadedPackage as KeptPackage}
 
@@ -31,15 +32,15 @@ tell_loaded given packages load = record {
 }
 
 -- by rules that take what is declared as it is, what is said of loaded packages is the report of those that were given
-unfoldable pub is_report_by : (rules : Tables → Rules) (outside : List PackageEntry)
+unfoldable pub is_report_by : (rules : Tables → Rules) (format : Format) (outside : List PackageEntry)
     → (rules (declared_tables outside)).declared ≡ declared_tables outside
     → YesOfAPackageIsQuietBy (rules (declared_tables outside))
     → EntriesLieInFilesBy (rules (declared_tables outside))
     → (given : List GivenPackage) (loaded : Loaded) (report : Report)
     → IsLoadBeside given outside loaded
-    → TellsReportBy (rules (declared_tables outside)) loaded.packages.items report
-    → IsReportBy rules outside given report
-is_report_by rules outside same are_quiet they_lie given loaded report beside judged =
+    → TellsReportBy format (rules (declared_tables outside)) loaded.packages.items report
+    → IsReportBy rules format outside given report
+is_report_by rules format outside same are_quiet they_lie given loaded report beside judged =
     let load : IsLoad given loaded.packages.items = beside.load in
     let reports : AreReportsBy (rules (declared_tables outside)) load.meant loaded.packages.items judged.said =
     judged.are_reports load.meant (tell_loaded given loaded.packages.items load) load.distinct in
@@ -59,12 +60,14 @@ is_report_by rules outside same are_quiet they_lie given loaded report beside ju
     }
 
 -- what is said of them by paths is their report
-pub is_report : (outside : List PackageEntry) (given : List GivenPackage) (loaded : Loaded) (report : Report)
+pub is_report : (format : Format) (outside : List PackageEntry) (given : List GivenPackage) (loaded : Loaded)
+    (report : Report)
     → IsLoadBeside given outside loaded
-    → TellsReport (declared_tables (packages_of loaded.outside)) loaded.packages.items report
-    → IsReport outside given report
-is_report outside given loaded report beside told =
+    → TellsReport format (declared_tables (packages_of loaded.outside)) loaded.packages.items report
+    → IsReport format outside given report
+is_report format outside given loaded report beside told =
     let declared = declared_tables outside in
-    is_report_by by_paths outside refl (yes_of_a_package_is_quiet declared) (entries_lie_in_files declared) given loaded
+    is_report_by by_paths format outside refl (yes_of_a_package_is_quiet declared) (entries_lie_in_files declared) given loaded
     report beside
-    (subst (λ (es : List PackageEntry). TellsReport (declared_tables es) loaded.packages.items report) beside.is_outside told)
+    (subst (λ (es : List PackageEntry). TellsReport format (declared_tables es) loaded.packages.items report)
+    beside.is_outside told)

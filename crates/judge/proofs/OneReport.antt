@@ -1,14 +1,19 @@
 -- Given packages have one report. They are loaded in one way, but for the reasons why trees are missing; and where one is
 -- missing, the package is no yes in either report.
-use Rattle.std.proofs.Common.{◌≡◌, ℕ, zero, suc, ◌⊎◌, inl, inr, Bool, true, false, ◌&&◌, List, [], ◌∷◌, map, Some, None, Contains, refl, sym, ap, ◌∙◌, subst, arith}
-use Rattle.std.specs.Prelude.{slice_get, option_map}
+use Rattle.std.proofs.Common.{◌≡◌, ℕ, ◌+◌, zero, suc, ◌⊎◌, inl, inr, Bool, true, false, ◌&&◌, cond, List, [], ◌∷◌, length, map, Some, None, Contains, refl, sym, ap, ◌∙◌, subst, arith}
+use Rattle.std.specs.Prelude.{count_by, min, option_map, slice_get, sum_by}
 use Rattle.std.specs.List.{list_all}
+use Rattle.std.proofs.lemmas.List.{length-map}
 use Rattle.std.proofs.lemmas.List.Sorted.{Contains-permutation, IsPermutation-sym}
+use Rattle.std.proofs.lemmas.List.Sums.{sum_by-cons}
 use Rattle.std.proofs.lemmas.Option.{same_Some, slice_get_within, get_or_from_slice_get, slice_get-map}
 use Rattle.lexer.specs.declared.source.Source.{Source}
 use Rattle.meaning.proofs.Membership.{contains_nil, contains_unmap}
 use Rattle.report.specs.declared.diagnostics.Diagnostic.{Diagnostic}
 use Rattle.report.specs.Entries.{Entry, entry_of}
+use Rattle.report.specs.declared.diagnostics.PackageReport.{PackageReport}
+use Rattle.report_formats.specs.Formats.{text_in}
+use Rattle.report_formats.specs.declared.formats.Format.{Format}
 use Rattle.meaning_reports.specs.Loaded.{Reading, has_tree, has_text_fault, has_tree_fault, LoadedPackage, Tables}
 use Rattle.meaning_reports.specs.WholeFaults.{IsWholeFault, has_no_tree}
 use Rattle.meaning_reports.specs.PackageReports.{of_whole, Said, IsReportOf}
@@ -19,7 +24,8 @@ use Rattle.load.specs.Readings.{IsReadingOf}
 use Rattle.load.specs.GivenPackages.{PathAndFiles, entry_of as path_and_files, AreLoaded, IsLoad}
 use Rattle.one_package.specs.declared.judged.Judged.{Judged}
 use Rattle.one_package.specs.Judgments.{table_view, said_view, says_nothing, is_yes}
-use Rattle.all_packages.specs.Reports.{report_in}
+use Rattle.all_packages.specs.Reports.{AreCounted, findings_on, most_findings, report_in}
+use Rattle.all_packages.specs.declared.reports.Counts.{Counts}
 use Rattle.declared_tables.specs.DeclaredTables.{declared_tables}
 use Rattle.outside_json.specs.Outside.{PackageEntry}
 use Rattle.judge.specs.Reports.{Report, IsReport}
@@ -83,11 +89,48 @@ no_yes declared ps said reports h =
     let fault = whole_fault ps h in
     not_all said h.place s.0 s.1 (some_entry s.0.entries fault.0 ((findings.each fault.0).1 (of_whole fault.1)))
 
+-- Counts
+
+same_sums : (f : PackageReport → ℕ) (g : Said → ℕ) → ((j : Judged) → f (report_in j) ≡ g (said_view j)) → (said : List Judged)
+    → sum_by f (map report_in said) ≡ sum_by g (map said_view said)
+same_sums f g same [] = refl
+same_sums f g same (j ∷ js) =
+    let first = same j in
+    let rest = same_sums f g same js in
+    sum_by-cons f (report_in j) (map report_in js)
+    ∙ ((λ i. first i + rest i)
+    ∙ sym (sum_by-cons g (said_view j) (map said_view js)))
+
+abbrev entries_on : Said → ℕ
+entries_on said = length said.entries
+
+-- the counts by what is said
+abbrev counts_by : List Said → Counts
+counts_by said = record {
+  packages = length said;
+  yes = count_by is_quiet said;
+  findings = min (sum_by entries_on said) most_findings;
+}
+
+counted : (said : List Judged) (counts : Counts) → AreCounted (map report_in said) counts → counts ≡ counts_by (map said_view said)
+counted said counts h =
+    let long = length-map said report_in ∙ sym (length-map said said_view) in
+    let quiet : count_by is_yes (map report_in said) ≡ count_by is_quiet (map said_view said) =
+    same_sums (λ r. cond (is_yes r) 1 0) (λ s. cond (is_quiet s) 1 0)
+    (λ j. ap (λ (b : Bool). cond {A = ℕ} b 1 0) (nothing_said j.report.diagnostics.items)) said in
+    let found : sum_by findings_on (map report_in said) ≡ sum_by entries_on (map said_view said) =
+    same_sums findings_on entries_on (λ j. sym (length-map j.report.diagnostics.items entry_of)) said in
+    λ i. record {
+      packages = (h.packages ∙ long) i;
+      yes = (h.yes ∙ quiet) i;
+      findings = (h.findings ∙ ap (λ (n : ℕ). min n most_findings) found) i;
+    }
+
 -- Two reports
 
 module _
-    (outside : List PackageEntry) (given : List GivenPackage) (one other : Report)
-    (h : IsReport outside given one) (k : IsReport outside given other) where
+    (format format_too : Format) (outside : List PackageEntry) (given : List GivenPackage) (one other : Report)
+    (h : IsReport format outside given one) (k : IsReport format_too outside given other) where
   abbrev declared : Tables
   declared = declared_tables outside
 
@@ -118,13 +161,17 @@ module _
   report_too same =
       subst (λ (ps : List LoadedPackage). IsReportOf declared ps (map said_view k.said)) (sym same) k.are_reports.is_report
 
+  same_said : first_load.meant ≡ second_load.meant → map said_view h.said ≡ map said_view k.said
+  same_said same =
+      one_report declared first_load.meant (map said_view h.said) (map said_view k.said) h.are_reports.is_report
+      (report_too same)
+
   verdicts : list_all is_quiet (map said_view h.said) ≡ list_all is_quiet (map said_view k.said)
   verdicts = by ways
     where
       by : (first_load.meant ≡ second_load.meant) ⊎ (HasNoTreeIn first_load.meant × HasNoTreeIn second_load.meant)
           → list_all is_quiet (map said_view h.said) ≡ list_all is_quiet (map said_view k.said)
-      by (inl same) =
-          ap (list_all is_quiet) (one_report declared first_load.meant (map said_view h.said) (map said_view k.said) h.are_reports.is_report (report_too same))
+      by (inl same) = ap (list_all is_quiet) (same_said same)
       by (inr w) =
           no_yes declared first_load.meant (map said_view h.said) h.are_reports.is_report w.0
           ∙ sym (no_yes declared second_load.meant (map said_view k.said) k.are_reports.is_report w.1)
@@ -179,19 +226,34 @@ module _
       ∙ (one_source first_load.in_order first_load.meant second_load.meant first_kept second_kept first_load.are_loaded loaded_too i kept.0 others.0 kept.1 others.1
       ∙ sym (k.are_reports.are_told i others.0 b others.1 that).are_sources)
 
-  same_text : HaveTrees given → one.text.items ≡ other.text.items
-  same_text trees = by ways
+  counts_too : HaveTrees given → one.counts ≡ other.counts
+  counts_too trees = by ways
+    where
+      by : (first_load.meant ≡ second_load.meant) ⊎ (HasNoTreeIn first_load.meant × HasNoTreeIn second_load.meant)
+          → one.counts ≡ other.counts
+      by (inl same) =
+          counted h.said one.counts h.told.are_counted
+          ∙ (ap counts_by (same_said same)
+          ∙ sym (counted k.said other.counts k.told.are_counted))
+      by (inr w) = absurd (none_missing trees w.0)
+
+  same_text : format ≡ format_too → HaveTrees given → one.text.items ≡ other.text.items
+  same_text one_format trees = by ways
     where
       by : (first_load.meant ≡ second_load.meant) ⊎ (HasNoTreeIn first_load.meant × HasNoTreeIn second_load.meant)
           → one.text.items ≡ other.text.items
       by (inl same) =
           h.told.is_text
-          ∙ (one_text report_in table_view declared first_load.meant h.said k.said h.are_reports.is_report (report_too same) sources
-          ∙ sym k.told.is_text)
+          ∙ (one_text report_in table_view format declared first_load.meant h.said k.said h.are_reports.is_report (report_too same) sources
+          ∙ (ap (λ (f : Format). text_in f (map report_in k.said)) one_format
+          ∙ sym k.told.is_text))
       by (inr w) = absurd (none_missing trees w.0)
 
 pub given_packages_have_one_report : GivenPackagesHaveOneReport
 given_packages_have_one_report = record {
   one_verdict = same_verdict;
-  one_text = λ outside given one other trees h k. same_text outside given one other h k trees;
+  same_counts = λ format format_too outside given one other trees h k.
+      counts_too format format_too outside given one other h k trees;
+  one_text = λ format outside given one other trees h k.
+      same_text format format outside given one other h k refl trees;
 }

@@ -14,6 +14,7 @@ use Rattle.load.specs.LoadedBeside.{IsLoadBeside}
 use Rattle.load.specs.declared.loaded.Loaded.{Loaded}
 use Rattle.load.specs.declared.packages.GivenPackage.{GivenPackage}
 use Rattle.outside_json.specs.Outside.{PackageEntry, packages_of}
+use Rattle.report_formats.specs.declared.formats.Format.{Format}
 use Rattle.checker.proofs.CheckedLists.{leaves_no_fault, keeps_claims, settles_what_it_says}
 use Rattle.verifier.proofs.VerifiedYes.{yes_of_verified_is_quiet}
 use Rattle.verifier.specs.Rules.{by_certificates}
@@ -23,39 +24,39 @@ quiet : YesOfVerifiedIsQuiet
 quiet = yes_of_verified_is_quiet leaves_no_fault keeps_claims settles_what_it_says
 
 -- what is told of the packages is told where what was given is declared of others
-pub told_beside : (outside : List PackageEntry) (given : List GivenPackage) (loaded : Loaded) (certificates : Certificates)
-    (told : Verified)
+pub told_beside : (format : Format) (outside : List PackageEntry) (given : List GivenPackage) (loaded : Loaded)
+    (certificates : Certificates) (told : Verified)
     → IsLoadBeside given outside loaded
-    → TellsVerified (declared_tables (packages_of loaded.outside)) loaded.packages.items certificates told
-    → TellsVerified (declared_tables outside) loaded.packages.items certificates told
-told_beside outside given loaded certificates told beside tells =
-    subst (λ (es : List PackageEntry). TellsVerified (declared_tables es) loaded.packages.items certificates told)
+    → TellsVerified format (declared_tables (packages_of loaded.outside)) loaded.packages.items certificates told
+    → TellsVerified format (declared_tables outside) loaded.packages.items certificates told
+told_beside format outside given loaded certificates told beside tells =
+    subst (λ (es : List PackageEntry). TellsVerified format (declared_tables es) loaded.packages.items certificates told)
     beside.is_outside tells
 
-pub is_verified : (outside : List PackageEntry) (given : List GivenPackage) (loaded : Loaded) (certificates : Certificates)
-    (report : Report)
+pub is_verified : (format : Format) (outside : List PackageEntry) (given : List GivenPackage) (loaded : Loaded)
+    (certificates : Certificates) (report : Report)
     → IsLoadBeside given outside loaded
-    → TellsVerified (declared_tables outside) loaded.packages.items certificates (Told report)
-    → IsVerifiedReport outside given certificates report
+    → TellsVerified format (declared_tables outside) loaded.packages.items certificates (Told report)
+    → IsVerifiedReport format outside given certificates report
 unfolding is_report_by
-is_verified outside given loaded certificates report beside told =
+is_verified format outside given loaded certificates report beside told =
     let rules = given_in certificates in
     let declared = declared_tables outside in
     let load = beside.load in
     record {
       is_report =
-          is_report_by (by_certificates rules) outside refl (quiet rules declared) (verified_entries_lie rules declared)
-          given loaded report beside told.1;
+          is_report_by (by_certificates rules) format outside refl (quiet rules declared)
+          (verified_entries_lie rules declared) given loaded report beside told.1;
       none_is_too_old_for =
           sym (told.0 load.meant (tell_loaded given loaded.packages.items load) load.distinct);
     }
 
-pub are_too_old : (outside : List PackageEntry) (given : List GivenPackage) (loaded : Loaded) (certificates : Certificates)
-    (path : String Global)
+pub are_too_old : (format : Format) (outside : List PackageEntry) (given : List GivenPackage) (loaded : Loaded)
+    (certificates : Certificates) (path : String Global)
     → IsLoadBeside given outside loaded
-    → TellsVerified (declared_tables outside) loaded.packages.items certificates (IsTooOld path)
+    → TellsVerified format (declared_tables outside) loaded.packages.items certificates (IsTooOld path)
     → AreTooOld outside given certificates (string_bytes path)
-are_too_old outside given loaded certificates path beside told =
+are_too_old format outside given loaded certificates path beside told =
     let load = beside.load in
     record {
       loaded = loaded;

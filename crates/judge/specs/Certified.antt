@@ -11,22 +11,25 @@ use Rattle.judge.specs.declared.certified.CertifiedReport.{CertifiedReport}
 use Rattle.load.specs.declared.packages.GivenPackage.{GivenPackage}
 use Rattle.meaning_reports.specs.Loaded.{LoadedPackage, Tables}
 use Rattle.outside_json.specs.Outside.{PackageEntry as DeclaredEntry}
+use Rattle.report_formats.specs.declared.formats.Format.{Format}
 use Rattle.whole_packages.specs.LoadedViews.{TellPackages, HaveDistinctPaths}
 use Rattle.whole_packages.specs.declared.loaded_package.LoadedPackage.{LoadedPackage as KeptPackage}
 
--- It is the report of the given packages, where that is declared of others, and the text is that of their certificates.
+-- It is the report of the given packages in this format, where that is declared of others, and the text is that of
+-- their certificates.
 pub record IsCertifiedReport
-    (outside : List DeclaredEntry) (given : List GivenPackage) (report : Report) (text : List ℕ)
+    (format : Format) (outside : List DeclaredEntry) (given : List GivenPackage) (report : Report) (text : List ℕ)
     : Type 0 where
-  pub is_report : IsReport outside given report
+  pub is_report : IsReport format outside given report
   pub entries : List PackageEntry
   pub are_certificates : AreCertificatesOfAll (declared_tables outside) is_report.load.load.meant entries
   pub is_text : IsWrittenText entries text
 
 -- What serves the proofs: the same of packages in memory
 
-pub record TellsCertifiedText (declared : Tables) (kept : List KeptPackage) (told : CertifiedReport) : Type 0 where
-  pub tells_report : TellsReport declared kept told.report
+pub record TellsCertifiedText (format : Format) (declared : Tables) (kept : List KeptPackage) (told : CertifiedReport)
+    : Type 0 where
+  pub tells_report : TellsReport format declared kept told.report
   pub entries : List PackageEntry
   pub are_certificates : (ps : List LoadedPackage)
       → TellPackages ps kept

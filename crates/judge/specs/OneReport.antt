@@ -1,6 +1,6 @@
--- Given packages have one report where the same is declared of others: always one verdict, and one text where each file
--- that has tokens has a tree. Of a file that has tokens and no tree the definitions leave open which reason is given,
--- and where; so the line of such a file may be another one.
+-- Given packages have one report where the same is declared of others: one verdict in all formats, always; and where
+-- each file that has tokens has a tree, the same counts in all formats, and one text in each. Of a file that has tokens
+-- and no tree the definitions leave open which reason is given, and where; so what is told of such a file may differ.
 use Rattle.std.specs.Prelude.{◌≡◌, List, Contains}
 use Rattle.lexer.specs.declared.source.Source.{Source}
 use Rattle.lexer.specs.declared.token.Token.{Token}
@@ -9,6 +9,7 @@ use Rattle.tree.specs.Syntax.{SourceFile}
 use Rattle.meaning.specs.TreeOfText.{IsTreeOf}
 use Rattle.load.specs.declared.packages.GivenPackage.{GivenPackage}
 use Rattle.outside_json.specs.Outside.{PackageEntry}
+use Rattle.report_formats.specs.declared.formats.Format.{Format}
 use Rattle.judge.specs.Reports.{Report, IsReport}
 
 -- each file that has tokens has a tree
@@ -20,12 +21,19 @@ HaveTrees given = (g : GivenPackage) (s : Source) (tokens : List Token)
     → (tree : SourceFile) × IsTreeOf s.bytes.items tree
 
 pub record GivenPackagesHaveOneReport : Type 0 where
-  pub one_verdict : (outside : List PackageEntry) (given : List GivenPackage) (one other : Report)
-      → IsReport outside given one
-      → IsReport outside given other
+  pub one_verdict : (format format_too : Format) (outside : List PackageEntry) (given : List GivenPackage)
+      (one other : Report)
+      → IsReport format outside given one
+      → IsReport format_too outside given other
       → one.yes ≡ other.yes
-  pub one_text : (outside : List PackageEntry) (given : List GivenPackage) (one other : Report)
+  pub same_counts : (format format_too : Format) (outside : List PackageEntry) (given : List GivenPackage)
+      (one other : Report)
       → HaveTrees given
-      → IsReport outside given one
-      → IsReport outside given other
+      → IsReport format outside given one
+      → IsReport format_too outside given other
+      → one.counts ≡ other.counts
+  pub one_text : (format : Format) (outside : List PackageEntry) (given : List GivenPackage) (one other : Report)
+      → HaveTrees given
+      → IsReport format outside given one
+      → IsReport format outside given other
       → one.text.items ≡ other.text.items

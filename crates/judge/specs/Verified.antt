@@ -15,6 +15,7 @@ use Rattle.load.specs.declared.loaded.Loaded.{Loaded}
 use Rattle.load.specs.declared.packages.GivenPackage.{GivenPackage}
 use Rattle.meaning_reports.specs.Loaded.{LoadedPackage, Tables}
 use Rattle.outside_json.specs.Outside.{PackageEntry}
+use Rattle.report_formats.specs.declared.formats.Format.{Format}
 use Rattle.table_json.specs.declared.table.Version.{Version}
 use Rattle.table_json.specs.declared.table.Version.TheVariants.{Older, Newer}
 use Rattle.verifier.specs.GivenViews.{given_of, package_in}
@@ -31,12 +32,13 @@ abbrev pub too_old : Version → List LoadedPackage → Option (List ℕ)
 too_old Older ps = first_with_causes ps
 too_old Newer ps = None
 
--- It is the report of the packages by the certificates, which are too old for none of them, where that is declared of
--- other packages.
+-- It is the report of the packages in this format by the certificates, which are too old for none of them, where that
+-- is declared of other packages.
 pub record IsVerifiedReport
-    (outside : List PackageEntry) (given : List GivenPackage) (certificates : Certificates) (report : Report)
+    (format : Format) (outside : List PackageEntry) (given : List GivenPackage) (certificates : Certificates)
+    (report : Report)
     : Type 0 where
-  pub is_report : IsReportBy (by_certificates (given_in certificates)) outside given report
+  pub is_report : IsReportBy (by_certificates (given_in certificates)) format outside given report
   pub none_is_too_old_for : too_old certificates.version is_report.load.load.meant ≡ None
 
 -- The packages are loaded, nothing is declared of any of them, and the certificates are too old for the one of that
@@ -59,8 +61,9 @@ abbrev pub IsTooOldFor : List KeptPackage → Certificates → Option (List ℕ)
 IsTooOldFor kept certificates found =
     (ps : List LoadedPackage) → TellPackages ps kept → HaveDistinctPaths ps → found ≡ too_old certificates.version ps
 
-abbrev pub TellsVerified : Tables → List KeptPackage → Certificates → Verified → Type 0
-TellsVerified declared kept certificates (verified.Told report) =
-    IsTooOldFor kept certificates None × TellsReportBy (by_certificates (given_in certificates) declared) kept report
-TellsVerified declared kept certificates (verified.IsTooOld path) =
+abbrev pub TellsVerified : Format → Tables → List KeptPackage → Certificates → Verified → Type 0
+TellsVerified format declared kept certificates (verified.Told report) =
+    IsTooOldFor kept certificates None
+    × TellsReportBy format (by_certificates (given_in certificates) declared) kept report
+TellsVerified format declared kept certificates (verified.IsTooOld path) =
     IsTooOldFor kept certificates (Some (string_bytes path))

@@ -9,7 +9,7 @@ ghost use Rattle.package_workers.specs.Faults.{IsFaultOf};
 ghost use Rattle.workers.specs.Counts.{count_of};
 
 use crate::check_fault::{CheckFault, of_workers};
-use all_certificates::Certified;
+use all_certificates::{Certified, Settings};
 use all_packages::Report;
 use certificate_json::to_json;
 use load::{GivenPackage, Leave, Loaded, load_beside_by};
@@ -19,7 +19,6 @@ use std::alloc::Global;
 use std::sync::Wait;
 use std::thread::Threads;
 use whole_packages::LoadedPackage;
-use workers::Workers;
 
 /// The report of packages, and the text of their certificates.
 #[derive(Debug, Drop)]
@@ -35,15 +34,16 @@ fn told_of<R: Threads + Wait + Sync>(
     alloc: Global,
     packages: &[LoadedPackage],
     outside: &Outside,
-    workers: Workers,
+    settings: Settings,
 ) -> Result<CertifiedReport, WorkersFault>
-    ensures certified { IfOk result (TellsCertifiedText (declared_tables (packages_of outside.now)) packages.now) }
-    ensures fault { IfErr result (IsFaultOf (count_of workers) (length packages.now)) }
+    ensures certified { IfOk result
+        (TellsCertifiedText settings.format (declared_tables (packages_of outside.now)) packages.now) }
+    ensures fault { IfErr result (IsFaultOf (count_of settings.workers) (length packages.now)) }
 {
     let Certified {
         report,
         certificates,
-    } = all_certificates::certified_report_by(rt, alloc, packages, outside, workers)?;
+    } = all_certificates::certified_report_by(rt, alloc, packages, outside, settings)?;
     let certificates = to_json(alloc, &certificates)?;
     Ok(CertifiedReport {
         report,
@@ -56,20 +56,21 @@ fn told_loaded<R: Threads + Wait + Sync, L: Leave>(
     rt: &R,
     alloc: Global,
     loaded: Loaded,
-    workers: Workers,
+    settings: Settings,
 ) -> Result<CertifiedReport, WorkersFault>
     ensures certified { IfOk result
-        (TellsCertifiedText (declared_tables (packages_of loaded.outside)) loaded.packages.items) }
-    ensures fault { IfErr result (IsFaultOf (count_of workers) (length loaded.packages.items)) }
+        (TellsCertifiedText settings.format (declared_tables (packages_of loaded.outside)) loaded.packages.items) }
+    ensures fault { IfErr result (IsFaultOf (count_of settings.workers) (length loaded.packages.items)) }
 {
-    let told = told_of(rt, alloc, &loaded.packages, &loaded.outside, workers);
+    let told = told_of(rt, alloc, &loaded.packages, &loaded.outside, settings);
     L::leave(loaded);
     told
 }
 
-/// The report of these packages, in the order of their paths, where that is declared of others, and the text of their
-/// certificates: both are the same for any number of workers. A yes says the same as one of `report_of`. So many
-/// threads read the files, and then judge the packages. What becomes of these, once they were judged, `L` says.
+/// The report of these packages, in the format of the settings and the order of their paths, where that is declared of
+/// others, and the text of their certificates: both are the same for any number of workers. A yes says the same as one
+/// of `report_of`. So many threads read the files, and then judge the packages. What becomes of these, once they were
+/// judged, `L` says.
 ///
 /// # Errors
 ///
@@ -79,17 +80,17 @@ pub fn certified_report_by<R: Threads + Wait + Sync, L: Leave>(
     alloc: Global,
     given: Vec<GivenPackage>,
     outside: Outside,
-    workers: Workers,
+    settings: Settings,
 ) -> Result<CertifiedReport, CheckFault>
-    ensures report { IfOk result
-        (λ told. IsCertifiedReport (packages_of outside) given.items told.report (string_bytes told.certificates)) }
-    ensures fault { IfErr result (IsCheckFault (packages_of outside) given.items (count_of workers)) }
+    ensures report { IfOk result (λ told. IsCertifiedReport settings.format (packages_of outside) given.items
+        told.report (string_bytes told.certificates)) }
+    ensures fault { IfErr result (IsCheckFault (packages_of outside) given.items (count_of settings.workers)) }
 {
-    let loaded = match load_beside_by(rt, alloc, given, outside, workers) {
+    let loaded = match load_beside_by(rt, alloc, given, outside, settings.workers) {
         Ok(loaded) => loaded,
         Err(fault) => return Err(CheckFault::NotLoaded(fault)),
     };
-    match told_loaded::<R, L>(rt, alloc, loaded, workers) {
+    match told_loaded::<R, L>(rt, alloc, loaded, settings) {
         Ok(told) => Ok(told),
         Err(fault) => Err(of_workers(fault)),
     }

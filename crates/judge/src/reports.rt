@@ -11,46 +11,79 @@ ghost use Rattle.package_workers.specs.Faults.{IsFaultOf};
 ghost use Rattle.workers.specs.Counts.{count_of};
 
 use crate::check_fault::{CheckFault, of_workers};
-use all_packages::{Report, whole_report};
+use all_certificates::Settings;
+use all_packages::{Report, check, told};
 use load::{GivenPackage, Leave, LoadFault, Loaded, load_beside, load_beside_by};
 use one_package::ByPaths;
 use outside_json::Outside;
-use package_workers::{CheckFault as WorkersFault, Crew, Open, whole_report_by_workers};
+use package_workers::{CheckFault as WorkersFault, Crew, Open, check_by_workers};
+use report_formats::Format;
 use std::alloc::{AllocError, Global};
 use std::sync::Wait;
 use std::thread::Threads;
-use workers::Workers;
+use whole_packages::LoadedPackage;
+
+/// The report of packages of different paths, where that is declared of others.
+fn whole_report(
+    alloc: Global,
+    packages: &[LoadedPackage],
+    outside: &Outside,
+    format: Format,
+) -> Result<Report, AllocError>
+    ensures { IfOk result (TellsReport format (declared_tables (packages_of outside.now)) packages.now) }
+{
+    let judged = check(alloc, packages, outside)?;
+    told(alloc, format, judged)
+}
 
 /// The report of packages of different paths, which are let go.
-fn report_loaded(alloc: Global, loaded: Loaded) -> Result<Report, AllocError>
-    ensures { IfOk result (TellsReport (declared_tables (packages_of loaded.outside)) loaded.packages.items) }
+fn report_loaded(alloc: Global, loaded: Loaded, format: Format) -> Result<Report, AllocError>
+    ensures { IfOk result (TellsReport format (declared_tables (packages_of loaded.outside)) loaded.packages.items) }
 {
-    let told = whole_report(alloc, &loaded.packages, &loaded.outside);
+    let told = whole_report(alloc, &loaded.packages, &loaded.outside, format);
     loaded.release();
     told
 }
 
-/// The same by so many workers, where `L` says what becomes of the packages then.
+/// The report of packages of different paths by so many workers, where that is declared of others.
+fn whole_report_by<R: Threads + Wait + Sync>(
+    rt: &R,
+    alloc: Global,
+    packages: &[LoadedPackage],
+    outside: &Outside,
+    settings: Settings,
+) -> Result<Report, WorkersFault>
+    ensures report { IfOk result
+        (TellsReport settings.format (declared_tables (packages_of outside.now)) packages.now) }
+    ensures fault { IfErr result (IsFaultOf (count_of settings.workers) (length packages.now)) }
+{
+    let crew = Crew {
+        rt,
+        workers: settings.workers,
+        gate: &Open,
+    };
+    let judged = check_by_workers(alloc, crew, packages, outside, &ByPaths)?;
+    Ok(told(alloc, settings.format, judged)?)
+}
+
+/// The same, where `L` says what becomes of the packages then.
 fn report_loaded_by<R: Threads + Wait + Sync, L: Leave>(
     rt: &R,
     alloc: Global,
     loaded: Loaded,
-    workers: Workers,
+    settings: Settings,
 ) -> Result<Report, WorkersFault>
-    ensures report { IfOk result (TellsReport (declared_tables (packages_of loaded.outside)) loaded.packages.items) }
-    ensures fault { IfErr result (IsFaultOf (count_of workers) (length loaded.packages.items)) }
+    ensures report { IfOk result
+        (TellsReport settings.format (declared_tables (packages_of loaded.outside)) loaded.packages.items) }
+    ensures fault { IfErr result (IsFaultOf (count_of settings.workers) (length loaded.packages.items)) }
 {
-    let crew = Crew {
-        rt,
-        workers,
-        gate: &Open,
-    };
-    let report = whole_report_by_workers(alloc, crew, &loaded.packages, &loaded.outside, &ByPaths);
+    let report = whole_report_by(rt, alloc, &loaded.packages, &loaded.outside, settings);
     L::leave(loaded);
     report
 }
 
-/// The report of these packages, in the order of their paths, where that is declared of others. No thread is started.
+/// The report of these packages in this format, in the order of their paths, where that is declared of others. No
+/// thread is started.
 ///
 /// A yes speaks of runs in which what is declared is true, and in which a function without a body starts work in a
 /// group that it was lent only before it returns (`YesAreQuiet` in `specs/QuietYes.antt`).
@@ -63,17 +96,18 @@ pub fn report_of(
     alloc: Global,
     given: Vec<GivenPackage>,
     outside: Outside,
+    format: Format,
 ) -> Result<Report, LoadFault>
-    ensures report { IfOk result (IsReport (packages_of outside) given.items) }
+    ensures report { IfOk result (IsReport format (packages_of outside) given.items) }
     ensures fault { IfErr result (IsLoadFaultBeside given.items (packages_of outside)) }
 {
     let loaded = load_beside(alloc, given, outside)?;
-    Ok(report_loaded(alloc, loaded)?)
+    Ok(report_loaded(alloc, loaded, format)?)
 }
 
-/// The same report, for any number of workers, and a yes says the same. So many threads read the files, and then judge
-/// the packages; with one worker no thread is started. Where a thread can't be started that should read files, the
-/// others do its work. What becomes of the packages, once they were judged, `L` says.
+/// The same report, in the format of the settings, for any number of workers, and a yes says the same. So many threads
+/// read the files, and then judge the packages; with one worker no thread is started. Where a thread can't be started
+/// that should read files, the others do its work. What becomes of the packages, once they were judged, `L` says.
 ///
 /// # Errors
 ///
@@ -84,16 +118,16 @@ pub fn report_by<R: Threads + Wait + Sync, L: Leave>(
     alloc: Global,
     given: Vec<GivenPackage>,
     outside: Outside,
-    workers: Workers,
+    settings: Settings,
 ) -> Result<Report, CheckFault>
-    ensures report { IfOk result (IsReport (packages_of outside) given.items) }
-    ensures fault { IfErr result (IsCheckFault (packages_of outside) given.items (count_of workers)) }
+    ensures report { IfOk result (IsReport settings.format (packages_of outside) given.items) }
+    ensures fault { IfErr result (IsCheckFault (packages_of outside) given.items (count_of settings.workers)) }
 {
-    let loaded = match load_beside_by(rt, alloc, given, outside, workers) {
+    let loaded = match load_beside_by(rt, alloc, given, outside, settings.workers) {
         Ok(loaded) => loaded,
         Err(fault) => return Err(CheckFault::NotLoaded(fault)),
     };
-    match report_loaded_by::<R, L>(rt, alloc, loaded, workers) {
+    match report_loaded_by::<R, L>(rt, alloc, loaded, settings) {
         Ok(report) => Ok(report),
         Err(fault) => Err(of_workers(fault)),
     }

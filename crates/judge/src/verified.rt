@@ -7,11 +7,12 @@ ghost use Rattle.judge.specs.Verified.{given_in, IsTooOldFor, IsVerifiedReport, 
 ghost use Rattle.outside_json.specs.Outside.{packages_of};
 ghost use Rattle.verifier.specs.Rules.{by_certificates};
 
-use all_packages::{Report, whole_report_by};
+use all_packages::{Report, check_by, told};
 use cause_mentions::first_with_causes;
 use certificate_json::Certificates;
 use load::{GivenPackage, Leave, LoadFault, Loaded, load_beside};
 use outside_json::Outside;
+use report_formats::Format;
 use std::alloc::{AllocError, Global};
 use table_json::Version;
 use verifier::ByCertificates;
@@ -55,12 +56,14 @@ fn told_by(
     packages: &[LoadedPackage],
     outside: &Outside,
     certificates: &Certificates,
+    format: Format,
 ) -> Result<Report, AllocError>
-    ensures { IfOk result (TellsReportBy
+    ensures { IfOk result (TellsReportBy format
         (by_certificates (given_in certificates.now) (declared_tables (packages_of outside.now))) packages.now) }
 {
     let rules = ByCertificates::new(alloc, certificates)?;
-    whole_report_by(alloc, packages, outside, &rules)
+    let judged = check_by(alloc, packages, outside, &rules)?;
+    told(alloc, format, judged)
 }
 
 /// The report of packages of different paths by certificates, unless these are too old for one of them.
@@ -69,13 +72,14 @@ fn told_unless_old(
     packages: &[LoadedPackage],
     outside: &Outside,
     certificates: &Certificates,
+    format: Format,
 ) -> Result<Verified, AllocError>
     ensures { IfOk result
-        (TellsVerified (declared_tables (packages_of outside.now)) packages.now certificates.now) }
+        (TellsVerified format (declared_tables (packages_of outside.now)) packages.now certificates.now) }
 {
     match too_old(alloc, packages, certificates)? {
         Some(path) => Ok(Verified::IsTooOld(String::from_str(alloc, path)?)),
-        None => Ok(Verified::Told(told_by(alloc, packages, outside, certificates)?)),
+        None => Ok(Verified::Told(told_by(alloc, packages, outside, certificates, format)?)),
     }
 }
 
@@ -84,17 +88,25 @@ fn verified_loaded<L: Leave>(
     alloc: Global,
     loaded: Loaded,
     certificates: &Certificates,
+    format: Format,
 ) -> Result<Verified, AllocError>
     ensures { IfOk result
-        (TellsVerified (declared_tables (packages_of loaded.outside)) loaded.packages.items certificates.now) }
+        (TellsVerified format (declared_tables (packages_of loaded.outside)) loaded.packages.items certificates.now) }
 {
-    let told = told_unless_old(alloc, &loaded.packages, &loaded.outside, certificates);
+    let told = told_unless_old(
+        alloc,
+        &loaded.packages,
+        &loaded.outside,
+        certificates,
+        format,
+    );
     L::leave(loaded);
     told
 }
 
-/// The report of these packages, in the order of their paths, by these certificates, where that is declared of others.
-/// A yes says the same as one of `report_of`. What becomes of the packages, once they were judged, `L` says.
+/// The report of these packages in this format, in the order of their paths, by these certificates, where that is
+/// declared of others. A yes says the same as one of `report_of`. What becomes of the packages, once they were judged,
+/// `L` says.
 ///
 /// # Errors
 ///
@@ -105,15 +117,16 @@ pub fn verified_report_of<L: Leave>(
     given: Vec<GivenPackage>,
     outside: Outside,
     certificates: &Certificates,
+    format: Format,
 ) -> Result<Report, VerifyFault>
-    ensures report { IfOk result (IsVerifiedReport (packages_of outside) given.items certificates.now) }
+    ensures report { IfOk result (IsVerifiedReport format (packages_of outside) given.items certificates.now) }
     ensures fault { IfErr result (IsVerifyFault (packages_of outside) given.items certificates.now) }
 {
     let loaded = match load_beside(alloc, given, outside) {
         Ok(loaded) => loaded,
         Err(fault) => return Err(VerifyFault::NotLoaded(fault)),
     };
-    match verified_loaded::<L>(alloc, loaded, certificates) {
+    match verified_loaded::<L>(alloc, loaded, certificates, format) {
         Ok(Verified::Told(report)) => Ok(report),
         Ok(Verified::IsTooOld(path)) => Err(VerifyFault::TooOld(path)),
         Err(_) => Err(VerifyFault::NotLoaded(LoadFault::OutOfMemory)),

@@ -137,12 +137,14 @@ same_given given kept load = first_alike (map kept_path kept) (map given_path gi
 pub is_beside : (given : List GivenPackage) (kept : Vec KeptPackage Global) (outside : Outside)
     (result : Result Loaded LoadFault)
     → IsLoad given kept.items
+    → AreLoadable given
     → IfOk result (λ loaded. loaded.packages ≡ kept)
     → IfOk result (λ loaded. loaded.outside ≡ outside)
     → IfOk result (λ loaded. first_given (map kept_path kept.items) (packages_of outside) ≡ None)
     → IfOk result (IsLoadBeside given (packages_of outside))
-is_beside given kept outside (Err fault) load packages that none = tt
-is_beside given kept outside (Ok loaded) load packages that none = record {
+is_beside given kept outside (Err fault) load can packages that none = tt
+is_beside given kept outside (Ok loaded) load can packages that none = record {
+  can_be_loaded = can;
   load = subst (λ (v : Vec KeptPackage Global). IsLoad given v.items) (sym packages) load;
   is_outside = ap packages_of that;
   none_is_given = sym (same_given given kept.items load (packages_of outside)) ∙ none;

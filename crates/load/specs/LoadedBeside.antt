@@ -18,8 +18,10 @@ abbrev pub first_given : List (List ℕ) → List PackageEntry → Option (List 
 first_given paths [] = None
 first_given paths (p ∷ outside) = if list_any (bytes_eq p.path) paths then Some p.path else first_given paths outside
 
--- the packages are loaded, that is declared, and it is declared of none of them
+-- The packages can be loaded, so there are not too many of them or of their files; they are loaded, that is declared,
+-- and it is declared of none of them.
 pub record IsLoadBeside (given : List GivenPackage) (outside : List PackageEntry) (loaded : Loaded) : Type 0 where
+  pub can_be_loaded : AreLoadable given
   pub load : IsLoad given loaded.packages.items
   pub is_outside : packages_of loaded.outside ≡ outside
   pub none_is_given : first_given (map given_path given) outside ≡ None

@@ -127,7 +127,7 @@ body_sync κ ι =
       ),
     )
 
-body_send : (κ ι : NamedLft) → IsSend (body.the_row κ ι)
+pub body_send : (κ ι : NamedLft) → IsSend (body.the_row κ ι)
 body_send κ ι =
     declared_send (body.the_type κ ι) (
       search sendable,

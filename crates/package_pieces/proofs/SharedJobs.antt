@@ -5,6 +5,7 @@ use denote.Ref.{NamedLft}
 use Rattle.calls_flags.proofs.known_calls.KnownCalls.TheSendSync as calls
 use Rattle.package_pieces.specs.contracts.building.Building as building
 use Rattle.package_pieces.specs.contracts.claims.Keeping as keeping
+use Rattle.package_pieces.specs.contracts.solving.Solving as solving
 use Rattle.package_pieces.proofs.Shared.{file_sync, bodies_sync}
 
 pub building_sync : (κ ι : NamedLft) → IsSync (building.the_row κ ι)
@@ -13,3 +14,7 @@ building_sync κ ι = declared_sync (building.the_type κ ι) (search (sendable,
 pub keeping_sync : (κ ι μ ν : NamedLft) → IsSync (keeping.the_row κ ι μ ν)
 keeping_sync κ ι μ ν =
     declared_sync (keeping.the_type κ ι μ ν) (search (sendable, bodies_sync), (search (sendable, calls.the_sync), tt))
+
+pub solving_sync : (κ ι μ ν : NamedLft) → IsSync (solving.the_row κ ι μ ν)
+solving_sync κ ι μ ν =
+    declared_sync (solving.the_type κ ι μ ν) (search (sendable, bodies_sync), (search (sendable, calls.the_sync), tt))

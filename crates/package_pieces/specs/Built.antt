@@ -1,15 +1,17 @@
--- The bodies of one file of a package.
-use Rattle.std.specs.Prelude.{ℕ, ◌≡◌, List, Some, slice_get}
-use Rattle.calls_flags.specs.FilesBodies.{HasBodies}
-use Rattle.calls_flags.specs.ToldFiles.{TellsSeen}
-use Rattle.calls_flags.specs.declared.file_bodies.FileBodies.{FileBodies}
+-- A body of a file of a package.
+use Rattle.std.specs.Prelude.{◌≡◌, List, Some, slice_get}
+use Rattle.bodies.specs.Bodies.{TellsPlace}
+use Rattle.bodies.specs.declared.body.Body.{Body}
 use Rattle.calls_flags.specs.declared.told_file.ToldFile.{ToldFile}
-use Rattle.meaning.specs.Uses.{Seen}
+use Rattle.events.specs.declared.found.Variables.{Variables}
+use Rattle.mentions.specs.MarkViews.{body_view}
+use Rattle.mentions.specs.declared.mark.BodyPlace.{BodyPlace}
+use Rattle.package_pieces.specs.declared.numbers.BodyNumber.{BodyNumber}
 
--- they are those of the file of that number, if there is one
-abbrev pub Builds : List ToldFile → ℕ → FileBodies → Type 0
-Builds files number made =
-    (file : ToldFile) → slice_get files number ≡ Some file
-    → (seen : Seen)
-    → TellsSeen seen file
-    → HasBodies number seen made
+-- it is the one of that number, if a file opens it and its variables were sought
+abbrev pub IsBuilt : List ToldFile → BodyNumber → Body → Type 0
+IsBuilt files number body =
+    (file : ToldFile) → slice_get files number.file ≡ Some file
+    → (variables : Variables) → file.variables ≡ Some variables
+    → (place : BodyPlace) → slice_get file.told.opened.items number.body ≡ Some place
+    → TellsPlace number.file file.told variables (body_view place) body

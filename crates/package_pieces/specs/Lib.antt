@@ -1,4 +1,6 @@
--- What serves the proofs: the bodies of a file, marks of claims, and what is found of a file.
+-- For a reader of the contracts: the bodies of files by their numbers.
+pub mod Numbers
+-- What serves the proofs: a body of a file, marks of claims, and what is found of a body.
 pub mod Built
 pub mod Marks
 pub mod Found

@@ -2,6 +2,7 @@
 
 use crate::building::build_all;
 use crate::claims::find_called_with;
+use crate::numbers::{have_several, open_several};
 use crate::solving::solve_all;
 use called_parameters::{Called, ImportedCalls};
 use calls_flags::{FileBodies, KnownCalls, ToldFile, bodies_of_files};
@@ -13,34 +14,6 @@ use report::Diagnostic;
 use std::alloc::Global;
 use std::sync::Wait;
 use std::thread::Threads;
-
-/// Whether more than one of these files was walked: else there is nothing to share.
-fn walk_several(files: &[ToldFile<'_>]) -> bool {
-    let mut one = false;
-    for file in files {
-        if file.variables.is_some() {
-            if one {
-                return true;
-            }
-            one = true;
-        }
-    }
-    false
-}
-
-/// Whether more than one of these files has a body.
-pub fn have_bodies(files: &[FileBodies<'_, '_>]) -> bool {
-    let mut one = false;
-    for file in files {
-        if !file.bodies.is_empty() {
-            if one {
-                return true;
-            }
-            one = true;
-        }
-    }
-    false
-}
 
 /// These helpers make the bodies of a package, and judge them. Where there is nothing to share, the thread that asks
 /// does it alone, so that none is started for nothing.
@@ -57,7 +30,7 @@ impl<'h, R: Threads + Wait> Hands for ByHelpers<'h, R> {
         alloc: Global,
         files: &'e [ToldFile<'a>],
     ) -> Result<Vec<FileBodies<'e, 'a>>, PieceFault> {
-        if walk_several(files) {
+        if open_several(files) {
             build_all(alloc, self.helpers, files)
         } else {
             Ok(bodies_of_files(alloc, files)?)
@@ -80,7 +53,7 @@ impl<'h, R: Threads + Wait> Hands for ByHelpers<'h, R> {
         files: &[FileBodies<'_, 'a>],
         calls: KnownCalls<'_, 'a>,
     ) -> Result<Vec<Diagnostic<'a>>, PieceFault> {
-        if have_bodies(files) {
+        if have_several(files) {
             solve_all(alloc, self.helpers, files, calls)
         } else {
             Ok(find_faults(alloc, files, calls)?)

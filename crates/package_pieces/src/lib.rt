@@ -5,11 +5,13 @@
 mod building;
 mod by_helpers;
 mod claims;
+mod numbers;
 mod rules;
 mod solving;
 
 pub use building::build_all;
-pub use by_helpers::{ByHelpers, have_bodies};
+pub use by_helpers::ByHelpers;
 pub use claims::find_called_with;
+pub use numbers::{BodyNumber, have_several, numbers_kept};
 pub use rules::PieceRules;
 pub use solving::solve_all;

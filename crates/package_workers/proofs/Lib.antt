@@ -4,3 +4,4 @@ pub mod ImportedResults
 pub mod KnownResults
 pub mod RightResults
 pub mod RightSlots
+pub mod ToldFaults

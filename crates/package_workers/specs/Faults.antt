@@ -3,6 +3,7 @@
 -- memory.
 use Rattle.std.specs.Prelude.{ℕ, ◌≡◌, ◌<◌, Bool, true, false, Result, Ok, Err, IfErr}
 use Rattle.package_workers.specs.declared.faults.CheckFault.{CheckFault}
+use Rattle.package_workers.specs.declared.faults.Ended.{Ended}
 use Rattle.package_workers.specs.declared.faults.CheckFault.TheVariants.{Memory, Thread}
 
 -- by whether a package was given back, whether memory was refused to a worker, and whether each worker could be started
@@ -21,3 +22,8 @@ TellsFault (Ok ended) result = IfErr result (λ fault. fault ≡ Memory)
 abbrev pub IsFaultOf : ℕ → ℕ → CheckFault → Type 0
 IsFaultOf workers packages Memory = Unit {0}
 IsFaultOf workers packages Thread = (1 < workers) × (0 < packages)
+
+-- workers that ended so tell no other fault than so many workers of so many packages may
+abbrev pub TellsFor : ℕ → ℕ → Ended → Type 0
+TellsFor workers packages ended = (stopped : Bool)
+    → IfErr (fault_by stopped ended.lacks_memory ended.all_started) (IsFaultOf workers packages)

@@ -16,7 +16,7 @@ ghost use Rattle.package_workers.specs.Slots.{MayBeKept};
 ghost use Rattle.whole_packages.specs.LoadedViews.{HaveDistinctPaths, TellPackages};
 ghost use Rattle.workers.specs.Counts.{count_of};
 
-use crate::faults::{CheckFault, Ended, fault_of};
+use crate::faults::{CheckFault, Ended, ended_by, fault_of};
 use crate::gates::Gate;
 use crate::judging::Judging;
 use crate::naming::Naming;
@@ -25,7 +25,7 @@ use crate::shared_board::Board;
 use crate::sharing::packages_are_shared;
 use crate::threads::{ThreadWork, work_all};
 use crate::working::{Worker, until_over};
-use all_packages::{Progress, check_by, judge_left};
+use all_packages::{Progress, judge_left};
 use board::{Core, Outcome};
 use one_package::{FileRules, Judged, given_packages};
 use outside_json::Outside;
@@ -81,16 +81,28 @@ fn keep_all<'a, B: Naming>(
     Ok(progress)
 }
 
-/// What is said of the packages, by a board on which nothing more is to be done.
+/// Passes the gate once for each package that is not kept, since it is judged after this: one without a rank, which no
+/// worker takes, and one that has to be judged anew.
+fn pass_left<G: Gate>(gate: &G, progress: &Progress<'_>) {
+    for place in 0..progress.results.len() {
+        if progress.at(place).is_none() {
+            gate.enter(place);
+        }
+    }
+}
+
+/// What is said of the packages, by a board on which nothing more is to be done. The gate is passed for those that are
+/// judged only then.
 ///
 /// # Errors
 ///
 /// Memory was refused; or else not all threads could be started.
-fn gathered<'a, B: Naming, R: FileRules>(
+fn gathered<'a, B: Naming, R: FileRules, G: Gate>(
     alloc: Global,
     core: Core<'_, PackageResult<'a, B>>,
     ended: Ended,
     judging: &Judging<'_, 'a, R>,
+    gate: &G,
 ) -> Result<Vec<Judged<'a>>, CheckFault>
     requires named { Names R.rules R.certificates judging.now B.packages B.rank B.told }
     ensures reports { IfOk result (λ found. (ps : List MeantPackage)
@@ -106,6 +118,7 @@ fn gathered<'a, B: Naming, R: FileRules>(
 {
     fault_of(core.is_stopped(), ended)?;
     let progress = keep_all(alloc, core.into_outcomes())?;
+    pass_left(gate, &progress);
     let found = judge_left(alloc, judging.given, progress, judging.rules)?;
     Ok(found)
 }
@@ -227,6 +240,8 @@ fn check_named<
         → TellPackages ps judging.now.given.now.packages.now → HaveDistinctPaths ps
         → AreAllCertified (R.rules judging.now.rules.now (declared_tables (packages_of judging.now.outside.now)))
         (R.certificates judging.now.rules.now) ps found.items) }
+    ensures fault { IfErr result
+        (IsFaultOf (count_of crew.now.workers) (length judging.now.given.now.packages.now)) }
 {
     let core = Core::new(alloc, &judging.given.imports, &judging.given.order)?;
     let board: Board<'_, '_, B> = Board {
@@ -236,19 +251,21 @@ fn check_named<
     };
     let all_started = all_work(alloc, crew, &board, judging);
     let lacks_memory = board.lacks_memory.load(Ordering::SeqCst);
-    let ended = Ended {
+    let noted = Ended {
         all_started,
         lacks_memory,
     };
+    let ended = ended_by(crew.workers, judging.given.packages.len(), noted);
     let Board { core, .. } = board;
-    gathered(alloc, core.into_inner(), ended, judging)
+    gathered(alloc, core.into_inner(), ended, judging, crew.gate)
 }
 
 /// Judges packages of different paths, and their files by these rules, where this is declared of packages that are not
 /// given, by so many workers: what is to be said of each, in their order, what is known of its functions, and the
 /// certificates of its bodies, if the rules make some. It promises what `check_by` does. A package is judged once all
 /// that it imports was judged. Where there are more workers than packages, those that are over help with the bodies of
-/// each package. One worker starts no thread, takes no lock and passes no gate.
+/// each package. One worker starts no thread. The gate is passed once before each package, and again where one has to
+/// be judged anew.
 ///
 /// # Errors
 ///
@@ -270,9 +287,6 @@ pub fn check_by_workers<'a, R: PieceRules + Send + Sync, T: Threads + Wait + Syn
         found.items) }
     ensures fault { IfErr result (IsFaultOf (count_of crew.entry.workers) (length packages.now)) }
 {
-    if crew.workers.count() <= 1 || packages.len() < 1 {
-        return Ok(check_by(alloc, packages, outside, rules)?);
-    }
     let given = given_packages(alloc, packages, outside)?;
     let judging = Judging {
         given: &given,

@@ -1,9 +1,11 @@
 //! Why packages can't be judged.
 
 ghost use Rattle.std.specs.Prelude.{◌≡◌};
-ghost use Rattle.package_workers.specs.Faults.{fault_by};
+ghost use Rattle.package_workers.specs.Faults.{TellsFor, fault_by};
+ghost use Rattle.workers.specs.Counts.{count_of};
 
 use std::alloc::AllocError;
+use workers::Workers;
 
 /// Why packages could not be judged.
 #[derive(Clone, Copy, PartialEq, Eq, Debug)]
@@ -31,6 +33,20 @@ pub struct Ended {
     pub all_started: bool,
     /// Memory was refused to one of them.
     pub lacks_memory: bool,
+}
+
+/// How so many workers of so many packages ended, by what was noted of them. One worker needs no thread: where it gave
+/// a package back, it was refused memory.
+pub fn ended_by(workers: Workers, packages: usize, noted: Ended) -> Ended
+    ensures { TellsFor (count_of workers) packages result }
+{
+    if workers.count() <= 1 || packages < 1 {
+        return Ended {
+            all_started: true,
+            lacks_memory: true,
+        };
+    }
+    noted
 }
 
 /// Whether workers that ended so could judge all packages, by whether one of them gave a package back.

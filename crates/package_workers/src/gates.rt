@@ -1,9 +1,10 @@
-//! What workers pass before they judge.
+//! What is passed before a package is judged.
 
-/// What a worker passes before it judges a package that it took, while it does not have the board. Where one thread
-/// judges all packages, nothing is passed; nor for those that are judged once all workers have ended.
+/// What is passed once before each package is judged: by the worker that took it, while it does not have the board. For
+/// those that are judged once all workers have ended it is passed before the first of these: such are packages without
+/// a rank, and whatever has to be judged anew, for which it is passed again.
 pub trait Gate {
-    /// Lets the worker pass that is to judge the package at that place.
+    /// Lets pass who is to judge the package at that place.
     fn enter(&self, place: usize);
 }
 

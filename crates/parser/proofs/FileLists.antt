@@ -7,7 +7,7 @@ use Rattle.tree.specs.declared.file.TopLevelDecl.{TopLevelDecl}
 use Rattle.tree.specs.Syntax.{ImportDeclaration, TopLevelDeclaration}
 use Rattle.tree.specs.View.{import_syntax, top_level_syntax}
 use Rattle.meaning.specs.Cursor.{Cursor}
-use Rattle.tree_reader.specs.Reader.{is_over, read_import, read_imports, read_top_level, read_top_levels}
+use Rattle.tree_reader.specs.Reader.{is_over, read_import, read_imports, read_top_level, read_top_levels, read_top_levels_within}
 use Rattle.tree_reader.specs.Reading.{Read, stands, steps, take_semicolon}
 use Rattle.parser_base.proofs.Growing.{prepend, prepend-all, after, starts, runs_out, ends, fails, goes_on}
 use Rattle.parser_base.proofs.Faults.{fails_too}
@@ -73,7 +73,7 @@ module _ {A C D : Type 0} (g : A → C → Option D) where
 
 module _ (text : List ℕ) where
   one_declared : (n : ℕ) (place : Cursor) → is_over text place ≡ false → read_top_levels text (suc n) place ≡ option_and_then (λ (d : TopLevelDeclaration × Cursor). option_and_then (λ (more : List TopLevelDeclaration × Cursor). Some (d.0 ∷ more.0, more.1)) (read_top_levels text n d.1)) (read_declared text place)
-  unfolding read_top_levels read_declared
+  unfolding read_top_levels_within read_declared
   one_declared n place left =
       rw left (rejoin (λ (x : TopLevelDeclaration) (end : Cursor). option_and_then (λ (more : List TopLevelDeclaration × Cursor). Some (x ∷ more.0, more.1)) (read_top_levels text n end)) (read_top_level text place) take_semicolon)
 
@@ -83,13 +83,13 @@ module _ (text : List ℕ) where
   -- in a round, after those declarations, of so many rounds
   module _ (items : List TopLevelDecl) (count i : ℕ) (rest : Cursor) (total : Read (List TopLevelDeclaration)) (so_far : after and_top_level items (read_top_levels text (count - i) rest) ≡ total) where
     pub top_levels-run-out : count ≤ i → total ≡ None
-    unfolding read_top_levels
+    unfolding read_top_levels_within
     top_levels-run-out le =
         runs_out and_top_level (read_top_levels text) items count i rest total so_far (λ place. refl) le
 
     module _ (lt : i < count) where
       pub top_levels-end : is_over text rest ≡ true → total ≡ Some (map top_level_syntax items, rest)
-      unfolding read_top_levels
+      unfolding read_top_levels_within
       top_levels-end e =
           ends and_top_level (read_top_levels text) items count i rest total so_far lt [] rest (λ n. rw e refl) ∙ ap (λ (ds : List TopLevelDeclaration). Some (ds, rest)) (all_top_levels items)
 

@@ -6,7 +6,7 @@ use Rattle.lexer.specs.declared.token.TokenKind.TheVariants.{LeftBracket}
 use Rattle.tree.specs.Syntax.{Identifier, Parameters}
 use Rattle.std.specs.Prelude.{Option}
 use Rattle.meaning.specs.Cursor.{Cursor}
-use Rattle.tree_reader.specs.Reader.{Readers, read_parameters, read_signature, read_receiver, read_function_declaration}
+use Rattle.tree_reader.specs.Reader.{Readers, read_parameters, read_signature, read_receiver, read_function_declaration, read_function_declaration_within}
 use Rattle.tree_reader.specs.Reading.{stands, behind, take, read_identifier}
 use Rattle.tree_reader.proofs.Steps.{same_kind_is}
 
@@ -24,6 +24,6 @@ module _ (text : List ℕ) (r : Readers) where
   no_signature place e = bracket-from place.left place.end e
 
 pub no_function : (text : List ℕ) (place : Cursor) (on : Option Parameters) (at_name : Cursor) (name : Identifier) (rest : Cursor) → read_receiver text (behind place) ≡ Some (on, at_name) → read_identifier text at_name ≡ Some (name, rest) → stands LeftBracket rest ≡ true → read_function_declaration text place ≡ None
-unfolding read_function_declaration
+unfolding read_function_declaration_within
 no_function text place on at_name name rest receiver named bracket =
     rw (receiver, named, no_signature text _ rest bracket) refl

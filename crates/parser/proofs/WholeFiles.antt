@@ -4,7 +4,7 @@ use Rattle.std.specs.Prelude.{option_and_then}
 use Rattle.tree.specs.Syntax.{Identifier, ImportDeclaration, TopLevelDeclaration, SourceFile}
 use Rattle.lexer.specs.declared.token.TokenKind.TheVariants.{PackageKeyword}
 use Rattle.meaning.specs.Cursor.{Cursor}
-use Rattle.tree_reader.specs.Reader.{read_imports, read_top_levels, read_file}
+use Rattle.tree_reader.specs.Reader.{read_imports, read_top_levels, read_file, read_file_within}
 use Rattle.tree_reader.specs.Reading.{Read, take, steps, span_between, take_semicolon, read_identifier}
 use Rattle.parser.specs.FileParts.{read_front}
 
@@ -38,7 +38,7 @@ module _ (text : List ℕ) (place : Cursor) where
       option_and_then (λ (ds : List TopLevelDeclaration × Cursor). Some (file_of front.0 ds)) (read_top_levels text (steps front.1) front.1)
 
   in_two : read_file text place ≡ option_and_then after_file_front (read_front text place)
-  unfolding read_file read_front
+  unfolding read_file_within read_front
   in_two =
       rejoin_first after_file_front (λ (end : Cursor). read_imports text (steps end) end) take_semicolon (λ (word : Cursor). read_identifier text word) (take PackageKeyword place)
 

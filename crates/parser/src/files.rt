@@ -64,7 +64,7 @@ fn imports(source: SourceTokens<'_>, place: TokenPlace) -> Read<Vec<ImportDecl>>
 /// # Errors
 ///
 /// Where another token stands, and out of memory.
-#[tactic(auto, unfolding(tree_reader::specs::Reader::read_receiver))]
+#[tactic(auto, unfolding(tree_reader::specs::Reader::read_receiver_within))]
 fn receiver<F: Fn(Wanted, TokenPlace) -> Read<Expr>>(
     source: SourceTokens<'_>,
     parts: &F,
@@ -87,7 +87,7 @@ fn receiver<F: Fn(Wanted, TokenPlace) -> Read<Expr>>(
 /// # Errors
 ///
 /// Where another token stands, and out of memory.
-#[tactic(auto, unfolding(tree_reader::specs::Reader::read_body))]
+#[tactic(auto, unfolding(tree_reader::specs::Reader::read_body_within))]
 fn body<S: Fn(TokenPlace) -> Read<Stmt>>(
     source: SourceTokens<'_>,
     statements: &S,
@@ -110,7 +110,7 @@ fn body<S: Fn(TokenPlace) -> Read<Stmt>>(
 /// # Errors
 ///
 /// Where another token stands, and out of memory.
-#[tactic(auto, unfolding(tree_reader::specs::Reader::read_function_declaration))]
+#[tactic(auto, unfolding(tree_reader::specs::Reader::read_function_declaration_within))]
 fn function<F: Fn(Wanted, TokenPlace) -> Read<Expr>, S: Fn(TokenPlace) -> Read<Stmt>>(
     source: SourceTokens<'_>,
     parts: &F,
@@ -147,7 +147,7 @@ fn function<F: Fn(Wanted, TokenPlace) -> Read<Expr>, S: Fn(TokenPlace) -> Read<S
 /// # Errors
 ///
 /// Where another token stands, and out of memory.
-#[tactic(auto, unfolding(tree_reader::specs::Reader::read_top_level))]
+#[tactic(auto, unfolding(tree_reader::specs::Reader::read_top_level_within))]
 fn top_level<F: Fn(Wanted, TokenPlace) -> Read<Expr>, S: Fn(TokenPlace) -> Read<Stmt>>(
     source: SourceTokens<'_>,
     parts: &F,

@@ -1,4 +1,4 @@
-//! A board, call by call: what each worker is told, and what the history has then.
+//! A board, call by call: what each worker is told, and what the history and the board have then.
 
 ghost use Rattle.std.specs.Prelude.{◌≡◌, ℕ, List, Option};
 ghost use Rattle.imports.specs.Ranks.{IsOrder, Package};
@@ -27,10 +27,11 @@ impl Listed for Brand {
     ghost rank = { λ place. None };
 }
 
-/// What came of the package at that place.
+/// What came of the package at that place, by the number of the step that was to deliver it.
 #[derive(Drop)]
 struct Came<B: Listed> {
     place: usize,
+    step: usize,
     of: PhantomData<B>,
 }
 
@@ -48,6 +49,7 @@ impl<B: Listed> Outcome for Came<B> {
     fn again(&self) -> Result<Self, AllocError> {
         Ok(Came {
             place: self.place,
+            step: self.step,
             of: PhantomData,
         })
     }
@@ -58,44 +60,61 @@ impl<B: Listed> Outcome for Came<B> {
 enum Step {
     /// The worker takes a package, and is told this.
     Take(usize, Task),
-    /// The worker delivers the package at that place, which is refused for this, or not at all.
+    /// The worker delivers the package at that place, which is refused for this and then given back, or not at all.
     Deliver(usize, usize, Option<DeliverFault>),
     /// The worker gives the package at that place back, which is refused for this, or not at all.
     Back(usize, usize, Option<DeliverFault>),
 }
 
-/// Why a delivery was refused, or that it was not.
-fn refusal<B: Listed>(delivered: Result<(), (DeliverFault, Came<B>)>) -> Option<DeliverFault> {
-    match delivered {
-        Ok(()) => None,
-        Err((fault, _)) => Some(fault),
+/// Delivers this, and says whether it is refused for that and given back as it is, or not at all.
+fn is_delivered<B: Listed>(
+    core: &mut Core<'_, Came<B>>,
+    worker: usize,
+    came: Came<B>,
+    why: Option<DeliverFault>,
+) -> bool {
+    let (place, step) = (came.place, came.step);
+    match core.deliver(worker, came) {
+        Ok(()) => why.is_none(),
+        Err((fault, back)) => why == Some(fault) && back.place == place && back.step == step,
     }
 }
 
-/// Asks the board, and says whether this is the answer.
-fn is_answered<B: Listed>(core: &mut Core<'_, Came<B>>, step: Step) -> bool {
+/// Asks the board at the step of that number, and says whether this is the answer.
+fn is_answered<B: Listed>(core: &mut Core<'_, Came<B>>, number: usize, step: Step) -> bool {
     match step {
         Step::Take(worker, told) => core.take(worker) == told,
         Step::Deliver(worker, place, why) => {
             let came = Came {
                 place,
+                step: number,
                 of: PhantomData,
             };
-            refusal(core.deliver(worker, came)) == why
+            is_delivered(core, worker, came, why)
         }
         Step::Back(worker, place, why) => core.back(worker, place).err() == why,
     }
 }
 
-/// Asks a board of these packages all of this, up to the first other answer: the number of that step, if there is one,
-/// and the history then.
+/// How it went with a board.
+#[derive(Drop)]
+struct Course {
+    /// The number of the first step with another answer, if there is one.
+    other: Option<usize>,
+    /// The history then.
+    history: Vec<Entry>,
+    /// By which step each package was delivered, by its place.
+    delivered: Vec<Option<usize>>,
+}
+
+/// Asks a board of these packages all of this, up to the first other answer.
 fn answered<B: Listed>(
     alloc: Global,
     packages: &[ImportList<'_>],
     imports: &[Vec<usize>],
     order: &Order,
     steps: &[Step],
-) -> Result<(Option<usize>, Vec<Entry>), AllocError>
+) -> Result<Course, AllocError>
     requires imports { rows_view imports.now ≡ given_imports B.packages }
     requires rank { rank_of order.now ≡ B.rank }
     requires order { IsOrder B.packages B.rank (ranked_of order.now) }
@@ -103,17 +122,29 @@ fn answered<B: Listed>(
     let mut core: Core<'_, Came<B>> = Core::new(alloc, imports, order)?;
     let mut other = None;
     for number in 0..steps.len() {
-        if !is_answered(&mut core, steps[number]) {
+        if !is_answered(&mut core, number, steps[number]) {
             other = Some(number);
             break;
         }
     }
     let mut history = Vec::new(alloc);
     history.extend_from_slice(core.history())?;
-    Ok((other, history))
+    let mut delivered = Vec::new(alloc);
+    for came in core.into_outcomes() {
+        match came {
+            Some(came) => delivered.push(Some(came.step))?,
+            None => delivered.push(None)?,
+        }
+    }
+    Ok(Course {
+        other,
+        history,
+        delivered,
+    })
 }
 
-/// Two workers, and two packages of which the second one imports the first.
+/// Two workers, and two packages of which the second one imports the first. What is delivered a second time is given
+/// back, and the board keeps what was delivered first.
 #[test]
 fn two_workers_are_told(rt: HostRuntime) -> Result<(), Fail> {
     let alloc = rt.alloc();
@@ -161,9 +192,10 @@ fn two_workers_are_told(rt: HostRuntime) -> Result<(), Fail> {
     ];
     let imports = given_imports(alloc, &packages)?;
     let order = order(alloc, &packages)?;
-    let (other, found) = answered::<Brand>(alloc, &packages, &imports, &order, &steps)?;
-    assert_eq!(rt; other, None);
-    assert_eq!(rt; found.as_slice(), history.as_slice());
+    let found = answered::<Brand>(alloc, &packages, &imports, &order, &steps)?;
+    assert_eq!(rt; found.other, None);
+    assert_eq!(rt; found.history.as_slice(), history.as_slice());
+    assert_eq!(rt; found.delivered.as_slice(), [Some(4), None].as_slice());
     Ok(())
 }
 
@@ -218,8 +250,12 @@ fn three_workers_are_stopped(rt: HostRuntime) -> Result<(), Fail> {
     ];
     let imports = given_imports(alloc, &packages)?;
     let order = order(alloc, &packages)?;
-    let (other, found) = answered::<Brand>(alloc, &packages, &imports, &order, &steps)?;
-    assert_eq!(rt; other, None);
-    assert_eq!(rt; found.as_slice(), history.as_slice());
+    let found = answered::<Brand>(alloc, &packages, &imports, &order, &steps)?;
+    assert_eq!(rt; found.other, None);
+    assert_eq!(rt; found.history.as_slice(), history.as_slice());
+    assert_eq!(rt;
+        found.delivered.as_slice(),
+        [None, Some(4), Some(5)].as_slice()
+    );
     Ok(())
 }

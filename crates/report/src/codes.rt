@@ -79,7 +79,7 @@ pub enum DiagnosticCode {
     Unreadable(TextFault),
     /// LC02: the file has no tree, or is left out.
     LeftOut(TreeFault),
-    /// LC03: a cancel function is given the name `_`.
+    /// LC03: a cancel function is given the name `_`, or its maker or giver is called as a statement.
     Discarded,
     /// LC04: a cancel function is bound again before it is called.
     Overwritten,

@@ -14,7 +14,7 @@ use Rattle.meaning.specs.OperatorTokens.{keyword_token}
 use Rattle.meaning.specs.Grammar.{in_parentheses, SpellsImportSpec, SpellsImportSpecs, SpellsOneImport, SpellsImports, SpellsReceiver, SpellsBody, SpellsFunction, SpellsTopLevel, SpellsTopLevels, SpellsFile, SpellsDeclaration}
 use Rattle.meaning.specs.declared.TheConstants.{MOST_DEPTH}
 use Rattle.tree_reader.specs.Reading.{stands, behind, read_identifier}
-use Rattle.tree_reader.specs.Reader.{declaration_keyword, is_string, is_end, top, read_signature, read_import_spec, read_import_specs, read_import, read_imports, read_receiver, read_body, read_function_declaration, read_top_level, is_over, read_top_levels, read_file}
+use Rattle.tree_reader.specs.Reader.{declaration_keyword, is_string, is_end, top, read_signature, read_import_spec, read_import_specs, read_import, read_imports, read_receiver_within, read_body_within, read_function_declaration_within, read_top_level_within, is_over, read_top_levels_within, read_file_within, read_file}
 use Rattle.tree_reader.proofs.Taken.{step, when_true, when_false, only_true, behind_gives, next_gives, of_next_gives, stands_gives, stands_other, stands_not, take_gives, take_semicolon_gives, before_semicolon, span_is, read_identifier-complete, read_optional_identifier-complete}
 use Rattle.tree_reader.proofs.Lengths.{Shorter, NoLonger, weak, both, first_then, enclosed, same_length, never_longer, token_shorter, chosen_longest, spanning_shorter, where_no_longer, string_shorter, semicolon_longest, identifier_shorter, optional_identifier_longest, items_longest, signature_longest, statements_longest, declaration_shorter}
 use Rattle.tree_reader.proofs.CompleteLists.{closing_is_end, read_block-complete}
@@ -49,6 +49,17 @@ begins_top_level _ = false
 -- Behind what a semicolon follows stands an end of it.
 end_there : (from to : Cursor) → semicolon from to → is_next is_end from ≡ true
 end_there from to s = before_semicolon is_end from to refl closing_is_end s
+
+declaration-begins : (keyword : DeclKeyword) (from to : Cursor) → TakesToken (keyword_token keyword) from to → is_next begins_top_level from ≡ true
+declaration-begins Const from to t = next_gives t begins_top_level
+declaration-begins Var from to t = next_gives t begins_top_level
+declaration-begins type_keyword from to t = next_gives t begins_top_level
+
+no_func : (keyword : DeclKeyword) → same_kind (keyword_token keyword) FuncKeyword ≡ false
+unfolding same_kind
+no_func Const = refl
+no_func Var = refl
+no_func type_keyword = refl
 
 module _ (text : List ℕ) where
   import_spec-begins : (i : ImportSpec) (from to : Cursor) → SpellsImportSpec text i from to → is_next begins_spec from ≡ true
@@ -118,47 +129,6 @@ module _ (text : List ℕ) where
       let shorter : length more.0.left < n = omega (arith, import-shorter d.specs d.is_grouped d.span from s.0 s.1, semicolon_longest s.0 more.0 more.1) in
       when_true _ (stands_gives word) (step _ (import-complete d.specs d.is_grouped d.span from s.0 s.1) (step _ (take_semicolon_gives more.1) (step _ (imports-complete n ds more.0 to more.2 e shorter) refl)))
 
-  receiver-complete : (receiver : Option Parameters) (from to : Cursor) {after : Cursor} → SpellsReceiver text receiver from to → receiver_depth receiver ≤ MOST_DEPTH → TakesToken identifier_kind to after → read_receiver text from ≡ Some (receiver, to)
-  unfolding read_receiver same_kind
-  receiver-complete None from to s d t =
-      when_false _ (ap (stands LeftParenthesis) s ∙ stands_other t LeftParenthesis refl) (λ j. Some (None, s j))
-  receiver-complete (Some ps) from to s d t =
-      when_true _ (stands_gives s.1.1) (step _ (read_parameters-complete text (top text) MOST_DEPTH (are_complete text MOST_DEPTH) ps from to s.0 s.1 d) refl)
-
-  body-complete : (body : Option Block) (from to : Cursor) → SpellsBody text body from to → body_depth body ≤ MOST_DEPTH → is_next is_end to ≡ true → read_body text from ≡ Some (body, to)
-  unfolding read_body
-  body-complete None from to s d e =
-      when_false _ (ap (stands LeftBrace) s ∙ stands_not is_end LeftBrace to refl e) (λ j. Some (None, s j))
-  body-complete (Some b) from to s d e =
-      when_true _ (stands_gives s.0.1) (step _ (read_block-complete text (top text) MOST_DEPTH (are_complete text MOST_DEPTH) b.statements b.braces from to s d) refl)
-
-  -- the parts of a function, one after the other
-  function_after : {kind : TokenKind} (f : Function) (from start name signature body to : Cursor) → TakesToken kind from start → read_receiver text start ≡ Some (f.receiver, name) → read_identifier text name ≡ Some (f.name, signature) → read_signature text (top text) signature ≡ Some (f.signature, body) → read_body text body ≡ Some (f.body, to) → f.span.start ≡ start_at from → f.span.end ≡ to.end → read_function_declaration text from ≡ Some (f, to)
-  unfolding read_function_declaration
-  function_after f from start name signature body to t receiver named signed bodied p q =
-      step _ (ap (read_receiver text) (behind_gives t) ∙ receiver) (step _ named (step _ signed (step _ bodied (λ j. Some (record { receiver = f.receiver; name = f.name; signature = f.signature; body = f.body; span = span_is f.span from to p q j }, to)))))
-
-  function-complete : (f : Function) (from to : Cursor) → SpellsFunction text f from to → function_depth f ≤ MOST_DEPTH → is_next is_end to ≡ true → read_function_declaration text from ≡ Some (f, to)
-  function-complete f from to s d e =
-      let word = s.0 in
-      let name = word.2.2 in
-      let signature = name.2 in
-      let receiver = receiver-complete f.receiver word.0 word.2.0 word.2.1 (omega arith) name.1.0.0 in
-      let read = read_signature-complete text (top text) MOST_DEPTH (are_complete text MOST_DEPTH) f.signature name.0 signature.0 signature.1 (omega arith) in
-      let body = body-complete f.body signature.0 to signature.2 (omega arith) e in
-      function_after f from word.0 word.2.0 name.0 signature.0 to word.1 receiver (read_identifier-complete text f.name word.2.0 name.0 name.1) read body s.1 s.2
-
-  declaration-begins : (keyword : DeclKeyword) (from to : Cursor) → TakesToken (keyword_token keyword) from to → is_next begins_top_level from ≡ true
-  declaration-begins Const from to t = next_gives t begins_top_level
-  declaration-begins Var from to t = next_gives t begins_top_level
-  declaration-begins type_keyword from to t = next_gives t begins_top_level
-
-  no_func : (keyword : DeclKeyword) → same_kind (keyword_token keyword) FuncKeyword ≡ false
-  unfolding same_kind
-  no_func Const = refl
-  no_func Var = refl
-  no_func type_keyword = refl
-
   top_level-begins : (d : TopLevelDeclaration) (from to : Cursor) → SpellsTopLevel text d from to → is_next begins_top_level from ≡ true
   unfolding SpellsDeclaration
   top_level-begins (function_declaration f) from to s = next_gives s.0.1 begins_top_level
@@ -177,14 +147,6 @@ module _ (text : List ℕ) where
       spanning_shorter (first_then (token_shorter _) (both (receiver-longest f.receiver) (both (weak (identifier_shorter text f.name)) (both (signature_longest text f.signature) (body-longest f.body)))))
   top_level-shorter (general_declaration d) = declaration_shorter text d
 
-  top_level-complete : (d : TopLevelDeclaration) (from to : Cursor) → SpellsTopLevel text d from to → top_level_depth d ≤ MOST_DEPTH → is_next is_end to ≡ true → read_top_level text from ≡ Some (d, to)
-  unfolding read_top_level SpellsDeclaration declaration_depth
-  top_level-complete (function_declaration f) from to s d e =
-      when_true _ (stands_gives s.0.1) (step _ (function-complete f from to s d e) refl)
-  top_level-complete (general_declaration (declaration_of keyword specs is_grouped span)) from to s d e =
-      let read = read_declaration-complete text (top text) MOST_DEPTH (are_complete text MOST_DEPTH) keyword specs is_grouped span from to s d e in
-      when_false _ (stands_other s.0.1 FuncKeyword (no_func keyword)) (rw (of_next_gives s.0.1 declaration_keyword ∙ keyword_given keyword) (step _ read refl))
-
   over : (place : Cursor) → place.left ≡ [] → is_over text place ≡ true
   over place e = ap (λ tokens. is_over text (record { left = tokens; end = place.end })) e
 
@@ -192,29 +154,73 @@ module _ (text : List ℕ) where
   first_there test end [] e = let both : false ≡ true = e in cc
   first_there test end (t ∷ rest) e = refl
 
-  top_levels-complete : (n : ℕ) (ds : List TopLevelDeclaration) (from to : Cursor) → SpellsTopLevels text ds from to → to.left ≡ [] → top_levels_depth ds ≤ MOST_DEPTH → length from.left < n → read_top_levels text n from ≡ Some (ds, to)
-  unfolding read_top_levels
-  top_levels-complete zero ds from to s e d short = absurd (omega arith)
-  top_levels-complete (suc n) [] from to s e d short = when_true _ (ap (is_over text) s ∙ over to e) (λ j. Some ([], s j))
-  top_levels-complete (suc n) (x ∷ xs) from to s e d short =
-      let more = s.2 in
-      let shorter : length more.0.left < n = omega (arith, top_level-shorter x from s.0 s.1, semicolon_longest s.0 more.0 more.1) in
-      let read = top_level-complete x from s.0 s.1 (omega arith) (end_there s.0 more.0 more.1) in
-      when_false _ (first_there begins_top_level from.end from.left (top_level-begins x from s.0 s.1)) (step _ read (step _ (take_semicolon_gives more.1) (step _ (top_levels-complete n xs more.0 to more.2 e (omega arith) shorter) refl)))
-
   -- No import stands behind the imports.
   no_import : (ds : List TopLevelDeclaration) (from to : Cursor) → SpellsTopLevels text ds from to → to.left ≡ [] → stands ImportKeyword from ≡ false
   unfolding stands
   no_import [] from to s e = ap (λ place. is_next (λ k. same_kind k ImportKeyword) place) s ∙ ap (first_is (λ k. same_kind k ImportKeyword)) e
   no_import (x ∷ xs) from to s e = stands_not begins_top_level ImportKeyword from refl (top_level-begins x from s.0 s.1)
 
-  pub read_file-complete : (from to : Cursor) (file : SourceFile) → SpellsFile text file from to → to.left ≡ [] → file_depth file ≤ MOST_DEPTH → read_file text from ≡ Some (file, to)
-  unfolding read_file
-  read_file-complete from to file s e d =
+module _ (text : List ℕ) (most : ℕ) where
+  receiver-complete : (receiver : Option Parameters) (from to : Cursor) {after : Cursor} → SpellsReceiver text receiver from to → receiver_depth receiver ≤ most → TakesToken identifier_kind to after → read_receiver_within text most from ≡ Some (receiver, to)
+  unfolding read_receiver_within same_kind
+  receiver-complete None from to s d t =
+      when_false _ (ap (stands LeftParenthesis) s ∙ stands_other t LeftParenthesis refl) (λ j. Some (None, s j))
+  receiver-complete (Some ps) from to s d t =
+      when_true _ (stands_gives s.1.1) (step _ (read_parameters-complete text (top text most) most (are_complete text most) ps from to s.0 s.1 d) refl)
+
+  body-complete : (body : Option Block) (from to : Cursor) → SpellsBody text body from to → body_depth body ≤ most → is_next is_end to ≡ true → read_body_within text most from ≡ Some (body, to)
+  unfolding read_body_within
+  body-complete None from to s d e =
+      when_false _ (ap (stands LeftBrace) s ∙ stands_not is_end LeftBrace to refl e) (λ j. Some (None, s j))
+  body-complete (Some b) from to s d e =
+      when_true _ (stands_gives s.0.1) (step _ (read_block-complete text (top text most) most (are_complete text most) b.statements b.braces from to s d) refl)
+
+  -- the parts of a function, one after the other
+  function_after : {kind : TokenKind} (f : Function) (from start name signature body to : Cursor) → TakesToken kind from start → read_receiver_within text most start ≡ Some (f.receiver, name) → read_identifier text name ≡ Some (f.name, signature) → read_signature text (top text most) signature ≡ Some (f.signature, body) → read_body_within text most body ≡ Some (f.body, to) → f.span.start ≡ start_at from → f.span.end ≡ to.end → read_function_declaration_within text most from ≡ Some (f, to)
+  unfolding read_function_declaration_within
+  function_after f from start name signature body to t receiver named signed bodied p q =
+      step _ (ap (read_receiver_within text most) (behind_gives t) ∙ receiver) (step _ named (step _ signed (step _ bodied (λ j. Some (record { receiver = f.receiver; name = f.name; signature = f.signature; body = f.body; span = span_is f.span from to p q j }, to)))))
+
+  function-complete : (f : Function) (from to : Cursor) → SpellsFunction text f from to → function_depth f ≤ most → is_next is_end to ≡ true → read_function_declaration_within text most from ≡ Some (f, to)
+  function-complete f from to s d e =
+      let word = s.0 in
+      let name = word.2.2 in
+      let signature = name.2 in
+      let receiver = receiver-complete f.receiver word.0 word.2.0 word.2.1 (omega arith) name.1.0.0 in
+      let read = read_signature-complete text (top text most) most (are_complete text most) f.signature name.0 signature.0 signature.1 (omega arith) in
+      let body = body-complete f.body signature.0 to signature.2 (omega arith) e in
+      function_after f from word.0 word.2.0 name.0 signature.0 to word.1 receiver (read_identifier-complete text f.name word.2.0 name.0 name.1) read body s.1 s.2
+
+  top_level-complete : (d : TopLevelDeclaration) (from to : Cursor) → SpellsTopLevel text d from to → top_level_depth d ≤ most → is_next is_end to ≡ true → read_top_level_within text most from ≡ Some (d, to)
+  unfolding read_top_level_within SpellsDeclaration declaration_depth
+  top_level-complete (function_declaration f) from to s d e =
+      when_true _ (stands_gives s.0.1) (step _ (function-complete f from to s d e) refl)
+  top_level-complete (general_declaration (declaration_of keyword specs is_grouped span)) from to s d e =
+      let read = read_declaration-complete text (top text most) most (are_complete text most) keyword specs is_grouped span from to s d e in
+      when_false _ (stands_other s.0.1 FuncKeyword (no_func keyword)) (rw (of_next_gives s.0.1 declaration_keyword ∙ keyword_given keyword) (step _ read refl))
+
+  top_levels-complete : (n : ℕ) (ds : List TopLevelDeclaration) (from to : Cursor) → SpellsTopLevels text ds from to → to.left ≡ [] → top_levels_depth ds ≤ most → length from.left < n → read_top_levels_within text most n from ≡ Some (ds, to)
+  unfolding read_top_levels_within
+  top_levels-complete zero ds from to s e d short = absurd (omega arith)
+  top_levels-complete (suc n) [] from to s e d short = when_true _ (ap (is_over text) s ∙ over text to e) (λ j. Some ([], s j))
+  top_levels-complete (suc n) (x ∷ xs) from to s e d short =
+      let more = s.2 in
+      let shorter : length more.0.left < n = omega (arith, top_level-shorter text x from s.0 s.1, semicolon_longest s.0 more.0 more.1) in
+      let read = top_level-complete x from s.0 s.1 (omega arith) (end_there s.0 more.0 more.1) in
+      when_false _ (first_there text begins_top_level from.end from.left (top_level-begins text x from s.0 s.1)) (step _ read (step _ (take_semicolon_gives more.1) (step _ (top_levels-complete n xs more.0 to more.2 e (omega arith) shorter) refl)))
+
+  pub read_file_within-complete : (from to : Cursor) (file : SourceFile) → SpellsFile text file from to → to.left ≡ [] → file_depth file ≤ most → read_file_within text most from ≡ Some (file, to)
+  unfolding read_file_within
+  read_file_within-complete from to file s e d =
       let word = s.0 in
       let name = word.2 in
       let end = name.2 in
       let parts = end.2 in
-      let imports = imports-complete (suc (length end.0.left)) file.imports end.0 parts.0 parts.1 (no_import file.declarations parts.0 to parts.2 e) (omega arith) in
+      let imports = imports-complete text (suc (length end.0.left)) file.imports end.0 parts.0 parts.1 (no_import text file.declarations parts.0 to parts.2 e) (omega arith) in
       let declarations = top_levels-complete (suc (length parts.0.left)) file.declarations parts.0 to parts.2 e d (omega arith) in
       step _ (take_gives word.1) (step _ (read_identifier-complete text file.package_name word.0 name.0 name.1) (step _ (take_semicolon_gives end.1) (step _ imports (step _ declarations (λ j. Some (record { package_name = file.package_name; imports = file.imports; declarations = file.declarations; span = span_is file.span from to s.1 s.2 j }, to))))))
+
+module _ (text : List ℕ) where
+  -- with the limit that the tree of a text has
+  pub read_file-complete : (from to : Cursor) (file : SourceFile) → SpellsFile text file from to → to.left ≡ [] → file_depth file ≤ MOST_DEPTH → read_file text from ≡ Some (file, to)
+  read_file-complete = read_file_within-complete text MOST_DEPTH

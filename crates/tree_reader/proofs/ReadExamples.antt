@@ -1,6 +1,7 @@
--- The reader computes the tree of each example. That it is sound and complete says the rest.
-use Rattle.std.proofs.Common.{◌≡◌, ℕ, ◌≤◌, false, List, [], Option, Some, None, true≢false, refl, sym, ap, ◌∙◌}
-use Rattle.std.proofs.lemmas.Option.{none-some, same_Some}
+-- The reader computes the tree of each example. That it is sound and complete says the rest: that the tokens spell that
+-- tree, and, by reading as deep as it and another one, that they spell no other.
+use Rattle.std.proofs.Common.{◌≡◌, ℕ, ◌≤◌, max, false, List, [], Some, None, true≢false, refl, sym, ◌∙◌, arith}
+use Rattle.std.proofs.lemmas.Option.{none-some}
 use Rattle.lexer.specs.Spelling.{same_kind}
 use Rattle.tree.specs.Syntax.{Expression, Statement, SourceFile}
 use Rattle.tree.specs.Depth.{expression_depth, statement_depth}
@@ -8,7 +9,7 @@ use Rattle.meaning.specs.Cursor.{Cursor}
 use Rattle.meaning.specs.Grammar.{as_expression, SpellsExpression}
 use Rattle.meaning.specs.TreeExamples.{Example, begin}
 use Rattle.tree_reader.specs.Reading.{stands, take, past, take_semicolon, skip_from, read_identifier, read_optional_identifier, read_more_identifiers, read_identifiers}
-use Rattle.tree_reader.specs.Reader.{read_more_expressions, read_expressions, read_expression_unless, read_element, read_elements, read_braced_elements, read_arguments, read_item, read_items, read_parameters, read_signature, read_type_name, read_struct_field, read_interface_field, read_fields, read_braced_fields, read_statements, read_block, read_bracket_type, read_map_type, read_channel_type, read_literal_type, read_value_spec, read_type_spec, read_specs, read_declaration, read_function, read_typed, read_operand, read_slice, read_index, read_call, read_assertion, read_selector, read_composite, read_suffixes, read_primary, read_unary, read_operators, read_expression_of, read_value_of, read_named_type, read_type_of, read_simple_after, read_simple, read_header, read_condition, read_else, read_if, read_loop, read_clauses, read_range, read_for_after, read_for, read_cases, read_communication, read_communications, read_guard, read_switch_guard, read_switch, read_select, read_labeled, read_started, read_return, read_branch, read_block_statement, read_other_statement, read_statement_of, readers, read_import_spec, read_import_specs, read_import, read_imports, read_receiver, read_body, read_function_declaration, read_top_level, read_top_levels, read_file}
+use Rattle.tree_reader.specs.Reader.{read_more_expressions, read_expressions, read_expression_unless, read_element, read_elements, read_braced_elements, read_arguments, read_item, read_items, read_parameters, read_signature, read_type_name, read_struct_field, read_interface_field, read_fields, read_braced_fields, read_statements, read_block, read_bracket_type, read_map_type, read_channel_type, read_literal_type, read_value_spec, read_type_spec, read_specs, read_declaration, read_function, read_typed, read_operand, read_slice, read_index, read_call, read_assertion, read_selector, read_composite, read_suffixes, read_primary, read_unary, read_operators, read_expression_of, read_value_of, read_named_type, read_type_of, read_simple_after, read_simple, read_header, read_condition, read_else, read_if, read_loop, read_clauses, read_range, read_for_after, read_for, read_cases, read_communication, read_communications, read_guard, read_switch_guard, read_switch, read_select, read_labeled, read_started, read_return, read_branch, read_block_statement, read_other_statement, read_statement_of, readers, read_import_spec, read_import_specs, read_import, read_imports, read_receiver_within, read_body_within, read_function_declaration_within, read_top_level_within, read_top_levels_within, read_file_within, read_file}
 use Rattle.meaning.proofs.Spelled.{◌and◌}
 use Rattle.tree_reader.specs.Claims.{CannotGoOn}
 use Rattle.tree_reader.specs.ReadExamples.{Case, start_of, end_of, end_of_statement, depth, Each, IsReadExpression, IsReadType, IsReadStatement, IsReadFile, IsNoExpression, IsNoType, IsNoFile, ComputedTrees, expressions, types, statements, files, not_expressions, not_types, not_files, difference_of_difference, conjunction_in_disjunction, product_in_sum, negated_selector, star_of_selector, address_of_literal, received, literals, call_with_ellipsis, call_without_arguments, index_of_call, slice_without_bounds, slice_from, slice_to, slice_with_capacity, assertion, conversion, conversion_to_pointer, conversion_to_function, result_and_no_conversion, star_of_conversion, received_of_conversion, literal_called_at_once, literal_of_functions, literal_of_package, elements_in_braces, array_literal, sums, products, comparisons, signs, negation_of_brackets, sends_channels, receives_in_brackets, receives_receivers, map_of_arrays, names_with_one_type, two_types, named_and_pointer, pointer_among_names, variadic, one_result, fields_with_tags, methods, sent, incremented, decremented, assigned, defined, assigned_sums, assigned_products, started, deferred, returned, returned_nothing, break_with_label, continued, condition_with_brackets, condition_with_slice, otherwise_if, condition_after_definition, loop_without_header, loop_while, loop_of_semicolons, loop_that_counts, range_alone, range_defined, range_assigned, type_switch, type_switch_with_name, type_switch_after_definition, switch_without_tag, two_defaults, select_of_nothing, select_of_all, label_before_brace, label_of_label, empty_statements, block_in_block, constants_in_group, constant_with_type, variable_without_value, types_in_group, no_declaration, method_with_receiver, function_without_body, whole_file, groups, no_right_operand, no_comma, no_index, no_capacity, braces_alone, two_indexes, guard_outside, bare_literal_in_header, go_without_call, constant_without_value, definition_as_condition, increment_as_communication, jump, fall_through, no_semicolon, last_name_without_type, two_embedded, embedded_pointer_in_interface, union, import_of_all_names, import_after_declaration, type_parameters}
@@ -16,6 +17,7 @@ use Rattle.tree_reader.proofs.Begins.{level_high}
 use Rattle.tree_reader.proofs.Sound.{readers-sound, file-sound}
 use Rattle.tree_reader.proofs.Complete.{are_complete}
 use Rattle.tree_reader.proofs.CompleteFile.{read_file-complete}
+use Rattle.tree_reader.proofs.OneTree.{same_read, one_tree_of_any_depth}
 
 -- `unfolding reading` opens the reader
 unfoldable pub reading : Unit {0}
@@ -31,17 +33,8 @@ unfolding same_kind expression_depth statement_depth stands take past take_semic
     read_for_after read_for read_cases read_communication read_communications read_guard read_switch_guard
     read_switch read_select read_labeled read_started read_return read_branch read_block_statement
     read_other_statement read_statement_of readers read_import_spec read_import_specs read_import read_imports
-    read_receiver read_body read_function_declaration read_top_level read_top_levels read_file
+    read_receiver_within read_body_within read_function_declaration_within read_top_level_within read_top_levels_within read_file_within
 reading = tt
-
--- what was read twice is the same tree
-same_read : {A : Type 0} (a b : A) (from to : Cursor)
-    → ◌≡◌ {A = Option (A × Cursor)} (Some (a, from)) (Some (b, to))
-    → a ≡ b
-same_read {A} a b from to e =
-    let read : A × Cursor = (a, from) in
-    let wanted : A × Cursor = (b, to) in
-    ap (λ x. x.0) (same_Some read wanted e)
 
 -- with no token left no expression goes on
 nothing_follows : (end : ℕ) → CannotGoOn false 1 record { left = []; end = end }
@@ -54,63 +47,76 @@ nothing_follows end = record {
   operator = tt;
 }
 
-module _ (text : List ℕ) where
-  -- An expression that all tokens spell is read.
-  whole_expression : (from : Cursor) (end : ℕ) (e : Expression)
-      → expression_depth e ≤ depth
-      → SpellsExpression text as_expression e from record { left = []; end = end }
-      → (readers text depth).read_expression false 1 from ≡ Some (e, record { left = []; end = end })
-  whole_expression from end e d s =
-      (are_complete text depth).expression false 1 from record { left = []; end = end } e s (level_high e) tt d
-      (nothing_follows end)
+-- An expression that all tokens spell is read by what may go as deep.
+whole_expression : (text : List ℕ) (most : ℕ) (from : Cursor) (end : ℕ) (e : Expression)
+    → SpellsExpression text as_expression e from record { left = []; end = end }
+    → expression_depth e ≤ most
+    → (readers text most).read_expression false 1 from ≡ Some (e, record { left = []; end = end })
+whole_expression text most from end e s d =
+    (are_complete text most).expression false 1 from record { left = []; end = end } e s (level_high e) tt d
+    (nothing_follows end)
 
 expression_is_read : (c : Case Expression)
     → (readers c.text depth).read_expression false 1 (start_of c) ≡ Some (c.tree, end_of c)
     → IsReadExpression c
-expression_is_read c read = record {
-  read = read;
-  spelled = ((readers-sound c.text depth).expression false 1 (start_of c) (end_of c) c.tree read).0;
-  only_tree = λ other d s.
-      same_read other c.tree (end_of c) (end_of c) (sym (whole_expression c.text (start_of c) _ other d s) ∙ read);
-}
+expression_is_read c read =
+    let spelled = ((readers-sound c.text depth).expression false 1 (start_of c) (end_of c) c.tree read).0 in
+    record {
+      read = read;
+      spelled = spelled;
+      only_tree = λ other s.
+          let deeper = max (expression_depth other) (expression_depth c.tree) in
+          same_read other c.tree (end_of c) (end_of c)
+          (whole_expression c.text deeper (start_of c) _ other s (omega arith))
+          (whole_expression c.text deeper (start_of c) _ c.tree spelled (omega arith));
+    }
 
 type_is_read : (c : Case Expression)
     → (readers c.text depth).read_type (start_of c) ≡ Some (c.tree, end_of c)
     → IsReadType c
-type_is_read c read = record {
-  read = read;
-  spelled = ((readers-sound c.text depth).type (start_of c) (end_of c) c.tree read).0;
-  only_tree = λ other d s.
-      same_read other c.tree (end_of c) (end_of c)
-      (sym ((are_complete c.text depth).type (start_of c) (end_of c) other s d) ∙ read);
-}
+type_is_read c read =
+    let spelled = ((readers-sound c.text depth).type (start_of c) (end_of c) c.tree read).0 in
+    record {
+      read = read;
+      spelled = spelled;
+      only_tree = λ other s.
+          let deeper = max (expression_depth other) (expression_depth c.tree) in
+          let complete = (are_complete c.text deeper).type (start_of c) (end_of c) in
+          same_read other c.tree (end_of c) (end_of c)
+          (complete other s (omega arith)) (complete c.tree spelled (omega arith));
+    }
 
 statement_is_read : (c : Case Statement)
     → (readers c.text depth).read_statement (start_of c) ≡ Some (c.tree, end_of_statement c)
     → IsReadStatement c
-statement_is_read c read = record {
-  read = read;
-  spelled = ((readers-sound c.text depth).statement (start_of c) (end_of_statement c) c.tree read).0;
-  only_tree = λ other kept d s.
-      same_read other c.tree (end_of_statement c) (end_of_statement c)
-      (sym ((are_complete c.text depth).statement (start_of c) (end_of_statement c) other s kept d refl) ∙ read);
-}
+statement_is_read c read =
+    let sound = (readers-sound c.text depth).statement (start_of c) (end_of_statement c) c.tree read in
+    record {
+      read = read;
+      spelled = sound.0;
+      only_tree = λ other kept s.
+          let deeper = max (statement_depth other) (statement_depth c.tree) in
+          let complete = (are_complete c.text deeper).statement (start_of c) (end_of_statement c) in
+          same_read other c.tree (end_of_statement c) (end_of_statement c)
+          (complete other s kept (omega arith) refl) (complete c.tree sound.0 sound.1 (omega arith) refl);
+    }
 
 file_is_read : (c : Case SourceFile) → read_file c.text (start_of c) ≡ Some (c.tree, end_of c) → IsReadFile c
-file_is_read c read = record {
-  read = read;
-  spelled = (file-sound c.text (start_of c) (end_of c) c.tree read).0;
-  only_tree = λ other d s.
-      same_read other c.tree (end_of c) (end_of c)
-      (sym (read_file-complete c.text (start_of c) (end_of c) other s refl d) ∙ read);
-}
+file_is_read c read =
+    let spelled = (file-sound c.text (start_of c) (end_of c) c.tree read).0 in
+    record {
+      read = read;
+      spelled = spelled;
+      only_tree = λ other s.
+          one_tree_of_any_depth c.text (start_of c) (end_of c) (end_of c) other c.tree s refl spelled refl;
+    }
 
 is_no_expression : (example : Example)
     → (readers example.text depth).read_expression false 1 (begin example) ≡ None
     → IsNoExpression example
 is_no_expression example read = record {
   read = read;
-  none_spelled = λ e d s. none-some _ (sym read ∙ whole_expression example.text (begin example) _ e d s);
+  none_spelled = λ e d s. none-some _ (sym read ∙ whole_expression example.text depth (begin example) _ e s d);
 }
 
 is_no_type : (example : Example) → (readers example.text depth).read_type (begin example) ≡ None → IsNoType example

@@ -7,7 +7,7 @@ use Rattle.tree_reader.specs.Claims.{AreSound, ReadsWhatIsSpelled}
 use Rattle.tree_reader.proofs.SoundTypes.{read_type_of-sound}
 use Rattle.tree_reader.proofs.SoundExpressions.{read_expression_of-sound, read_value_of-sound}
 use Rattle.tree_reader.proofs.SoundStatements.{read_statement_of-sound}
-use Rattle.tree_reader.proofs.SoundFile.{read_file-sound}
+use Rattle.tree_reader.proofs.SoundFile.{read_file_within-sound}
 
 -- what is read at a depth, from what is read below it
 pub readers-sound : (text : List ℕ) (n : ℕ) → AreSound text n (readers text n)
@@ -27,5 +27,9 @@ readers-sound text (suc below) =
       statement = read_statement_of-sound text (readers text below) below sound;
     }
 
-pub file-sound : (text : List ℕ) → ReadsWhatIsSpelled text
-file-sound text from to file e = read_file-sound text (readers-sound text MOST_DEPTH) from (file, to) e
+pub file_within-sound : (text : List ℕ) (most : ℕ) → ReadsWhatIsSpelled text most
+file_within-sound text most from to file e = read_file_within-sound text most (readers-sound text most) from (file, to) e
+
+-- with the limit that the tree of a text has
+pub file-sound : (text : List ℕ) → ReadsWhatIsSpelled text MOST_DEPTH
+file-sound text = file_within-sound text MOST_DEPTH

@@ -10,9 +10,8 @@ use Rattle.tree.specs.Syntax.{Parameters, Block, Function, TopLevelDeclaration, 
 use Rattle.tree.specs.Depth.{receiver_depth, body_depth, function_depth, top_level_depth, top_levels_depth, file_depth}
 use Rattle.meaning.specs.Cursor.{Cursor, ◌⨾◌, token, chosen, spanning, is_next}
 use Rattle.meaning.specs.Grammar.{in_parentheses, SpellsOneImport, SpellsImportSpec, SpellsImportSpecs, SpellsImports, SpellsReceiver, SpellsBody, SpellsFunction, SpellsTopLevel, SpellsTopLevels, SpellsFile}
-use Rattle.meaning.specs.declared.TheConstants.{MOST_DEPTH}
 use Rattle.tree_reader.specs.Reading.{stands, behind, take, take_semicolon, steps, read_identifier, read_optional_identifier}
-use Rattle.tree_reader.specs.Reader.{of_next, declaration_keyword, is_string, read_parameters, read_signature, read_block, read_declaration, top, read_import_spec, read_import_specs, read_import, read_imports, read_receiver, read_body, read_function_declaration, read_top_level, is_over, read_top_levels, read_file}
+use Rattle.tree_reader.specs.Reader.{of_next, declaration_keyword, is_string, read_parameters, read_signature, read_block, read_declaration, top, read_import_spec, read_import_specs, read_import, read_imports, read_receiver_within, read_body_within, read_function_declaration_within, read_top_level_within, is_over, read_top_levels_within, read_file_within}
 use Rattle.tree_reader.specs.Claims.{AreSound}
 use Rattle.tree_reader.proofs.Steps.{given, two_ways, only_where_some, option_ways, stands-sound, take-sound, take_semicolon-sound, read_identifier-sound, read_optional_identifier-sound}
 use Rattle.tree_reader.proofs.Tables.{is_string-sound}
@@ -129,51 +128,51 @@ is_over-sound : (text : List ℕ) (left : List Token) (end : ℕ)
 is_over-sound text [] end o = refl
 is_over-sound text (t ∷ rest) end o = absurd (false≢true o)
 
-module _ (text : List ℕ) (sound : AreSound text MOST_DEPTH (top text)) where
+module _ (text : List ℕ) (most : ℕ) (sound : AreSound text most (top text most)) where
   abbrev ReadsReceiver : Cursor → Option Parameters × Cursor → Type 0
-  ReadsReceiver from x = SpellsReceiver text x.0 from x.1 × (receiver_depth x.0 ≤ MOST_DEPTH)
+  ReadsReceiver from x = SpellsReceiver text x.0 from x.1 × (receiver_depth x.0 ≤ most)
 
-  read_receiver-sound : (from : Cursor) (x : Option Parameters × Cursor)
-      → read_receiver text from ≡ Some x → ReadsReceiver from x
-  unfolding read_receiver
-  read_receiver-sound from x e =
+  read_receiver_within-sound : (from : Cursor) (x : Option Parameters × Cursor)
+      → read_receiver_within text most from ≡ Some x → ReadsReceiver from x
+  unfolding read_receiver_within
+  read_receiver_within-sound from x e =
       elim (two_ways (stands LeftParenthesis from) _ _ (Some x) e) [
         | inl c ↦ (
-            option_and_then_some _ (read_parameters text (top text) from) x c.1 λ ps ps-read ps-then.
-            let h = read_parameters-sound text (top text) MOST_DEPTH sound from ps ps-read in
+            option_and_then_some _ (read_parameters text (top text most) from) x c.1 λ ps ps-read ps-then.
+            let h = read_parameters-sound text (top text most) most sound from ps ps-read in
             given (ReadsReceiver from) _ x ps-then ((h.0, h.1), h.2)
             )
         | inr c ↦ given (ReadsReceiver from) _ x c.1 (refl, omega arith)
       ]
 
   abbrev ReadsBody : Cursor → Option Block × Cursor → Type 0
-  ReadsBody from x = SpellsBody text x.0 from x.1 × (body_depth x.0 ≤ MOST_DEPTH)
+  ReadsBody from x = SpellsBody text x.0 from x.1 × (body_depth x.0 ≤ most)
 
-  read_body-sound : (from : Cursor) (x : Option Block × Cursor) → read_body text from ≡ Some x → ReadsBody from x
-  unfolding read_body
-  read_body-sound from x e =
+  read_body_within-sound : (from : Cursor) (x : Option Block × Cursor) → read_body_within text most from ≡ Some x → ReadsBody from x
+  unfolding read_body_within
+  read_body_within-sound from x e =
       elim (two_ways (stands LeftBrace from) _ _ (Some x) e) [
         | inl c ↦ (
-            option_and_then_some _ (read_block text (top text) from) x c.1 λ b b-read b-then.
-            given (ReadsBody from) _ x b-then (read_block-sound text (top text) MOST_DEPTH sound from b b-read)
+            option_and_then_some _ (read_block text (top text most) from) x c.1 λ b b-read b-then.
+            given (ReadsBody from) _ x b-then (read_block-sound text (top text most) most sound from b b-read)
             )
         | inr c ↦ given (ReadsBody from) _ x c.1 (refl, omega arith)
       ]
 
   abbrev ReadsFunction : Cursor → Function × Cursor → Type 0
-  ReadsFunction from x = SpellsFunction text x.0 from x.1 × (function_depth x.0 ≤ MOST_DEPTH)
+  ReadsFunction from x = SpellsFunction text x.0 from x.1 × (function_depth x.0 ≤ most)
 
-  read_function_declaration-sound : (from : Cursor) (x : Function × Cursor)
-      → stands FuncKeyword from ≡ true → read_function_declaration text from ≡ Some x → ReadsFunction from x
-  unfolding read_function_declaration
-  read_function_declaration-sound from x k e =
-      option_and_then_some _ (read_receiver text (behind from)) x e λ receiver receiver-read receiver-then.
+  read_function_declaration_within-sound : (from : Cursor) (x : Function × Cursor)
+      → stands FuncKeyword from ≡ true → read_function_declaration_within text most from ≡ Some x → ReadsFunction from x
+  unfolding read_function_declaration_within
+  read_function_declaration_within-sound from x k e =
+      option_and_then_some _ (read_receiver_within text most (behind from)) x e λ receiver receiver-read receiver-then.
       option_and_then_some _ (read_identifier text receiver.1) x receiver-then λ n n-read n-then.
-      option_and_then_some _ (read_signature text (top text) n.1) x n-then λ signature signature-read signature-then.
-      option_and_then_some _ (read_body text signature.1) x signature-then λ body body-read body-then.
-      let r = read_receiver-sound (behind from) receiver receiver-read in
-      let s = read_signature-sound text (top text) MOST_DEPTH sound n.1 signature signature-read in
-      let b = read_body-sound signature.1 body body-read in
+      option_and_then_some _ (read_signature text (top text most) n.1) x n-then λ signature signature-read signature-then.
+      option_and_then_some _ (read_body_within text most signature.1) x signature-then λ body body-read body-then.
+      let r = read_receiver_within-sound (behind from) receiver receiver-read in
+      let s = read_signature-sound text (top text most) most sound n.1 signature signature-read in
+      let b = read_body_within-sound signature.1 body body-read in
       let first = r.1 in
       let second = s.1 in
       let third = b.1 in
@@ -191,43 +190,43 @@ module _ (text : List ℕ) (sound : AreSound text MOST_DEPTH (top text)) where
       )
 
   abbrev ReadsTopLevel : Cursor → TopLevelDeclaration × Cursor → Type 0
-  ReadsTopLevel from x = SpellsTopLevel text x.0 from x.1 × (top_level_depth x.0 ≤ MOST_DEPTH)
+  ReadsTopLevel from x = SpellsTopLevel text x.0 from x.1 × (top_level_depth x.0 ≤ most)
 
-  read_top_level-sound : (from : Cursor) (x : TopLevelDeclaration × Cursor)
-      → read_top_level text from ≡ Some x → ReadsTopLevel from x
-  unfolding read_top_level
-  read_top_level-sound from x e =
+  read_top_level_within-sound : (from : Cursor) (x : TopLevelDeclaration × Cursor)
+      → read_top_level_within text most from ≡ Some x → ReadsTopLevel from x
+  unfolding read_top_level_within
+  read_top_level_within-sound from x e =
       elim (two_ways (stands FuncKeyword from) _ _ (Some x) e) [
         | inl c ↦ (
-            option_and_then_some _ (read_function_declaration text from) x c.1 λ f f-read f-then.
-            given (ReadsTopLevel from) _ x f-then (read_function_declaration-sound from f c.0 f-read)
+            option_and_then_some _ (read_function_declaration_within text most from) x c.1 λ f f-read f-then.
+            given (ReadsTopLevel from) _ x f-then (read_function_declaration_within-sound from f c.0 f-read)
             )
         | inr c ↦ elim (option_ways _ _ (of_next declaration_keyword from) (Some x) c.1) [
           | inl k ↦ absurd (none-some x k.1)
           | inr k ↦ (
-              option_and_then_some _ (read_declaration text (top text) k.0 from) x k.2 λ d d-read d-then.
+              option_and_then_some _ (read_declaration text (top text most) k.0 from) x k.2 λ d d-read d-then.
               given (ReadsTopLevel from) _ x d-then
-              (read_declaration-sound text (top text) MOST_DEPTH sound k.0 from d k.1 d-read)
+              (read_declaration-sound text (top text most) most sound k.0 from d k.1 d-read)
               )
         ]
       ]
 
   abbrev ReadsTopLevels : Cursor → List TopLevelDeclaration × Cursor → Type 0
-  ReadsTopLevels from x = SpellsTopLevels text x.0 from x.1 × (x.1.left ≡ []) × (top_levels_depth x.0 ≤ MOST_DEPTH)
+  ReadsTopLevels from x = SpellsTopLevels text x.0 from x.1 × (x.1.left ≡ []) × (top_levels_depth x.0 ≤ most)
 
-  read_top_levels-sound : (n : ℕ) (from : Cursor) (x : List TopLevelDeclaration × Cursor)
-      → read_top_levels text n from ≡ Some x → ReadsTopLevels from x
-  unfolding read_top_levels
-  read_top_levels-sound zero from x e = absurd (none-some x e)
-  read_top_levels-sound (suc n) from x e =
+  read_top_levels_within-sound : (n : ℕ) (from : Cursor) (x : List TopLevelDeclaration × Cursor)
+      → read_top_levels_within text most n from ≡ Some x → ReadsTopLevels from x
+  unfolding read_top_levels_within
+  read_top_levels_within-sound zero from x e = absurd (none-some x e)
+  read_top_levels_within-sound (suc n) from x e =
       elim (two_ways (is_over text from) _ _ (Some x) e) [
         | inl c ↦ given (ReadsTopLevels from) _ x c.1 (refl, is_over-sound text from.left from.end c.0, omega arith)
         | inr c ↦ (
-            option_and_then_some _ (read_top_level text from) x c.1 λ first first-read first-then.
+            option_and_then_some _ (read_top_level_within text most from) x c.1 λ first first-read first-then.
             option_and_then_some _ (take_semicolon first.1) x first-then λ end end-read end-then.
-            option_and_then_some _ (read_top_levels text n end) x end-then λ more more-read more-then.
-            let h = read_top_level-sound from first first-read in
-            let others = read_top_levels-sound n end more more-read in
+            option_and_then_some _ (read_top_levels_within text most n end) x end-then λ more more-read more-then.
+            let h = read_top_level_within-sound from first first-read in
+            let others = read_top_levels_within-sound n end more more-read in
             let one = h.1 in
             let rest = others.2 in
             given (ReadsTopLevels from) _ x more-then
@@ -236,19 +235,19 @@ module _ (text : List ℕ) (sound : AreSound text MOST_DEPTH (top text)) where
       ]
 
   abbrev ReadsFile : Cursor → SourceFile × Cursor → Type 0
-  ReadsFile from x = SpellsFile text x.0 from x.1 × (x.1.left ≡ []) × (file_depth x.0 ≤ MOST_DEPTH)
+  ReadsFile from x = SpellsFile text x.0 from x.1 × (x.1.left ≡ []) × (file_depth x.0 ≤ most)
 
-  pub read_file-sound : (from : Cursor) (x : SourceFile × Cursor) → read_file text from ≡ Some x → ReadsFile from x
-  unfolding read_file
-  read_file-sound from x e =
+  pub read_file_within-sound : (from : Cursor) (x : SourceFile × Cursor) → read_file_within text most from ≡ Some x → ReadsFile from x
+  unfolding read_file_within
+  read_file_within-sound from x e =
       option_and_then_some _ (take PackageKeyword from) x e λ word word-read word-then.
       option_and_then_some _ (read_identifier text word) x word-then λ n n-read n-then.
       option_and_then_some _ (take_semicolon n.1) x n-then λ end end-read end-then.
       option_and_then_some _ (read_imports text (steps end) end) x end-then λ imports imports-read imports-then.
-      option_and_then_some _ (read_top_levels text
+      option_and_then_some _ (read_top_levels_within text most
       (steps imports.1) imports.1) x imports-then λ declarations declarations-read declarations-then.
       let i = read_imports-sound text (steps end) end imports imports-read in
-      let d = read_top_levels-sound (steps imports.1) imports.1 declarations declarations-read in
+      let d = read_top_levels_within-sound (steps imports.1) imports.1 declarations declarations-read in
       given (ReadsFile from) _ x declarations-then (
         (
           (

@@ -9,10 +9,9 @@ use Rattle.meaning.specs.Cursor.{Cursor, is_next}
 use Rattle.meaning.specs.WellFormed.{operator_level, level, primary_level, has_bare_literal, IsElse, IsKept}
 use Rattle.meaning.specs.Grammar.{as_type, as_expression, as_value, form_of, SpellsExpression, SpellsStatement, SpellsFile}
 use Rattle.meaning.specs.TreeOfText.{IsTreeOf}
-use Rattle.meaning.specs.declared.TheConstants.{MOST_DEPTH}
 use Rattle.std.specs.Prelude.{Option, None}
 use Rattle.tree_reader.specs.Reading.{stands}
-use Rattle.tree_reader.specs.Reader.{Readers, binary_operator, of_next, is_end, is_guard, read_file}
+use Rattle.tree_reader.specs.Reader.{Readers, binary_operator, of_next, is_end, is_guard, read_file_within}
 
 -- an expression that can stand where it is read
 abbrev pub StandsIn : Bool → Expression → Type 0
@@ -76,19 +75,28 @@ module _ (text : List ℕ) where
         → is_next is_end to ≡ true
         → r.read_statement from ≡ Some (s, to)
 
-  -- A file that is read is spelled by all tokens, and no deeper than it may be.
-  abbrev pub ReadsWhatIsSpelled : Type 0
-  ReadsWhatIsSpelled = (from to : Cursor) (file : SourceFile)
-      → read_file text from ≡ Some (file, to)
-      → SpellsFile text file from to × (to.left ≡ []) × (file_depth file ≤ MOST_DEPTH)
+  -- By a limit of depth, a file that is read is spelled by all tokens, and no deeper than the limit.
+  abbrev pub ReadsWhatIsSpelled : ℕ → Type 0
+  ReadsWhatIsSpelled most = (from to : Cursor) (file : SourceFile)
+      → read_file_within text most from ≡ Some (file, to)
+      → SpellsFile text file from to × (to.left ≡ []) × (file_depth file ≤ most)
 
-  -- A file that is spelled by all tokens, and no deeper than it may be, is read.
-  abbrev pub ReadsAllThatIsSpelled : Type 0
-  ReadsAllThatIsSpelled = (from to : Cursor) (file : SourceFile)
+  -- By a limit of depth, a file that is spelled by all tokens, and no deeper than the limit, is read.
+  abbrev pub ReadsAllThatIsSpelled : ℕ → Type 0
+  ReadsAllThatIsSpelled most = (from to : Cursor) (file : SourceFile)
       → SpellsFile text file from to
       → to.left ≡ []
-      → file_depth file ≤ MOST_DEPTH
-      → read_file text from ≡ Some (file, to)
+      → file_depth file ≤ most
+      → read_file_within text most from ≡ Some (file, to)
+
+-- tokens spell one file at most, however deep it is
+abbrev pub OneTreeOfAnyDepth : Type 0
+OneTreeOfAnyDepth = (text : List ℕ) (from to last : Cursor) (f g : SourceFile)
+    → SpellsFile text f from to
+    → to.left ≡ []
+    → SpellsFile text g from last
+    → last.left ≡ []
+    → f ≡ g
 
 -- a text has one tree at most
 abbrev pub OneTree : Type 0

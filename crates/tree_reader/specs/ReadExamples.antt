@@ -9,7 +9,7 @@ use Rattle.tree.specs.declared.operator.UnaryOperator.TheVariants.{Address, Comp
 use Rattle.tree.specs.declared.operator.ChanDirection.TheVariants.{Both, Send, Receive as receive_only}
 use Rattle.tree.specs.declared.operator.DeclKeyword.TheVariants.{Const, Var, «Type» as type_keyword}
 use Rattle.tree.specs.Syntax.{Expression, Statement, SourceFile, array_type, assignment, basic_literal, binary_expression, block_statement, break_statement, call_expression, case_and, channel_type, communication_and, composite_literal, continue_statement, declaration_of, declaration_statement, decrement_statement, defer_statement, define_statement, ellipsis_array_type, embedded_and, empty_statement, expression_and, expression_statement, fields_and, for_statement, function_declaration, function_literal, function_type, general_declaration, go_statement, if_statement, increment_statement, index_expression, interface_type, key_value, labeled_statement, literal_value, map_type, method_and, missing_expression, missing_statement, name_alone_and, named_and, no_case, no_communication, no_expression, no_field, no_parameter, no_spec, no_statement, operator_assignment, parenthesized, present_expression, present_statement, range_assignment, range_definition, return_statement, select_statement, selector_expression, send_statement, signature_of, slice_expression, slice_type, star_expression, statement_and, struct_type, switch_statement, type_and, type_assertion, type_switch_statement, unary_expression, unnamed_and, value_and}
-use Rattle.tree.specs.Depth.{expression_depth, statement_depth, file_depth}
+use Rattle.tree.specs.Depth.{expression_depth, file_depth}
 use Rattle.meaning.specs.Cursor.{Cursor}
 use Rattle.meaning.specs.WellFormed.{IsKept}
 use Rattle.meaning.specs.Grammar.{as_type, as_expression, form_of, SpellsExpression, SpellsStatement, SpellsFile}
@@ -43,12 +43,11 @@ abbrev pub Each : {A : Type 0} → (A → Type 0) → List A → Type 0
 Each P [] = Unit {0}
 Each P (x ∷ xs) = P x × Each P xs
 
--- Computing reads this tree, and so all tokens spell it, and no other that is not deeper.
+-- Computing reads this tree, and so all tokens spell it, and no other, however deep.
 pub record IsReadExpression (c : Case Expression) : Type 0 where
   pub read : (readers c.text depth).read_expression false 1 (start_of c) ≡ Some (c.tree, end_of c)
   pub spelled : SpellsExpression c.text as_expression c.tree (start_of c) (end_of c)
   pub only_tree : (other : Expression)
-      → expression_depth other ≤ depth
       → SpellsExpression c.text as_expression other (start_of c) (end_of c)
       → other ≡ c.tree
 
@@ -57,7 +56,6 @@ pub record IsReadType (c : Case Expression) : Type 0 where
   pub read : (readers c.text depth).read_type (start_of c) ≡ Some (c.tree, end_of c)
   pub spelled : SpellsExpression c.text as_type c.tree (start_of c) (end_of c)
   pub only_tree : (other : Expression)
-      → expression_depth other ≤ depth
       → SpellsExpression c.text as_type other (start_of c) (end_of c)
       → other ≡ c.tree
 
@@ -67,20 +65,18 @@ pub record IsReadStatement (c : Case Statement) : Type 0 where
   pub spelled : SpellsStatement c.text c.tree (start_of c) (end_of_statement c)
   pub only_tree : (other : Statement)
       → IsKept (form_of other)
-      → statement_depth other ≤ depth
       → SpellsStatement c.text other (start_of c) (end_of_statement c)
       → other ≡ c.tree
 
--- So it is of files, with the limit of each file's depth.
+-- So it is of files.
 pub record IsReadFile (c : Case SourceFile) : Type 0 where
   pub read : read_file c.text (start_of c) ≡ Some (c.tree, end_of c)
   pub spelled : SpellsFile c.text c.tree (start_of c) (end_of c)
   pub only_tree : (other : SourceFile)
-      → file_depth other ≤ MOST_DEPTH
       → SpellsFile c.text other (start_of c) (end_of c)
       → other ≡ c.tree
 
--- Computing reads nothing, and so all tokens spell no tree that is not deeper.
+-- Computing reads nothing, and so all tokens spell no tree within the limit of depth.
 pub record IsNoExpression (example : Example) : Type 0 where
   pub read : (readers example.text depth).read_expression false 1 (begin example) ≡ None
   pub none_spelled : (e : Expression) → expression_depth e ≤ depth → IsSpelled example (expression e) → ⊥

@@ -1072,9 +1072,6 @@ module _ (text : List ℕ) where
         read_statement = read_statement_of text r below;
       }
 
-  abbrev pub top : Readers
-  top = readers MOST_DEPTH
-
   unfoldable pub read_import_spec : Cursor → Read ImportSpec
   read_import_spec place = do
     n ← read_optional_identifier text place
@@ -1123,26 +1120,39 @@ module _ (text : List ℕ) where
         Some (first.0 ∷ more.0, more.1)
       ) else Some ([], place)
 
-  unfoldable pub read_receiver : Cursor → Read (Option Parameters)
-  read_receiver place =
+  -- no token is left
+  abbrev pub is_over : Cursor → Bool
+  is_over place = is_none_left place.left
+    where
+      is_none_left : List Token → Bool
+      is_none_left [] = true
+      is_none_left (t ∷ rest) = false
+
+-- A file with this limit of depth, and what it declares.
+module _ (text : List ℕ) (most : ℕ) where
+  abbrev pub top : Readers
+  top = readers text most
+
+  unfoldable pub read_receiver_within : Cursor → Read (Option Parameters)
+  read_receiver_within place =
       if stands LeftParenthesis place then (do
         ps ← read_parameters text top place
         Some (Some ps.0, ps.1)
       ) else Some (None, place)
 
-  unfoldable pub read_body : Cursor → Read (Option Block)
-  read_body place =
+  unfoldable pub read_body_within : Cursor → Read (Option Block)
+  read_body_within place =
       if stands LeftBrace place then (do
         b ← read_block text top place
         Some (Some record { statements = b.0.statements; braces = b.0.braces }, b.1)
       ) else Some (None, place)
 
-  unfoldable pub read_function_declaration : Cursor → Read Function
-  read_function_declaration place = do
-    receiver ← read_receiver (behind place)
+  unfoldable pub read_function_declaration_within : Cursor → Read Function
+  read_function_declaration_within place = do
+    receiver ← read_receiver_within (behind place)
     n ← read_identifier text receiver.1
     signature ← read_signature text top n.1
-    body ← read_body signature.1
+    body ← read_body_within signature.1
     Some (
       record {
         receiver = receiver.0;
@@ -1154,10 +1164,10 @@ module _ (text : List ℕ) where
       body.1,
     )
 
-  unfoldable pub read_top_level : Cursor → Read TopLevelDeclaration
-  read_top_level place =
+  unfoldable pub read_top_level_within : Cursor → Read TopLevelDeclaration
+  read_top_level_within place =
       if stands FuncKeyword place then (do
-        f ← read_function_declaration place
+        f ← read_function_declaration_within place
         Some (function_declaration f.0, f.1)
       ) else read_by (of_next declaration_keyword place)
     where
@@ -1168,32 +1178,25 @@ module _ (text : List ℕ) where
         Some (general_declaration d.0, d.1)
 
   -- declarations to the end of the tokens, each with its semicolon
-  abbrev pub is_over : Cursor → Bool
-  is_over place = is_none_left place.left
-    where
-      is_none_left : List Token → Bool
-      is_none_left [] = true
-      is_none_left (t ∷ rest) = false
-
-  unfoldable pub read_top_levels : ℕ → Cursor → Read (List TopLevelDeclaration)
-  read_top_levels zero place = None
-  read_top_levels (suc n) place =
-      if is_over place then Some ([], place)
+  unfoldable pub read_top_levels_within : ℕ → Cursor → Read (List TopLevelDeclaration)
+  read_top_levels_within zero place = None
+  read_top_levels_within (suc n) place =
+      if is_over text place then Some ([], place)
       else (do
-        first ← read_top_level place
+        first ← read_top_level_within place
         end ← take_semicolon first.1
-        more ← read_top_levels n end
+        more ← read_top_levels_within n end
         Some (first.0 ∷ more.0, more.1)
       )
 
   -- all tokens of a file
-  unfoldable pub read_file : Cursor → Read SourceFile
-  read_file place = do
+  unfoldable pub read_file_within : Cursor → Read SourceFile
+  read_file_within place = do
     word ← take PackageKeyword place
     n ← read_identifier text word
     end ← take_semicolon n.1
-    imports ← read_imports (steps end) end
-    declarations ← read_top_levels (steps imports.1) imports.1
+    imports ← read_imports text (steps end) end
+    declarations ← read_top_levels_within (steps imports.1) imports.1
     Some (
       record {
         package_name = n.0;
@@ -1203,3 +1206,23 @@ module _ (text : List ℕ) where
       },
       declarations.1,
     )
+
+-- The same with the limit that the tree of a text has.
+module _ (text : List ℕ) where
+  abbrev pub read_receiver : Cursor → Read (Option Parameters)
+  read_receiver = read_receiver_within text MOST_DEPTH
+
+  abbrev pub read_body : Cursor → Read (Option Block)
+  read_body = read_body_within text MOST_DEPTH
+
+  abbrev pub read_function_declaration : Cursor → Read Function
+  read_function_declaration = read_function_declaration_within text MOST_DEPTH
+
+  abbrev pub read_top_level : Cursor → Read TopLevelDeclaration
+  read_top_level = read_top_level_within text MOST_DEPTH
+
+  abbrev pub read_top_levels : ℕ → Cursor → Read (List TopLevelDeclaration)
+  read_top_levels = read_top_levels_within text MOST_DEPTH
+
+  abbrev pub read_file : Cursor → Read SourceFile
+  read_file = read_file_within text MOST_DEPTH

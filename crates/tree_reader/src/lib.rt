@@ -2,17 +2,23 @@
 //! are not the text's own among them.
 #![tactic(auto)]
 
-ghost use Rattle.tree_reader.specs.Claims.{OneTree, ReadsAllThatIsSpelled, ReadsWhatIsSpelled};
+ghost use Rattle.std.specs.Prelude.{ℕ};
+ghost use Rattle.tree_reader.specs.Claims.{OneTree, OneTreeOfAnyDepth, ReadsAllThatIsSpelled, ReadsWhatIsSpelled};
 ghost use Rattle.tree_reader.specs.ReadExamples.{ComputedTrees};
 
-/// A file that is read is spelled by all tokens, and no deeper than it may be.
+/// By any limit of depth, a file that is read is spelled by all tokens, and no deeper than the limit.
 pub fn reads_what_is_spelled(text: &[u8])
-    ensures { ReadsWhatIsSpelled text.now }
+    ensures { (most : ℕ) → ReadsWhatIsSpelled text.now most }
 {}
 
-/// A file that is spelled by all tokens, and no deeper than it may be, is read. So tokens spell one such file at most.
+/// By any limit of depth, a file that is spelled by all tokens, and no deeper than the limit, is read.
 pub fn reads_all_that_is_spelled(text: &[u8])
-    ensures { ReadsAllThatIsSpelled text.now }
+    ensures { (most : ℕ) → ReadsAllThatIsSpelled text.now most }
+{}
+
+/// Tokens spell one file at most, however deep it is: two that all of them spell are equal.
+pub fn one_tree_of_any_depth()
+    ensures { OneTreeOfAnyDepth }
 {}
 
 /// A text has one tree at most.

@@ -15,7 +15,7 @@ returns-clause-certified g c =
         said = judged;
         are_reports = c.in_ok-judged.ensures.reports;
         told =
-            subst (λ reports. AreTold reports c.in_ok-report.report)
+            subst (λ reports. AreTold c.args.settings.format reports c.in_ok-report.report)
             (c.deref.ensures.value ∙ c.in_ok-reports.ensures.reports) c.in_ok-report.ensures;
       };
       are_certificates = λ ps tell distinct.

@@ -6,5 +6,5 @@ use Rattle.all_packages.proofs.reports.told.Goals as goal
 pub returns : goal.returns
 returns c =
     IfOk-weaker c.report_from.result _ _
-    (λ report told. subst (λ reports. AreTold reports report) (c.deref.ensures.value ∙ c.in_ok-reports.ensures) told)
+    (λ report told. subst (λ reports. AreTold c.args.format reports report) (c.deref.ensures.value ∙ c.in_ok-reports.ensures) told)
     c.report_from.ensures

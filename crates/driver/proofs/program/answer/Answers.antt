@@ -1,9 +1,9 @@
 use Rattle.std.proofs.Common.{inl, inr, map, subst}
-use Rattle.command_line.specs.Words.{IsAsked, option_texts, texts_of}
+use Rattle.command_line.specs.Words.{IsAsked}
 use Rattle.folders.specs.WrittenFiles.{text_of}
-use Rattle.driver.specs.Faults.{IsFaultOfCertify, IsFaultOfCheck, IsRunFault}
-use Rattle.driver.specs.WrittenReport.{IsBegun, IsWritten, LeavesBegun}
-use Rattle.driver.proofs.AskedReports.{asked_certify, asked_verify, ends_so}
+use Rattle.driver.specs.Faults.{IsFaultOfCertify, IsFaultOfCheck, IsFaultOfVerify, IsRunFault}
+use Rattle.driver.specs.WrittenReport.{IsBegun, IsWritten, LeavesBegun, LeavesWhole, OfCertify, OfCheck, OfVerify}
+use Rattle.driver.proofs.AskedReports.{ends_so}
 use Rattle.driver.proofs.ReadGiven.{handed_on}
 use Rattle.driver.proofs.program.answer.Goals as goal
 
@@ -11,42 +11,58 @@ pub returns-in_err-done-in-Check-clause-fault : goal.returns-in_err-done-in-Chec
 returns-in_err-done-in-Check-clause-fault g c =
     let words = map g.S.AsStr.text c.args.words.now in
     let asked = c.in-Check.asked in
-    let is = subst (IsAsked words) c.in-Check.is c.in_ok-asked.ensures in
+    let asks = subst (IsAsked words) c.in-Check.is c.in_ok-asked.ensures in
     let fault = c.in_err-done-in-Check.field-0.0 in
-    let of_check : IsFaultOfCheck words fault = record {
-      facts = option_texts asked.facts;
-      packages = texts_of asked.packages.items;
-      workers = asked.workers;
-      is_check = is.0;
-      are_workers = is.1;
-      is_fault = c.in_err-done-in-Check.ensures.fault;
-    } in
+    let of_command : IsFaultOfCheck words fault
+    = record { asked = asked; asks = asks; is_fault = c.in_err-done-in-Check.ensures.fault } in
     handed_on c.from_residual-in_err-done-in-Check.result fault (IsRunFault words)
-    c.from_residual-in_err-done-in-Check.ensures.1 (inr (inr (inl of_check)))
+    c.from_residual-in_err-done-in-Check.ensures.1 (inr (inr (inl of_command)))
+
+pub returns-in_err-done-in-Check-clause-begun : goal.returns-in_err-done-in-Check-clause-begun
+returns-in_err-done-in-Check-clause-begun g c =
+    let words = map g.S.AsStr.text c.args.words.now in
+    let asked = c.in-Check.asked in
+    let asks = subst (IsAsked words) c.in-Check.is c.in_ok-asked.ensures in
+    let old = g.W.Write.contents c.args.out.now in
+    let new = g.W.Write.contents c.check.new.out in
+    let fault = c.in_err-done-in-Check.field-0.0 in
+    handed_on c.from_residual-in_err-done-in-Check.result fault (λ told. LeavesBegun words told old new)
+    c.from_residual-in_err-done-in-Check.ensures.1
+    (λ e.
+    let begun = c.in_err-done-in-Check.ensures.begun e in
+    let report : OfCheck words (IsBegun old new)
+    = record { asked = asked; asks = asks; files = begun.0; report = begun.1 } in
+    inr (inl (report)))
+
+pub returns-in_ok-done-in-Check-clause-written : goal.returns-in_ok-done-in-Check-clause-written
+returns-in_ok-done-in-Check-clause-written g c =
+    let words = map g.S.AsStr.text c.args.words.now in
+    let asked = c.in-Check.asked in
+    let asks = subst (IsAsked words) c.in-Check.is c.in_ok-asked.ensures in
+    let old = g.W.Write.contents c.args.out.now in
+    let new = g.W.Write.contents c.check.new.out in
+    let done = c.in_ok-done-in-Check.done in
+    let written = c.in_ok-done-in-Check.ensures.written in
+    let report : OfCheck words (IsWritten old new written.0)
+    = record { asked = asked; asks = asks; files = done.files; report = written.2 } in
+    ends_so words old new done.status written.0 written.1 (inl (report))
 
 pub returns-in_err-done-in-Certify-clause-fault : goal.returns-in_err-done-in-Certify-clause-fault
 returns-in_err-done-in-Certify-clause-fault g c =
     let words = map g.S.AsStr.text c.args.words.now in
     let asked = c.in-Certify.asked in
-    let is = subst (IsAsked words) c.in-Certify.is c.in_ok-asked.ensures in
+    let asks = subst (IsAsked words) c.in-Certify.is c.in_ok-asked.ensures in
     let fault = c.in_err-done-in-Certify.field-0.0 in
-    let of_certify : IsFaultOfCertify words fault = record {
-      file = asked.file.now;
-      facts = option_texts asked.facts;
-      packages = texts_of asked.packages.items;
-      workers = asked.workers;
-      is_certify = is.0;
-      are_workers = is.1;
-      is_fault = c.in_err-done-in-Certify.ensures.fault;
-    } in
+    let of_command : IsFaultOfCertify words fault
+    = record { asked = asked; asks = asks; is_fault = c.in_err-done-in-Certify.ensures.fault } in
     handed_on c.from_residual-in_err-done-in-Certify.result fault (IsRunFault words)
-    c.from_residual-in_err-done-in-Certify.ensures.1 (inr (inr (inr (inl of_certify))))
+    c.from_residual-in_err-done-in-Certify.ensures.1 (inr (inr (inr (inl of_command))))
 
 pub returns-in_err-done-in-Certify-clause-begun : goal.returns-in_err-done-in-Certify-clause-begun
 returns-in_err-done-in-Certify-clause-begun g c =
     let words = map g.S.AsStr.text c.args.words.now in
     let asked = c.in-Certify.asked in
-    let is = subst (IsAsked words) c.in-Certify.is c.in_ok-asked.ensures in
+    let asks = subst (IsAsked words) c.in-Certify.is c.in_ok-asked.ensures in
     let old = g.W.Write.contents c.args.out.now in
     let new = g.W.Write.contents c.certify.new.out in
     let fault = c.in_err-done-in-Certify.field-0.0 in
@@ -54,31 +70,75 @@ returns-in_err-done-in-Certify-clause-begun g c =
     c.from_residual-in_err-done-in-Certify.ensures.1
     (λ e.
     let begun = c.in_err-done-in-Certify.ensures.begun e in
-    inr (asked_certify words asked.file.now (option_texts asked.facts) (texts_of asked.packages.items) begun.0
-    (IsBegun old new) begun.1 is.0 begun.2))
+    let report : OfCertify words (IsBegun old new)
+    = record { asked = asked; asks = asks; files = begun.0; text = begun.1; report = begun.2 } in
+    inr (inr (inl (report))))
+
+pub returns-in_err-done-in-Certify-clause-whole : goal.returns-in_err-done-in-Certify-clause-whole
+returns-in_err-done-in-Certify-clause-whole g c =
+    let words = map g.S.AsStr.text c.args.words.now in
+    let asked = c.in-Certify.asked in
+    let asks = subst (IsAsked words) c.in-Certify.is c.in_ok-asked.ensures in
+    let old = g.W.Write.contents c.args.out.now in
+    let new = g.W.Write.contents c.certify.new.out in
+    let fault = c.in_err-done-in-Certify.field-0.0 in
+    handed_on c.from_residual-in_err-done-in-Certify.result fault (λ told. LeavesWhole words told old new)
+    c.from_residual-in_err-done-in-Certify.ensures.1
+    (λ name e.
+    let whole = c.in_err-done-in-Certify.ensures.whole name e in
+    let report : OfCertify words (IsWritten old new whole.0)
+    = record { asked = asked; asks = asks; files = whole.1; text = whole.2; report = whole.3 } in
+    (whole.0, report))
 
 pub returns-in_ok-done-in-Certify-clause-written : goal.returns-in_ok-done-in-Certify-clause-written
 returns-in_ok-done-in-Certify-clause-written g c =
     let words = map g.S.AsStr.text c.args.words.now in
     let asked = c.in-Certify.asked in
-    let is = subst (IsAsked words) c.in-Certify.is c.in_ok-asked.ensures in
+    let asks = subst (IsAsked words) c.in-Certify.is c.in_ok-asked.ensures in
     let old = g.W.Write.contents c.args.out.now in
     let new = g.W.Write.contents c.certify.new.out in
     let done = c.in_ok-done-in-Certify.done in
     let written = c.in_ok-done-in-Certify.ensures.written in
-    ends_so words old new done.status written.0 written.1
-    (asked_certify words asked.file.now (option_texts asked.facts) (texts_of asked.packages.items) done.facts
-    (IsWritten old new written.0) (text_of done.file) is.0 written.2)
+    let report : OfCertify words (IsWritten old new written.0)
+    = record { asked = asked; asks = asks; files = done.files; text = text_of done.file; report = written.2 } in
+    ends_so words old new done.status written.0 written.1 (inr (inl (report)))
+
+pub returns-in_err-done-in-Verify-clause-fault : goal.returns-in_err-done-in-Verify-clause-fault
+returns-in_err-done-in-Verify-clause-fault g c =
+    let words = map g.S.AsStr.text c.args.words.now in
+    let asked = c.in-Verify.asked in
+    let asks = subst (IsAsked words) c.in-Verify.is c.in_ok-asked.ensures in
+    let fault = c.in_err-done-in-Verify.field-0.0 in
+    let of_command : IsFaultOfVerify words fault
+    = record { asked = asked; asks = asks; is_fault = c.in_err-done-in-Verify.ensures.fault } in
+    handed_on c.from_residual-in_err-done-in-Verify.result fault (IsRunFault words)
+    c.from_residual-in_err-done-in-Verify.ensures.1 (inr (inr (inr (inr of_command))))
+
+pub returns-in_err-done-in-Verify-clause-begun : goal.returns-in_err-done-in-Verify-clause-begun
+returns-in_err-done-in-Verify-clause-begun g c =
+    let words = map g.S.AsStr.text c.args.words.now in
+    let asked = c.in-Verify.asked in
+    let asks = subst (IsAsked words) c.in-Verify.is c.in_ok-asked.ensures in
+    let old = g.W.Write.contents c.args.out.now in
+    let new = g.W.Write.contents c.verify.new.out in
+    let fault = c.in_err-done-in-Verify.field-0.0 in
+    handed_on c.from_residual-in_err-done-in-Verify.result fault (λ told. LeavesBegun words told old new)
+    c.from_residual-in_err-done-in-Verify.ensures.1
+    (λ e.
+    let begun = c.in_err-done-in-Verify.ensures.begun e in
+    let report : OfVerify words (IsBegun old new)
+    = record { asked = asked; asks = asks; files = begun.0; report = begun.1 } in
+    inr (inr (inr (report))))
 
 pub returns-in_ok-done-in-Verify-clause-written : goal.returns-in_ok-done-in-Verify-clause-written
 returns-in_ok-done-in-Verify-clause-written g c =
     let words = map g.S.AsStr.text c.args.words.now in
     let asked = c.in-Verify.asked in
-    let is = subst (IsAsked words) c.in-Verify.is c.in_ok-asked.ensures in
+    let asks = subst (IsAsked words) c.in-Verify.is c.in_ok-asked.ensures in
     let old = g.W.Write.contents c.args.out.now in
     let new = g.W.Write.contents c.verify.new.out in
     let done = c.in_ok-done-in-Verify.done in
     let written = c.in_ok-done-in-Verify.ensures.written in
-    ends_so words old new done.status written.0 written.1
-    (asked_verify words asked.file.now (option_texts asked.facts) (texts_of asked.packages.items) done.facts
-    (IsWritten old new written.0) is.0 written.2)
+    let report : OfVerify words (IsWritten old new written.0)
+    = record { asked = asked; asks = asks; files = done.files; report = written.2 } in
+    ends_so words old new done.status written.0 written.1 (inr (inr (report)))

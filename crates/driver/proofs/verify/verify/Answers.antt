@@ -1,32 +1,29 @@
 use Rattle.std.proofs.Common.{◌≡◌, IsErrAnd, refl, rules, subst}
 use Rattle.std.specs.Io.KnownBytes.{Appends}
-use Rattle.command_line.specs.Words.{option_texts, texts_of}
 use Rattle.folders.specs.declared.fault.Fault.TheVariants.{CannotWrite}
 use Rattle.driver.specs.Faults.{IsVerificationFault}
 use Rattle.driver.specs.Printing.{AppendsFront}
 use Rattle.driver.proofs.FaultsOfCommands.{of_verdict}
-use Rattle.driver.proofs.ReadGiven.{handed_on, none_bad, on_err}
+use Rattle.driver.proofs.ReadGiven.{handed_on, on_err, read_words}
 use Rattle.driver.proofs.verify.verify.Goals as goal
 
 pub returns-in_err-report-clause-fault : goal.returns-in_err-report-clause-fault
 returns-in_err-report-clause-fault g c =
+    let sources = c.args.asked.now.sources in
     let read = c.in_ok-read.read in
-    let words = texts_of c.args.asked.now.packages.items in
-    let facts = option_texts c.args.asked.now.facts in
     let fault = c.in_err-report.field-0.0 in
-    handed_on c.from_residual-in_err-report.result fault (IsVerificationFault words facts)
+    handed_on c.from_residual-in_err-report.result fault (IsVerificationFault sources)
     c.from_residual-in_err-report.ensures.1
-    (of_verdict words facts read.given.items read.facts read.outside read.certificates c.in_ok-read.ensures.given
-    c.in_ok-read.ensures.declared c.in_ok-read.ensures.certificates fault c.in_err-report.ensures.fault)
+    (of_verdict sources read.input.given.items read.input.files read.input.outside read.certificates c.in_ok-read.ensures.read
+    c.in_ok-read.ensures.certificates fault c.in_err-report.ensures.fault)
 
 pub returns-in_err-print-clause-fault : goal.returns-in_err-print-clause-fault
 returns-in_err-print-clause-fault g c =
-    let words = texts_of c.args.asked.now.packages.items in
-    let facts = option_texts c.args.asked.now.facts in
-    let are = c.in_ok-read.ensures.given in
+    let sources = c.args.asked.now.sources in
+    let input = c.in_ok-read.read.input in
     let told : IsErrAnd c.from_residual-in_err-print.result (λ fault. fault ≡ CannotWrite) = search rules in
-    handed_on c.from_residual-in_err-print.result CannotWrite (IsVerificationFault words facts) told
-    (none_bad words are.packages are.are_named)
+    handed_on c.from_residual-in_err-print.result CannotWrite (IsVerificationFault sources) told
+    (read_words sources input.files input.outside input.given.items c.in_ok-read.ensures.read)
 
 pub returns-in_err-print-clause-begun : goal.returns-in_err-print-clause-begun
 returns-in_err-print-clause-begun g c =
@@ -36,12 +33,11 @@ returns-in_err-print-clause-begun g c =
     let new = g.W.Write.contents c.print.new.out in
     on_err c.from_residual-in_err-print.result
     (λ fault e. (
-      read.facts,
+      read.input.files,
       record {
-        given = read.given.items;
-        are_given = c.in_ok-read.ensures.given;
-        outside = read.outside;
-        are_declared = c.in_ok-read.ensures.declared;
+        given = read.input.given.items;
+        outside = read.input.outside;
+        are_read = c.in_ok-read.ensures.read;
         certificates = read.certificates;
         stand_in = c.in_ok-read.ensures.certificates;
         report = report;
@@ -59,10 +55,9 @@ returns-clause-written g c =
       report.yes,
       c.of_verdict.ensures,
       record {
-        given = read.given.items;
-        are_given = c.in_ok-read.ensures.given;
-        outside = read.outside;
-        are_declared = c.in_ok-read.ensures.declared;
+        given = read.input.given.items;
+        outside = read.input.outside;
+        are_read = c.in_ok-read.ensures.read;
         certificates = read.certificates;
         stand_in = c.in_ok-read.ensures.certificates;
         report = report;

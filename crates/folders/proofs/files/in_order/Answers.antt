@@ -1,5 +1,5 @@
 use Rattle.std.proofs.lemmas.List.Filters.{dedup_is}
-use Rattle.folders.proofs.GoFiles.{in_order, still_go}
+use Rattle.folders.proofs.GoFiles.{in_order, same_names, still_go}
 use Rattle.folders.proofs.files.in_order.Goals as goal
 
 pub returns-clause-ascend : goal.returns-clause-ascend
@@ -9,3 +9,7 @@ returns-clause-ascend c =
 pub returns-clause-go : goal.returns-clause-go
 returns-clause-go c go =
     still_go _ _ _ c.sort_unstable.ensures.permutation (dedup_is _ _ _ c.dedup.ensures.filtered) go
+
+pub returns-clause-same : goal.returns-clause-same
+returns-clause-same c name =
+    same_names _ _ _ c.sort_unstable.ensures.permutation (dedup_is _ _ _ c.dedup.ensures.filtered) name

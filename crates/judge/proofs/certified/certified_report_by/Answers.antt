@@ -6,11 +6,11 @@ use Rattle.judge.proofs.certified.certified_report_by.Goals as goal
 
 pub returns-in-Ok-told_loaded-clause-report : goal.returns-in-Ok-told_loaded-clause-report
 returns-in-Ok-told_loaded-clause-report g c =
-    is_certified (packages_of c.args.outside) c.args.given.items c.in-Ok.loaded c.in-Ok-told_loaded.told
+    is_certified c.args.settings.format (packages_of c.args.outside) c.args.given.items c.in-Ok.loaded c.in-Ok-told_loaded.told
     c.in-Ok.ensures.loaded c.in-Ok-told_loaded.ensures.certified
 
 pub returns-in-Err-told_loaded-clause-fault : goal.returns-in-Err-told_loaded-clause-fault
 returns-in-Err-told_loaded-clause-fault g c =
-    is_of_workers (packages_of c.args.outside) c.args.given.items (count_of c.args.workers) c.in-Ok.loaded
+    is_of_workers (packages_of c.args.outside) c.args.given.items (count_of c.args.settings.workers) c.in-Ok.loaded
     c.in-Ok.ensures.loaded c.in-Err-told_loaded.fault c.of_workers.result c.of_workers.ensures
     c.in-Err-told_loaded.ensures.fault

@@ -6,11 +6,11 @@ use Rattle.judge.proofs.reports.report_by.Goals as goal
 
 pub returns-in-Ok-report_loaded_by-clause-report : goal.returns-in-Ok-report_loaded_by-clause-report
 returns-in-Ok-report_loaded_by-clause-report g c =
-    is_report (packages_of c.args.outside) c.args.given.items c.in-Ok.loaded c.in-Ok-report_loaded_by.report
+    is_report c.args.settings.format (packages_of c.args.outside) c.args.given.items c.in-Ok.loaded c.in-Ok-report_loaded_by.report
     c.in-Ok.ensures.loaded c.in-Ok-report_loaded_by.ensures.report
 
 pub returns-in-Err-report_loaded_by-clause-fault : goal.returns-in-Err-report_loaded_by-clause-fault
 returns-in-Err-report_loaded_by-clause-fault g c =
-    is_of_workers (packages_of c.args.outside) c.args.given.items (count_of c.args.workers) c.in-Ok.loaded
+    is_of_workers (packages_of c.args.outside) c.args.given.items (count_of c.args.settings.workers) c.in-Ok.loaded
     c.in-Ok.ensures.loaded c.in-Err-report_loaded_by.fault c.of_workers.result c.of_workers.ensures
     c.in-Err-report_loaded_by.ensures.fault

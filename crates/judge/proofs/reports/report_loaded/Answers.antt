@@ -7,5 +7,5 @@ use Rattle.judge.proofs.reports.report_loaded.Goals as goal
 pub returns : goal.returns
 returns c =
     let declared = declared_tables (packages_of c.args.loaded.outside) in
-    subst (λ kept. IfOk c.whole_report-told.result (TellsReport declared kept)) c.deref.ensures.value
+    subst (λ kept. IfOk c.whole_report-told.result (TellsReport c.args.format declared kept)) c.deref.ensures.value
     c.whole_report-told.ensures

@@ -9,10 +9,10 @@ use Rattle.judge.proofs.reports.report_loaded_by.Goals as goal
 pub returns-clause-report : goal.returns-clause-report
 returns-clause-report g c =
     let declared = declared_tables (packages_of c.args.loaded.outside) in
-    subst (λ kept. IfOk c.whole_report_by_workers-report.result (TellsReport declared kept)) c.deref.ensures.value
-    c.whole_report_by_workers-report.ensures.report
+    subst (λ kept. IfOk c.whole_report_by-report.result (TellsReport c.args.settings.format declared kept))
+    c.deref.ensures.value c.whole_report_by-report.ensures.report
 
 pub returns-clause-fault : goal.returns-clause-fault
 returns-clause-fault g c =
-    subst (λ kept. IfErr c.whole_report_by_workers-report.result (IsFaultOf (count_of c.args.workers) (length kept)))
-    c.deref.ensures.value c.whole_report_by_workers-report.ensures.fault
+    subst (λ kept. IfErr c.whole_report_by-report.result (IsFaultOf (count_of c.args.settings.workers) (length kept)))
+    c.deref.ensures.value c.whole_report_by-report.ensures.fault

@@ -1,4 +1,5 @@
-use Rattle.std.proofs.Common.{IfOk, subst}
+use Rattle.std.proofs.Common.{subst}
+use Rattle.std.proofs.lemmas.Result.{IfOk-weaker}
 use Rattle.all_packages.specs.Reports.{TellsReportBy}
 use Rattle.declared_tables.specs.DeclaredTables.{declared_tables}
 use Rattle.outside_json.specs.Outside.{packages_of}
@@ -9,7 +10,15 @@ use Rattle.judge.proofs.verified.told_by.Goals as goal
 pub returns : goal.returns
 returns c =
     let declared = declared_tables (packages_of c.args.outside.now) in
+    IfOk-weaker c.told.result _ _
+    (λ report told.
     subst
     (λ (given : GivenByPath).
-    IfOk c.whole_report_by.result (TellsReportBy (by_certificates given declared) c.args.packages.now))
-    (λ i path. given_of (c.in_ok-rules.ensures path i)) c.whole_report_by.ensures
+    TellsReportBy c.args.format (by_certificates given declared) c.args.packages.now report)
+    (λ i path. given_of (c.in_ok-rules.ensures path i))
+    (record {
+      said = c.in_ok-judged.judged.items;
+      are_reports = c.in_ok-judged.ensures.reports;
+      told = told;
+    }))
+    c.told.ensures

@@ -5,7 +5,7 @@ use Rattle.load.proofs.loaded.load_beside_by.Goals as goal
 pub returns-clause-loaded : goal.returns-clause-loaded
 returns-clause-loaded g c =
     is_beside c.args.given.items c.in_ok-packages.packages c.args.outside c.beside.result c.in_ok-packages.ensures.loaded
-    c.beside.ensures.packages c.beside.ensures.outside c.beside.ensures.apart
+    c.in_ok-packages.ensures.can_be_loaded c.beside.ensures.packages c.beside.ensures.outside c.beside.ensures.apart
 
 pub returns-clause-fault : goal.returns-clause-fault
 returns-clause-fault g c =

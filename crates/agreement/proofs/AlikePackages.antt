@@ -1,0 +1,399 @@
+-- Packages that were loaded twice of the same files are alike: they are equal but for the reasons why trees are missing,
+-- which no contract tells. What `verify` says of one of them says nothing exactly where it does of the other.
+use Rattle.std.proofs.Common.{◌≡◌, ℕ, zero, suc, ◌+◌, ◌⊎◌, inl, inr, Bool, true, false, List, [], ◌∷◌, map, Some, Contains, refl, sym, ap, ◌∙◌, subst}
+use Rattle.std.specs.Prelude.{if◌then◌else◌, flat_map, slice_get, string_bytes}
+use Rattle.std.specs.List.{list_any}
+use Rattle.std.specs.Str.{bytes_eq}
+use Rattle.std.proofs.lemmas.Option.{none-some, same_Some}
+use Rattle.imports.specs.Ranks.{Package, Imports, HasRank}
+use Rattle.lexer.specs.declared.fault.LexFault.{LexFault}
+use Rattle.lexer.specs.declared.fault.LexFault.TheVariants as lex_fault
+use Rattle.lexer.proofs.Outcomes.{one_outcome, one_fault}
+use Rattle.report.specs.declared.codes.TextFault.{TextFault}
+use Rattle.report.specs.declared.codes.TextFault.TheVariants.{NotUtf8, Nul, UnclosedString, UnclosedComment, UnclosedRune, UnknownCharacter, TooLong}
+use Rattle.tree_reader.proofs.OneTree.{one_tree}
+use Rattle.load.specs.Readings.{IsFaultAt, IsReadingOf}
+use Rattle.judge.proofs.OneLoad.{HasTreeFault}
+use Rattle.lexer.specs.declared.source.Source.{Source}
+use Rattle.load.proofs.OneOrder.{by_name_is_one}
+use Rattle.load.specs.GivenPackages.{PathAndFiles, AreLoaded}
+use Rattle.load.specs.Readings.{AreReadingsOf, IsLoadedAs}
+use Rattle.meaning.specs.Declarations.{declaration_of_use}
+use Rattle.meaning.specs.FunctionFacts.{package_facts}
+use Rattle.meaning.specs.OuterBlocks.{PackageNames}
+use Rattle.meaning.specs.TwoFunctions.{second_function}
+use Rattle.meaning.specs.Uses.{Seen}
+use Rattle.meaning_packages.specs.CallsFlags.{Flags, FileWithCredits, calls_by}
+use Rattle.meaning_reports.specs.Loaded.{Reading, has_tree, has_text_fault, has_tree_fault, LoadedPackage, NumberedTree, Tables, no_table, trees_from, numbered_trees, trees_of, imports_of, import_list, name_in, name_of, package_at, package_names, imported_flags, signatures_of, seen_from, seen_files}
+use Rattle.meaning_reports.specs.PackageReports.{IsFindingBy, of_whole, of_import, of_files, IsYesBy}
+use Rattle.meaning_reports.specs.PackageTables.{IsEmpty, IsTableBy, empty, full, AreTablesBy}
+use Rattle.meaning_reports.specs.WholeFaults.{ImportsAt, IsWholeFault, has_no_tokens, has_no_tree, has_two_functions, has_no_rank, HasNoWholeFault}
+use Rattle.report.specs.Entries.{Entry}
+use Rattle.tree.specs.Syntax.{ImportSpec, SourceFile}
+use Rattle.verifier.specs.Rules.{GivenByPath, IsVerified, AreFlagsByCertificates, SaysByCertificates, by_certificates}
+use Rattle.verifier.specs.Verified.{AreClaimed, AreGivenCredits, IsSaid}
+use Rattle.whole_packages.specs.declared.loaded_package.LoadedPackage.{LoadedPackage as KeptPackage}
+
+-- Files
+
+abbrev kind_of : LexFault → TextFault
+kind_of (lex_fault.NotUtf8 at) = NotUtf8
+kind_of (lex_fault.Nul at) = Nul
+kind_of (lex_fault.UnclosedString at) = UnclosedString
+kind_of (lex_fault.UnclosedComment at) = UnclosedComment
+kind_of (lex_fault.UnclosedRune at) = UnclosedRune
+kind_of (lex_fault.UnknownCharacter at) = UnknownCharacter
+kind_of lex_fault.TooLong = TooLong
+kind_of lex_fault.OutOfMemory = TooLong
+
+abbrev offset_of : LexFault → ℕ
+offset_of (lex_fault.NotUtf8 at) = at
+offset_of (lex_fault.Nul at) = at
+offset_of (lex_fault.UnclosedString at) = at
+offset_of (lex_fault.UnclosedComment at) = at
+offset_of (lex_fault.UnclosedRune at) = at
+offset_of (lex_fault.UnknownCharacter at) = at
+offset_of lex_fault.TooLong = 0
+offset_of lex_fault.OutOfMemory = 0
+
+told : (f : LexFault) (at : ℕ) (why : TextFault) → IsFaultAt f at why → (kind_of f ≡ why) × (offset_of f ≡ at)
+told f at NotUtf8 h = (ap kind_of h.fault_there, ap offset_of h.fault_there)
+told f at Nul h = (ap kind_of h.fault_there, ap offset_of h.fault_there)
+told f at UnclosedString h = (ap kind_of h.fault_there, ap offset_of h.fault_there)
+told f at UnclosedComment h = (ap kind_of h.fault_there, ap offset_of h.fault_there)
+told f at UnclosedRune h = (ap kind_of h.fault_there, ap offset_of h.fault_there)
+told f at UnknownCharacter h = (ap kind_of h.fault_there, ap offset_of h.fault_there)
+told f at TooLong h = (ap kind_of h.fault_there, ap offset_of h.fault_there ∙ sym (h.at_start refl))
+
+one_reading : (text : List ℕ) (r s : Reading) → IsReadingOf text r → IsReadingOf text s → (r ≡ s) ⊎ (HasTreeFault r × HasTreeFault s)
+one_reading text (has_tree t) (has_tree u) h k = inl (ap has_tree (one_tree text t u h k))
+one_reading text (has_tree t) (has_text_fault at why) h k = absurd (one_outcome text h.tokens k.0 h.cut k.1)
+one_reading text (has_tree t) (has_tree_fault at why) h k = absurd (k.no_tree t h)
+one_reading text (has_text_fault at why) (has_tree u) h k = absurd (one_outcome text k.tokens h.0 k.cut h.1)
+one_reading text (has_text_fault at why) (has_text_fault place reason) h k =
+    let same = one_fault text h.0 k.0 h.1 k.1 in
+    let one = told h.0 at why h.2 in
+    let other = told k.0 place reason k.2 in
+    let kind = sym one.0 ∙ (ap kind_of same ∙ other.0) in
+    let offset = sym one.1 ∙ (ap offset_of same ∙ other.1) in
+    inl (λ i. has_text_fault (offset i) (kind i))
+one_reading text (has_text_fault at why) (has_tree_fault place reason) h k = absurd (one_outcome text k.tokens h.0 k.cut h.1)
+one_reading text (has_tree_fault at why) (has_tree u) h k = absurd (h.no_tree u k)
+one_reading text (has_tree_fault at why) (has_text_fault place reason) h k = absurd (one_outcome text h.tokens k.0 h.cut k.1)
+one_reading text (has_tree_fault at why) (has_tree_fault place reason) h k = inr (tt, tt)
+
+-- the same became of the file, or both times it has no tree
+abbrev IsLikeReading : Reading → Reading → Type 0
+IsLikeReading r s = (r ≡ s) ⊎ (HasTreeFault r × HasTreeFault s)
+
+-- file by file
+abbrev pub AreLike : List Reading → List Reading → Type 0
+AreLike [] [] = Unit {0}
+AreLike [] (s ∷ ss) = ⊥
+AreLike (r ∷ rs) [] = ⊥
+AreLike (r ∷ rs) (s ∷ ss) = IsLikeReading r s × AreLike rs ss
+
+turned : (r s : Reading) → IsLikeReading r s → IsLikeReading s r
+turned r s (inl same) = inl (sym same)
+turned r s (inr both) = inr (both.1, both.0)
+
+all_turned : (rs ss : List Reading) → AreLike rs ss → AreLike ss rs
+all_turned [] [] h = tt
+all_turned [] (s ∷ ss) h = absurd h
+all_turned (r ∷ rs) [] h = absurd h
+all_turned (r ∷ rs) (s ∷ ss) h = (turned r s h.0, all_turned rs ss h.1)
+
+reading_there : (rs ss : List Reading) → AreLike rs ss → (n : ℕ) (r : Reading) → slice_get rs n ≡ Some r
+    → (s : Reading) × (slice_get ss n ≡ Some s) × IsLikeReading r s
+reading_there [] ss h n r e = absurd (none-some r e)
+reading_there (q ∷ rs) [] h n r e = absurd h
+reading_there (q ∷ rs) (s ∷ ss) h zero r e =
+    (s, refl, subst (λ (x : Reading). IsLikeReading x s) (same_Some q r e) h.0)
+reading_there (q ∷ rs) (s ∷ ss) h (suc n) r e = reading_there rs ss h.1 n r e
+
+rest_same : (n : ℕ) (r : Reading) (rs ss : List Reading) → trees_from (n + 1) rs ≡ trees_from (n + 1) ss
+    → trees_from n (r ∷ rs) ≡ trees_from n (r ∷ ss)
+rest_same n (has_tree t) rs ss e = λ j. record { file = n; tree = t } ∷ e j
+rest_same n (has_text_fault at why) rs ss e = e
+rest_same n (has_tree_fault at why) rs ss e = e
+
+first_same : (n : ℕ) (r s : Reading) (ss : List Reading) → IsLikeReading r s
+    → trees_from n (r ∷ ss) ≡ trees_from n (s ∷ ss)
+first_same n r s ss (inl same) = ap (λ (x : Reading). trees_from n (x ∷ ss)) same
+first_same n (has_tree t) s ss (inr both) = absurd both.0
+first_same n (has_text_fault at why) s ss (inr both) = absurd both.0
+first_same n (has_tree_fault at why) (has_tree t) ss (inr both) = absurd both.1
+first_same n (has_tree_fault at why) (has_text_fault place reason) ss (inr both) = absurd both.1
+first_same n (has_tree_fault at why) (has_tree_fault place reason) ss (inr both) = refl
+
+same_trees : (n : ℕ) (rs ss : List Reading) → AreLike rs ss → trees_from n rs ≡ trees_from n ss
+same_trees n [] [] h = refl
+same_trees n [] (s ∷ ss) h = absurd h
+same_trees n (r ∷ rs) [] h = absurd h
+same_trees n (r ∷ rs) (s ∷ ss) h = rest_same n r rs ss (same_trees (n + 1) rs ss h.1) ∙ first_same n r s ss h.0
+
+like_readings : (sources : List Source) (rs ss : List Reading) → AreReadingsOf sources rs → AreReadingsOf sources ss
+    → AreLike rs ss
+like_readings [] [] [] h k = tt
+like_readings [] [] (s ∷ ss) h k = absurd k
+like_readings [] (r ∷ rs) ss h k = absurd h
+like_readings (x ∷ xs) [] ss h k = absurd h
+like_readings (x ∷ xs) (r ∷ rs) [] h k = absurd k
+like_readings (x ∷ xs) (r ∷ rs) (s ∷ ss) h k =
+    (one_reading x.bytes.items r s h.0 k.0, like_readings xs rs ss h.1 k.1)
+
+-- Packages
+
+pub record IsLike (p q : LoadedPackage) : Type 0 where
+  pub is_path : p.path ≡ q.path
+  pub are_files : AreLike p.files q.files
+
+-- package by package
+abbrev pub AreAlike : List LoadedPackage → List LoadedPackage → Type 0
+AreAlike [] [] = Unit {0}
+AreAlike [] (q ∷ qs) = ⊥
+AreAlike (p ∷ ps) [] = ⊥
+AreAlike (p ∷ ps) (q ∷ qs) = IsLike p q × AreAlike ps qs
+
+turned_package : (p q : LoadedPackage) → IsLike p q → IsLike q p
+turned_package p q h = record { is_path = sym h.is_path; are_files = all_turned p.files q.files h.are_files }
+
+pub turned_packages : (ps qs : List LoadedPackage) → AreAlike ps qs → AreAlike qs ps
+turned_packages [] [] h = tt
+turned_packages [] (q ∷ qs) h = absurd h
+turned_packages (p ∷ ps) [] h = absurd h
+turned_packages (p ∷ ps) (q ∷ qs) h = (turned_package p q h.0, turned_packages ps qs h.1)
+
+like_package : (path : List ℕ) (sources : List Source) (p q : LoadedPackage) (k l : KeptPackage)
+    → IsLoadedAs path sources p k
+    → IsLoadedAs path sources q l
+    → IsLike p q
+like_package path sources p q k l h m =
+    let same : k.sources.items ≡ l.sources.items =
+    by_name_is_one sources k.sources.items l.sources.items h.by_name m.by_name in
+    record {
+      is_path = h.is_path ∙ sym m.is_path;
+      are_files = like_readings k.sources.items p.files q.files h.are_files
+          (subst (λ (s : List Source). AreReadingsOf s q.files) (sym same) m.are_files);
+    }
+
+pub loaded_alike : (es : List PathAndFiles) (ps qs : List LoadedPackage) (ks ls : List KeptPackage)
+    → AreLoaded es ps ks
+    → AreLoaded es qs ls
+    → AreAlike ps qs
+loaded_alike [] [] [] ks ls h m = tt
+loaded_alike [] [] (q ∷ qs) ks ls h m = absurd m
+loaded_alike [] (p ∷ ps) qs ks ls h m = absurd h
+loaded_alike (e ∷ es) [] qs ks ls h m = absurd h
+loaded_alike (e ∷ es) (p ∷ ps) [] ks ls h m = absurd m
+loaded_alike (e ∷ es) (p ∷ ps) (q ∷ qs) [] ls h m = absurd h
+loaded_alike (e ∷ es) (p ∷ ps) (q ∷ qs) (k ∷ ks) [] h m = absurd m
+loaded_alike (e ∷ es) (p ∷ ps) (q ∷ qs) (k ∷ ks) (l ∷ ls) h m =
+    (like_package (string_bytes e.0) e.1.items p q k l h.0 m.0, loaded_alike es ps qs ks ls h.1 m.1)
+
+pub package_there : (ps qs : List LoadedPackage) → AreAlike ps qs → (i : ℕ) (p : LoadedPackage) → slice_get ps i ≡ Some p
+    → (q : LoadedPackage) × (slice_get qs i ≡ Some q) × IsLike p q
+package_there [] qs h i p e = absurd (none-some p e)
+package_there (x ∷ ps) [] h i p e = absurd h
+package_there (x ∷ ps) (q ∷ qs) h zero p e = (q, refl, subst (λ (y : LoadedPackage). IsLike y q) (same_Some x p e) h.0)
+package_there (x ∷ ps) (q ∷ qs) h (suc i) p e = package_there ps qs h.1 i p e
+
+-- What is known of them
+
+numbered_same : (p q : LoadedPackage) → IsLike p q → numbered_trees p ≡ numbered_trees q
+numbered_same p q h = same_trees 0 p.files q.files h.are_files
+
+trees_same : (p q : LoadedPackage) → IsLike p q → trees_of p ≡ trees_of q
+trees_same p q h = ap (map (λ (t : NumberedTree). t.tree)) (numbered_same p q h)
+
+abbrev paths_in : List SourceFile → List (List ℕ)
+paths_in trees = flat_map (λ tree. map (λ s. s.path) (imports_of tree)) trees
+
+abbrev list_item : List ℕ → List SourceFile → Package
+list_item path trees = record { path = path; imports = paths_in trees }
+
+pub lists_same : (ps qs : List LoadedPackage) → AreAlike ps qs → import_list ps ≡ import_list qs
+lists_same [] [] h = refl
+lists_same [] (q ∷ qs) h = absurd h
+lists_same (p ∷ ps) [] h = absurd h
+lists_same (p ∷ ps) (q ∷ qs) h =
+    let rest = lists_same ps qs h.1 in
+    λ j. list_item (h.0.is_path j) (trees_same p q h.0 j) ∷ rest j
+
+names_same : (ps qs : List LoadedPackage) → AreAlike ps qs → (path : List ℕ)
+    → package_names ps path ≡ package_names qs path
+names_same [] [] h path = refl
+names_same [] (q ∷ qs) h path = absurd h
+names_same (p ∷ ps) [] h path = absurd h
+names_same (p ∷ ps) (q ∷ qs) h path =
+    ap (λ (x : List ℕ). name_of (if bytes_eq x path then Some p else package_at path ps)) h.0.is_path
+    ∙ by (bytes_eq q.path path) (names_same ps qs h.1 path)
+  where
+    by : (b : Bool) → name_of (package_at path ps) ≡ name_of (package_at path qs)
+        → name_of (if b then Some p else package_at path ps) ≡ name_of (if b then Some q else package_at path qs)
+    by true rest = ap name_in (trees_same p q h.0)
+    by false rest = rest
+
+-- by their trees and the names of packages alone
+abbrev seen_with : List SourceFile → PackageNames → Tables → List Seen
+seen_with trees names tables =
+    seen_from (λ number. record {
+      means = declaration_of_use trees names number;
+      functions = package_facts (λ n. declaration_of_use trees names n) trees;
+      imported = λ path. (if list_any (λ r. bytes_eq r path) (paths_in trees) then tables path else no_table).signatures;
+    }) 0 trees
+
+abbrev flags_with : List SourceFile → Tables → List ℕ → Flags
+flags_with trees tables path = (if list_any (λ r. bytes_eq r path) (paths_in trees) then tables path else no_table).calls
+
+module _ (ps qs : List LoadedPackage) (alike : AreAlike ps qs) where
+  all_names : package_names ps ≡ package_names qs
+  all_names = λ j path. names_same ps qs alike path j
+
+  seen_same : (tables : Tables) (p q : LoadedPackage) → IsLike p q → seen_files ps tables p ≡ seen_files qs tables q
+  seen_same tables p q h = λ j. seen_with (trees_same p q h j) (all_names j) tables
+
+  signatures_same : (p q : LoadedPackage) → IsLike p q → (name : List ℕ)
+      → signatures_of ps p name ≡ signatures_of qs q name
+  signatures_same p q h name =
+      λ j. package_facts (λ n. declaration_of_use (trees_same p q h j) (all_names j) n) (trees_same p q h j) name
+
+  -- Faults of whole packages
+
+  imports_too : (i j number : ℕ) (spec : ImportSpec) → ImportsAt ps i j number spec → ImportsAt qs i j number spec
+  imports_too i j number spec h =
+      let importer = package_there ps qs alike i h.importer h.is_importer in
+      let imported = package_there ps qs alike j h.imported h.is_imported in
+      record {
+        importer = importer.0;
+        imported = imported.0;
+        tree = h.tree;
+        is_importer = importer.1;
+        is_imported = imported.1;
+        imports = subst (λ (l : List Package). Imports l i j) (lists_same ps qs alike) h.imports;
+        is_tree =
+            subst (λ (ts : List NumberedTree). Contains ts h.tree) (numbered_same h.importer importer.0 importer.2)
+            h.is_tree;
+        is_file = h.is_file;
+        is_spec = h.is_spec;
+        is_path = h.is_path ∙ imported.2.is_path;
+      }
+
+  whole_too : (i : ℕ) (x : Entry) → IsWholeFault ps i x → (y : Entry) × IsWholeFault qs i y
+  whole_too i x (has_no_tokens p file at why is is_file) =
+      let q = package_there ps qs alike i p is in
+      let s = reading_there p.files q.0.files q.2.are_files file (has_text_fault at why) is_file in
+      elim s.2 [
+        | inl same ↦ (_, has_no_tokens q.0 file at why q.1 (s.1 ∙ ap Some (sym same)))
+        | inr both ↦ absurd both.0
+      ]
+  whole_too i x (has_no_tree p file at why is is_file) =
+      let q = package_there ps qs alike i p is in
+      let s = reading_there p.files q.0.files q.2.are_files file (has_tree_fault at why) is_file in
+      elim s.2 [
+        | inl same ↦ (_, has_no_tree q.0 file at why q.1 (s.1 ∙ ap Some (sym same)))
+        | inr both ↦ by q.0 q.1 s.0 s.1 both.1
+      ]
+    where
+      by : (q : LoadedPackage) → slice_get qs i ≡ Some q → (s : Reading) → slice_get q.files file ≡ Some s → HasTreeFault s
+          → (y : Entry) × IsWholeFault qs i y
+      by q is_q (has_tree t) there fault = absurd fault
+      by q is_q (has_text_fault place reason) there fault = absurd fault
+      by q is_q (has_tree_fault place reason) there fault = (_, has_no_tree q file place reason is_q there)
+  whole_too i x (has_two_functions p f tree is second there) =
+      let q = package_there ps qs alike i p is in
+      let numbered = numbered_same p q.0 q.2 in (
+        _,
+        has_two_functions q.0 f tree q.1 (ap second_function (sym (trees_same p q.0 q.2)) ∙ second)
+            (ap (λ (ts : List NumberedTree). slice_get ts f.file) (sym numbered) ∙ there),
+      )
+  whole_too i x (has_no_rank j file spec none other im) =
+      let lists = lists_same ps qs alike in (
+        _,
+        has_no_rank j file spec
+            (subst (λ (l : List Package). HasRank l i → ⊥) lists none)
+            (subst (λ (l : List Package). HasRank l j → ⊥) lists other)
+            (imports_too i j file spec im),
+      )
+
+module _ (ps qs : List LoadedPackage) (alike : AreAlike ps qs) (given : GivenByPath) (declared tables : Tables) where
+  none_too : (i : ℕ) → HasNoWholeFault ps i → HasNoWholeFault qs i
+  none_too i none x fault = let w = whole_too qs ps (turned_packages ps qs alike) i x fault in none w.0 w.1
+
+  -- What `verify` says
+
+  pub verified_too : (i : ℕ) (p q : LoadedPackage) (files : List FileWithCredits) (flags : Flags) → IsLike p q
+      → slice_get qs i ≡ Some q
+      → IsVerified given ps tables i p files flags
+      → IsVerified given qs tables i q files flags
+  verified_too i p q files flags h is v = record {
+    is_package = is;
+    are_seen = v.are_seen ∙ seen_same ps qs alike tables p q h;
+    are_flags = subst (λ (path : List ℕ). AreClaimed files (given path) flags) h.is_path v.are_flags;
+    are_credits = λ number file there.
+        subst (λ (path : List ℕ). AreGivenCredits (given path) flags (calls_by flags (imported_flags q tables)) number file)
+        h.is_path
+        (subst (λ (trees : List SourceFile).
+        AreGivenCredits (given p.path) flags (calls_by flags (flags_with trees tables)) number file)
+        (trees_same p q h) (v.are_credits number file there));
+  }
+
+  says_too : (i : ℕ) (x : Entry) → SaysByCertificates given ps tables i x → SaysByCertificates given qs tables i x
+  says_too i x s =
+      let p = s.loaded in
+      let w = package_there ps qs alike i p s.is_verified.is_package in
+      let q = w.0 in
+      record {
+        loaded = q;
+        files = s.files;
+        flags = s.flags;
+        is_verified = verified_too i p q s.files s.flags w.2 w.1 s.is_verified;
+        number = s.number;
+        file = s.file;
+        is_file = s.is_file;
+        is_said =
+            subst (λ (path : List ℕ). IsSaid (given path) s.flags (calls_by s.flags (imported_flags q tables)) s.number s.file x)
+            w.2.is_path
+            (subst (λ (trees : List SourceFile).
+            IsSaid (given p.path) s.flags (calls_by s.flags (flags_with trees tables)) s.number s.file x)
+            (trees_same p q w.2) s.is_said);
+      }
+
+  finding_too : (i : ℕ) (x : Entry) → IsFindingBy (by_certificates given declared) ps tables i x
+      → (y : Entry) × IsFindingBy (by_certificates given declared) qs tables i y
+  finding_too i x (of_whole fault) = let w = whole_too ps qs alike i x fault in (w.0, of_whole w.1)
+  finding_too i x (of_import j number spec y none im finding) =
+      let w = finding_too j y finding in
+      (_, of_import j number spec w.0 (none_too i none) (imports_too ps qs alike i j number spec im) w.1)
+  finding_too i x (of_files none said) = (x, of_files (none_too i none) (says_too i x said))
+
+  table_too : (i : ℕ) (p q : LoadedPackage) → IsLike p q → slice_get qs i ≡ Some q
+      → IsTableBy (AreFlagsByCertificates given) ps tables i p (tables p.path)
+      → IsTableBy (AreFlagsByCertificates given) qs tables i q (tables q.path)
+  table_too i p q h is (empty x fault nothing) =
+      let w = whole_too ps qs alike i x fault in
+      empty w.0 w.1 (subst (λ (path : List ℕ). IsEmpty (tables path)) h.is_path nothing)
+  table_too i p q h is (full flags none its signatures calls) =
+      full flags (none_too i none) (record {
+        files = its.files;
+        is_verified = verified_too i p q its.files flags h is its.is_verified;
+      })
+      (λ name. ap (λ (path : List ℕ). (tables path).signatures name) (sym h.is_path)
+      ∙ (signatures name ∙ signatures_same ps qs alike p q h name))
+      (λ name k. ap (λ (path : List ℕ). (tables path).calls name k) (sym h.is_path) ∙ calls name k)
+
+module _ (ps qs : List LoadedPackage) (alike : AreAlike ps qs) (given : GivenByPath) (declared tables : Tables) where
+  pub yes_too : (i : ℕ) → IsYesBy (by_certificates given declared) ps tables i
+      → IsYesBy (by_certificates given declared) qs tables i
+  yes_too i said_none x finding =
+      let w = finding_too qs ps (turned_packages ps qs alike) given declared tables i x finding in said_none w.0 w.1
+
+  pub tables_too : AreTablesBy (AreFlagsByCertificates given) declared ps tables
+      → AreTablesBy (AreFlagsByCertificates given) declared qs tables
+  tables_too are = record {
+    of_package = λ i q is.
+        let w = package_there qs ps (turned_packages ps qs alike) i q is in
+        table_too ps qs alike given declared tables i w.0 q (turned_package q w.0 w.2) is (are.of_package i w.0 w.1);
+    of_others = λ path none. are.of_others path λ i p is its.
+        let w = package_there ps qs alike i p is in none i w.0 w.1 (sym w.2.is_path ∙ its);
+  }

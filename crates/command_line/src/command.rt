@@ -1,0 +1,164 @@
+//! The words that the library of the command line understands, and its texts.
+
+use crate::values::{JSON_WORD, SARIF_WORD, TEXT_WORD};
+use crate::words::{CHECK_WORD, VERIFY_WORD};
+use clap::builder::ValueParser;
+use clap::{Arg, ArgAction, Command, Error};
+use std::alloc::{AllocError, Global};
+use std::convert::AsStr;
+use workers::MOST_WORKERS;
+
+const ABOUT: &str = "Finds cancel functions of contexts that may not be called in Go packages";
+
+const AFTER: &str = "Exit status:
+  0  yes: nothing was found in any package
+  1  no: something was found
+  2  wrong arguments, or something could not be read or written
+
+Examples:
+  go list -json ./... | ctxvet check --packages -
+  go list -json ./... | ctxvet check -j 4 --format sarif --packages -
+  ctxvet check example.org/pool=./pool
+  ctxvet check --cert pool.json example.org/pool=./pool
+  ctxvet verify --cert pool.json example.org/pool=./pool
+  ctxvet check --facts facts.json example.org/pool=./pool";
+
+const CHECK: &str = "Checks packages and prints their report";
+
+const AFTER_CHECK: &str =
+    "The report goes to standard output, the packages in the order of their paths. As text it has a line
+for each finding,
+  FILE:LINE:COLUMN: CODE NAME TEXT
+and then `yes PATH` where nothing was found, else `no PATH`.
+What a package imports is known where it is given too, and as far as it is declared in the file of
+facts; else it is taken as unknown.";
+
+const VERIFY: &str =
+    "Judges packages by the certificates of an earlier check, and prints their report";
+
+const AFTER_VERIFY: &str =
+    "The report goes to standard output, in the form of that of `ctxvet check`. Nothing is searched for:
+the certificate of each body is looked through once. Where it is missing or does not hold, that is
+a finding, LC16.";
+
+const OUT: &str =
+    "Writes what was found for each body to this file too, as JSON: the certificates of the packages";
+
+const IN: &str = "The file of certificates";
+
+const FACTS: &str =
+    "The file of declared facts, as JSON: what is taken for true of functions of packages that are not given";
+
+const WORKERS: &str =
+    "How many threads read the files and judge the packages at most, from 1 to 64. The report is the same \
+for each number [default: 1]";
+
+const LIST: &str =
+    "The packages of a build, as `go list -json` prints them, in place of or beside words; `-` is standard input";
+
+const FORMAT: &str = "The form of the report: text, json or sarif [default: text]";
+
+const FORMATS: &[&str] = &[TEXT_WORD, JSON_WORD, SARIF_WORD];
+
+const PACKAGE: &str = "A package's import path, `=`, and the folder of its files: \
+each file there is read that ends in .go and not in _test.go";
+
+const VERSION: &str = "0.1.0";
+
+/// The name of the option for a list, by which it is told that words of packages may be left out.
+const LIST_ID: &str = "packages";
+
+/// The words that the program understands.
+fn command<'a>(alloc: Global) -> Result<Command<'a>, AllocError> {
+    let check = Command::new(alloc, CHECK_WORD)
+        .about(CHECK)
+        .after_help(AFTER_CHECK)
+        .arg(workers_option(alloc))?
+        .arg(file(alloc).value_name("OUT").help(OUT))?
+        .arg(facts_option(alloc))?
+        .arg(list_option(alloc))?
+        .arg(format_option(alloc))?
+        .arg(package(alloc)?)?;
+    let verify = Command::new(alloc, VERIFY_WORD)
+        .about(VERIFY)
+        .after_help(AFTER_VERIFY)
+        .arg(file(alloc).value_name("IN").help(IN).required(true))?
+        .arg(facts_option(alloc))?
+        .arg(list_option(alloc))?
+        .arg(format_option(alloc))?
+        .arg(package(alloc)?)?;
+    Command::new(alloc, "ctxvet")
+        .about(ABOUT)
+        .version(VERSION)
+        .after_help(AFTER)
+        .bin_name("ctxvet")?
+        .no_binary_name(true)
+        .subcommand_required(true)
+        .arg_required_else_help(true)
+        .subcommand(check)?
+        .subcommand(verify)
+}
+
+/// The option that says how many workers there are.
+fn workers_option<'a>(alloc: Global) -> Arg<'a> {
+    Arg::new(alloc, "workers")
+        .short('j')
+        .value_name("N")
+        .help(WORKERS)
+        .value_parser(ValueParser::unsigned(1, MOST_WORKERS as u64))
+        .action(ArgAction::Set)
+}
+
+/// The option that names a file of certificates.
+fn file<'a>(alloc: Global) -> Arg<'a> {
+    Arg::new(alloc, "cert").long("cert").action(ArgAction::Set)
+}
+
+/// The option that names a file of declared facts.
+fn facts_option<'a>(alloc: Global) -> Arg<'a> {
+    Arg::new(alloc, "facts")
+        .long("facts")
+        .value_name("FILE")
+        .help(FACTS)
+        .action(ArgAction::Set)
+}
+
+/// The option that names a list of packages.
+fn list_option<'a>(alloc: Global) -> Arg<'a> {
+    Arg::new(alloc, LIST_ID)
+        .long(LIST_ID)
+        .value_name("FILE")
+        .help(LIST)
+        .action(ArgAction::Set)
+}
+
+/// The option that says in which form the report is written.
+fn format_option<'a>(alloc: Global) -> Arg<'a> {
+    Arg::new(alloc, "format")
+        .long("format")
+        .value_name("FORMAT")
+        .help(FORMAT)
+        .value_parser(ValueParser::Names(FORMATS))
+        .hide_possible_values(true)
+        .action(ArgAction::Set)
+}
+
+/// The words of packages, at least one where no list of packages is named.
+fn package<'a>(alloc: Global) -> Result<Arg<'a>, AllocError> {
+    Arg::new(alloc, "package")
+        .value_name("PATH=DIR")
+        .help(PACKAGE)
+        .num_args(1..)
+        .action(ArgAction::Append)
+        .required_unless_present(LIST_ID)
+}
+
+/// That the library understands the words, those after the program's name, and they ask for no help.
+///
+/// # Errors
+///
+/// The words are no command, they ask for help or the version, or memory was refused.
+pub fn understood<S: AsStr>(alloc: Global, words: &[S]) -> Result<(), Error> {
+    command(alloc)?.try_get_matches_from(words)?;
+    Ok(())
+}

@@ -1,0 +1,74 @@
+//! The options of a command, and the words that have them.
+
+ghost use Rattle.std.specs.Prelude.{◌≡◌, option_map};
+ghost use Rattle.command_line.specs.Words.{number_in, option_in, run_option_in, option_of};
+
+/// An option. Each has a value: the word behind it, or what stands behind `=` in its own word.
+#[derive(Clone, Copy, Debug)]
+pub enum ValueOption {
+    /// `--cert`: the file of certificates.
+    Certificates,
+    /// `--facts`: the file of declared facts.
+    Facts,
+    /// `--packages`: the list of packages.
+    PackageList,
+    /// `--format`: in which form the report is written.
+    ReportFormat,
+    /// `-j`: how many workers there are. Its value may also stand straight behind it.
+    WorkerCount,
+}
+
+/// The option that the word is, whose value is the word behind it.
+pub fn option_of(word: &str) -> Option<ValueOption>
+    ensures { result ≡ option_of word.now }
+{
+    if word == "--cert" {
+        Some(ValueOption::Certificates)
+    } else if word == "--facts" {
+        Some(ValueOption::Facts)
+    } else if word == "--packages" {
+        Some(ValueOption::PackageList)
+    } else if word == "--format" {
+        Some(ValueOption::ReportFormat)
+    } else if word == "-j" {
+        Some(ValueOption::WorkerCount)
+    } else {
+        None
+    }
+}
+
+/// The option that the word has with its value in itself, and that value.
+pub fn option_in(word: &str) -> Option<(ValueOption, &str)>
+    ensures { option_map (λ held. (held.0, held.1.now)) result ≡ option_in word.now }
+{
+    if let Some(file) = word.strip_prefix("--cert=") {
+        Some((ValueOption::Certificates, file))
+    } else if let Some(file) = word.strip_prefix("--facts=") {
+        Some((ValueOption::Facts, file))
+    } else {
+        run_option_in(word)
+    }
+}
+
+/// The same of a list of packages, a format or a number.
+fn run_option_in(word: &str) -> Option<(ValueOption, &str)>
+    ensures { option_map (λ held. (held.0, held.1.now)) result ≡ run_option_in word.now }
+{
+    if let Some(file) = word.strip_prefix("--packages=") {
+        Some((ValueOption::PackageList, file))
+    } else if let Some(format) = word.strip_prefix("--format=") {
+        Some((ValueOption::ReportFormat, format))
+    } else {
+        Some((ValueOption::WorkerCount, number_in(word)?))
+    }
+}
+
+/// The number that stands in a word behind `-j`, or behind `-j=`.
+fn number_in(word: &str) -> Option<&str>
+    ensures { option_map (λ number. number.now) result ≡ number_in word.now }
+{
+    match word.strip_prefix("-j=") {
+        Some(number) => Some(number),
+        None => word.strip_prefix("-j"),
+    }
+}

@@ -1,0 +1,71 @@
+//! What the values of options ask for.
+
+ghost use Rattle.std.specs.Prelude.{◌≡◌, IfSome};
+ghost use Rattle.command_line.specs.Words.{format_text, option_texts, texts_of, AreFormat, AreWorkers, IsNumber};
+ghost use Rattle.workers.specs.Counts.{count_of};
+
+use report_formats::Format;
+use workers::Workers;
+
+/// The words of the formats.
+pub const TEXT_WORD: &str = "text";
+
+pub const JSON_WORD: &str = "json";
+
+pub const SARIF_WORD: &str = "sarif";
+
+/// The workers of this number, or one worker where there is none.
+pub fn workers_by(number: Option<&str>) -> Option<Workers>
+    ensures { IfSome result (λ workers. AreWorkers (option_texts number.entry) (count_of workers)) }
+{
+    match number {
+        Some(number) => workers_of(number),
+        None => Some(Workers::one()),
+    }
+}
+
+/// So many workers as the word says.
+fn workers_of(number: &str) -> Option<Workers>
+    ensures { IfSome result (λ workers. IsNumber number.now (count_of workers)) }
+{
+    match number.parse::<usize>() {
+        Ok(count) => Workers::new(count),
+        Err(_) => None,
+    }
+}
+
+/// The word, if there is one, where there are not more.
+pub fn at_most_one<'a>(words: &[&'a str]) -> Option<Option<&'a str>>
+    ensures { IfSome result (λ word. texts_of words.now ≡ option_texts word) }
+{
+    match words.split_first() {
+        Some((word, rest)) if rest.is_empty() => Some(Some(*word)),
+        Some(_) => None,
+        None => Some(None),
+    }
+}
+
+/// The format of this word, or that of a text where there is none.
+pub fn format_by(word: Option<&str>) -> Option<Format>
+    ensures { IfSome result (AreFormat (option_texts word.entry)) }
+{
+    match word {
+        Some(word) => format_of(word),
+        None => Some(Format::Text),
+    }
+}
+
+/// The format that has this word.
+fn format_of(word: &str) -> Option<Format>
+    ensures { IfSome result (λ format. word.now ≡ format_text format) }
+{
+    if word == TEXT_WORD {
+        Some(Format::Text)
+    } else if word == JSON_WORD {
+        Some(Format::Json)
+    } else if word == SARIF_WORD {
+        Some(Format::Sarif)
+    } else {
+        None
+    }
+}

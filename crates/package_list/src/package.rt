@@ -1,0 +1,16 @@
+//! One package of a list.
+
+/// What the go command says of one package.
+#[derive(Debug, Drop, PartialEq)]
+pub struct ListedPackage {
+    /// Its import path, which is not empty.
+    pub path: String,
+    /// The folder that its files lie in, which is not empty.
+    pub folder: String,
+    /// The names of its files of Go as they stand: those without cgo, and then those with it.
+    pub files: Vec<String>,
+    /// The path of its module, if it is in one.
+    pub module: Option<String>,
+    /// Whether the go command could not load it, or a package below it.
+    pub incomplete: bool,
+}

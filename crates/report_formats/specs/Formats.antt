@@ -1,0 +1,13 @@
+-- The text of a report in each of its forms.
+use Rattle.std.specs.Prelude.{ℕ, List}
+use Rattle.report.specs.ReportText.{report_text}
+use Rattle.report.specs.declared.diagnostics.PackageReport.{PackageReport}
+use Rattle.report_formats.specs.declared.formats.Format.{Format}
+use Rattle.report_formats.specs.declared.formats.Format.TheVariants.{Text, Json, Sarif}
+use Rattle.report_formats.specs.JsonText.{json_text}
+use Rattle.report_formats.specs.SarifText.{sarif_text}
+
+abbrev pub text_in : Format → List PackageReport → List ℕ
+text_in Text = report_text
+text_in Json = json_text
+text_in Sarif = sarif_text

@@ -1,0 +1,10 @@
+-- For a reader of the contracts: the forms of a report, and the text in each.
+pub mod Formats
+pub mod JsonText
+pub mod SarifText
+pub mod SarifCodes
+pub mod CodePoints
+pub mod FileUris
+pub mod Objects
+-- What serves the proofs.
+pub mod Pieces

@@ -1,0 +1,49 @@
+-- What SARIF says of codes: the rules, one for each number, and how grave a code is.
+use Rattle.std.specs.Prelude.{ℕ, List, [], ◌∷◌, codes}
+use Rattle.report.specs.Codes.{code_text}
+use Rattle.report.specs.declared.codes.DiagnosticCode.{DiagnosticCode}
+use Rattle.report.specs.declared.codes.DiagnosticCode.TheVariants.{Unreadable, LeftOut, Discarded, Overwritten, NotCalled, CancelMisused, GroupIsLive, GroupOverwritten, GroupMisused, LeftToLiveGroup, BoundAgain, TooMany, ImportIsNotYes, ImportHasNoRank, TwoFunctions, NoCertificate}
+use Rattle.report.specs.declared.codes.TextFault.TheVariants.{NotUtf8}
+use Rattle.report.specs.declared.codes.TreeFault.TheVariants.{UnexpectedToken}
+
+-- a code for each rule, in the order of their numbers
+abbrev pub rule_codes : List DiagnosticCode
+rule_codes =
+    Unreadable NotUtf8 ∷ LeftOut UnexpectedToken ∷ Discarded ∷ Overwritten ∷ NotCalled ∷ CancelMisused ∷ GroupIsLive
+    ∷ GroupOverwritten ∷ GroupMisused ∷ LeftToLiveGroup ∷ BoundAgain ∷ TooMany ∷ ImportIsNotYes ∷ ImportHasNoRank
+    ∷ TwoFunctions ∷ NoCertificate ∷ []
+
+-- the place of a code's rule among the rules, from 0
+abbrev pub rule_index : DiagnosticCode → ℕ
+rule_index (Unreadable why) = 0
+rule_index (LeftOut why) = 1
+rule_index Discarded = 2
+rule_index Overwritten = 3
+rule_index NotCalled = 4
+rule_index CancelMisused = 5
+rule_index GroupIsLive = 6
+rule_index GroupOverwritten = 7
+rule_index GroupMisused = 8
+rule_index LeftToLiveGroup = 9
+rule_index BoundAgain = 10
+rule_index TooMany = 11
+rule_index ImportIsNotYes = 12
+rule_index ImportHasNoRank = 13
+rule_index TwoFunctions = 14
+rule_index NoCertificate = 15
+
+-- what a rule says: the code's text, and of the two that have several texts one for all
+abbrev pub rule_text : DiagnosticCode → List ℕ
+rule_text (Unreadable why) = codes "file has no tokens"
+rule_text (LeftOut why) = codes "no tree, or a form that is left out"
+rule_text code = code_text code
+
+-- a cancel function or a group that the body mishandles is an error; the rest could not be followed
+abbrev pub level : DiagnosticCode → List ℕ
+level Discarded = codes "error"
+level Overwritten = codes "error"
+level NotCalled = codes "error"
+level GroupIsLive = codes "error"
+level GroupOverwritten = codes "error"
+level LeftToLiveGroup = codes "error"
+level code = codes "warning"

@@ -1,0 +1,131 @@
+//! A report as JSON.
+
+ghost use Rattle.std.specs.Prelude.{◌≡◌, ◌++◌, false, slice_get, map};
+ghost use Rattle.serde_json.specs.Data.{boolean};
+ghost use Rattle.serde_json.specs.Written.{comma_if, compact_text};
+ghost use Rattle.lexer.specs.Place.{line_of, column_of};
+ghost use Rattle.report.specs.ReportText.{bytes_of};
+ghost use Rattle.report.specs.Writing.{refusals_after, IsWritten};
+ghost use Rattle.report_formats.specs.JsonText.{diagnostic_value, is_yes, package_value, json_text};
+ghost use Rattle.report_formats.specs.Pieces.{listed};
+
+use crate::pieces::FormatPiece::{Number, Plain, Spelled};
+use crate::pieces::{comma, name_of, put_each};
+use crate::strings::Spelling::InString;
+use lexer::{Place, Source};
+use report::{Diagnostic, PackageReport, Sink, WriteFault, first_byte, moved, put_all};
+
+/// Writes the report as one JSON object and a newline. Where the diagnostics are in their order, this reads each source
+/// but once.
+///
+/// # Errors
+///
+/// A put failed or took nothing. A beginning of the text is taken then, and not all of it.
+pub fn write_json<S: Sink>(reports: &[PackageReport], sink: &mut S) -> Result<(), WriteFault>
+    ensures taken { IsWritten (json_text reports.now) (S.taken sink.old) (S.taken sink.new) result }
+    ensures refusals { S.refusals sink.new ≡ refusals_after (S.refusals sink.old) result }
+{
+    put_all(b"{\"packages\":[", sink)?;
+    write_packages(reports, sink)?;
+    put_each(&[Plain("],\"version\":"), Number(1), Plain("}\n")], sink)
+}
+
+fn write_packages<S: Sink>(reports: &[PackageReport], sink: &mut S) -> Result<(), WriteFault>
+    ensures taken { IsWritten (listed false (map package_value reports.now))
+        (S.taken sink.old) (S.taken sink.new) result }
+    ensures refusals { S.refusals sink.new ≡ refusals_after (S.refusals sink.old) result }
+{
+    let mut is_later = false;
+    for report in reports {
+        write_package(report, is_later, sink)?;
+        is_later = true;
+    }
+    Ok(())
+}
+
+fn write_package<S: Sink>(
+    report: &PackageReport,
+    is_later: bool,
+    sink: &mut S,
+) -> Result<(), WriteFault>
+    ensures taken { IsWritten (comma_if is_later ++ compact_text (package_value report.now))
+        (S.taken sink.old) (S.taken sink.new) result }
+    ensures refusals { S.refusals sink.new ≡ refusals_after (S.refusals sink.old) result }
+{
+    put_each(
+        &[
+            Plain(comma(is_later)),
+            Plain("{\"path\":\""),
+            Spelled(InString, report.path),
+            Plain("\",\"yes\":"),
+            Plain(verdict(report)),
+            Plain(",\"keeping\":[],\"diagnostics\":["),
+        ],
+        sink,
+    )?;
+    write_diagnostics(report.sources, &report.diagnostics, sink)?;
+    put_all(b"]}", sink)
+}
+
+fn verdict(report: &PackageReport) -> &'static str
+    ensures { result.now ≡ compact_text (boolean (is_yes report.now.diagnostics.items)) }
+{
+    if report.is_yes() { "true" } else { "false" }
+}
+
+fn write_diagnostics<S: Sink>(
+    sources: &[Source],
+    diagnostics: &[Diagnostic],
+    sink: &mut S,
+) -> Result<(), WriteFault>
+    ensures taken { IsWritten (listed false (map (diagnostic_value sources.now) diagnostics.now))
+        (S.taken sink.old) (S.taken sink.new) result }
+    ensures refusals { S.refusals sink.new ≡ refusals_after (S.refusals sink.old) result }
+{
+    let mut cursor = first_byte(0);
+    let mut is_later = false;
+    for diagnostic in diagnostics {
+        cursor = moved(cursor, sources, diagnostic.file, diagnostic.offset as usize);
+        write_diagnostic(sources, diagnostic, cursor.place, is_later, sink)?;
+        is_later = true;
+    }
+    Ok(())
+}
+
+/// Writes a diagnostic, which stands at this place.
+fn write_diagnostic<'a, S: Sink>(
+    sources: &'a [Source],
+    diagnostic: &'a Diagnostic<'a>,
+    place: Place,
+    is_later: bool,
+    sink: &mut S,
+) -> Result<(), WriteFault>
+    requires line { place.line
+        ≡ line_of (bytes_of (slice_get sources.now diagnostic.now.file)) diagnostic.now.offset }
+    requires column { place.column
+        ≡ column_of (bytes_of (slice_get sources.now diagnostic.now.file)) diagnostic.now.offset }
+    ensures taken { IsWritten (comma_if is_later ++ compact_text (diagnostic_value sources.now diagnostic.now))
+        (S.taken sink.old) (S.taken sink.new) result }
+    ensures refusals { S.refusals sink.new ≡ refusals_after (S.refusals sink.old) result }
+{
+    let Place { line, column } = place;
+    put_each(
+        &[
+            Plain(comma(is_later)),
+            Plain("{\"file\":\""),
+            Spelled(InString, name_of(sources, diagnostic.file)),
+            Plain("\",\"line\":"),
+            Number(line),
+            Plain(",\"column\":"),
+            Number(column),
+            Plain(",\"code\":\""),
+            Spelled(InString, diagnostic.code.number()),
+            Plain("\",\"name\":\""),
+            Spelled(InString, diagnostic.name),
+            Plain("\",\"text\":\""),
+            Spelled(InString, diagnostic.code.text()),
+            Plain("\"}"),
+        ],
+        sink,
+    )
+}

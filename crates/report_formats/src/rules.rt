@@ -1,0 +1,91 @@
+//! The rules of SARIF, one for each number of a code.
+
+ghost use Rattle.std.specs.Prelude.{◌≡◌, Some, option_map, slice_get};
+ghost use Rattle.report.specs.Codes.{code_number};
+ghost use Rattle.report.specs.declared.codes.DiagnosticCode.{DiagnosticCode as Code};
+ghost use Rattle.report_formats.specs.SarifCodes.{rule_codes, rule_index, rule_text, level};
+
+use report::{DiagnosticCode, TextFault, TreeFault};
+
+/// A code for each rule, in the order of their numbers.
+static RULE_CODES: [DiagnosticCode; 16] = [
+    DiagnosticCode::Unreadable(TextFault::NotUtf8),
+    DiagnosticCode::LeftOut(TreeFault::UnexpectedToken),
+    DiagnosticCode::Discarded,
+    DiagnosticCode::Overwritten,
+    DiagnosticCode::NotCalled,
+    DiagnosticCode::CancelMisused,
+    DiagnosticCode::GroupIsLive,
+    DiagnosticCode::GroupOverwritten,
+    DiagnosticCode::GroupMisused,
+    DiagnosticCode::LeftToLiveGroup,
+    DiagnosticCode::BoundAgain,
+    DiagnosticCode::TooMany,
+    DiagnosticCode::ImportIsNotYes,
+    DiagnosticCode::ImportHasNoRank,
+    DiagnosticCode::TwoFunctions,
+    DiagnosticCode::NoCertificate,
+];
+
+/// The codes of the rules.
+pub fn rule_codes() -> &'static [DiagnosticCode]
+    ensures { result.now ≡ rule_codes }
+{
+    &RULE_CODES
+}
+
+/// The place of a code's rule among the rules, from 0.
+pub fn rule_index(code: DiagnosticCode) -> usize
+    ensures { result ≡ rule_index code }
+{
+    match code {
+        DiagnosticCode::Unreadable(_) => 0,
+        DiagnosticCode::LeftOut(_) => 1,
+        DiagnosticCode::Discarded => 2,
+        DiagnosticCode::Overwritten => 3,
+        DiagnosticCode::NotCalled => 4,
+        DiagnosticCode::CancelMisused => 5,
+        DiagnosticCode::GroupIsLive => 6,
+        DiagnosticCode::GroupOverwritten => 7,
+        DiagnosticCode::GroupMisused => 8,
+        DiagnosticCode::LeftToLiveGroup => 9,
+        DiagnosticCode::BoundAgain => 10,
+        DiagnosticCode::TooMany => 11,
+        DiagnosticCode::ImportIsNotYes => 12,
+        DiagnosticCode::ImportHasNoRank => 13,
+        DiagnosticCode::TwoFunctions => 14,
+        DiagnosticCode::NoCertificate => 15,
+    }
+}
+
+/// What the rule of a code says.
+pub fn rule_text(code: DiagnosticCode) -> &'static str
+    ensures { result.now ≡ rule_text code }
+{
+    match code {
+        DiagnosticCode::Unreadable(_) => "file has no tokens",
+        DiagnosticCode::LeftOut(_) => "no tree, or a form that is left out",
+        code => code.text(),
+    }
+}
+
+/// How grave a code is: a fault of the body is an error, and what could not be followed a warning.
+pub fn level(code: DiagnosticCode) -> &'static str
+    ensures { result.now ≡ level code }
+{
+    match code {
+        DiagnosticCode::Discarded
+        | DiagnosticCode::Overwritten
+        | DiagnosticCode::NotCalled
+        | DiagnosticCode::GroupIsLive
+        | DiagnosticCode::GroupOverwritten
+        | DiagnosticCode::LeftToLiveGroup => "error",
+        _ => "warning",
+    }
+}
+
+/// The rule at the place of a code's rule has the code's number.
+pub fn each_code_has_its_rule()
+    ensures { (code : Code)
+        → option_map code_number (slice_get rule_codes (rule_index code)) ≡ Some (code_number code) }
+{}
