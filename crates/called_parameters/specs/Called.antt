@@ -2,7 +2,7 @@
 use Rattle.std.specs.Prelude.{ℕ, ◌==◌, ◌&&◌, Bool, false, List, Option, Some, None, option_map}
 use Rattle.std.specs.Str.{bytes_eq}
 use Rattle.indexmap.specs.IndexSet.{contains_by}
-use Rattle.names.specs.Answers.{at_name}
+use Rattle.first_values.specs.ValuesByName.{value_of}
 use Rattle.meaning_packages.specs.CallsFlags.{Flags}
 use Rattle.called_parameters.specs.declared.called.FunctionParameter.{FunctionParameter}
 use Rattle.called_parameters.specs.declared.called.Called.{Called}
@@ -21,7 +21,7 @@ is_called_in (Some called) name k = is_called called name k
 
 -- the functions of the package of that path
 abbrev pub called_by_path : ImportedCalls → List ℕ → Option Called
-called_by_path imported path = option_map (λ c. c.now) (at_name imported.packages path)
+called_by_path imported path = option_map (λ c. c.now) (value_of imported.packages path)
 
 abbrev pub flags_by_path : ImportedCalls → List ℕ → Flags
 flags_by_path imported path = is_called_in (called_by_path imported path)

@@ -2,10 +2,11 @@
 
 ghost use Rattle.std.specs.Prelude.{◌≡◌, ◌||◌, ℕ, List, OnOk, OnErr, false, None};
 ghost use Rattle.called_parameters.specs.Called.{is_called, is_parameter, called_by_path, flags_by_path};
+ghost use Rattle.first_values.specs.ValuesByName.{only_at};
 ghost use Rattle.meaning.specs.OuterBlocks.{or_else};
-ghost use Rattle.names.specs.Maps.{only_at};
 
-use indexmap::{IndexMap, IndexSet};
+use first_values::FirstValues;
+use indexmap::IndexSet;
 use std::alloc::{AllocError, Global};
 
 /// A parameter of a function of a package: the function's name and the parameter's position from 0. A receiver has no
@@ -59,7 +60,7 @@ impl<'a> Called<'a> {
 /// What is known of the functions of imports, given or declared, by the paths of their packages.
 #[derive(Drop)]
 pub struct ImportedCalls<'a, 't> {
-    packages: IndexMap<&'a str, &'t Called<'a>>,
+    packages: FirstValues<'a, &'t Called<'a>>,
 }
 
 impl<'a, 't> ImportedCalls<'a, 't> {
@@ -68,7 +69,7 @@ impl<'a, 't> ImportedCalls<'a, 't> {
         ensures { (path : List ℕ) → called_by_path result path ≡ None }
     {
         ImportedCalls {
-            packages: IndexMap::new(alloc),
+            packages: FirstValues::new(alloc),
         }
     }
 
@@ -92,9 +93,6 @@ impl<'a, 't> ImportedCalls<'a, 't> {
             (only_at path.now called.now p)) }
         ensures err { OnErr result ((p : List ℕ) → called_by_path self.new p ≡ called_by_path self.old p) }
     {
-        if !self.packages.contains_key(path) {
-            self.packages.insert(path, called)?;
-        }
-        Ok(())
+        self.packages.insert(path, called)
     }
 }

@@ -13,5 +13,5 @@ pub use claims::{Claim, find_claims, function_name};
 pub use file_bodies::{FileBodies, bodies_of_file, bodies_of_files, told_bodies};
 pub use keeping::keeps_claim;
 pub use known_calls::KnownCalls;
-pub use rounds::{Sieve, called_by, find_called, find_called_by};
+pub use rounds::{called_by, find_called};
 pub use told_file::{ToldFile, tell_files};

@@ -54,55 +54,13 @@ fn sieved<'a>(
     Ok(kept)
 }
 
-/// How the claims that their functions keep are told from others.
-pub trait Sieve {
-    /// Why they may not be told. Memory may be refused to each.
-    type Fault: From<AllocError>;
-
-    /// Those of the claims that the paths of their functions keep, by what is known of functions.
-    ///
-    /// # Errors
-    ///
-    /// Memory was refused, or what else there is for this sieve.
-    fn kept<'a>(
-        &self,
-        alloc: Global,
-        files: &[FileBodies<'_, 'a>],
-        calls: KnownCalls<'_, 'a>,
-        claims: &[Claim<'a>],
-    ) -> Result<Vec<Claim<'a>>, Self::Fault>
-        ensures fewer { IfOk result (λ kept. length kept.items ≤ length claims.now) }
-        ensures sieves { IfOk result (λ kept. (fs : List FileWithCredits) → TellAll fs files.now
-            → AreClaims fs (map claim_view claims.now)
-            → Sieves (KeepsClaim fs (known_calls calls.entry))
-            (map claim_view claims.now) (map claim_view kept.items)) };
-}
-
-/// One claim after the other.
-struct OneByOne;
-
-impl Sieve for OneByOne {
-    type Fault = AllocError;
-
-    fn kept<'a>(
-        &self,
-        alloc: Global,
-        files: &[FileBodies<'_, 'a>],
-        calls: KnownCalls<'_, 'a>,
-        claims: &[Claim<'a>],
-    ) -> Result<Vec<Claim<'a>>, AllocError> {
-        sieved(alloc, files, calls, claims)
-    }
-}
-
 /// Those of the claims that are kept where these claims, and no others, hold.
-fn kept_claims<'a, S: Sieve>(
+fn kept_claims<'a>(
     alloc: Global,
     files: &[FileBodies<'_, 'a>],
     imported: &ImportedCalls<'a, '_>,
     claims: &[Claim<'a>],
-    sieve: &S,
-) -> Result<Vec<Claim<'a>>, S::Fault>
+) -> Result<Vec<Claim<'a>>, AllocError>
     ensures fewer { IfOk result (λ kept. length kept.items ≤ length claims.now) }
     ensures sieves { IfOk result (λ kept. (fs : List FileWithCredits) → TellAll fs files.now
         → AreClaims fs (map claim_view claims.now)
@@ -114,39 +72,13 @@ fn kept_claims<'a, S: Sieve>(
         own: &own,
         imported: &*imported,
     };
-    sieve.kept(alloc, files, calls, claims)
+    sieved(alloc, files, calls, claims)
 }
 
 /// Finds which functions of a package are known to call which of their parameters, where the functions of the package
 /// have these facts, and this is known of its imports: the most consistent flags. All cancel
 /// parameters are claimed first; each round drops the claims that the paths break under the claims that are left, until
-/// none is dropped. The sieve tells which these are.
-///
-/// # Errors
-///
-/// Memory was refused, or what else there is for this sieve.
-pub fn find_called_by<'a, S: Sieve>(
-    alloc: Global,
-    table: &Table<'a>,
-    files: &[FileBodies<'_, 'a>],
-    imported: &ImportedCalls<'a, '_>,
-    sieve: &S,
-) -> Result<Called<'a>, S::Fault>
-    ensures { IfOk result (λ called. (fs : List FileWithCredits) → TellAll fs files.now
-        → HaveFacts (facts_by_name table.now) fs
-        → AreMost fs (flags_by_path imported.now) (is_called called)) }
-{
-    let mut claims = find_claims(alloc, table, files)?;
-    loop {
-        let kept = kept_claims(alloc, files, imported, &claims, sieve)?;
-        if kept.len() == claims.len() {
-            return Ok(called_by(alloc, &claims)?);
-        }
-        claims = kept;
-    }
-}
-
-/// The same, one claim after the other.
+/// none is dropped.
 ///
 /// # Errors
 ///
@@ -161,5 +93,12 @@ pub fn find_called<'a>(
         → HaveFacts (facts_by_name table.now) fs
         → AreMost fs (flags_by_path imported.now) (is_called called)) }
 {
-    find_called_by(alloc, table, files, imported, &OneByOne)
+    let mut claims = find_claims(alloc, table, files)?;
+    loop {
+        let kept = kept_claims(alloc, files, imported, &claims)?;
+        if kept.len() == claims.len() {
+            return called_by(alloc, &claims);
+        }
+        claims = kept;
+    }
 }

@@ -12,7 +12,7 @@ use Rattle.certificate_json.specs.declared.fault.CertificateFault.TheVariants.{N
 use Rattle.certificate_json.specs.Certificates.{PackageEntry, AreInOrder, HasOrder}
 use Rattle.certificate_json.specs.CertificateTexts.{AreCertificatesOf, HasWrongShape, IsCertificateFault}
 use Rattle.certificate_json.specs.CertificateValues.{AreCertificatesIn, IsPackageIn}
-use Rattle.certificate_json.proofs.PackageReadings.{one_meaning, version_there}
+use Rattle.certificate_json.proofs.PackagesRead.{one_meaning, version_there}
 
 -- What is read is in order
 

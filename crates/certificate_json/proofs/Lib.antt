@@ -1,10 +1,8 @@
 mod BodiesRead
 mod BodyReadings
 mod CertificateLaws
-mod PackageReadings
 mod PackagesRead
 mod RowsHeld
 mod StatesRead
-mod WholeRead
 mod WritingBack
 mod WrittenAsTheyStand

@@ -5,8 +5,7 @@ use Rattle.std.specs.Prelude.{ℕ, ◌≡◌, ◌<◌, ◌^◌, List, map, codes
 use Rattle.std.specs.List.{AllZip}
 use Rattle.serde_json.specs.Data.{Data, string, object, member, no_members}
 use Rattle.table_json.specs.declared.table.Version.{Version}
-use Rattle.table_json.specs.Tables.{IsArranged}
-use Rattle.table_json.specs.TableValues.{whole, list, function_value, number_of, Fits, AreFunctionsOf, IsFunctionIn}
+use Rattle.table_json.specs.TableValues.{whole, list, function_value, number_of, Fits, AreArrangedOf, AreFunctionsOf, IsFunctionIn}
 use Rattle.certificate_json.specs.Certificates.{BodyEntry, PackageEntry, by_place, place_of, AreApart}
 
 -- The value of certificates, in version 2
@@ -69,10 +68,8 @@ pub record IsBodyValue (value : Data) (b : BodyEntry) : Type 0 where
   pub each : AllZip AreMasks states b.states
 
 -- these are the values of the bodies, in any order: none comes twice
-pub record AreBodiesOf (values : List Data) (kept : List BodyEntry) : Type 0 where
-  pub given : List BodyEntry
-  pub each : AllZip IsBodyValue values given
-  pub arranged : IsArranged by_place place_of given kept
+abbrev pub AreBodiesOf : List Data → List BodyEntry → Type 0
+AreBodiesOf = AreArrangedOf IsBodyValue by_place place_of
 
 -- Which values are those of packages and certificates
 

@@ -1,13 +1,12 @@
--- What serves the proofs: the parts of the value of certificates, one by one.
-use Rattle.std.specs.Prelude.{ℕ, ◌≡◌, ◌^◌, List, Option, Some, None, option_and_then, option_map, if◌then◌else◌, nat_lt, codes}
+-- What serves the proofs: which masks are small, what is written, and faults.
+use Rattle.std.specs.Prelude.{ℕ, ◌≡◌, ◌^◌, List, Option, Some, None, if◌then◌else◌, nat_lt}
 use Rattle.std.specs.List.{AllByRecursion, AllZip}
-use Rattle.serde_json.specs.Data.{Data, Items}
-use Rattle.serde_json.specs.Find.{as_number, as_u64, as_str, as_array}
+use Rattle.serde_json.specs.Data.{Data}
 use Rattle.json_reading.specs.declared.stop.Stop.{Stop}
 use Rattle.json_reading.specs.declared.stop.Stop.TheVariants as stop
 use Rattle.table_json.specs.declared.fault.TableFault.{TableFault}
 use Rattle.table_json.specs.declared.fault.TableFault.TheVariants as table
-use Rattle.table_json.specs.Parts.{position_in, three_members, two_members, HasFits as HasFunctionFits}
+use Rattle.table_json.specs.Parts.{HasFits as HasFunctionFits}
 use Rattle.table_json.specs.TableValues.{Fits}
 use Rattle.certificate_json.specs.declared.fault.CertificateFault.{CertificateFault}
 use Rattle.certificate_json.specs.declared.fault.CertificateFault.TheVariants.{NotJson, WrongVersion, WrongShape, OutOfMemory}
@@ -17,34 +16,6 @@ use Rattle.certificate_json.specs.WrittenCertificates.{IsWrittenAs}
 
 abbrev pub if_small : ℕ → Option ℕ
 if_small n = if nat_lt n (2 ^ 16) then Some n else None
-
-unfoldable pub mask_in : Data → Option ℕ
-mask_in value = option_and_then if_small (option_and_then as_u64 (as_number value))
-
--- the offset, the file, and the values of the states
-unfoldable pub body_in : Data → Option (ℕ × ℕ × Items)
-body_in value =
-    option_and_then (λ ms.
-    option_and_then (λ at.
-    option_and_then (λ file.
-    option_map (λ states. (at, file, states))
-    (as_array ms.2)) (position_in ms.1)) (position_in ms.0))
-    (three_members (codes "at") (codes "file") (codes "states") value)
-
--- the path, and the values of the bodies and of the facts
-unfoldable pub package_in : Data → Option (List ℕ × Items × Items)
-package_in value =
-    option_and_then (λ ms.
-    option_and_then (λ bodies.
-    option_and_then (λ facts.
-    option_map (λ path. (path, bodies, facts))
-    (as_str ms.2)) (as_array ms.1)) (as_array ms.0))
-    (three_members (codes "bodies") (codes "facts") (codes "path") value)
-
--- the packages, whatever the version
-unfoldable pub packages_in : Data → Option Items
-packages_in value =
-    option_and_then (λ ms. as_array ms.0) (two_members (codes "packages") (codes "version") value)
 
 -- What is written
 

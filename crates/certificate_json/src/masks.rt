@@ -100,11 +100,7 @@ impl AddItem for States {
 }
 
 /// Reads the next value as the masks of all nodes.
-pub(crate) fn read_states(
-    alloc: Global,
-    reader: &mut Reader<'_>,
-    depth: usize,
-) -> Result<Option<Rows>, Stop>
+fn read_states(alloc: Global, reader: &mut Reader<'_>, depth: usize) -> Result<Option<Rows>, Stop>
     ensures ok { IfOk result (λ found. ReadsAs AreStates (Refutes AreStates) (value_at depth reader.old) reader.new
         (option_map rows_of found)) }
     ensures err { IfErr result (Stops (value_at depth reader.old)) }
@@ -120,5 +116,30 @@ pub(crate) fn read_states(
         Ok(Some(states.rows))
     } else {
         Ok(None)
+    }
+}
+
+/// Lists of the masks of nodes.
+#[derive(Clone, Copy, Drop)]
+pub(crate) struct StateLists;
+
+impl ReadItem for StateLists {
+    ghost use Rattle.json_reading.specs.Standing.{Refutes};
+    ghost use Rattle.certificate_json.specs.Certificates.{rows_of};
+    ghost use Rattle.certificate_json.specs.MembersRead.{AreStates};
+
+    type Item = Rows;
+
+    ghost is_item = { λ _ value rows. AreStates value (rows_of rows) };
+
+    ghost is_none = { λ _. Refutes AreStates };
+
+    fn read_item(
+        &self,
+        alloc: Global,
+        reader: &mut Reader<'_>,
+        depth: usize,
+    ) -> Result<Option<Rows>, Stop> {
+        read_states(alloc, reader, depth)
     }
 }

@@ -1,78 +1,21 @@
-//! Packages, and lists of them.
+//! Packages, one by one, and those of a text.
 
-ghost use Rattle.std.specs.Prelude.{◌≡◌, IfErr, IfOk, map, option_map, string_bytes};
-ghost use Rattle.json_reading.specs.Standing.{value_at, ReadsAs, Refutes, Stops};
-ghost use Rattle.table_json.specs.Tables.{entry_of};
-ghost use Rattle.certificate_json.specs.Certificates.{body_of, package_of};
-ghost use Rattle.certificate_json.specs.MembersRead.{package_with_members, ArePackagesIn};
+ghost use Rattle.std.specs.Prelude.{◌≡◌, IfErr, IfOk, Some, map};
+ghost use Rattle.serde_json.specs.Data.{Data};
+ghost use Rattle.serde_json.specs.Read.{read};
+ghost use Rattle.json_reading.specs.Standing.{Judges, Refutes, RefusesText};
+ghost use Rattle.table_json.specs.TableTexts.{version_of};
+ghost use Rattle.table_json.specs.TableValues.{number_of};
+ghost use Rattle.certificate_json.specs.Certificates.{package_of};
+ghost use Rattle.certificate_json.specs.CertificateValues.{AreCertificatesIn};
 
-use crate::bodies::read_bodies;
-use crate::certificates::{Body, Package};
+use crate::bodies::BodyLists;
+use crate::certificates::Package;
+use crate::order::are_apart;
 use json::Reader;
-use json_reading::{ReadItem, ReadMember, Stop, pass_value, read_list, read_object};
+use json_reading::{ListOf, NoOthers, ReadItem, Stop, Under, read_made, read_versioned};
 use std::alloc::Global;
-use table_json::{Function, Table, Version, read_functions, read_text};
-
-/// What was read of the members of a package.
-#[derive(Drop)]
-struct PackageMembers {
-    version: Version,
-    bodies: Option<Vec<Body>>,
-    facts: Option<Vec<Function>>,
-    path: Option<String>,
-    has_other: bool,
-}
-
-impl ReadMember for PackageMembers {
-    ghost use Rattle.std.specs.Prelude.{◌≡◌, map, option_map, string_bytes};
-    ghost use Rattle.table_json.specs.Tables.{entry_of};
-    ghost use Rattle.certificate_json.specs.Certificates.{body_of};
-    ghost use Rattle.certificate_json.specs.MembersRead.{HasPackageMembers};
-
-    ghost holds = { λ begun read found. (read.version ≡ begun.version)
-        × HasPackageMembers begun.version read.has_other
-        (option_map (λ bodies. map body_of bodies.items) read.bodies)
-        (option_map (λ facts. map entry_of facts.items) read.facts) (option_map string_bytes read.path) found };
-
-    fn read_member(
-        &mut self,
-        alloc: Global,
-        key: &str,
-        reader: &mut Reader<'_>,
-        depth: usize,
-    ) -> Result<(), Stop> {
-        if key == "bodies" {
-            self.bodies = read_bodies(alloc, reader, depth)?;
-        } else if key == "facts" {
-            self.facts = read_functions(alloc, self.version, reader, depth)?;
-        } else if key == "path" {
-            self.path = read_text(alloc, reader, depth)?;
-        } else {
-            pass_value(reader, depth)?;
-            self.has_other = true;
-        }
-        Ok(())
-    }
-}
-
-/// The package of an object with these members.
-#[tactic(auto, unfolding(crate::specs::MembersRead::package_with_members))]
-fn package_with(members: PackageMembers) -> Option<Package>
-    ensures { option_map package_of result ≡ package_with_members members.has_other
-        (option_map (λ bodies. map body_of bodies.items) members.bodies)
-        (option_map (λ facts. map entry_of facts.items) members.facts) (option_map string_bytes members.path) }
-{
-    if members.has_other {
-        return None;
-    }
-    Some(Package {
-        path: members.path?,
-        bodies: members.bodies?,
-        facts: Table {
-            functions: members.facts?,
-        },
-    })
-}
+use table_json::{FunctionLists, Table, Texts, Version};
 
 /// The packages of a list, in this version.
 #[derive(Clone, Copy, Drop)]
@@ -97,31 +40,59 @@ impl ReadItem for Packages {
         reader: &mut Reader<'_>,
         depth: usize,
     ) -> Result<Option<Package>, Stop> {
-        let mut members = PackageMembers {
+        let functions = FunctionLists {
             version: self.version,
-            bodies: None,
-            facts: None,
-            path: None,
-            has_other: false,
         };
-        if read_object(alloc, &mut members, reader, depth)? {
-            Ok(package_with(members))
-        } else {
-            Ok(None)
+        let members = Under {
+            key: "bodies",
+            values: &BodyLists,
+            found: None,
+            others: Under {
+                key: "facts",
+                values: &functions,
+                found: None,
+                others: Under {
+                    key: "path",
+                    values: &Texts,
+                    found: None,
+                    others: NoOthers { are_none: true },
+                },
+            },
+        };
+        match read_made(alloc, members, reader, depth)? {
+            Some(found) => {
+                let (bodies, (functions, (path, _))) = found;
+                let facts = Table { functions };
+                Ok(Some(Package {
+                    path,
+                    bodies,
+                    facts,
+                }))
+            }
+            None => Ok(None),
         }
     }
 }
 
-/// Reads the next value as a list of packages in this version, in the order in which they stand.
+/// The packages of a text in this version, in the order in which they stand.
 pub(crate) fn read_packages(
     alloc: Global,
     version: Version,
-    reader: &mut Reader<'_>,
-    depth: usize,
+    text: &str,
 ) -> Result<Option<Vec<Package>>, Stop>
-    ensures ok { IfOk result (λ found. ReadsAs (ArePackagesIn version) (Refutes (ArePackagesIn version))
-        (value_at depth reader.old) reader.new (option_map (λ packages. map package_of packages.items) found)) }
-    ensures err { IfErr result (Stops (value_at depth reader.old)) }
+    ensures ok { IfOk result (λ found. (value : Data) × (read text.now ≡ Some value)
+        × Judges (λ v packages. version_of v ≡ Some (number_of version)
+        → AreCertificatesIn version v (map package_of packages.items))
+        (Refutes (AreCertificatesIn version)) value found) }
+    ensures err { IfErr result (RefusesText text.now) }
 {
-    read_list(alloc, &Packages { version }, reader, depth)
+    let items = Packages { version };
+    let Some(packages) = read_versioned(alloc, "packages", &ListOf { items: &items }, text)? else {
+        return Ok(None);
+    };
+    if are_apart(alloc, &packages)? {
+        Ok(Some(packages))
+    } else {
+        Ok(None)
+    }
 }

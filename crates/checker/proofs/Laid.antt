@@ -1,9 +1,10 @@
 -- A body that is laid out, and what is tested of its certificates.
-use Rattle.std.proofs.Common.{◌≡◌, ◌↔◌, ℕ, ◌+◌, ◌-◌, ◌<◌, ◌≤◌, Bool, true, false, ◌&&◌, not, IsTrue, List, ◌∷◌, ◌++◌, length, get_or, drop, map, refl, sym, ap, ◌∙◌, subst}
+use Rattle.std.proofs.Common.{◌≡◌, ◌↔◌, ℕ, ◌+◌, ◌-◌, ◌<◌, ◌≤◌, Bool, true, false, ◌&&◌, ◌||◌, not, IsTrue, List, ◌∷◌, ◌++◌, length, get_or, drop, map, refl, sym, ap, ◌∙◌, subst}
 use Rattle.std.specs.Prelude.{nat_le}
 use Rattle.std.specs.List.{list_all}
 use Rattle.std.proofs.lemmas.Bool.{and_parts, and_left, and_right, leb-true}
 use Rattle.std.proofs.lemmas.List.{drop_more, drop_all, length-map}
+use Rattle.path_faults.specs.FoundFaults.{any_from}
 use Rattle.events.specs.declared.variable.Variable.{Variable as KeptVariable}
 use Rattle.events.specs.VariableViews.{variable_view}
 use Rattle.bodies.specs.declared.graph.BodyGraph.{BodyGraph}
@@ -133,6 +134,27 @@ pub edges_end : (test : ℕ → Event → ℕ → Bool) (n : ℕ) (nodes : List 
     → edges_left test n (drop n nodes) ≡ whole
     → true ≡ whole
 edges_end test n nodes whole past left = sym (ap (edges_left test n) (drop_all n nodes past)) ∙ left
+
+-- What is at fault
+
+-- some node passes the test, from that number on
+abbrev pub any_left : (ℕ → Event → Bool) → ℕ → List (KeptNode NodeEvent) → Bool
+any_left test n nodes = any_from (λ k o. test k o.event) n (map (changed node_event_view) (occurrences_of nodes))
+
+module _ (test : ℕ → Event → Bool) (n : ℕ) (nodes : List (KeptNode NodeEvent)) (node : KeptNode NodeEvent)
+    (within : n < length nodes) (is : node ≡ get_or nodes n node) (own whole : Bool)
+    (tests : own ≡ test n (node_event_view node.occurrence.event))
+    (left : any_left test n (drop n nodes) ≡ whole) where
+  any_split : any_left test n (drop n nodes) ≡ (own || any_left test (n + 1) (drop (n + 1) nodes))
+  any_split =
+      ap (any_left test n) (drop_more nodes n node within ∙ ap (λ x. x ∷ drop (n + 1) nodes) (sym is))
+      ∙ ap (λ b. b || any_left test (n + 1) (drop (n + 1) nodes)) (sym tests)
+
+  pub any_next : own ≡ false → any_left test (n + 1) (drop (n + 1) nodes) ≡ whole
+  any_next fails = sym (any_split ∙ ap (λ b. b || any_left test (n + 1) (drop (n + 1) nodes)) fails) ∙ left
+
+  pub any_stop : own ≡ true → true ≡ whole
+  any_stop so = sym (any_split ∙ ap (λ b. b || any_left test (n + 1) (drop (n + 1) nodes)) so) ∙ left
 
 -- The whole
 

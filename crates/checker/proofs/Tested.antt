@@ -1,18 +1,19 @@
 -- What the program tests of a certificate is what is meant.
 use Rattle.std.proofs.Common.{◌≡◌, ◌↔◌, ◌==◌, ℕ, zero, suc, Bool, true, false, not, ◌&&◌, ◌||◌, IsTrue, List, [], ◌∷◌, length, Option, Some, None, nat_eq, Contains, refl, sym, ap, ◌∙◌, subst, true≢false, arith, inl, inr}
 use Rattle.std.specs.Prelude.{slice_get, slice_index_or}
-use Rattle.std.specs.List.{AllByRecursion, list_any, list_all}
+use Rattle.std.specs.List.{AllByRecursion, list_all}
 use Rattle.std.proofs.lemmas.Bool.{false≢true, and_parts, and_from, or_cases, or_left, or_right, not-true, not_from_false, false_from_ne_true, eqb-true, eq-eqb, lt-ltb}
 use Rattle.meaning.specs.Code.{Occurrence}
 use Rattle.meaning.specs.FunctionFacts.{VariableKind, cancel, group}
-use Rattle.meaning.specs.Tracked.{GroupState, idle, live}
+use Rattle.meaning.specs.Tracked.{GroupState, live}
 use Rattle.meaning.specs.Uses.{VariableAt, Handed, Event, other, obtain, clear, call, defer_call, pass, defer_pass, lend, start, try, wait, defer_wait, make, defer_literal, return_event, is_cancel, is_group}
 use Rattle.meaning.specs.BodyEvents.{Variable, too_many_faults}
-use Rattle.meaning.specs.Classes.{CancelClass, unset, opened, safe, pending, entry_cancel, change_cancel, GroupClass, unmade, in_state, awaited, entry_group, change_group}
-use Rattle.meaning_packages.specs.Credits.{is_safe, is_live}
-use Rattle.meaning_packages.specs.PathFaults.{BindsCancel, obtains, clears, is_declared, is_handed, is_lost, makes_it}
-use Rattle.path_faults.specs.FoundFaults.{is_return}
-use Rattle.path_faults.proofs.Kept.{cancel_kind, group_kind, is_cancel_kind, is_group_kind, return_of}
+use Rattle.meaning.specs.Classes.{CancelClass, opened, pending, entry_cancel, change_cancel, in_state, entry_group, change_group}
+use Rattle.meaning_packages.specs.Credits.{is_live}
+use Rattle.meaning_packages.specs.PathFaults.{BindsCancel, obtains, clears, is_declared, is_handed, is_lost}
+use Rattle.path_faults.specs.FoundFaults as found
+use Rattle.path_faults.specs.FoundFaults.{Cancels, Groups, deed_of, is_return_deed, is_return, is_live_group, may_be_lost, is_left_to, is_uncalled, owes_call, is_fault}
+use Rattle.path_faults.proofs.Kept.{cancel_kind, group_kind, is_cancel_kind, is_group_kind, return_of, lost_has, has_lost, settled_safe, settled_at_rest, unsettled_class}
 use Rattle.path_faults.proofs.Places.{place_of as place_of_element, contains_at, any_witness, any_holds, passes_at, any_at}
 use Rattle.states.specs.Bits.{group_class}
 use Rattle.states.specs.Masks.{HasKnownBits, Has, MayBe, GoesInto, bit_of_group}
@@ -28,7 +29,7 @@ use Rattle.checker.proofs.TestedLists.{members, all_members, by_recursion, at_ea
 use Rattle.checker.specs.Certificates.{CheckedBody, groups_with_bits, class_of_bit, bit_of_class, masks_in, row_from, masks_at, mask_at, StartsWithBits, IsRow, HasRows, IsClosedFor, is_claimed, IsOwed, is_kept, has_claim, MayBeCancel, MayBeLive, MayBeUncalled, is_open, is_left, IsFault, loses_cancel, loses_group, returns_live, returns_uncalled, Holds, IsSettledBy, SettlesIn}
 use Rattle.checker.specs.CertificateTests as tested
 use Rattle.checker.specs.Loaded.{numbers_of, place_of, is_taken, step_of, steps_into}
-use Rattle.checker.specs.CertificateTests.{all_from, mask_in, is_row, has_rows, has_entry, has_entries, loads, all_step_into, edges_from, have_places, starts_among, all_start_among, is_left_outside, may_be_lost, may_be_live, may_be_uncalled, is_owed, breaks_return, return_breaks, starts_hold, edges_hold, has_fault, graph_holds, is_unsettled, breaks_settling}
+use Rattle.checker.specs.CertificateTests.{all_from, mask_in, is_row, has_rows, has_entry, has_entries, loads, all_step_into, edges_from, have_places, starts_among, all_start_among, cancels_told, groups_told, lives_told, breaks_claim, is_broken, node_breaks, starts_hold, edges_hold, has_fault, graph_holds, breaks_settling}
 
 -- Rows
 
@@ -123,6 +124,14 @@ module _ (b : CheckedBody) (states : List (List ℕ)) where
 
   abbrev masks : ℕ → List ℕ
   masks = masks_at b states
+
+  -- what is told of the classes at nodes
+
+  abbrev cancels : Cancels
+  cancels = cancels_told groups masks
+
+  abbrev groups_at : Groups
+  groups_at = groups_told masks
 
   rows_are : IsTrue (has_rows vs (length b.order) states) ↔ HasRows b states
   rows_are = (
@@ -288,204 +297,219 @@ module _ (b : CheckedBody) (states : List (List ℕ)) where
     abbrev mask_of : ℕ → ℕ
     mask_of i = mask_at b states i node
 
-    cancel_may : (i : ℕ) (k : CancelClass) → IsTrue (may_be_cancel groups (mask_of i) k) ↔ MayBeCancel b states node i k
+    abbrev lives : ℕ → Bool
+    lives = lives_told masks node
+
+    cancel_may : (i : ℕ) (k : CancelClass) → IsTrue (cancels i node k) ↔ MayBeCancel b states node i k
     cancel_may i k = may_be_is groups (mask_of i) k
 
-    live_may : (i : ℕ) → IsTrue (may_be_live (masks node) i) ↔ MayBeLive b states node i
+    live_may : (i : ℕ) → IsTrue (lives i) ↔ MayBeLive b states node i
     live_may i = group_may_be_is (mask_of i) (in_state live)
 
     -- what is lost
-    record LostClass (i : ℕ) : Type 0 where
-      class : CancelClass
-      may_be : MayBeCancel b states node i class
-      is_lost : is_lost vs class ≡ true
 
-    lost_class : (i : ℕ) → may_be_lost groups vs (mask_of i) ≡ true → LostClass i
-    lost_class i e =
-        elim (or_cases (may_be_cancel groups (mask_of i) opened) (is_left_outside groups vs (mask_of i)) e) [
-          | inl is ↦ record { class = opened; may_be = (cancel_may i opened).0 is; is_lost = refl }
-          | inr some ↦
-              let w = any_witness (λ g. may_be_cancel groups (mask_of i) (pending g) && not (makes_it vs g)) groups some in
-              let parts = and_parts (may_be_cancel groups (mask_of i) (pending w.0)) (not (makes_it vs w.0)) w.2 in
-              record { class = pending w.0; may_be = (cancel_may i (pending w.0)).0 parts.0; is_lost = parts.1 }
-        ]
-
-    class_lost : (i : ℕ) (k : CancelClass) → may_be_cancel groups (mask_of i) k ≡ true → is_lost vs k ≡ true
-        → may_be_lost groups vs (mask_of i) ≡ true
-    class_lost i unset e lost = absurd (false≢true lost)
-    class_lost i opened e lost =
-        or_left (may_be_cancel groups (mask_of i) opened) (is_left_outside groups vs (mask_of i)) e
-    class_lost i safe e lost = absurd (false≢true lost)
-    class_lost i (pending g) e lost =
-        or_right (may_be_cancel groups (mask_of i) opened) (is_left_outside groups vs (mask_of i))
-        (any_holds (λ g. may_be_cancel groups (mask_of i) (pending g) && not (makes_it vs g)) groups g
-        (pending_among groups (mask_of i) g e)
-        (and_from (may_be_cancel groups (mask_of i) (pending g)) (not (makes_it vs g)) e lost))
-
-    abbrev lost_test : ℕ → ℕ → Variable → Bool
-    lost_test number i v =
-        is_cancel (Some v.kind) && ((v.number == number) && may_be_lost groups vs (mask_in (masks node) i))
-
-    lost_fault : (e : Event) (u : VariableAt) → BindsCancel e u
-        → tested.loses_cancel groups vs (masks node) u.number ≡ true → IsFault b states node e
-    lost_fault e u binds h =
-        let w = passes_at (lost_test u.number) vs h in
-        let v = w.element in
+    lost_fault : (e : Event) (u : VariableAt) → BindsCancel e u → (i : ℕ) (v : Variable) → slice_get vs i ≡ Some v
+        → found.loses_cancel vs cancels groups node u.number i v ≡ true → IsFault b states node e
+    lost_fault e u binds i v there h =
         let parts = and_parts (is_cancel (Some v.kind))
-        ((v.number == u.number) && may_be_lost groups vs (mask_in (masks node) w.place)) w.passes in
-        let inner = and_parts (v.number == u.number) (may_be_lost groups vs (mask_in (masks node) w.place)) parts.1 in
-        let lost = lost_class w.place inner.1 in
-        loses_cancel w.place v u lost.class w.is_there (cancel_kind v.kind parts.0) binds
-        (sym (eqb-true v.number u.number inner.0)) lost.may_be lost.is_lost
+        ((v.number == u.number) && may_be_lost vs (cancels i node) groups) h in
+        let inner = and_parts (v.number == u.number) (may_be_lost vs (cancels i node) groups) parts.1 in
+        let lost = lost_has (cancels i node) vs groups inner.1 in
+        loses_cancel i v u lost.0 there (cancel_kind v.kind parts.0) binds (sym (eqb-true v.number u.number inner.0))
+        ((cancel_may i lost.0).0 lost.1) lost.2
 
-    fault_lost : (i : ℕ) (v : Variable) (u : VariableAt) (k : CancelClass) → slice_get vs i ≡ Some v
-        → v.kind ≡ cancel → u.number ≡ v.number → MayBeCancel b states node i k → is_lost vs k ≡ true
-        → tested.loses_cancel groups vs (masks node) u.number ≡ true
-    fault_lost i v u k there kind same may_be lost =
-        any_at (lost_test u.number) vs i v there
-        (and_from (is_cancel (Some v.kind))
-        ((v.number == u.number) && may_be_lost groups vs (mask_in (masks node) i)) (is_cancel_kind v.kind kind)
-        (and_from (v.number == u.number) (may_be_lost groups vs (mask_in (masks node) i))
-        (eq-eqb v.number u.number (sym same)) (class_lost i k ((cancel_may i k).1 may_be) lost)))
+    fault_lost : (i : ℕ) (v : Variable) (u : VariableAt) (k : CancelClass) → v.kind ≡ cancel → u.number ≡ v.number
+        → MayBeCancel b states node i k → is_lost vs k ≡ true
+        → found.loses_cancel vs cancels groups node u.number i v ≡ true
+    fault_lost i v u k kind same may_be lost =
+        and_from (is_cancel (Some v.kind)) ((v.number == u.number) && may_be_lost vs (cancels i node) groups)
+        (is_cancel_kind v.kind kind)
+        (and_from (v.number == u.number) (may_be_lost vs (cancels i node) groups)
+        (eq-eqb v.number u.number (sym same))
+        (has_lost (cancels i node) vs groups (λ g h. pending_among groups (mask_of i) g h) k
+        ((cancel_may i k).1 may_be) lost))
 
-    abbrev group_test : ℕ → ℕ → Variable → Bool
-    group_test number i v = is_group (Some v.kind) && ((v.number == number) && may_be_live (masks node) i)
+    live_group : (i : ℕ) (g : Variable) → is_live_group g (groups_at i node) ≡ true
+        → (g.kind ≡ group) × MayBeLive b states node i
+    live_group i g h =
+        let parts = and_parts (is_group (Some g.kind)) (lives i) h in
+        (group_kind g.kind parts.0, (live_may i).0 parts.1)
 
-    lost_group : (e : Event) (u : VariableAt) (state : GroupState) → e ≡ make u state
-        → tested.loses_group vs (masks node) u.number ≡ true → IsFault b states node e
-    lost_group e u state makes h =
-        let w = passes_at (group_test u.number) vs h in
-        let g = w.element in
-        let parts = and_parts (is_group (Some g.kind)) ((g.number == u.number) && may_be_live (masks node) w.place)
-        w.passes in
-        let inner = and_parts (g.number == u.number) (may_be_live (masks node) w.place) parts.1 in
-        loses_group w.place g u state w.is_there (group_kind g.kind parts.0) makes
-        (sym (eqb-true g.number u.number inner.0)) ((live_may w.place).0 inner.1)
+    group_live : (i : ℕ) (g : Variable) → g.kind ≡ group → MayBeLive b states node i
+        → is_live_group g (groups_at i node) ≡ true
+    group_live i g kind may_be =
+        and_from (is_group (Some g.kind)) (lives i) (is_group_kind g.kind kind) ((live_may i).1 may_be)
 
-    group_lost : (i : ℕ) (g : Variable) (u : VariableAt) → slice_get vs i ≡ Some g → g.kind ≡ group
-        → u.number ≡ g.number → MayBeLive b states node i → tested.loses_group vs (masks node) u.number ≡ true
-    group_lost i g u there kind same may_be =
-        any_at (group_test u.number) vs i g there
-        (and_from (is_group (Some g.kind)) ((g.number == u.number) && may_be_live (masks node) i)
-        (is_group_kind g.kind kind)
-        (and_from (g.number == u.number) (may_be_live (masks node) i) (eq-eqb g.number u.number (sym same))
-        ((live_may i).1 may_be)))
+    lost_group : (e : Event) (u : VariableAt) (state : GroupState) → e ≡ make u state → (i : ℕ) (g : Variable)
+        → slice_get vs i ≡ Some g → found.loses_group groups_at node u.number i g ≡ true → IsFault b states node e
+    lost_group e u state makes i g there h =
+        let parts = and_parts (g.number == u.number) (is_live_group g (groups_at i node)) h in
+        let its = live_group i g parts.1 in
+        loses_group i g u state there its.0 makes (sym (eqb-true g.number u.number parts.0)) its.1
+
+    group_lost : (i : ℕ) (g : Variable) (u : VariableAt) → g.kind ≡ group → u.number ≡ g.number
+        → MayBeLive b states node i → found.loses_group groups_at node u.number i g ≡ true
+    group_lost i g u kind same may_be =
+        and_from (g.number == u.number) (is_live_group g (groups_at i node)) (eq-eqb g.number u.number (sym same))
+        (group_live i g kind may_be)
 
     -- uncalled
-    abbrev left_test : ℕ → ℕ → Variable → Bool
-    left_test i j g =
-        is_group (Some g.kind) && (may_be_live (masks node) j && may_be_cancel groups (mask_of i) (pending g.number))
 
-    uncalled_is : (i : ℕ) → may_be_uncalled groups vs (masks node) (mask_of i) ≡ true → MayBeUncalled b states node i
+    abbrev left_test : ℕ → ℕ → Variable → Bool
+    left_test i j g = is_group (Some g.kind) && (cancels i node (pending g.number) && lives j)
+
+    uncalled_is : (i : ℕ) → is_uncalled vs (cancels i node) lives ≡ true → MayBeUncalled b states node i
     uncalled_is i e =
-        elim (or_cases (may_be_cancel groups (mask_of i) opened) (tested.is_left groups vs (masks node) (mask_of i)) e) [
+        elim (or_cases (cancels i node opened) (is_left_to vs (cancels i node) lives) e) [
           | inl is ↦ is_open ((cancel_may i opened).0 is)
           | inr left ↦
               let w = passes_at (left_test i) vs left in
               let g = w.element in
-              let parts = and_parts (is_group (Some g.kind))
-              (may_be_live (masks node) w.place && may_be_cancel groups (mask_of i) (pending g.number)) w.passes in
-              let inner = and_parts (may_be_live (masks node) w.place)
-              (may_be_cancel groups (mask_of i) (pending g.number)) parts.1 in
-              is_left w.place g w.is_there (group_kind g.kind parts.0) ((cancel_may i (pending g.number)).0 inner.1)
-              ((live_may w.place).0 inner.0)
+              let parts = and_parts (is_group (Some g.kind)) (cancels i node (pending g.number) && lives w.place)
+              w.passes in
+              let inner = and_parts (cancels i node (pending g.number)) (lives w.place) parts.1 in
+              is_left w.place g w.is_there (group_kind g.kind parts.0) ((cancel_may i (pending g.number)).0 inner.0)
+              ((live_may w.place).0 inner.1)
         ]
 
-    is_uncalled : (i : ℕ) → MayBeUncalled b states node i → may_be_uncalled groups vs (masks node) (mask_of i) ≡ true
-    is_uncalled i (is_open may_be) =
-        or_left (may_be_cancel groups (mask_of i) opened) (tested.is_left groups vs (masks node) (mask_of i))
-        ((cancel_may i opened).1 may_be)
-    is_uncalled i (is_left j g there kind may_be is_live) =
-        or_right (may_be_cancel groups (mask_of i) opened) (tested.is_left groups vs (masks node) (mask_of i))
+    uncalled_so : (i : ℕ) → MayBeUncalled b states node i → is_uncalled vs (cancels i node) lives ≡ true
+    uncalled_so i (is_open may_be) =
+        or_left (cancels i node opened) (is_left_to vs (cancels i node) lives) ((cancel_may i opened).1 may_be)
+    uncalled_so i (is_left j g there kind may_be is_live) =
+        or_right (cancels i node opened) (is_left_to vs (cancels i node) lives)
         (any_at (left_test i) vs j g there
-        (and_from (is_group (Some g.kind))
-        (may_be_live (masks node) j && may_be_cancel groups (mask_of i) (pending g.number)) (is_group_kind g.kind kind)
-        (and_from (may_be_live (masks node) j) (may_be_cancel groups (mask_of i) (pending g.number))
-        ((live_may j).1 is_live) ((cancel_may i (pending g.number)).1 may_be))))
+        (and_from (is_group (Some g.kind)) (cancels i node (pending g.number) && lives j) (is_group_kind g.kind kind)
+        (and_from (cancels i node (pending g.number)) (lives j) ((cancel_may i (pending g.number)).1 may_be)
+        ((live_may j).1 is_live))))
 
-    owed_is : (v : Variable) (handed : List Handed) → is_owed b.is_claimed v handed ≡ true → IsOwed b v handed
-    owed_is v handed e =
-        elim (or_cases (is_declared v.role && not (is_handed v.number handed)) (is_claimed b.is_claimed v.role) e) [
-          | inl kept ↦
-              let parts = and_parts (is_declared v.role) (not (is_handed v.number handed)) kept in
-              is_kept parts.0 (not-true (is_handed v.number handed) parts.1)
-          | inr claimed ↦ has_claim claimed
+    -- what a return breaks
+
+    abbrev owes_test : List Handed → Variable → Bool
+    owes_test handed v = is_declared v.role && not (is_handed v.number handed)
+
+    abbrev uncalled_test : List Handed → ℕ → Variable → Bool
+    uncalled_test handed i v = owes_call v handed && is_uncalled vs (cancels i node) lives
+
+    broken_return : (e : Event) (handed : List Handed) → e ≡ return_event handed → (i : ℕ) (v : Variable)
+        → slice_get vs i ≡ Some v
+        → (uncalled_test handed i v || found.returns_live groups_at node i v) ≡ true → IsFault b states node e
+    broken_return e handed returns i v there h =
+        elim (or_cases (uncalled_test handed i v) (found.returns_live groups_at node i v) h) [
+          | inl uncalled ↦
+              let parts = and_parts (owes_call v handed) (is_uncalled vs (cancels i node) lives) uncalled in
+              let owes = and_parts (is_cancel (Some v.kind)) (owes_test handed v) parts.0 in
+              let inner = and_parts (is_declared v.role) (not (is_handed v.number handed)) owes.1 in
+              returns_uncalled i v handed there (cancel_kind v.kind owes.0) returns
+              (is_kept inner.0 (not-true (is_handed v.number handed) inner.1)) (uncalled_is i parts.1)
+          | inr its ↦
+              let parts = and_parts (is_declared v.role) (is_live_group v (groups_at i node)) its in
+              let live_one = live_group i v parts.1 in
+              returns_live i v handed there live_one.0 returns parts.0 live_one.1
         ]
 
-    is_owed_so : (v : Variable) (handed : List Handed) → IsOwed b v handed → is_owed b.is_claimed v handed ≡ true
-    is_owed_so v handed (is_kept declared kept) =
-        or_left (is_declared v.role && not (is_handed v.number handed)) (is_claimed b.is_claimed v.role)
+    fault_is : (e : Event) (i : ℕ) (v : Variable) → slice_get vs i ≡ Some v
+        → is_fault vs cancels groups_at groups lives node (deed_of e) i v ≡ true → IsFault b states node e
+    fault_is (obtain u f k d) i v there h = lost_fault (obtain u f k d) u (obtains) i v there h
+    fault_is (clear u) i v there h = lost_fault (clear u) u (clears) i v there h
+    fault_is (make u s) i v there h = lost_group (make u s) u s refl i v there h
+    fault_is (return_event handed) i v there h = broken_return (return_event handed) handed refl i v there h
+    fault_is other i v there h = absurd (false≢true h)
+    fault_is (call u) i v there h = absurd (false≢true h)
+    fault_is (defer_call u) i v there h = absurd (false≢true h)
+    fault_is (pass u f k) i v there h = absurd (false≢true h)
+    fault_is (defer_pass u f k) i v there h = absurd (false≢true h)
+    fault_is (lend g f k) i v there h = absurd (false≢true h)
+    fault_is (start g l) i v there h = absurd (false≢true h)
+    fault_is (try g l) i v there h = absurd (false≢true h)
+    fault_is (wait g) i v there h = absurd (false≢true h)
+    fault_is (defer_wait g) i v there h = absurd (false≢true h)
+    fault_is (defer_literal l) i v there h = absurd (false≢true h)
+
+    abbrev claim_test : Variable → ℕ → Bool
+    claim_test v i = is_cancel (Some v.kind) && is_uncalled vs (cancels i node) lives
+
+    claim_is : (e : Event) (i : ℕ) (v : Variable) → slice_get vs i ≡ Some v
+        → breaks_claim vs cancels lives b.is_claimed node (deed_of e) i v ≡ true → IsFault b states node e
+    claim_is e i v there h =
+        let first = and_parts (is_return_deed (deed_of e)) (is_claimed b.is_claimed v.role && claim_test v i) h in
+        let second = and_parts (is_claimed b.is_claimed v.role) (claim_test v i) first.1 in
+        let third = and_parts (is_cancel (Some v.kind)) (is_uncalled vs (cancels i node) lives) second.1 in
+        let returns = return_of e first.0 in
+        returns_uncalled i v returns.0 there (cancel_kind v.kind third.0) returns.1 (has_claim second.0)
+        (uncalled_is i third.1)
+
+    abbrev broken_test : Event → ℕ → Variable → Bool
+    broken_test e = is_broken vs cancels groups_at groups lives b.is_claimed node (deed_of e)
+
+    abbrev breaks_part : Event → Bool
+    breaks_part e = node_breaks vs cancels groups_at groups lives b.is_claimed node e
+
+    broken_is : (e : Event) → breaks_part e ≡ true → IsFault b states node e
+    broken_is e h =
+        let w = passes_at (broken_test e) vs h in
+        elim (or_cases (is_fault vs cancels groups_at groups lives node (deed_of e) w.place w.element)
+        (breaks_claim vs cancels lives b.is_claimed node (deed_of e) w.place w.element) w.passes) [
+          | inl is ↦ fault_is e w.place w.element w.is_there is
+          | inr claimed ↦ claim_is e w.place w.element w.is_there claimed
+        ]
+
+    -- back
+
+    by_fault : (e : Event) (i : ℕ) (v : Variable) → slice_get vs i ≡ Some v
+        → is_fault vs cancels groups_at groups lives node (deed_of e) i v ≡ true → breaks_part e ≡ true
+    by_fault e i v there h =
+        any_at (broken_test e) vs i v there
+        (or_left (is_fault vs cancels groups_at groups lives node (deed_of e) i v) _ h)
+
+    by_claim : (e : Event) (i : ℕ) (v : Variable) → slice_get vs i ≡ Some v
+        → breaks_claim vs cancels lives b.is_claimed node (deed_of e) i v ≡ true → breaks_part e ≡ true
+    by_claim e i v there h =
+        any_at (broken_test e) vs i v there
+        (or_right (is_fault vs cancels groups_at groups lives node (deed_of e) i v) _ h)
+
+    bound_by : {e : Event} {u : VariableAt} → BindsCancel e u → (i : ℕ) (v : Variable)
+        → found.loses_cancel vs cancels groups node u.number i v ≡ true
+        → is_fault vs cancels groups_at groups lives node (deed_of e) i v ≡ true
+    bound_by (obtains) i v h = h
+    bound_by (clears) i v h = h
+
+    abbrev fault_of : ℕ → Variable → Event → Bool
+    fault_of i v e = is_fault vs cancels groups_at groups lives node (deed_of e) i v
+
+    owed_breaks : (e : Event) (i : ℕ) (v : Variable) (handed : List Handed) → slice_get vs i ≡ Some v
+        → v.kind ≡ cancel → e ≡ return_event handed → IsOwed b v handed → is_uncalled vs (cancels i node) lives ≡ true
+        → breaks_part e ≡ true
+    owed_breaks e i v handed there kind returns (is_kept declared kept) uncalled =
+        by_fault e i v there
+        (ap (fault_of i v) returns
+        ∙ or_left (uncalled_test handed i v) (found.returns_live groups_at node i v)
+        (and_from (owes_call v handed) (is_uncalled vs (cancels i node) lives)
+        (and_from (is_cancel (Some v.kind)) (owes_test handed v) (is_cancel_kind v.kind kind)
         (and_from (is_declared v.role) (not (is_handed v.number handed)) declared
-        (not_from_false (is_handed v.number handed) kept))
-    is_owed_so v handed (has_claim claimed) =
-        or_right (is_declared v.role && not (is_handed v.number handed)) (is_claimed b.is_claimed v.role) claimed
+        (not_from_false (is_handed v.number handed) kept))) uncalled))
+    owed_breaks e i v handed there kind returns (has_claim claimed) uncalled =
+        by_claim e i v there
+        (and_from (is_return_deed (deed_of e)) (is_claimed b.is_claimed v.role && claim_test v i)
+        (ap (λ x. is_return_deed (deed_of x)) returns)
+        (and_from (is_claimed b.is_claimed v.role) (claim_test v i) claimed
+        (and_from (is_cancel (Some v.kind)) (is_uncalled vs (cancels i node) lives) (is_cancel_kind v.kind kind)
+        uncalled)))
 
-    abbrev return_test : List Handed → ℕ → Variable → Bool
-    return_test handed i v = breaks_return groups vs b.is_claimed (masks node) handed i v v.kind
-
-    broken_by : (e : Event) (handed : List Handed) → e ≡ return_event handed → (i : ℕ) (v : Variable)
-        → slice_get vs i ≡ Some v → (kind : VariableKind) → v.kind ≡ kind
-        → breaks_return groups vs b.is_claimed (masks node) handed i v kind ≡ true → IsFault b states node e
-    broken_by e handed returns i v there cancel kind h =
-        let parts = and_parts (is_owed b.is_claimed v handed) (may_be_uncalled groups vs (masks node) (mask_of i)) h in
-        returns_uncalled i v handed there kind returns (owed_is v handed parts.0) (uncalled_is i parts.1)
-    broken_by e handed returns i v there group kind h =
-        let parts = and_parts (is_declared v.role) (may_be_live (masks node) i) h in
-        returns_live i v handed there kind returns parts.0 ((live_may i).0 parts.1)
-
-    broken_return : (e : Event) (handed : List Handed) → e ≡ return_event handed
-        → return_breaks groups vs b.is_claimed (masks node) handed ≡ true → IsFault b states node e
-    broken_return e handed returns h =
-        let w = passes_at (return_test handed) vs h in
-        broken_by e handed returns w.place w.element w.is_there w.element.kind refl w.passes
-
-    return_broken : (handed : List Handed) (i : ℕ) (v : Variable) → slice_get vs i ≡ Some v → (kind : VariableKind)
-        → v.kind ≡ kind → breaks_return groups vs b.is_claimed (masks node) handed i v kind ≡ true
-        → return_breaks groups vs b.is_claimed (masks node) handed ≡ true
-    return_broken handed i v there kind is h =
-        any_at (return_test handed) vs i v there
-        (ap (breaks_return groups vs b.is_claimed (masks node) handed i v) is ∙ h)
-
-    fault_is : (e : Event) → tested.is_fault groups vs b.is_claimed (masks node) e ≡ true → IsFault b states node e
-    fault_is (obtain u f k d) h = lost_fault (obtain u f k d) u (obtains) h
-    fault_is (clear u) h = lost_fault (clear u) u (clears) h
-    fault_is (make u s) h = lost_group (make u s) u s refl h
-    fault_is (return_event handed) h = broken_return (return_event handed) handed refl h
-    fault_is other h = absurd (false≢true h)
-    fault_is (call u) h = absurd (false≢true h)
-    fault_is (defer_call u) h = absurd (false≢true h)
-    fault_is (pass u f k) h = absurd (false≢true h)
-    fault_is (defer_pass u f k) h = absurd (false≢true h)
-    fault_is (lend g f k) h = absurd (false≢true h)
-    fault_is (start g l) h = absurd (false≢true h)
-    fault_is (try g l) h = absurd (false≢true h)
-    fault_is (wait g) h = absurd (false≢true h)
-    fault_is (defer_wait g) h = absurd (false≢true h)
-    fault_is (defer_literal l) h = absurd (false≢true h)
-
-    bound_by : {e : Event} {u : VariableAt} → BindsCancel e u
-        → tested.loses_cancel groups vs (masks node) u.number ≡ true
-        → tested.is_fault groups vs b.is_claimed (masks node) e ≡ true
-    bound_by (obtains) h = h
-    bound_by (clears) h = h
-
-    is_fault_so : (e : Event) → IsFault b states node e → tested.is_fault groups vs b.is_claimed (masks node) e ≡ true
-    is_fault_so e (loses_cancel i v u k there kind binds same may_be lost) =
-        bound_by binds (fault_lost i v u k there kind same may_be lost)
-    is_fault_so e (loses_group i g u state there kind makes same may_be) =
-        ap (tested.is_fault groups vs b.is_claimed (masks node)) makes ∙ group_lost i g u there kind same may_be
-    is_fault_so e (returns_live i g handed there kind returns declared may_be) =
-        ap (tested.is_fault groups vs b.is_claimed (masks node)) returns
-        ∙ return_broken handed i g there group kind
-        (and_from (is_declared g.role) (may_be_live (masks node) i) declared ((live_may i).1 may_be))
-    is_fault_so e (returns_uncalled i v handed there kind returns owed may_be) =
-        ap (tested.is_fault groups vs b.is_claimed (masks node)) returns
-        ∙ return_broken handed i v there cancel kind
-        (and_from (is_owed b.is_claimed v handed) (may_be_uncalled groups vs (masks node) (mask_of i))
-        (is_owed_so v handed owed) (is_uncalled i may_be))
+    is_broken_so : (e : Event) → IsFault b states node e → breaks_part e ≡ true
+    is_broken_so e (loses_cancel i v u k there kind binds same may_be lost) =
+        by_fault e i v there (bound_by binds i v (fault_lost i v u k kind same may_be lost))
+    is_broken_so e (loses_group i g u state there kind makes same may_be) =
+        by_fault e i g there (ap (fault_of i g) makes ∙ group_lost i g u kind same may_be)
+    is_broken_so e (returns_live i g handed there kind returns declared may_be) =
+        by_fault e i g there
+        (ap (fault_of i g) returns
+        ∙ or_right (uncalled_test handed i g) (found.returns_live groups_at node i g)
+        (and_from (is_declared g.role) (is_live_group g (groups_at i node)) declared (group_live i g kind may_be)))
+    is_broken_so e (returns_uncalled i v handed there kind returns owed may_be) =
+        owed_breaks e i v handed there kind returns owed (uncalled_so i may_be)
 
   abbrev fault_test : ℕ → Occurrence Event → Bool
-  fault_test n o = tested.is_fault groups vs b.is_claimed (masks n) o.event
+  fault_test n o = node_breaks vs cancels groups_at groups (lives_told masks n) b.is_claimed n o.event
 
   abbrev fault_part : Bool
   fault_part = has_fault groups vs masks b.is_claimed b.graph.nodes
@@ -495,12 +519,12 @@ module _ (b : CheckedBody) (states : List (List ℕ)) where
 
   none_there : fault_part ≡ false → HasNoFault
   none_there e n o here fault =
-      true≢false (sym (any_at fault_test b.graph.nodes n o here (is_fault_so n o.event fault)) ∙ e)
+      true≢false (sym (any_at fault_test b.graph.nodes n o here (is_broken_so n o.event fault)) ∙ e)
 
   none_found : HasNoFault → fault_part ≡ false
   none_found none =
       false_from_ne_true fault_part
-      (λ h. let w = passes_at fault_test b.graph.nodes h in none w.place w.element w.is_there (fault_is w.place w.element.event w.passes))
+      (λ h. let w = passes_at fault_test b.graph.nodes h in none w.place w.element w.is_there (broken_is w.place w.element.event w.passes))
 
   -- The whole
 
@@ -547,56 +571,26 @@ module _ (b : CheckedBody) (states : List (List ℕ)) where
   -- Credit
 
   module _ (mask : ℕ) where
-    abbrev pending_somewhere : Bool
-    pending_somewhere = list_any (λ g. may_be_cancel groups mask (pending g)) groups
+    abbrev is_unsettled : VariableKind → Bool
+    is_unsettled = found.is_unsettled (may_be_cancel groups mask) (may_be_group mask) groups
 
-    each_safe : is_unsettled groups mask cancel ≡ false → (k : CancelClass) → may_be_cancel groups mask k ≡ true
-        → is_safe k ≡ true
-    each_safe e unset h = absurd (true≢false (sym (or_left (may_be_cancel groups mask unset) _ h) ∙ e))
-    each_safe e opened h =
-        absurd (true≢false (sym (or_right (may_be_cancel groups mask unset) _
-        (or_left (may_be_cancel groups mask opened) pending_somewhere h)) ∙ e))
-    each_safe e safe h = refl
-    each_safe e (pending g) h =
-        absurd (true≢false (sym (or_right (may_be_cancel groups mask unset) _
-        (or_right (may_be_cancel groups mask opened) pending_somewhere
-        (any_holds (λ g. may_be_cancel groups mask (pending g)) groups g (pending_among groups mask g h) h))) ∙ e))
+    settled_by : (kind : VariableKind) → is_unsettled kind ≡ false → IsSettledBy b kind mask
+    settled_by cancel e = λ k h.
+        settled_safe (may_be_cancel groups mask) (may_be_group mask) groups (pending_among groups mask) e k
+        ((may_be_is groups mask k).1 h)
+    settled_by group e = λ k h.
+        settled_at_rest (may_be_cancel groups mask) (may_be_group mask) groups e k ((group_may_be_is mask k).1 h)
 
-    -- a class that is not settled
-    unsafe_class : is_unsettled groups mask cancel ≡ true
-        → (k : CancelClass) × MayBe (class_of_bit b) mask k × (is_safe k ≡ false)
-    unsafe_class e =
-        elim (or_cases (may_be_cancel groups mask unset) (may_be_cancel groups mask opened || pending_somewhere) e) [
-          | inl is ↦ (unset, (may_be_is groups mask unset).0 is, refl)
-          | inr more ↦
-              elim (or_cases (may_be_cancel groups mask opened) pending_somewhere more) [
-                | inl is ↦ (opened, (may_be_is groups mask opened).0 is, refl)
-                | inr some ↦
-                    let w = any_witness (λ g. may_be_cancel groups mask (pending g)) groups some in
-                    (pending w.0, (may_be_is groups mask (pending w.0)).0 w.2, refl)
-              ]
-        ]
-
-    each_not_live : may_be_group mask (in_state live) ≡ false → (k : GroupClass) → may_be_group mask k ≡ true
-        → is_live k ≡ false
-    each_not_live e unmade h = refl
-    each_not_live e (in_state idle) h = refl
-    each_not_live e (in_state live) h = absurd (true≢false (sym h ∙ e))
-    each_not_live e awaited h = refl
-
-    settled_by : (kind : VariableKind) → is_unsettled groups mask kind ≡ false → IsSettledBy b kind mask
-    settled_by cancel e = λ k h. each_safe e k ((may_be_is groups mask k).1 h)
-    settled_by group e = λ k h. each_not_live e k ((group_may_be_is mask k).1 h)
-
-    not_settled : (kind : VariableKind) → is_unsettled groups mask kind ≡ true → IsSettledBy b kind mask → ⊥
+    not_settled : (kind : VariableKind) → is_unsettled kind ≡ true → IsSettledBy b kind mask → ⊥
     not_settled cancel e settled =
-        let w = unsafe_class e in true≢false (sym (settled w.0 w.1) ∙ w.2)
+        let w = unsettled_class (may_be_cancel groups mask) (may_be_group mask) groups e in
+        true≢false (sym (settled w.0 ((may_be_is groups mask w.0).0 w.1)) ∙ w.2)
     not_settled group e settled =
         true≢false (settled (in_state live) ((group_may_be_is mask (in_state live)).0 e))
 
   module _ (i : ℕ) (v : Variable) where
     abbrev settling_test : ℕ → Occurrence Event → Bool
-    settling_test n o = is_return o.event && is_unsettled groups (mask_in (masks n) i) v.kind
+    settling_test n o = is_return o.event && is_unsettled (mask_in (masks n) i) v.kind
 
     abbrev unsettled_part : Bool
     unsettled_part = breaks_settling groups masks b.graph.nodes i v.kind
@@ -604,14 +598,14 @@ module _ (b : CheckedBody) (states : List (List ℕ)) where
     settled_in : unsettled_part ≡ false → SettlesIn b states i v
     settled_in e n o handed here returns =
         settled_by (mask_at b states i n) v.kind
-        (false_from_ne_true (is_unsettled groups (mask_at b states i n) v.kind)
+        (false_from_ne_true (is_unsettled (mask_at b states i n) v.kind)
         (λ h. true≢false (sym (any_at settling_test b.graph.nodes n o here
-        (and_from (is_return o.event) (is_unsettled groups (mask_in (masks n) i) v.kind) (ap is_return returns) h)) ∙ e)))
+        (and_from (is_return o.event) (is_unsettled (mask_in (masks n) i) v.kind) (ap is_return returns) h)) ∙ e)))
 
     broken_settling : SettlesIn b states i v → unsettled_part ≡ true → ⊥
     broken_settling settles e =
         let w = passes_at settling_test b.graph.nodes e in
-        let parts = and_parts (is_return w.element.event) (is_unsettled groups (mask_in (masks w.place) i) v.kind) w.passes in
+        let parts = and_parts (is_return w.element.event) (is_unsettled (mask_in (masks w.place) i) v.kind) w.passes in
         let returns = return_of w.element.event parts.0 in
         not_settled (mask_at b states i w.place) v.kind parts.1
         (settles w.place w.element returns.0 w.is_there returns.1)

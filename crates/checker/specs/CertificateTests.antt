@@ -6,13 +6,13 @@ use Rattle.std.specs.List.{list_any, list_all}
 use Rattle.meaning.specs.Code.{Occurrence}
 use Rattle.meaning.specs.FunctionFacts.{VariableKind, cancel, group}
 use Rattle.meaning.specs.Tracked.{live}
-use Rattle.meaning.specs.Uses.{Handed, Event, obtain, clear, start, make, return_event, is_cancel, is_group}
+use Rattle.meaning.specs.Uses.{Event, start, is_cancel}
 use Rattle.meaning.specs.BodyEvents.{Variable, VariableRole}
-use Rattle.meaning.specs.Classes.{Promises, unset, opened, pending, entry_cancel, in_state, entry_group}
-use Rattle.meaning_packages.specs.PathFaults.{is_declared, is_handed, makes_it}
+use Rattle.meaning.specs.Classes.{Promises, CancelClass, GroupClass, entry_cancel, in_state, entry_group}
 use Rattle.meaning.specs.declared.TheConstants.{MOST_CANCELS, MOST_GROUPS}
 use Rattle.flow.specs.Walks.{Graph}
-use Rattle.path_faults.specs.FoundFaults.{any_from, is_return}
+use Rattle.path_faults.specs.FoundFaults as found
+use Rattle.path_faults.specs.FoundFaults.{any_from, Cancels, Groups, Deed, deed_of, is_return_deed, is_uncalled, is_fault}
 use Rattle.states.specs.Bits.{cancel_bit}
 use Rattle.states.specs.MaskTests.{has_known_bits, has, may_be_cancel, may_be_group}
 use Rattle.checker.specs.Certificates.{CheckedBody, is_claimed}
@@ -82,56 +82,43 @@ edges_from test n [] links = true
 edges_from test n (o ∷ os) [] = true
 edges_from test n (o ∷ os) (ms ∷ links) = list_all (test n o.event) ms && edges_from test (n + 1) os links
 
+-- Classes at nodes
+
+-- what the masks at the nodes tell of the variables
+abbrev pub cancels_told : List ℕ → (ℕ → List ℕ) → ℕ → ℕ → CancelClass → Bool
+cancels_told groups masks_of i n k = may_be_cancel groups (mask_in (masks_of n) i) k
+
+abbrev pub groups_told : (ℕ → List ℕ) → ℕ → ℕ → GroupClass → Bool
+groups_told masks_of i n k = may_be_group (mask_in (masks_of n) i) k
+
+-- the group of the place j may be live at the node n
+abbrev pub lives_told : (ℕ → List ℕ) → ℕ → ℕ → Bool
+lives_told masks_of n j = may_be_group (mask_in (masks_of n) j) (in_state live)
+
 -- Faults
 
--- the cancel variable of that mask may be pending in a group that the body does not make
-abbrev pub is_left_outside : List ℕ → List Variable → ℕ → Bool
-is_left_outside groups vs mask = list_any (λ g. may_be_cancel groups mask (pending g) && not (makes_it vs g)) groups
+-- the node returns, and the cancel variable of the place i, of which it is claimed, may not have been called
+abbrev pub breaks_claim : List Variable → Cancels → (ℕ → Bool) → (ℕ → Bool) → ℕ → Deed → ℕ → Variable → Bool
+breaks_claim vs cancels lives claims n d i v =
+    is_return_deed d
+    && (is_claimed claims v.role && (is_cancel (Some v.kind) && is_uncalled vs (cancels i n) lives))
 
-abbrev pub may_be_lost : List ℕ → List Variable → ℕ → Bool
-may_be_lost groups vs mask = may_be_cancel groups mask opened || is_left_outside groups vs mask
+-- the variable of the place i is a fault of what the node n does, or breaks what is claimed of it
+abbrev pub is_broken
+    : List Variable → Cancels → Groups → List ℕ → (ℕ → Bool) → (ℕ → Bool) → ℕ → Deed → ℕ → Variable → Bool
+is_broken vs cancels groups pending_groups lives claims n d i v =
+    is_fault vs cancels groups pending_groups lives n d i v || breaks_claim vs cancels lives claims n d i v
 
--- a binding of the cancel variable of that number loses what it holds
-abbrev pub loses_cancel : List ℕ → List Variable → List ℕ → ℕ → Bool
-loses_cancel groups vs masks number =
-    any_from (λ i v. is_cancel (Some v.kind) && ((v.number == number) && may_be_lost groups vs (mask_in masks i))) 0 vs
+-- some variable does
+abbrev pub deed_breaks
+    : List Variable → Cancels → Groups → List ℕ → (ℕ → Bool) → (ℕ → Bool) → ℕ → Deed → Bool
+deed_breaks vs cancels groups pending_groups lives claims n d =
+    any_from (is_broken vs cancels groups pending_groups lives claims n d) 0 vs
 
-abbrev pub may_be_live : List ℕ → ℕ → Bool
-may_be_live masks i = may_be_group (mask_in masks i) (in_state live)
-
-abbrev pub loses_group : List Variable → List ℕ → ℕ → Bool
-loses_group vs masks number =
-    any_from (λ i v. is_group (Some v.kind) && ((v.number == number) && may_be_live masks i)) 0 vs
-
--- the cancel variable of that mask may be pending in a group that may be live
-abbrev pub is_left : List ℕ → List Variable → List ℕ → ℕ → Bool
-is_left groups vs masks mask =
-    any_from
-    (λ j g. is_group (Some g.kind) && (may_be_live masks j && may_be_cancel groups mask (pending g.number))) 0 vs
-
-abbrev pub may_be_uncalled : List ℕ → List Variable → List ℕ → ℕ → Bool
-may_be_uncalled groups vs masks mask = may_be_cancel groups mask opened || is_left groups vs masks mask
-
-abbrev pub is_owed : (ℕ → Bool) → Variable → List Handed → Bool
-is_owed claims v handed = (is_declared v.role && not (is_handed v.number handed)) || is_claimed claims v.role
-
--- the variable of the place i is a fault of a return that hands these on
-abbrev pub breaks_return
-    : List ℕ → List Variable → (ℕ → Bool) → List ℕ → List Handed → ℕ → Variable → VariableKind → Bool
-breaks_return groups vs claims masks handed i v cancel =
-    is_owed claims v handed && may_be_uncalled groups vs masks (mask_in masks i)
-breaks_return groups vs claims masks handed i v group = is_declared v.role && may_be_live masks i
-
-abbrev pub return_breaks : List ℕ → List Variable → (ℕ → Bool) → List ℕ → List Handed → Bool
-return_breaks groups vs claims masks handed =
-    any_from (λ i v. breaks_return groups vs claims masks handed i v v.kind) 0 vs
-
-abbrev pub is_fault : List ℕ → List Variable → (ℕ → Bool) → List ℕ → Event → Bool
-is_fault groups vs claims masks (obtain u f k is_declared) = loses_cancel groups vs masks u.number
-is_fault groups vs claims masks (clear u) = loses_cancel groups vs masks u.number
-is_fault groups vs claims masks (make u state) = loses_group vs masks u.number
-is_fault groups vs claims masks (return_event handed) = return_breaks groups vs claims masks handed
-is_fault groups vs claims masks e = false
+abbrev pub node_breaks
+    : List Variable → Cancels → Groups → List ℕ → (ℕ → Bool) → (ℕ → Bool) → ℕ → Event → Bool
+node_breaks vs cancels groups pending_groups lives claims n e =
+    deed_breaks vs cancels groups pending_groups lives claims n (deed_of e)
 
 -- The whole
 
@@ -143,7 +130,8 @@ module _ (groups : List ℕ) (vs : List Variable) (masks_of : ℕ → List ℕ) 
   edges_hold p = edges_from (λ n e m. all_step_into groups vs p e (masks_of n) (masks_of m)) 0
 
   abbrev pub has_fault : (ℕ → Bool) → List (Occurrence Event) → Bool
-  has_fault claims = any_from (λ n o. is_fault groups vs claims (masks_of n) o.event) 0
+  has_fault claims = any_from (λ n o. node_breaks vs (cancels_told groups masks_of) (groups_told masks_of) groups
+      (lives_told masks_of n) claims n o.event) 0
 
   abbrev pub graph_holds : Promises → (ℕ → Bool) → Graph Event → Bool
   graph_holds p claims g =
@@ -159,17 +147,6 @@ holds cancels own groups masks_of b states =
 
 -- Credit
 
-abbrev pub is_pending : List ℕ → ℕ → Bool
-is_pending groups mask = list_any (λ g. may_be_cancel groups mask (pending g)) groups
-
--- a variable of that mask may be unsettled: a cancel function not safe, a group live
-abbrev pub is_unsettled : List ℕ → ℕ → VariableKind → Bool
-is_unsettled groups mask cancel =
-    may_be_cancel groups mask unset
-    || (may_be_cancel groups mask opened || is_pending groups mask)
-is_unsettled groups mask group = may_be_group mask (in_state live)
-
--- the variable of the place i may be so at some return
+-- the variable of the place i and of that kind may be unsettled at some return
 abbrev pub breaks_settling : List ℕ → (ℕ → List ℕ) → List (Occurrence Event) → ℕ → VariableKind → Bool
-breaks_settling groups masks_of nodes i kind =
-    any_from (λ n o. is_return o.event && is_unsettled groups (mask_in (masks_of n) i) kind) 0 nodes
+breaks_settling groups masks_of = found.breaks_settling (cancels_told groups masks_of) (groups_told masks_of) groups

@@ -9,3 +9,4 @@ pub mod CertificateTests
 pub mod Loaded
 pub mod LoadingSteps
 pub mod NodeStates
+pub mod RowLaws

@@ -1,132 +1,121 @@
-//! Whether at some node a class is a fault of what the node does.
+//! Whether at some node a class is a fault of what the node does, or breaks what is claimed of a parameter.
 
 ghost use Rattle.std.specs.Prelude.{◌≡◌, map};
 ghost use Rattle.bodies.specs.NodeEvents.{node_event_view, events_graph};
-ghost use Rattle.checker.specs.CertificateTests.{is_left_outside, may_be_lost, loses_cancel, may_be_live, loses_group, is_fault, has_fault};
+ghost use Rattle.checker.specs.Certificates.{is_claimed};
+ghost use Rattle.checker.specs.CertificateTests.{breaks_claim, is_broken, deed_breaks, node_breaks, has_fault};
 ghost use Rattle.checker.specs.LaidOutViews.{masks_of};
-ghost use Rattle.events.specs.VariableViews.{variable_view};
-ghost use Rattle.tracked_rows.specs.EventViews.{event_view};
+ghost use Rattle.events.specs.VariableViews.{variable_role_view, variable_view};
+ghost use Rattle.path_faults.specs.FaultViews.{deed_view};
 
 use crate::claims::Claims;
-use crate::laid_out::{LaidOut, mask_in};
-use crate::returns::return_breaks;
+use crate::classes::RowClasses;
+use crate::laid_out::LaidOut;
 use bodies::NodeEvent;
-use path_faults::makes_it;
-use states::{CancelClass, GroupClass, may_be_cancel, may_be_group};
-use tracked_rows::{Event, GroupState};
+use events::{Variable, VariableRole};
+use flow::NodePlace;
+use path_faults::{AtNode, Deed, Lives, deed_of, is_fault, is_return_deed, is_uncalled};
+use states::Arrivals;
 
-/// Whether the cancel variable of that mask may be pending in a group that the body does not make.
-fn is_left_outside(laid_out: &LaidOut<'_, '_, '_>, mask: u16) -> bool
-    ensures { result ≡ is_left_outside laid_out.now.groups.items (map variable_view laid_out.now.variables.now) mask }
+/// Whether it is claimed of a variable of that role.
+fn is_claimed<C: Claims>(claims: &C, role: VariableRole) -> bool
+    ensures { result ≡ is_claimed (C.claims claims.now) (variable_role_view role) }
 {
-    for group in &laid_out.groups {
-        if may_be_cancel(mask, CancelClass::Pending(*group), &laid_out.groups)
-            && !makes_it(laid_out.variables, *group)
-        {
-            return true;
-        }
+    match role {
+        VariableRole::OwnParameter(position) => claims.is_claimed(position),
+        VariableRole::OwnReceiver | VariableRole::DeclaredInBody | VariableRole::Captured => false,
     }
-    false
 }
 
-/// Whether what the cancel variable of that mask may hold is lost if it is bound again.
-fn may_be_lost(laid_out: &LaidOut<'_, '_, '_>, mask: u16) -> bool
-    ensures { result ≡ may_be_lost laid_out.now.groups.items (map variable_view laid_out.now.variables.now) mask }
-{
-    may_be_cancel(mask, CancelClass::Opened, &laid_out.groups) || is_left_outside(laid_out, mask)
-}
-
-/// Whether a binding of the cancel variable of that number may lose what it holds.
-fn loses_cancel(laid_out: &LaidOut<'_, '_, '_>, masks: &[u16], number: u32) -> bool
-    ensures { result ≡ loses_cancel laid_out.now.groups.items (map variable_view laid_out.now.variables.now) masks.now
-        number }
-{
-    for (place, variable) in laid_out.variables.iter().enumerate() {
-        if variable.kind.is_cancel()
-            && variable.number == number
-            && may_be_lost(laid_out, mask_in(masks, place))
-        {
-            return true;
-        }
-    }
-    false
-}
-
-/// Whether the group at that place in the list may be live.
-pub fn may_be_live(masks: &[u16], place: usize) -> bool
-    ensures { result ≡ may_be_live masks.now place }
-{
-    may_be_group(mask_in(masks, place), GroupClass::InState(GroupState::Live))
-}
-
-/// Whether the group of that number may be live.
-fn loses_group(laid_out: &LaidOut<'_, '_, '_>, masks: &[u16], number: u32) -> bool
-    ensures { result ≡ loses_group (map variable_view laid_out.now.variables.now) masks.now number }
-{
-    for (place, variable) in laid_out.variables.iter().enumerate() {
-        if variable.kind.is_group() && variable.number == number && may_be_live(masks, place) {
-            return true;
-        }
-    }
-    false
-}
-
-/// Whether a class in the masks is a fault of the event.
-fn event_is_fault<C: Claims>(
-    laid_out: &LaidOut<'_, '_, '_>,
+/// Whether the node returns, and the variable at that place in the list is a cancel variable of which it is claimed
+/// that it was called, and may not have been.
+fn breaks_claim<'a, A: Arrivals, L: Lives, C: Claims>(
+    at: &AtNode<'_, 'a, A, L>,
     claims: &C,
-    masks: &[u16],
-    event: &Event<'_>,
+    deed: Deed<'_>,
+    place: usize,
+    variable: Variable<'a>,
 ) -> bool
-    ensures { result ≡ is_fault laid_out.now.groups.items (map variable_view laid_out.now.variables.now)
-        (C.claims claims.now) masks.now (event_view event.now) }
+    ensures { result ≡ breaks_claim (map variable_view at.now.variables.now) (A.cancels at.now.arrivals.now)
+        (L.lives at.now.live.now at.now.node) (C.claims claims.now) at.now.node.node (deed_view deed.entry) place
+        (variable_view variable.entry) }
 {
-    match event {
-        Event::Obtain {
-            variable: bound,
-            ..
-        }
-        | Event::Clear { variable: bound } => loses_cancel(laid_out, masks, bound.number),
-        Event::Make { variable: made, .. } => loses_group(laid_out, masks, made.number),
-        Event::Return { handed } => return_breaks(laid_out, claims, masks, handed),
-        Event::Call { .. }
-        | Event::DeferCall { .. }
-        | Event::Pass { .. }
-        | Event::DeferPass { .. }
-        | Event::Lend { .. }
-        | Event::Start { .. }
-        | Event::Try { .. }
-        | Event::Wait { .. }
-        | Event::DeferWait { .. }
-        | Event::DeferLiteral { .. } => false,
-    }
+    is_return_deed(deed)
+        && is_claimed(claims, variable.role)
+        && variable.kind.is_cancel()
+        && is_uncalled(at, place)
 }
 
-/// Whether a class in the masks is a fault of what the node does.
-fn is_fault<C: Claims>(
-    laid_out: &LaidOut<'_, '_, '_>,
+/// Whether the variable at that place in the list is a fault of what the node does, or breaks what is claimed of it.
+fn is_broken<'a, A: Arrivals, L: Lives, C: Claims>(
+    at: &AtNode<'_, 'a, A, L>,
     claims: &C,
-    masks: &[u16],
+    deed: Deed<'_>,
+    place: usize,
+    variable: Variable<'a>,
+) -> bool
+    ensures { result ≡ is_broken (map variable_view at.now.variables.now) (A.cancels at.now.arrivals.now)
+        (A.groups at.now.arrivals.now) (A.pending_groups at.now.arrivals.now)
+        (L.lives at.now.live.now at.now.node) (C.claims claims.now) at.now.node.node (deed_view deed.entry) place
+        (variable_view variable.entry) }
+{
+    is_fault(at, deed, place, variable) || breaks_claim(at, claims, deed, place, variable)
+}
+
+/// Whether some variable is a fault of that at the node, or breaks what is claimed of it.
+fn deed_breaks<'a, A: Arrivals, L: Lives, C: Claims>(
+    at: &AtNode<'_, 'a, A, L>,
+    claims: &C,
+    deed: Deed<'_>,
+) -> bool
+    ensures { result ≡ deed_breaks (map variable_view at.now.variables.now) (A.cancels at.now.arrivals.now)
+        (A.groups at.now.arrivals.now) (A.pending_groups at.now.arrivals.now)
+        (L.lives at.now.live.now at.now.node) (C.claims claims.now) at.now.node.node (deed_view deed.entry) }
+{
+    for (place, variable) in at.variables.iter().enumerate() {
+        if is_broken(at, claims, deed, place, *variable) {
+            return true;
+        }
+    }
+    false
+}
+
+/// Whether some variable is a fault of what the node does, or breaks what is claimed of it.
+fn node_breaks<'a, A: Arrivals, L: Lives, C: Claims>(
+    at: &AtNode<'_, 'a, A, L>,
+    claims: &C,
     event: NodeEvent<'_, '_>,
 ) -> bool
-    ensures { result ≡ is_fault laid_out.now.groups.items (map variable_view laid_out.now.variables.now)
-        (C.claims claims.now) masks.now (node_event_view event.entry) }
+    ensures { result ≡ node_breaks (map variable_view at.now.variables.now) (A.cancels at.now.arrivals.now)
+        (A.groups at.now.arrivals.now) (A.pending_groups at.now.arrivals.now)
+        (L.lives at.now.live.now at.now.node) (C.claims claims.now) at.now.node.node (node_event_view event.entry) }
 {
-    match event {
-        NodeEvent::Other => false,
-        NodeEvent::FallsOff => return_breaks(laid_out, claims, masks, &[]),
-        NodeEvent::Does(event) => event_is_fault(laid_out, claims, masks, event),
-    }
+    deed_breaks(at, claims, deed_of(event))
 }
 
-/// Whether at some node a class is a fault of what the node does.
+/// Whether at some node a class is a fault of what the node does, or breaks what is claimed of a parameter.
 pub fn has_fault<C: Claims>(laid_out: &LaidOut<'_, '_, '_>, claims: &C, states: &[Vec<u16>]) -> bool
     ensures { result ≡ has_fault laid_out.now.groups.items (map variable_view laid_out.now.variables.now)
         (masks_of laid_out.now states.now) (C.claims claims.now) (events_graph laid_out.now.kept.now.graph).nodes }
 {
+    let told = RowClasses {
+        rows: &laid_out.rows,
+        groups: &laid_out.groups,
+        states: &*states,
+    };
     for (number, node) in laid_out.kept.graph.nodes.iter().enumerate() {
-        let masks = laid_out.masks_at(states, number);
-        if is_fault(laid_out, claims, masks, node.occurrence.event) {
+        let occurrence = node.occurrence;
+        let at = AtNode {
+            variables: laid_out.variables,
+            arrivals: &told,
+            live: &told,
+            node: NodePlace {
+                at: occurrence.at,
+                order: occurrence.order,
+                node: number,
+            },
+        };
+        if node_breaks(&at, claims, occurrence.event) {
             return true;
         }
     }

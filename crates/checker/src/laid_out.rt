@@ -1,9 +1,9 @@
 //! Bodies as their certificates are read.
 
 ghost use Rattle.std.specs.Prelude.{◌≡◌, ◌++◌, ◌-◌, IfOk, OnOk, length, map};
-ghost use Rattle.checker.specs.Certificates.{spare};
+ghost use Rattle.checker.specs.Certificates.{masks_in, spare};
 ghost use Rattle.checker.specs.CertificateTests.{have_places, mask_in};
-ghost use Rattle.checker.specs.LaidOutViews.{with_row, RowsOfNodes, LaysOut, masks_of};
+ghost use Rattle.checker.specs.LaidOutViews.{row_of, states_view, with_row, RowsOfNodes, LaysOut, masks_of};
 ghost use Rattle.checker.specs.Loaded.{number_if, numbers_of};
 ghost use Rattle.meaning.specs.FunctionFacts.{cancel, group};
 ghost use Rattle.meaning.specs.declared.TheConstants.{MOST_GROUPS};
@@ -137,6 +137,19 @@ pub fn lay_out<'k, 'e, 'a>(
     })
 }
 
+/// The masks at the node; none where it has no row.
+pub fn masks_at<'s>(rows: &[Option<usize>], states: &'s [Vec<u16>], node: usize) -> &'s [u16]
+    ensures { result.now ≡ masks_in (states_view states.now) (row_of rows.now node) }
+{
+    match rows.get(node) {
+        Some(Some(row)) => match states.get(*row) {
+            Some(masks) => masks,
+            None => &[],
+        },
+        _ => &[],
+    }
+}
+
 impl LaidOut<'_, '_, '_> {
     /// Whether states have places for all variables, and bits for the groups.
     pub fn has_places(&self) -> bool
@@ -152,13 +165,7 @@ impl LaidOut<'_, '_, '_> {
     pub fn masks_at<'s>(&self, states: &'s [Vec<u16>], node: usize) -> &'s [u16]
         ensures { result.now ≡ masks_of self.now states.now node }
     {
-        match self.rows.get(node) {
-            Some(Some(row)) => match states.get(*row) {
-                Some(masks) => masks,
-                None => &[],
-            },
-            _ => &[],
-        }
+        masks_at(&self.rows, states, node)
     }
 }
 

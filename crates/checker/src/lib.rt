@@ -7,12 +7,12 @@ ghost use Rattle.checker.specs.CheckerLaws.{LeavesNoFault, KeepsClaims, SettlesW
 
 mod certificate;
 mod claims;
+mod classes;
 mod edges;
 mod entry;
 mod faults;
 mod laid_out;
 mod loaded;
-mod returns;
 mod rows;
 mod settled;
 

@@ -3,7 +3,7 @@
 use crate::real_folders::folder_with;
 use crate::runs::{outcome, words_of};
 use all_packages::{Report, told};
-use calls_flags::{KnownCalls, find_called};
+use calls_flags::KnownCalls;
 use evidence_rows::together::{ENTRIES, MEETINGS, OPEN, PACKAGES, REPORT};
 use lexer::Source;
 use load::{GivenPackage, load, release};
@@ -12,7 +12,7 @@ use one_package::{
     given_packages, told_of,
 };
 use outside_json::Outside;
-use package_pieces::{PieceRules, build_all, solve_all};
+use package_pieces::{PieceRules, build_all, find_called_with, solve_all};
 use package_workers::{CheckFault, Crew, Gate, Open, check_by_workers};
 use pieces::{BodyGate, Free, Helpers, PieceFault};
 use report_formats::Format;
@@ -213,22 +213,29 @@ fn two_packages_meet(rt: HostRuntime) -> Result<(), Fail> {
     Ok(())
 }
 
-/// Where something is to be said of a package of which this was told: files, and offsets in them. These helpers make
-/// its bodies, and those solve them.
+/// Who makes the bodies of a package, who looks which claims are kept, and who solves the bodies.
+#[derive(Drop)]
+struct Hired<'h, R, G> {
+    builders: &'h Helpers<'h, R, G>,
+    sifters: &'h Helpers<'h, R, G>,
+    solvers: &'h Helpers<'h, R, G>,
+}
+
+/// Where something is to be said of a package of which this was told: files, and offsets in them.
 fn solved_in<'a, R: Threads + Wait, G: BodyGate + Sync>(
     alloc: Global,
-    builders: &Helpers<'_, R, G>,
-    solvers: &Helpers<'_, R, G>,
+    hired: &Hired<'_, R, G>,
     told: &ToldPackage<'a>,
     imports: &KnownImports<'a, '_>,
 ) -> Option<Vec<(usize, u32)>> {
-    let made = build_all(alloc, builders, &told.files).ok()?;
-    let called = find_called(alloc, &told.signatures, &made, &imports.calls).ok()?;
-    let calls = KnownCalls {
+    let (table, calls) = (&told.signatures, &imports.calls);
+    let made = build_all(alloc, hired.builders, &told.files).ok()?;
+    let called = find_called_with(alloc, hired.sifters, table, &made, calls).ok()?;
+    let known = KnownCalls {
         own: &called,
-        imported: &imports.calls,
+        imported: calls,
     };
-    let found = solve_all(alloc, solvers, &made, calls).ok()?;
+    let found = solve_all(alloc, hired.solvers, &made, known).ok()?;
     let mut places = Vec::new(alloc);
     for one in &found {
         places.push((one.file, one.offset)).ok()?;
@@ -239,76 +246,107 @@ fn solved_in<'a, R: Threads + Wait, G: BodyGate + Sync>(
 /// The same of this package, which imports nothing.
 fn solved_alone<'a, R: Threads + Wait, G: BodyGate + Sync>(
     alloc: Global,
-    builders: &Helpers<'_, R, G>,
-    solvers: &Helpers<'_, R, G>,
+    hired: &Hired<'_, R, G>,
     given: &Given<'a>,
     package: &'a LoadedPackage,
 ) -> Option<Vec<(usize, u32)>> {
     let imports = KnownImports::new(alloc);
     let told = told_of(alloc, package, around(given, &imports)).ok()??;
-    solved_in(alloc, builders, solvers, &told, &imports)
+    solved_in(alloc, hired, &told, &imports)
 }
 
 /// The same of the first of these packages.
 fn solved_first<R: Threads + Wait, G: BodyGate + Sync>(
     alloc: Global,
-    builders: &Helpers<'_, R, G>,
-    solvers: &Helpers<'_, R, G>,
+    hired: &Hired<'_, R, G>,
     packages: &[LoadedPackage],
 ) -> Option<Vec<(usize, u32)>> {
     let outside = Outside {
         packages: Vec::new(alloc),
     };
     let given = given_packages(alloc, packages, &outside).ok()?;
-    solved_alone(alloc, builders, solvers, &given, packages.first()?)
+    solved_alone(alloc, hired, &given, packages.first()?)
 }
 
 /// The same of a package with a file of each of these texts.
 fn solved<R: Threads + Wait, G: BodyGate + Sync>(
     alloc: Global,
-    builders: &Helpers<'_, R, G>,
-    solvers: &Helpers<'_, R, G>,
+    hired: &Hired<'_, R, G>,
     texts: &[&str],
 ) -> Option<Vec<(usize, u32)>> {
     let mut given = Vec::new(alloc);
     given.push(package(alloc, "a", texts).ok()?).ok()?;
     let packages = load(alloc, given).ok()?;
-    let places = solved_first(alloc, builders, solvers, &packages);
+    let places = solved_first(alloc, hired, &packages);
     release(packages);
     places
 }
 
-#[test]
-fn helpers_of_one_package_meet(rt: HostRuntime) -> Result<(), Fail> {
-    let Some(two) = Workers::new(2) else {
-        return Err(Fail::new("no workers"));
-    };
+/// The same, by one thread for each step.
+fn solved_by_one<R: Threads + Wait>(
+    rt: &R,
+    alloc: Global,
+    texts: &[&str],
+) -> Option<Vec<(usize, u32)>> {
     let alone = Helpers {
-        rt: &rt,
+        rt,
         count: Workers::one(),
         gate: &Free,
     };
-    for (texts, wanted) in OPEN {
-        let (builds, solves) = (Meeting::new(&rt, 2), Meeting::new(&rt, 2));
-        let builders = Helpers {
-            rt: &rt,
-            count: two,
-            gate: &builds,
-        };
-        let solvers = Helpers {
-            rt: &rt,
-            count: two,
-            gate: &solves,
-        };
-        let by_two = solved(rt.alloc(), &builders, &solvers, texts);
-        let by_one = solved(rt.alloc(), &alone, &alone, texts);
+    let hired = Hired {
+        builders: &alone,
+        sifters: &alone,
+        solvers: &alone,
+    };
+    solved(alloc, &hired, texts)
+}
+
+/// The same, by two helpers for each step, each behind its gate.
+fn solved_by_two<R: Threads + Wait, G: BodyGate + Sync>(
+    rt: &R,
+    alloc: Global,
+    gates: (&G, &G, &G),
+    texts: &[&str],
+) -> Option<Vec<(usize, u32)>> {
+    let count = Workers::new(2)?;
+    let builders = Helpers {
+        rt,
+        count,
+        gate: gates.0,
+    };
+    let sifters = Helpers {
+        rt,
+        count,
+        gate: gates.1,
+    };
+    let solvers = Helpers {
+        rt,
+        count,
+        gate: gates.2,
+    };
+    let hired = Hired {
+        builders: &builders,
+        sifters: &sifters,
+        solvers: &solvers,
+    };
+    solved(alloc, &hired, texts)
+}
+
+#[test]
+fn helpers_of_one_package_meet(rt: HostRuntime) -> Result<(), Fail> {
+    for (texts, claims, wanted) in OPEN {
+        let (builds, sifts) = (Meeting::new(&rt, 2), Meeting::new(&rt, 2));
+        let solves = Meeting::new(&rt, 2);
+        let gates = (&builds, &sifts, &solves);
+        let by_two = solved_by_two(&rt, rt.alloc(), gates, texts);
+        let by_one = solved_by_one(&rt, rt.alloc(), texts);
         let (Some(by_two), Some(by_one)) = (by_two, by_one) else {
             return Err(Fail::new("nothing was solved"));
         };
-        assert_eq!(rt; by_two.as_slice(), wanted.as_slice());
-        assert_eq!(rt; by_one.as_slice(), wanted.as_slice());
-        for gate in [&builds, &solves] {
-            assert_eq!(rt; gate.passed.load(Ordering::SeqCst), 2);
+        assert_eq!(rt; by_two.as_slice(), wanted);
+        assert_eq!(rt; by_one.as_slice(), wanted);
+        for (gate, pieces) in [(&builds, 2), (&sifts, claims), (&solves, 2)] {
+            assert_eq!(rt; gate.passed.load(Ordering::SeqCst), pieces);
             assert_eq!(rt; gate.gave_up.load(Ordering::SeqCst), 0);
         }
     }

@@ -12,7 +12,7 @@ use Rattle.called_parameters.specs.declared.called.Called.{Called}
 use Rattle.called_parameters.specs.Called.{is_called}
 use Rattle.meaning.specs.FunctionFacts.{FunctionFacts}
 use Rattle.meaning.specs.OuterBlocks.{or_else}
-use Rattle.names.specs.Maps.{only_at}
+use Rattle.first_values.specs.ValuesByName.{only_at}
 use Rattle.names.proofs.Adding.{or_else-none}
 use Rattle.outside_json.specs.declared.outside.OutsideFunction.{OutsideFunction}
 use Rattle.outside_json.specs.Outside.{FunctionEntry, function_of}

@@ -1,39 +1,14 @@
 -- Tables of packages, added one by one: the first package of a path counts.
-use Rattle.std.proofs.Common.{◌≡◌, ℕ, ◌+◌, ◌<◌, Bool, true, false, if◌then◌else◌, List, drop, get_or, length, map, Option, Some, None, option_map, is_some, bytes_eq, refl, sym, ap, ◌∙◌}
-use Rattle.std.proofs.lemmas.Bool.{false≢true}
-use Rattle.std.proofs.lemmas.Slice.Eq.{bytes_eq-Decides}
+use Rattle.std.proofs.Common.{◌≡◌, ℕ, ◌+◌, ◌<◌, Bool, true, false, if◌then◌else◌, List, drop, get_or, length, map, Option, Some, None, option_map, bytes_eq, refl, sym, ap, ◌∙◌}
 use Rattle.meaning.specs.OuterBlocks.{or_else}
 use Rattle.meaning_reports.specs.Loaded.{PackageTable}
-use Rattle.names.specs.Maps.{only_at}
+use Rattle.first_values.specs.ValuesByName.{only_at}
 use Rattle.names.proofs.Adding.{or_else-none}
 use Rattle.outside_json.specs.declared.outside.OutsidePackage.{OutsidePackage}
 use Rattle.outside_json.specs.Outside.{FunctionEntry, package_of, table_at}
 use Rattle.declared_tables.specs.declared.tables.PackageTable.{PackageTable as KeptTable}
 use Rattle.declared_tables.specs.DeclaredTables.{table_declared, table_if_any, table_of, table_view}
 use Rattle.declared_tables.proofs.AddedCalls.{item_next}
-
-still_some : {A B : Type 0} (view : A → B) (o : Option A) → is_some o ≡ true → is_some (option_map view o) ≡ true
-still_some view None e = e
-still_some view (Some a) e = refl
-
--- a path that had a table keeps it
-pub table_stays : {V W : Type 0} (view : V → W) (known : List ℕ → Option V) (text path : List ℕ) → text ≡ path
-    → is_some (known text) ≡ true
-    → (table : W) (other : List ℕ)
-    → option_map view (known other) ≡ or_else (option_map view (known other)) (only_at path table other)
-table_stays {W = W} view known text path same there table other =
-    by (bytes_eq path other) refl (option_map view (known other)) refl
-  where
-    some : bytes_eq path other ≡ true → is_some (option_map view (known other)) ≡ true
-    some is =
-        still_some view (known other)
-        (ap (λ n. is_some (known n)) (sym (same ∙ (bytes_eq-Decides path other).0 is)) ∙ there)
-
-    by : (t : Bool) → bytes_eq path other ≡ t → (o : Option W) → option_map view (known other) ≡ o
-        → o ≡ or_else o (if t then Some table else None)
-    by t is (Some x) e = refl
-    by false is None e = refl
-    by true is None e = absurd (false≢true (ap is_some (sym e) ∙ some is))
 
 table_step : {A B : Type 0} (g : A → B) (known : Option B) (t : Bool) (x : A) (rest : Option A)
     → or_else (or_else known (if t then Some (g x) else None)) (option_map g rest)

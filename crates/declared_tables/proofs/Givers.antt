@@ -2,9 +2,9 @@
 use Rattle.std.proofs.Common.{◌≡◌, ℕ, Bool, true, false, if◌then◌else◌, List, [], ◌∷◌, ◌++◌, Option, Some, None, option_map, bytes_eq, refl, sym, ap, ◌∙◌, subst, arith}
 use Rattle.std.specs.Prelude.{length, nat_lt}
 use Rattle.std.specs.List.{list_any}
+use Rattle.std.specs.Option.{option_or}
 use Rattle.std.proofs.lemmas.Bool.{ltb-false, or_parts}
 use Rattle.std.proofs.lemmas.Option.{none-some, same_Some}
-use Rattle.meaning.specs.OuterBlocks.{or_else}
 use Rattle.meaning.specs.FunctionFacts.{CancelType, plain, with_cause, FunctionFacts}
 use Rattle.meaning_reports.specs.Loaded.{PackageTable}
 use Rattle.outside_json.specs.Outside.{FunctionEntry}
@@ -38,7 +38,7 @@ none_gives (f ∷ fs) e name facts is = by (bytes_eq f.facts.name name) is (none
 
 -- one table more, where there was none of its path, or as if there was
 pub marked_next : (known : Option KeptTable) (here : Bool) (table t : KeptTable)
-    → or_else known (if here then Some table else None) ≡ Some t
+    → option_or known (if here then Some table else None) ≡ Some t
     → (known ≡ Some t → MarksGivers t)
     → MarksGivers table
     → MarksGivers t

@@ -9,7 +9,7 @@ use Rattle.called_parameters.specs.declared.called.Called.{Called}
 use Rattle.called_parameters.specs.Called.{is_called}
 use Rattle.meaning.specs.FunctionFacts.{FunctionFacts}
 use Rattle.meaning.specs.OuterBlocks.{or_else}
-use Rattle.names.specs.Maps.{only_at}
+use Rattle.first_values.specs.ValuesByName.{only_at}
 use Rattle.outside_json.specs.Outside.{FunctionEntry}
 use Rattle.declared_tables.specs.DeclaredTables.{facts_of, is_called_at}
 

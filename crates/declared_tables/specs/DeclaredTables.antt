@@ -10,7 +10,7 @@ use Rattle.meaning.specs.FunctionFacts.{CancelType, plain, with_cause, cancel_ty
 use Rattle.meaning_reports.specs.Loaded.{PackageTable, Tables, no_table}
 use Rattle.facts.specs.FactViews.{facts_by_name}
 use Rattle.called_parameters.specs.Called.{is_called}
-use Rattle.names.specs.Answers.{at_name}
+use Rattle.first_values.specs.ValuesByName.{value_of}
 use Rattle.declared_tables.specs.declared.tables.DeclaredTables.{DeclaredTables}
 use Rattle.declared_tables.specs.declared.tables.PackageTable.{PackageTable as KeptTable}
 
@@ -74,4 +74,4 @@ table_if_any (Some t) = table_view t
 
 -- what is kept for each path
 abbrev pub declared_view : DeclaredTables → Tables
-declared_view kept path = table_if_any (at_name kept.packages path)
+declared_view kept path = table_if_any (value_of kept.packages path)

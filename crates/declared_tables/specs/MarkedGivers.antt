@@ -1,9 +1,8 @@
 -- Which tables may have a function that gives a cancel function, by a flag that is kept with each. It is false only
 -- where none gives.
 use Rattle.std.specs.Prelude.{ℕ, ◌≡◌, ◌||◌, nat_lt, Bool, false, List, length, Some}
-use Rattle.std.specs.Borrow.{Bor}
-use Rattle.indexmap.specs.IndexMap.{IndexMap}
-use Rattle.names.specs.Answers.{at_name}
+use Rattle.first_values.specs.ValuesByName.{value_of}
+use Rattle.first_values.specs.declared.FirstValues.{FirstValues}
 use Rattle.outside_json.specs.Outside.{FunctionEntry}
 use Rattle.silent_files.specs.SilentPackages.{GiveNone}
 use Rattle.declared_tables.specs.DeclaredTables.{table_view}
@@ -19,8 +18,8 @@ abbrev pub MarksGivers : KeptTable → Type 0
 MarksGivers t = t.gives ≡ false → GiveNone (table_view t).signatures
 
 -- each of these tables has its flag
-abbrev pub AreMarked : {S : Type 0} → IndexMap (Bor (List ℕ)) KeptTable S → Type 0
-AreMarked packages = (path : List ℕ) (t : KeptTable) → at_name packages path ≡ Some t → MarksGivers t
+abbrev pub AreMarked : FirstValues KeptTable → Type 0
+AreMarked packages = (path : List ℕ) (t : KeptTable) → value_of packages path ≡ Some t → MarksGivers t
 
 abbrev pub AllMarkGivers : DeclaredTables → Type 0
 AllMarkGivers kept = AreMarked kept.packages

@@ -4,15 +4,14 @@ ghost use Rattle.std.specs.Prelude.{◌≡◌, ℕ, List, IfOk, OnOk, map, optio
 ghost use Rattle.std.specs.List.{list_any};
 ghost use Rattle.declared_tables.specs.DeclaredTables.{declared_tables, declared_view, table_of, table_view};
 ghost use Rattle.declared_tables.specs.MarkedGivers.{AllMarkGivers, AreMarked, MarksGivers, is_giver};
+ghost use Rattle.first_values.specs.ValuesByName.{only_at, value_of};
 ghost use Rattle.meaning.specs.OuterBlocks.{or_else};
-ghost use Rattle.names.specs.Answers.{at_name};
-ghost use Rattle.names.specs.Maps.{only_at};
 ghost use Rattle.outside_json.specs.Outside.{function_of, package_of, packages_of};
 
 use crate::functions::add_function;
 use called_parameters::Called;
 use facts::Table;
-use indexmap::IndexMap;
+use first_values::FirstValues;
 use outside_json::{Outside, OutsideFunction, OutsidePackage};
 use std::alloc::{AllocError, Global};
 
@@ -69,26 +68,22 @@ fn table_of<'a>(
 fn add_package<'a>(
     alloc: Global,
     outside: &'a OutsidePackage,
-    packages: &mut IndexMap<&'a str, PackageTable<'a>>,
+    packages: &mut FirstValues<'a, PackageTable<'a>>,
 ) -> Result<(), AllocError>
-    ensures table { OnOk result ((path : List ℕ) → option_map table_view (at_name packages.new path)
-        ≡ or_else (option_map table_view (at_name packages.old path))
+    ensures table { OnOk result ((path : List ℕ) → option_map table_view (value_of packages.new path)
+        ≡ or_else (option_map table_view (value_of packages.old path))
         (only_at (package_of outside.now).path (table_of (package_of outside.now).functions) path)) }
     ensures marks { OnOk result (AreMarked packages.old → AreMarked packages.new) }
 {
-    let path = outside.path.as_str();
-    if packages.contains_key(path) {
-        return Ok(());
-    }
     let table = table_of(alloc, &outside.functions)?;
-    packages.insert(path, table)?;
+    packages.insert(outside.path.as_str(), table)?;
     Ok(())
 }
 
 /// What is declared of packages, by their paths. Of several of one path the first counts.
 #[derive(Drop)]
 pub struct DeclaredTables<'a> {
-    packages: IndexMap<&'a str, PackageTable<'a>>,
+    packages: FirstValues<'a, PackageTable<'a>>,
 }
 
 impl<'a> DeclaredTables<'a> {
@@ -102,7 +97,7 @@ impl<'a> DeclaredTables<'a> {
             → declared_view kept path ≡ declared_tables (packages_of outside.now) path) }
         ensures marks { IfOk result AllMarkGivers }
     {
-        let mut packages = IndexMap::new(alloc);
+        let mut packages = FirstValues::new(alloc);
         for one in &outside.packages {
             add_package(alloc, one, &mut packages)?;
         }
@@ -111,7 +106,7 @@ impl<'a> DeclaredTables<'a> {
 
     /// What is declared of the package of that path, if anything is.
     pub fn get(&self, path: &str) -> Option<&PackageTable<'a>>
-        ensures { option_map (λ table. table.now) result ≡ at_name self.now.packages path.now }
+        ensures { option_map (λ table. table.now) result ≡ value_of self.now.packages path.now }
     {
         self.packages.get(path)
     }

@@ -22,22 +22,32 @@ pub const MEETINGS: [([&str; 2], &str, usize, u64, u64, u64); 5] = [
     (RING, NO_RANK, 2, 1, 0, 0),
 ];
 
-/// A package with two bodies in each of which a cancel function is not called, in two files and in one, and where this
-/// is said: files, and offsets in them.
-pub const OPEN: [(&[&str], [(usize, u32); 2]); 2] = [
+/// A package with two bodies, in two files or in one; how many of their parameters may be known to be called; and where
+/// it is said of them that a cancel function is not called: files, and offsets in them.
+pub const OPEN: [(&[&str], u64, &[(usize, u32)]); 3] = [
     (
         &[
             "package a\n\nimport \"context\"\n\nfunc f(p context.Context) {\n\t_, c := context.WithCancel(p)\n}\n",
             "package a\n\nimport \"context\"\n\nfunc ff(p context.Context) {\n\t_, c := context.WithCancel(p)\n}\n",
         ],
-        [(0, 88), (1, 89)],
+        0,
+        &[(0, 88), (1, 89)],
     ),
     (
         &[
             "package a\n\nimport \"context\"\n\nfunc f(p context.Context) {\n\t_, c := context.WithCancel(p)\n}\n
 func ff(p context.Context) {\n\t_, c := context.WithCancel(p)\n}\n",
         ],
-        [(0, 88), (0, 151)],
+        0,
+        &[(0, 88), (0, 151)],
+    ),
+    (
+        &[
+            "package a\n\nimport \"context\"\n\nfunc f(c context.CancelFunc) {\n\tc()\n}\n
+func ff(c context.CancelFunc) {\n\tc()\n}\n",
+        ],
+        2,
+        &[],
     ),
 ];
 

@@ -3,7 +3,7 @@ use Rattle.std.proofs.Common.{◌≡◌, ℕ, Bool, true, false, ◌&&◌, if◌
 use Rattle.tree.specs.Syntax.{Function, TopLevelDeclaration, function_declaration, general_declaration}
 use Rattle.meaning.specs.FunctionFacts.{Meanings, FunctionFacts, signature_facts, facts_in}
 use Rattle.meaning.specs.OuterBlocks.{can_be_meant, or_else}
-use Rattle.names.specs.Maps.{only_at}
+use Rattle.first_values.specs.ValuesByName.{only_at}
 use Rattle.names.proofs.Adding.{first_of}
 
 module _ {A : Type 0} where

@@ -1,6 +1,6 @@
 -- What the facts that the program keeps stand for.
 use Rattle.std.specs.Prelude.{ℕ, List, Option, Some, None, option_map, map}
-use Rattle.names.specs.Answers.{at_name}
+use Rattle.first_values.specs.ValuesByName.{value_of}
 use Rattle.facts.specs.declared.kinds.VariableKind.{VariableKind as KeptKind}
 use Rattle.facts.specs.declared.kinds.VariableKind.TheVariants.{Cancel, Group}
 use Rattle.facts.specs.declared.kinds.CancelType.{CancelType as KeptCancelType}
@@ -50,11 +50,11 @@ facts_view f = record {
 
 -- the facts of the function of that name
 abbrev pub facts_by_name : Table → List ℕ → Option FunctionFacts
-facts_by_name table name = option_map facts_view (at_name table.functions name)
+facts_by_name table name = option_map facts_view (value_of table.functions name)
 
 -- the table of the package of that path
 abbrev pub table_by_path : Imported → List ℕ → Option Table
-table_by_path imported path = option_map (λ t. t.now) (at_name imported.packages path)
+table_by_path imported path = option_map (λ t. t.now) (value_of imported.packages path)
 
 abbrev pub facts_in_table : Option Table → List ℕ → Option FunctionFacts
 facts_in_table None name = None

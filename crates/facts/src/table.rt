@@ -1,18 +1,18 @@
 //! The facts of a package's functions, and those of its imports.
 
 ghost use Rattle.std.specs.Prelude.{◌≡◌, ℕ, List, OnOk, OnErr, is_some, option_map, None};
+ghost use Rattle.first_values.specs.ValuesByName.{only_at};
 ghost use Rattle.meaning.specs.OuterBlocks.{or_else};
 ghost use Rattle.facts.specs.FactViews.{facts_view, facts_by_name, facts_by_path, table_by_path};
-ghost use Rattle.names.specs.Maps.{only_at};
 
 use crate::facts::FunctionFacts;
-use indexmap::IndexMap;
+use first_values::FirstValues;
 use std::alloc::{AllocError, Global};
 
 /// The facts of a package's functions, by name.
 #[derive(Drop)]
 pub struct Table<'a> {
-    functions: IndexMap<&'a str, FunctionFacts>,
+    functions: FirstValues<'a, FunctionFacts>,
 }
 
 impl<'a> Table<'a> {
@@ -21,7 +21,7 @@ impl<'a> Table<'a> {
         ensures { (name : List ℕ) → facts_by_name result name ≡ None }
     {
         Table {
-            functions: IndexMap::new(alloc),
+            functions: FirstValues::new(alloc),
         }
     }
 
@@ -29,7 +29,7 @@ impl<'a> Table<'a> {
     pub fn has(&self, name: &str) -> bool
         ensures { result ≡ is_some (facts_by_name self.now name.now) }
     {
-        self.functions.contains_key(name)
+        self.functions.has(name)
     }
 
     /// Keeps the facts of the function of that name, unless there are some.
@@ -42,10 +42,7 @@ impl<'a> Table<'a> {
             (only_at name.now (facts_view facts) n)) }
         ensures err { OnErr result ((n : List ℕ) → facts_by_name self.new n ≡ facts_by_name self.old n) }
     {
-        if !self.functions.contains_key(name) {
-            self.functions.insert(name, facts)?;
-        }
-        Ok(())
+        self.functions.insert(name, facts)
     }
 
     /// The facts of the function of that name.
@@ -59,7 +56,7 @@ impl<'a> Table<'a> {
 /// The tables of imports, given or declared, by path.
 #[derive(Drop)]
 pub struct Imported<'a, 't> {
-    packages: IndexMap<&'a str, &'t Table<'a>>,
+    packages: FirstValues<'a, &'t Table<'a>>,
 }
 
 impl<'a, 't> Imported<'a, 't> {
@@ -68,7 +65,7 @@ impl<'a, 't> Imported<'a, 't> {
         ensures { (path : List ℕ) → table_by_path result path ≡ None }
     {
         Imported {
-            packages: IndexMap::new(alloc),
+            packages: FirstValues::new(alloc),
         }
     }
 
@@ -92,9 +89,6 @@ impl<'a, 't> Imported<'a, 't> {
             (only_at path.now table.now p)) }
         ensures err { OnErr result ((p : List ℕ) → table_by_path self.new p ≡ table_by_path self.old p) }
     {
-        if !self.packages.contains_key(path) {
-            self.packages.insert(path, table)?;
-        }
-        Ok(())
+        self.packages.insert(path, table)
     }
 }

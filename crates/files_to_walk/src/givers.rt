@@ -2,17 +2,17 @@
 
 ghost use Rattle.std.specs.Prelude.{◌≡◌, ℕ, List, OnOk, None};
 ghost use Rattle.meaning.specs.OuterBlocks.{or_else};
-ghost use Rattle.names.specs.Maps.{only_at};
+ghost use Rattle.first_values.specs.ValuesByName.{only_at};
 ghost use Rattle.files_to_walk.specs.Givers.{giver_by_path, may_give};
 
-use indexmap::IndexMap;
+use first_values::FirstValues;
 use std::alloc::{AllocError, Global};
 use whole_packages::Picks;
 
 /// The packages that may have a function that gives a cancel function, among those of which something is known.
 #[derive(Drop)]
 pub struct Givers<'a> {
-    packages: IndexMap<&'a str, bool>,
+    packages: FirstValues<'a, bool>,
 }
 
 impl<'a> Givers<'a> {
@@ -21,7 +21,7 @@ impl<'a> Givers<'a> {
         ensures { (path : List ℕ) → giver_by_path result path ≡ None }
     {
         Givers {
-            packages: IndexMap::new(alloc),
+            packages: FirstValues::new(alloc),
         }
     }
 
@@ -34,10 +34,7 @@ impl<'a> Givers<'a> {
         ensures { OnOk result ((other : List ℕ) → giver_by_path self.new other
             ≡ or_else (giver_by_path self.old other) (only_at path.now gives other)) }
     {
-        if !self.packages.contains_key(path) {
-            self.packages.insert(path, gives)?;
-        }
-        Ok(())
+        self.packages.insert(path, gives)
     }
 }
 

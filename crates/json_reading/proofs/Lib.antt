@@ -10,3 +10,7 @@ pub mod ListsRead
 pub mod ObjectKeys
 -- Objects whose members are read one by one.
 pub mod ObjectsRead
+-- Members with one more put among them, and without it.
+pub mod OneMore
+-- What is made of an object's members, of which each is read by its key.
+pub mod ItemsMade

@@ -153,7 +153,7 @@ none_chosen : (keys : List (List ℕ)) (k : List ℕ) (f : List ℕ → Option D
 none_chosen [] k f none = refl
 none_chosen (q ∷ keys) k f none = not_there k q (f q) (chosen keys f) none.0 (none_chosen keys k f none.1)
 
-none_some : {A : Type 0} (o : Option A) (a : A) → o ≡ None → o ≡ Some a → ⊥
+pub none_some : {A : Type 0} (o : Option A) (a : A) → o ≡ None → o ≡ Some a → ⊥
 none_some o a e h = cc
 
 pub has_no_other : (keys : List (List ℕ)) (ms : Members) (f : List ℕ → Option Data) → ms ≡ chosen keys f

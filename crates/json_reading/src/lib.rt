@@ -6,17 +6,21 @@
 mod flat;
 mod leaf;
 mod list;
+mod made;
 mod number;
 mod object;
 mod pass;
 mod start;
 mod stop;
+mod versioned;
 mod whole;
 
 pub use flat::{AddItem, add_list};
 pub use leaf::{Leaf, read_leaf, read_number};
-pub use list::{ReadItem, read_list};
+pub use list::{ListOf, ReadItem, read_list};
+pub use made::{MakeItem, NoOthers, Under, read_made};
 pub use object::{ReadMember, read_object};
 pub use pass::pass_value;
 pub use stop::Stop;
+pub use versioned::read_versioned;
 pub use whole::{read_whole, whole_number_under};

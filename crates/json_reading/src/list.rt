@@ -90,3 +90,28 @@ pub fn read_list<R: ReadItem>(
     pass_rest(reader, depth, begun)?;
     Ok(None)
 }
+
+/// What reads lists of such items.
+#[derive(Drop)]
+pub struct ListOf<'r, R> {
+    pub items: &'r R,
+}
+
+impl<'r, R: ReadItem> ReadItem for ListOf<'r, R> {
+    ghost use Rattle.json_reading.specs.Standing.{IsListOf, IsNoList};
+
+    type Item = Vec<R::Item>;
+
+    ghost is_item = { λ lists value list. IsListOf (R.is_item lists.items.now) value list.items };
+
+    ghost is_none = { λ lists. IsNoList (R.is_none lists.items.now) };
+
+    fn read_item(
+        &self,
+        alloc: Global,
+        reader: &mut Reader<'_>,
+        depth: usize,
+    ) -> Result<Option<Vec<R::Item>>, Stop> {
+        read_list(alloc, self.items, reader, depth)
+    }
+}

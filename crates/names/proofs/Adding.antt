@@ -1,14 +1,20 @@
 -- What is added to maps in which the first value of a name counts: by one declaration, and by a loop over many.
-use Rattle.std.proofs.Common.{◌≡◌, ℕ, ◌+◌, ◌<◌, Bool, true, false, if◌then◌else◌, List, [], ◌∷◌, ◌++◌, drop, length, get_or, Option, Some, None, option_map, Result, Ok, Err, OnOk, is_some, bytes_eq, Bor, refl, sym, ap, ◌∙◌, true≢false}
+use Rattle.std.proofs.Common.{◌≡◌, ℕ, ◌+◌, ◌<◌, Bool, true, false, if◌then◌else◌, List, [], ◌∷◌, ◌++◌, drop, length, get_or, Option, Some, None, option_map, Result, Ok, Err, OnOk, bytes_eq, Bor, refl, sym, ap, ◌∙◌}
 use Rattle.std.proofs.lemmas.List.{drop_more}
-use Rattle.std.proofs.lemmas.Map.Text.{hash_map_updates_str}
-use Rattle.std.proofs.lemmas.Slice.Eq.{bytes_eq-Decides}
+use Rattle.std.specs.Option.{option_or}
 use Rattle.indexmap.specs.IndexMap.{IndexMap, Updates}
+pub use Rattle.first_values.proofs.Inserted.{none_from}
+use Rattle.first_values.proofs.Inserted as firsts
 use Rattle.meaning.specs.OuterBlocks.{or_else, PackageLevel, package_meant}
 use Rattle.names.specs.Answers.{at_name}
 use Rattle.names.specs.Maps.{Adds, only_at, is_function_in}
 
 module _ {A : Type 0} where
+  -- what std calls `or` is the same
+  pub or_else-is : (a b : Option A) → option_or a b ≡ or_else a b
+  or_else-is None b = refl
+  or_else-is (Some a) b = refl
+
   pub or_else-none : (o : Option A) → or_else o None ≡ o
   or_else-none None = refl
   or_else-none (Some a) = refl
@@ -23,10 +29,6 @@ module _ {A : Type 0} where
   first_of true x all some others e = refl
   first_of false x all some others e = e
 
-  pub none_from : (o : Option A) → is_some o ≡ false → o ≡ None
-  none_from None e = refl
-  none_from (Some a) e = absurd (true≢false e)
-
 pub map-or_else : {A B : Type 0} (f : A → B) (a b : Option A)
     → option_map f (or_else a b) ≡ or_else (option_map f a) (option_map f b)
 map-or_else f None b = refl
@@ -39,14 +41,8 @@ module _ {V S : Type 0} (before after : IndexMap (Bor (List ℕ)) V S) (key : Bo
       → Updates (λ x y. bytes_eq x.now y.now) before after key (Some value)
       → (name : List ℕ) → at_name after name ≡ or_else (at_name before name) (only_at key.now value name)
   inserted none updates name =
-      hash_map_updates_str key.now before after (Some value) updates name ∙ by (bytes_eq key.now name) refl
-    where
-      by : (b : Bool) → bytes_eq key.now name ≡ b
-          → (if b then Some value else at_name before name)
-          ≡ or_else (at_name before name) (if b then Some value else None)
-      by true e = sym (ap (λ o. or_else o (Some value))
-          (ap (at_name before) (sym ((bytes_eq-Decides key.now name).0 e)) ∙ none))
-      by false e = sym (or_else-none (at_name before name))
+      firsts.inserted before after key value none updates name
+      ∙ or_else-is (at_name before name) (only_at key.now value name)
 
 -- the same is added, in other words
 module _ {T E : Type 0} where

@@ -1,8 +1,9 @@
 -- What the answers that the program keeps stand for.
 use Rattle.std.specs.Prelude.{ℕ, Option, Some, None, option_map, List, slice_get, nat_eq}
 use Rattle.std.specs.Borrow.{Bor}
-use Rattle.std.specs.Str.{bytes_eq}
-use Rattle.indexmap.specs.IndexMap.{IndexMap, get, get_by}
+use Rattle.indexmap.specs.IndexMap.{IndexMap, get}
+pub use Rattle.first_values.specs.ValuesByName.{at_name}
+use Rattle.first_values.specs.ValuesByName.{value_of}
 use Rattle.tree.specs.declared.span.Identifier.{Identifier as KeptIdentifier}
 use Rattle.tree.specs.View.{identifier_syntax}
 use Rattle.names.specs.declared.meanings.NameMeaning.{NameMeaning}
@@ -20,17 +21,13 @@ decl_view Function = function_name
 decl_view PackageLevel = package_name
 decl_view Universe = universe_name
 
--- the value of a name
-abbrev pub at_name : {V S : Type 0} → IndexMap (Bor (List ℕ)) V S → List ℕ → Option V
-at_name m name = get_by (λ k. bytes_eq name k.now) m
-
 -- the text at a name
 abbrev pub text_at : {S : Type 0} → IndexMap (Bor (List ℕ)) (Bor (List ℕ)) S → List ℕ → Option (List ℕ)
 text_at m name = option_map (λ text. text.now) (at_name m name)
 
 -- the names of packages by their paths
 abbrev pub names_by_path : KeptNames → PackageNames
-names_by_path packages = text_at packages.names
+names_by_path packages path = option_map (λ name. name.now) (value_of packages.names path)
 
 -- what the use means that begins at the offset of that file
 abbrev pub answer_in : {S : Type 0} → Option (IndexMap ℕ NameMeaning S) → ℕ → Option Meaning

@@ -1,9 +1,9 @@
 -- Maps in which the first value of a name counts, as functions from names.
 use Rattle.std.specs.Prelude.{ℕ, ◌≡◌, Bool, if◌then◌else◌, Option, Some, None, option_map, List}
 use Rattle.std.specs.Borrow.{Bor}
-use Rattle.std.specs.Str.{bytes_eq}
 use Rattle.indexmap.specs.IndexMap.{IndexMap}
 use Rattle.meaning.specs.OuterBlocks.{or_else, is_first_path, any_path, is_called, PackageLevel, package_meant}
+pub use Rattle.first_values.specs.ValuesByName.{only_at}
 use Rattle.names.specs.Answers.{at_name, text_at}
 
 -- names that had no value have now the one that is given here
@@ -15,10 +15,6 @@ abbrev pub AddsTexts :
     {S : Type 0} → IndexMap (Bor (List ℕ)) (Bor (List ℕ)) S → IndexMap (Bor (List ℕ)) (Bor (List ℕ)) S
     → (List ℕ → Option (List ℕ)) → Type 0
 AddsTexts before after given = (name : List ℕ) → text_at after name ≡ or_else (text_at before name) (given name)
-
--- one value, of one name
-abbrev pub only_at : {V : Type 0} → List ℕ → V → List ℕ → Option V
-only_at name value other = if bytes_eq name other then Some value else None
 
 -- the paths whose imports are looked at
 abbrev pub chosen_path : Bool → List ℕ → Bool

@@ -1,18 +1,17 @@
 //! The names of packages by their paths.
 
 ghost use Rattle.std.specs.Prelude.{◌≡◌, ℕ, List, OnOk, OnErr, option_map, None};
+ghost use Rattle.first_values.specs.ValuesByName.{only_at};
 ghost use Rattle.meaning.specs.OuterBlocks.{or_else};
 ghost use Rattle.names.specs.Answers.{names_by_path};
-ghost use Rattle.names.specs.Maps.{only_at};
 
-use crate::first::keep_first_name;
-use indexmap::IndexMap;
+use first_values::FirstValues;
 use std::alloc::{AllocError, Global};
 
 /// For the path of each package that was given, the name in the package clause of its first file.
 #[derive(Drop)]
 pub struct PackageNames<'a> {
-    names: IndexMap<&'a str, &'a str>,
+    names: FirstValues<'a, &'a str>,
 }
 
 impl<'a> PackageNames<'a> {
@@ -21,7 +20,7 @@ impl<'a> PackageNames<'a> {
         ensures { (path : List ℕ) → names_by_path result path ≡ None }
     {
         PackageNames {
-            names: IndexMap::new(alloc),
+            names: FirstValues::new(alloc),
         }
     }
 
@@ -35,7 +34,7 @@ impl<'a> PackageNames<'a> {
             (only_at path.now name.now p)) }
         ensures err { OnErr result ((p : List ℕ) → names_by_path self.new p ≡ names_by_path self.old p) }
     {
-        keep_first_name(&mut self.names, path, name)
+        self.names.insert(path, name)
     }
 
     /// The name of the package of that path, if it was given.

@@ -6,8 +6,7 @@ use Rattle.std.proofs.lemmas.Option.{none-some}
 use Rattle.std.proofs.lemmas.Slice.Eq.{bytes_eq-Decides}
 use Rattle.imports.specs.Views.{at_path, text_views}
 use Rattle.meaning.specs.OuterBlocks.{or_else}
-use Rattle.names.specs.Answers.{at_name}
-use Rattle.names.specs.Maps.{only_at}
+use Rattle.first_values.specs.ValuesByName.{only_at, value_of}
 use Rattle.names.proofs.Adding.{or_else-none}
 use Rattle.declared_tables.specs.declared.tables.PackageTable.{PackageTable as KeptTable}
 use Rattle.one_package.specs.declared.given.Given.{Given}
@@ -16,12 +15,12 @@ use Rattle.one_package.specs.Results.{declared_among, declared_if, declared_outs
 module _ (given : Given) where
   -- a path that a package has
   pub was_given : (path : List ℕ) → is_some (at_path given.places path) ≡ true → declared_outside given path ≡ None
-  was_given path is = ap (λ b. if b then None else at_name given.declared.packages path) is
+  was_given path is = ap (λ b. if b then None else value_of given.declared.packages path) is
 
   -- one that none has
   pub is_outside : (path : List ℕ) → is_some (at_path given.places path) ≡ false
-      → declared_outside given path ≡ at_name given.declared.packages path
-  is_outside path is = ap (λ b. if b then None else at_name given.declared.packages path) is
+      → declared_outside given path ≡ value_of given.declared.packages path
+  is_outside path is = ap (λ b. if b then None else value_of given.declared.packages path) is
 
   seen_if : (path : List ℕ) (found : Option KeptTable) → declared_outside given path ≡ found → (other : List ℕ)
       → declared_if given path other ≡ (if bytes_eq path other then found else None)
@@ -34,12 +33,12 @@ module _ (given : Given) where
 
   -- what is declared of one of these paths is declared
   pub among_is : (paths : List (List ℕ)) (path : List ℕ) (t : KeptTable) → declared_among given paths path ≡ Some t
-      → at_name given.declared.packages path ≡ Some t
+      → value_of given.declared.packages path ≡ Some t
   among_is paths path t = by (list_any (λ q. bytes_eq q path) paths) (is_some (at_path given.places path))
     where
       by : (among was : Bool)
-          → (if among then (if was then None else at_name given.declared.packages path) else None) ≡ Some t
-          → at_name given.declared.packages path ≡ Some t
+          → (if among then (if was then None else value_of given.declared.packages path) else None) ≡ Some t
+          → value_of given.declared.packages path ≡ Some t
       by true false e = e
       by true true e = absurd (none-some t e)
       by false was e = absurd (none-some t e)

@@ -5,7 +5,7 @@ use Rattle.std.proofs.lemmas.Option.{none-some, same_Some}
 use Rattle.std.proofs.lemmas.Slice.Eq.{bytes_eq-Decides}
 use Rattle.meaning.proofs.Membership.{contains_nil, contains_here, contains_there, contains_cases}
 use Rattle.meaning.specs.OuterBlocks.{or_else}
-use Rattle.names.specs.Maps.{only_at}
+use Rattle.first_values.specs.ValuesByName.{only_at}
 use Rattle.names.proofs.Adding.{or_else-none, or_else-assoc}
 use Rattle.one_package.specs.declared.judged.Judged.{Judged}
 use Rattle.one_package.specs.Results.{given_by, first_at, judged_at}

@@ -11,7 +11,8 @@ use Rattle.imports.specs.Views.{at_path}
 use Rattle.called_parameters.specs.Called.{flags_by_path}
 use Rattle.whole_packages.specs.declared.loaded_package.LoadedPackage.{LoadedPackage as KeptPackage}
 use Rattle.whole_packages.specs.WholeEntries.{is_set, TellsOrder}
-use Rattle.names.specs.Answers.{at_name, names_by_path}
+use Rattle.first_values.specs.ValuesByName.{value_of}
+use Rattle.names.specs.Answers.{names_by_path}
 use Rattle.report.specs.Entries.{Entry, Precedes, entry_of}
 use Rattle.report.specs.declared.diagnostics.Diagnostic.{Diagnostic}
 use Rattle.report.specs.declared.diagnostics.PackageReport.{PackageReport}
@@ -106,7 +107,7 @@ pub record AreNotYes
 
 -- whether something is to be said of the package of that path, if it was judged
 abbrev pub mark_by_path : NotYes → List ℕ → Option Bool
-mark_by_path not_yes = at_name not_yes.packages
+mark_by_path not_yes = value_of not_yes.packages
 
 abbrev pub is_picked : NotYes → List ℕ → Bool
 is_picked not_yes path = is_set (mark_by_path not_yes path)

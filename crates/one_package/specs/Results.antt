@@ -3,8 +3,7 @@ use Rattle.std.specs.Prelude.{ℕ, ◌≡◌, not, Bool, true, if◌then◌else�
 use Rattle.std.specs.List.{list_any}
 use Rattle.std.specs.Str.{bytes_eq}
 use Rattle.meaning.specs.OuterBlocks.{or_else}
-use Rattle.names.specs.Answers.{at_name}
-use Rattle.names.specs.Maps.{only_at}
+use Rattle.first_values.specs.ValuesByName.{only_at, value_of}
 use Rattle.imports.specs.Ranks.{HasRank, Imports}
 use Rattle.imports.specs.Views.{at_path}
 use Rattle.facts.specs.FactViews.{table_by_path}
@@ -75,7 +74,7 @@ pub record KnowsJudged (js : List Judged) (known : KnownImports) : Type 0 where
 -- what is declared of the package of that path, unless it was given
 abbrev pub declared_outside : Given → List ℕ → Option KeptTable
 declared_outside given path =
-    if is_some (at_path given.places path) then None else at_name given.declared.packages path
+    if is_some (at_path given.places path) then None else value_of given.declared.packages path
 
 -- the same, if it is this path
 abbrev pub declared_if : Given → List ℕ → List ℕ → Option KeptTable

@@ -4,9 +4,9 @@ ghost use Rattle.std.specs.Prelude.{◌≡◌, ◌++◌, ◌∷◌, ℕ, List, [
 ghost use Rattle.called_parameters.specs.Called.{called_by_path};
 ghost use Rattle.facts.specs.FactViews.{table_by_path};
 ghost use Rattle.files_to_walk.specs.Givers.{giver_by_path};
+ghost use Rattle.first_values.specs.ValuesByName.{only_at};
 ghost use Rattle.imports.specs.Views.{text_views};
 ghost use Rattle.meaning.specs.OuterBlocks.{or_else};
-ghost use Rattle.names.specs.Maps.{only_at};
 ghost use Rattle.one_package.specs.Judgments.{is_picked, mark_by_path};
 ghost use Rattle.one_package.specs.Results.{declared_among, declared_if, KnowsImports, KnowsJudged};
 ghost use Rattle.one_package.specs.declared.judged.Judged.{Judged};
@@ -17,14 +17,14 @@ use crate::verdicts::is_yes;
 use called_parameters::ImportedCalls;
 use facts::Imported;
 use files_to_walk::Givers;
-use indexmap::IndexMap;
+use first_values::FirstValues;
 use std::alloc::{AllocError, Global};
 use whole_packages::Picks;
 
 /// The packages that are not yes, among those that were judged.
 #[derive(Drop)]
 pub struct NotYes<'a> {
-    packages: IndexMap<&'a str, bool>,
+    packages: FirstValues<'a, bool>,
 }
 
 impl<'a> NotYes<'a> {
@@ -33,7 +33,7 @@ impl<'a> NotYes<'a> {
         ensures { (path : List ℕ) → mark_by_path result path ≡ None }
     {
         NotYes {
-            packages: IndexMap::new(alloc),
+            packages: FirstValues::new(alloc),
         }
     }
 
@@ -46,10 +46,7 @@ impl<'a> NotYes<'a> {
         ensures { OnOk result ((other : List ℕ) → mark_by_path self.new other
             ≡ or_else (mark_by_path self.old other) (only_at path.now is_not_yes other)) }
     {
-        if !self.packages.contains_key(path) {
-            self.packages.insert(path, is_not_yes)?;
-        }
-        Ok(())
+        self.packages.insert(path, is_not_yes)
     }
 }
 

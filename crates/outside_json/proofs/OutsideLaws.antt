@@ -17,7 +17,7 @@ use Rattle.outside_json.specs.declared.fault.OutsideFault.TheVariants.{NotJson, 
 use Rattle.outside_json.specs.Outside.{FunctionEntry, PackageEntry, first_reserved, AreInOrder, HasOrder, IsPackageInOrder}
 use Rattle.outside_json.specs.OutsideTexts.{HasWrongShape, HasWrongVersion, IsOutsideFault, IsOutsideText}
 use Rattle.outside_json.specs.OutsideValues.{IsDeclaredValue, IsOutsideValue, IsPackageValue}
-use Rattle.outside_json.proofs.PackageReadings.{one_meaning, version_there}
+use Rattle.outside_json.proofs.PackagesRead.{one_meaning, version_there}
 
 -- What is read is in order
 

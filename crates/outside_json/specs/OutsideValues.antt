@@ -3,8 +3,8 @@
 use Rattle.std.specs.Prelude.{ℕ, ◌≡◌, true, List, codes}
 use Rattle.std.specs.List.{AllZip}
 use Rattle.serde_json.specs.Data.{Data, string, object, Members, member, no_members, put}
-use Rattle.table_json.specs.Tables.{by_bytes, IsArranged}
-use Rattle.table_json.specs.TableValues.{whole, list, Fits, IsFunctionValue}
+use Rattle.table_json.specs.Tables.{by_bytes}
+use Rattle.table_json.specs.TableValues.{whole, list, AreArrangedOf, Fits, IsFunctionValue}
 use Rattle.outside_json.specs.Outside.{FunctionEntry, PackageEntry, are_below, name_of, AreApart}
 
 -- The value of a function is that of its facts in a table of version 2, with the number of its results under one key
@@ -18,10 +18,8 @@ pub record IsDeclaredValue (value : Data) (f : FunctionEntry) : Type 0 where
   pub causes_below : are_below f.results f.facts.causes ≡ true
 
 -- these are the values of the functions, in any order: no name comes twice
-pub record AreDeclaredOf (values : List Data) (kept : List FunctionEntry) : Type 0 where
-  pub given : List FunctionEntry
-  pub each : AllZip IsDeclaredValue values given
-  pub arranged : IsArranged by_bytes name_of given kept
+abbrev pub AreDeclaredOf : List Data → List FunctionEntry → Type 0
+AreDeclaredOf = AreArrangedOf IsDeclaredValue by_bytes name_of
 
 -- `{"functions":[G,..],"path":s}`
 abbrev pub package_with : List ℕ → List Data → Data

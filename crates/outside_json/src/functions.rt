@@ -1,17 +1,16 @@
 //! Functions, and lists of them.
 
-ghost use Rattle.std.specs.Prelude.{◌≡◌, IfErr, IfOk, map, option_map, string_bytes};
-ghost use Rattle.json_reading.specs.Standing.{value_at, ReadsAs, Refutes, Stops};
-ghost use Rattle.table_json.specs.MembersRead.{newer_with};
-ghost use Rattle.outside_json.specs.MembersRead.{declared_with, AreDeclaredIn};
+ghost use Rattle.std.specs.Prelude.{◌≡◌, option_map};
+ghost use Rattle.table_json.specs.Tables.{entry_of};
+ghost use Rattle.outside_json.specs.MembersRead.{declared_with};
 ghost use Rattle.outside_json.specs.Outside.{are_below, function_of};
 
 use crate::order::functions_in_order;
 use crate::outside::OutsideFunction;
 use json::Reader;
-use json_reading::{ReadItem, ReadMember, Stop, read_list, read_object};
+use json_reading::{ReadItem, Stop, Under, read_list, read_made};
 use std::alloc::Global;
-use table_json::{FunctionMembers, newer_with, read_position};
+use table_json::{Function, FunctionMembers, Positions, Version};
 
 /// Whether each position is that of one of so many results.
 fn are_below(results: u32, positions: &[u32]) -> bool
@@ -25,48 +24,11 @@ fn are_below(results: u32, positions: &[u32]) -> bool
     true
 }
 
-/// What was read of the members of a function.
-#[derive(Drop)]
-struct DeclaredMembers {
-    facts: FunctionMembers,
-    results: Option<u32>,
-}
-
-impl ReadMember for DeclaredMembers {
-    ghost use Rattle.std.specs.Prelude.{option_map, string_bytes};
-    ghost use Rattle.table_json.specs.MembersRead.{HasFunctionMembers};
-    ghost use Rattle.outside_json.specs.MembersRead.{HasDeclaredMembers};
-
-    ghost holds = { λ _ read. HasDeclaredMembers (HasFunctionMembers read.facts.has_other read.facts.has_causes
-        (option_map (λ list. list.items) read.facts.causes) (option_map (λ list. list.items) read.facts.gives)
-        (option_map string_bytes read.facts.name) (option_map (λ list. list.items) read.facts.params)) read.results };
-
-    fn read_member(
-        &mut self,
-        alloc: Global,
-        key: &str,
-        reader: &mut Reader<'_>,
-        depth: usize,
-    ) -> Result<(), Stop> {
-        if key == "results" {
-            self.results = read_position(reader, depth)?;
-        } else {
-            self.facts.read_member(alloc, key, reader, depth)?;
-        }
-        Ok(())
-    }
-}
-
-/// The function of an object with these members.
+/// The function with these facts and so many results.
 #[tactic(auto, unfolding(crate::specs::MembersRead::declared_with))]
-fn declared_with(members: DeclaredMembers) -> Option<OutsideFunction>
-    ensures { option_map function_of result ≡ declared_with (newer_with members.facts.has_other
-        (option_map (λ list. list.items) members.facts.causes) (option_map (λ list. list.items) members.facts.gives)
-        (option_map string_bytes members.facts.name) (option_map (λ list. list.items) members.facts.params))
-        members.results }
+fn declared_with(facts: Function, results: u32) -> Option<OutsideFunction>
+    ensures { option_map function_of result ≡ declared_with (entry_of facts) results }
 {
-    let facts = newer_with(members.facts)?;
-    let results = members.results?;
     if are_below(results, &facts.gives) && are_below(results, &facts.causes) {
         Some(OutsideFunction { facts, results })
     } else {
@@ -95,30 +57,44 @@ impl ReadItem for Functions {
         reader: &mut Reader<'_>,
         depth: usize,
     ) -> Result<Option<OutsideFunction>, Stop> {
-        let mut members = DeclaredMembers {
-            facts: FunctionMembers::new(),
-            results: None,
+        let members = Under {
+            key: "results",
+            values: &Positions,
+            found: None,
+            others: FunctionMembers::new(Version::Newer),
         };
-        if read_object(alloc, &mut members, reader, depth)? {
-            Ok(declared_with(members))
-        } else {
-            Ok(None)
+        match read_made(alloc, members, reader, depth)? {
+            Some((results, facts)) => Ok(declared_with(facts, results)),
+            None => Ok(None),
         }
     }
 }
 
-/// Reads the next value as a list of functions, in the order of their names.
-pub(crate) fn read_functions(
-    alloc: Global,
-    reader: &mut Reader<'_>,
-    depth: usize,
-) -> Result<Option<Vec<OutsideFunction>>, Stop>
-    ensures ok { IfOk result (λ found. ReadsAs AreDeclaredIn (Refutes AreDeclaredIn) (value_at depth reader.old)
-        reader.new (option_map (λ functions. map function_of functions.items) found)) }
-    ensures err { IfErr result (Stops (value_at depth reader.old)) }
-{
-    match read_list(alloc, &Functions, reader, depth)? {
-        Some(given) => Ok(functions_in_order(given)),
-        None => Ok(None),
+/// Lists of functions, in the order of their names.
+#[derive(Clone, Copy, Drop)]
+pub(crate) struct DeclaredLists;
+
+impl ReadItem for DeclaredLists {
+    ghost use Rattle.std.specs.Prelude.{map};
+    ghost use Rattle.json_reading.specs.Standing.{Refutes};
+    ghost use Rattle.outside_json.specs.MembersRead.{AreDeclaredIn};
+    ghost use Rattle.outside_json.specs.Outside.{function_of};
+
+    type Item = Vec<OutsideFunction>;
+
+    ghost is_item = { λ _ value functions. AreDeclaredIn value (map function_of functions.items) };
+
+    ghost is_none = { λ _. Refutes AreDeclaredIn };
+
+    fn read_item(
+        &self,
+        alloc: Global,
+        reader: &mut Reader<'_>,
+        depth: usize,
+    ) -> Result<Option<Vec<OutsideFunction>>, Stop> {
+        match read_list(alloc, &Functions, reader, depth)? {
+            Some(given) => Ok(functions_in_order(given)),
+            None => Ok(None),
+        }
     }
 }

@@ -6,93 +6,11 @@ ghost use Rattle.outside_json.specs.Outside.{packages_of, AreInOrder, PackageEnt
 ghost use Rattle.outside_json.specs.OutsideTexts.{IsOutsideFault, IsOutsideText};
 
 use crate::fault::OutsideFault;
-use crate::order::are_apart;
-use crate::outside::{Outside, OutsidePackage};
+use crate::outside::Outside;
 use crate::packages::read_packages;
 use crate::reserved::first_reserved;
-use json::Reader;
-use json_reading::{ReadItem, ReadMember, Stop, pass_value, read_object, read_whole};
 use std::alloc::Global;
 use table_json::{Version, known_version};
-
-/// What was read of the members of the whole object.
-#[derive(Drop)]
-struct WholeMembers {
-    packages: Option<Vec<OutsidePackage>>,
-    has_other: bool,
-}
-
-impl ReadMember for WholeMembers {
-    ghost use Rattle.std.specs.Prelude.{map, option_map};
-    ghost use Rattle.outside_json.specs.MembersRead.{HasOutsideMembers};
-    ghost use Rattle.outside_json.specs.Outside.{package_of};
-
-    ghost holds = { λ _ read. HasOutsideMembers read.has_other
-        (option_map (λ packages. map package_of packages.items) read.packages) };
-
-    fn read_member(
-        &mut self,
-        alloc: Global,
-        key: &str,
-        reader: &mut Reader<'_>,
-        depth: usize,
-    ) -> Result<(), Stop> {
-        if key == "packages" {
-            self.packages = read_packages(alloc, reader, depth)?;
-        } else if key == "version" {
-            pass_value(reader, depth)?;
-        } else {
-            pass_value(reader, depth)?;
-            self.has_other = true;
-        }
-        Ok(())
-    }
-}
-
-/// The declared facts of a text, reserved paths among them.
-#[derive(Clone, Copy, Drop)]
-struct Whole;
-
-impl ReadItem for Whole {
-    ghost use Rattle.std.specs.Prelude.{◌≡◌, Some, map};
-    ghost use Rattle.json_reading.specs.Standing.{Refutes};
-    ghost use Rattle.table_json.specs.TableTexts.{version_of};
-    ghost use Rattle.outside_json.specs.Outside.{package_of};
-    ghost use Rattle.outside_json.specs.OutsideValues.{IsOutsideValue};
-
-    type Item = Vec<OutsidePackage>;
-
-    ghost is_item = { λ _ value packages. version_of value ≡ Some 2
-        → IsOutsideValue value (map package_of packages.items) };
-
-    ghost is_none = { λ _. Refutes IsOutsideValue };
-
-    fn read_item(
-        &self,
-        alloc: Global,
-        reader: &mut Reader<'_>,
-        depth: usize,
-    ) -> Result<Option<Vec<OutsidePackage>>, Stop> {
-        let mut members = WholeMembers {
-            packages: None,
-            has_other: false,
-        };
-        if !read_object(alloc, &mut members, reader, depth)? {
-            return Ok(None);
-        }
-        if members.has_other {
-            return Ok(None);
-        }
-        let Some(packages) = members.packages else {
-            return Ok(None);
-        };
-        if are_apart(alloc, &packages)? {
-            Ok(Some(packages))
-        } else {
-            Ok(None)
-        }
-    }
-}
 
 /// The declared facts of a text. The packages stand as they do in the text, and the functions of each in the order of
 /// their names, each with its positions as they rise. In the text the order of functions, positions and keys is free.
@@ -122,7 +40,7 @@ pub fn from_json(alloc: Global, text: &str) -> Result<Outside, OutsideFault>
         Version::Older => return Err(OutsideFault::WrongVersion),
         Version::Newer => {}
     }
-    let Some(packages) = read_whole(alloc, &Whole, text)? else {
+    let Some(packages) = read_packages(alloc, text)? else {
         return Err(OutsideFault::WrongShape);
     };
     match first_reserved(&packages) {

@@ -1,18 +1,18 @@
 //! The most flags that are consistent, where several threads look which claims are kept.
 
 ghost use Rattle.std.specs.Prelude.{◌≡◌, ◌≤◌, ℕ, Bool, List, IfOk, length, map, slice_get, unwrap_or, false};
-ghost use Rattle.calls_flags.specs.Claims.{claim_view, AreClaims, HaveFacts, KeepsClaim, Sieves};
+ghost use Rattle.calls_flags.specs.Claims.{claim_view, flags_claimed, AreClaims, HaveFacts, KeepsClaim, Sieves};
 ghost use Rattle.calls_flags.specs.FilesBodies.{TellAll};
 ghost use Rattle.called_parameters.specs.Called.{is_called, flags_by_path};
 ghost use Rattle.facts.specs.FactViews.{facts_by_name};
 ghost use Rattle.meaning.specs.Uses.{Callee};
-ghost use Rattle.meaning_packages.specs.CallsFlags.{AreMost, FileWithCredits};
+ghost use Rattle.meaning_packages.specs.CallsFlags.{AreMost, FileWithCredits, calls_by};
 ghost use Rattle.package_pieces.specs.Marks.{is_marked, AreMarks};
 
 use called_parameters::{Called, ImportedCalls};
-use calls_flags::{Claim, FileBodies, KnownCalls, Sieve, find_called_by, keeps_claim};
+use calls_flags::{Claim, FileBodies, KnownCalls, called_by, find_claims, keeps_claim};
 use facts::Table;
-use pieces::{Free, Helpers, Piece, PieceFault, work_all};
+use pieces::{BodyGate, Helpers, Piece, PieceFault, work_all};
 use std::alloc::{AllocError, Global};
 use std::sync::Wait;
 use std::thread::Threads;
@@ -70,37 +70,39 @@ fn marked<'a>(
     Ok(kept)
 }
 
-/// Helpers look which claims are kept.
-#[derive(Drop)]
-struct Sifting<'h, R> {
-    helpers: &'h Helpers<'h, R, Free>,
-}
-
-impl<'h, R: Threads + Wait> Sieve for Sifting<'h, R> {
-    type Fault = PieceFault;
-
-    fn kept<'a>(
-        &self,
-        alloc: Global,
-        files: &[FileBodies<'_, 'a>],
-        calls: KnownCalls<'_, 'a>,
-        claims: &[Claim<'a>],
-    ) -> Result<Vec<Claim<'a>>, PieceFault> {
-        let marks = work_all(alloc, self.helpers, claims, &Keeping { files, calls })?;
-        Ok(marked(alloc, claims, &marks)?)
-    }
+/// Those of the claims that are kept where these claims, and no others, hold. These helpers look, a claim at a time.
+fn kept_claims<'a, R: Threads + Wait, G: BodyGate + Sync>(
+    alloc: Global,
+    helpers: &Helpers<'_, R, G>,
+    files: &[FileBodies<'_, 'a>],
+    imported: &ImportedCalls<'a, '_>,
+    claims: &[Claim<'a>],
+) -> Result<Vec<Claim<'a>>, PieceFault>
+    ensures fewer { IfOk result (λ kept. length kept.items ≤ length claims.now) }
+    ensures sieves { IfOk result (λ kept. (fs : List FileWithCredits) → TellAll fs files.now
+        → AreClaims fs (map claim_view claims.now)
+        → Sieves (KeepsClaim fs (calls_by (flags_claimed (map claim_view claims.now)) (flags_by_path imported.now)))
+        (map claim_view claims.now) (map claim_view kept.items)) }
+{
+    let own = called_by(alloc, claims)?;
+    let calls = KnownCalls {
+        own: &own,
+        imported: &*imported,
+    };
+    let marks = work_all(alloc, helpers, claims, &Keeping { files, calls })?;
+    Ok(marked(alloc, claims, &marks)?)
 }
 
 /// Finds which functions of a package are known to call which of their parameters, where the functions of the package
-/// have these facts, and this is known of its imports: the most consistent flags. In each round these helpers look
-/// which claims are kept, a claim at a time.
+/// have these facts, and this is known of its imports: the most consistent flags. The rounds are those of
+/// `find_called`, and in each these helpers look which claims are kept, a claim at a time.
 ///
 /// # Errors
 ///
 /// Memory was refused, or else a thread could not be started.
-pub fn find_called_with<'a, R: Threads + Wait>(
+pub fn find_called_with<'a, R: Threads + Wait, G: BodyGate + Sync>(
     alloc: Global,
-    helpers: &Helpers<'_, R, Free>,
+    helpers: &Helpers<'_, R, G>,
     table: &Table<'a>,
     files: &[FileBodies<'_, 'a>],
     imported: &ImportedCalls<'a, '_>,
@@ -109,5 +111,12 @@ pub fn find_called_with<'a, R: Threads + Wait>(
         → HaveFacts (facts_by_name table.now) fs
         → AreMost fs (flags_by_path imported.now) (is_called called)) }
 {
-    find_called_by(alloc, table, files, imported, &Sifting { helpers })
+    let mut claims = find_claims(alloc, table, files)?;
+    loop {
+        let kept = kept_claims(alloc, helpers, files, imported, &claims)?;
+        if kept.len() == claims.len() {
+            return Ok(called_by(alloc, &claims)?);
+        }
+        claims = kept;
+    }
 }

@@ -88,7 +88,7 @@ added_to_none before after adds none is = is ∙ ap (λ l. l ++ adds) none
 
 -- a class that is there
 module _ (has : CancelClass → Bool) (vs : List Variable) (pending_groups : List ℕ) where
-  lost_has : may_be_lost vs has pending_groups ≡ true → (k : CancelClass) × (has k ≡ true) × (is_lost vs k ≡ true)
+  pub lost_has : may_be_lost vs has pending_groups ≡ true → (k : CancelClass) × (has k ≡ true) × (is_lost vs k ≡ true)
   lost_has e =
       elim (or_cases (has opened) (found.is_left_outside vs has pending_groups) e) [
         | inl is ↦ (opened, is, refl)
@@ -98,7 +98,7 @@ module _ (has : CancelClass → Bool) (vs : List Variable) (pending_groups : Lis
             (pending w.0, parts.0, parts.1)
       ]
 
-  has_lost : ((g : ℕ) → has (pending g) ≡ true → Contains pending_groups g) → (k : CancelClass) → has k ≡ true
+  pub has_lost : ((g : ℕ) → has (pending g) ≡ true → Contains pending_groups g) → (k : CancelClass) → has k ≡ true
       → is_lost vs k ≡ true → may_be_lost vs has pending_groups ≡ true
   has_lost all unset h e = absurd (false≢true e)
   has_lost all opened h e = or_left (has opened) (found.is_left_outside vs has pending_groups) h
@@ -107,6 +107,37 @@ module _ (has : CancelClass → Bool) (vs : List Variable) (pending_groups : Lis
       or_right (has opened) (found.is_left_outside vs has pending_groups)
       (any_holds (λ g. has (pending g) && not (makes_it vs g)) pending_groups g (all g h)
       (and_from (has (pending g)) (not (makes_it vs g)) h e))
+
+-- what may be unsettled
+module _ (has : CancelClass → Bool) (has_group : GroupClass → Bool) (pending_groups : List ℕ) where
+  pub settled_safe : ((g : ℕ) → has (pending g) ≡ true → Contains pending_groups g)
+      → is_unsettled has has_group pending_groups cancel ≡ false → (k : CancelClass) → has k ≡ true → is_safe k ≡ true
+  settled_safe all e unset h = absurd (true≢false (sym (or_left (has unset) _ h) ∙ e))
+  settled_safe all e opened h =
+      absurd (true≢false (sym (or_right (has unset) _ (or_left (has opened) _ h)) ∙ e))
+  settled_safe all e safe h = refl
+  settled_safe all e (pending g) h =
+      absurd (true≢false (sym (or_right (has unset) _ (or_right (has opened) _
+      (any_holds (λ g. has (pending g)) pending_groups g (all g h) h))) ∙ e))
+
+  pub settled_at_rest : is_unsettled has has_group pending_groups group ≡ false → (k : GroupClass) → has_group k ≡ true
+      → is_live k ≡ false
+  settled_at_rest e unmade h = refl
+  settled_at_rest e (in_state idle) h = refl
+  settled_at_rest e (in_state live) h = absurd (true≢false (sym h ∙ e))
+  settled_at_rest e awaited h = refl
+
+  pub unsettled_class : is_unsettled has has_group pending_groups cancel ≡ true
+      → (k : CancelClass) × (has k ≡ true) × (is_safe k ≡ false)
+  unsettled_class e =
+      elim (or_cases (has unset) _ e) [
+        | inl h ↦ (unset, h, refl)
+        | inr more ↦
+            elim (or_cases (has opened) _ more) [
+              | inl h ↦ (opened, h, refl)
+              | inr some ↦ let w = any_witness (λ g. has (pending g)) pending_groups some in (pending w.0, w.2, refl)
+            ]
+      ]
 
 bound_by : {e : Event} {u : VariableAt} → BindsCancel e u → (vs : List Variable) (cancels : Cancels) (groups : Groups)
     (pgs : List ℕ) (lives : ℕ → Bool) (n at : ℕ) (f : PathFault) → Contains (binding_faults vs cancels pgs n u) f
@@ -557,24 +588,6 @@ module _ (b : Paths) (cancels : Cancels) (groups : Groups) (pending_groups : Lis
           (and_from (is_return o.event) (is_unsettled (cancels i n) (groups i n) pending_groups v.kind)
           (ap is_return returns) e)
 
-      -- a class that is not settled is told
-      cancel_told : (n : ℕ) (k : CancelClass) → cancels i n k ≡ true
-          → is_unsettled (cancels i n) (groups i n) pending_groups cancel ≡ false → is_safe k ≡ true
-      cancel_told n unset h e = absurd (true≢false (sym (or_left (cancels i n unset) _ h) ∙ e))
-      cancel_told n opened h e =
-          absurd (true≢false (sym (or_right (cancels i n unset) _ (or_left (cancels i n opened) _ h)) ∙ e))
-      cancel_told n safe h e = refl
-      cancel_told n (pending g) h e =
-          absurd (true≢false (sym (or_right (cancels i n unset) _ (or_right (cancels i n opened) _
-          (any_holds (λ g. cancels i n (pending g)) pending_groups g (all i n g h) h))) ∙ e))
-
-      group_told : (n : ℕ) (k : GroupClass) → groups i n k ≡ true
-          → is_unsettled (cancels i n) (groups i n) pending_groups group ≡ false → not (is_live k) ≡ true
-      group_told n unmade h e = refl
-      group_told n (in_state idle) h e = refl
-      group_told n (in_state live) h e = absurd (true≢false (sym h ∙ e))
-      group_told n awaited h e = refl
-
       not_broken_at : (n : ℕ) (o : Occurrence Event) (handed : List Handed) → slice_get os n ≡ Some o
           → o.event ≡ return_event handed → breaks_settling cancels groups pending_groups os i v.kind ≡ false
           → is_unsettled (cancels i n) (groups i n) pending_groups v.kind ≡ false
@@ -587,38 +600,25 @@ module _ (b : Paths) (cancels : Cancels) (groups : Groups) (pending_groups : Lis
           → (k : VariableKind) → v.kind ≡ k → is_settled b v t k ≡ true
       at_return_by t o handed comes e cancel kind =
           let it = (tells.of_cancel i v there kind).kept t o comes.reaches in
-          cancel_told it.node (cancel_class b v t) it.is_marked
+          settled_safe (cancels i it.node) (groups i it.node) pending_groups (all i it.node)
           (sym (ap (λ k. is_unsettled (cancels i it.node) (groups i it.node) pending_groups k) kind)
-          ∙ not_broken_at it.node o handed it.is_node comes.is_return e)
+          ∙ not_broken_at it.node o handed it.is_node comes.is_return e) (cancel_class b v t) it.is_marked
       at_return_by t o handed comes e group kind =
           let it = (tells.of_group i v there kind).kept t o comes.reaches in
-          group_told it.node (group_class b v t) it.is_marked
+          ap not (settled_at_rest (cancels i it.node) (groups i it.node) pending_groups
           (sym (ap (λ k. is_unsettled (cancels i it.node) (groups i it.node) pending_groups k) kind)
-          ∙ not_broken_at it.node o handed it.is_node comes.is_return e)
+          ∙ not_broken_at it.node o handed it.is_node comes.is_return e) (group_class b v t) it.is_marked)
 
       settles : breaks_settling cancels groups pending_groups os i v.kind ≡ false → Settles b v
       settles e = record { at_returns = λ handed t o comes. at_return_by t o handed comes e v.kind refl }
 
       -- back
 
-      cancel_broken : (n : ℕ) → is_unsettled (cancels i n) (groups i n) pending_groups cancel ≡ true
-          → (k : CancelClass) × (cancels i n k ≡ true) × (is_safe k ≡ false)
-      cancel_broken n e =
-          elim (or_cases (cancels i n unset) _ e) [
-            | inl h ↦ (unset, h, refl)
-            | inr more ↦
-                elim (or_cases (cancels i n opened) _ more) [
-                  | inl h ↦ (opened, h, refl)
-                  | inr some ↦
-                      let w = any_witness (λ g. cancels i n (pending g)) pending_groups some in (pending w.0, w.2, refl)
-                ]
-          ]
-
       broken_by : (n : ℕ) (o : Occurrence Event) (handed : List Handed) → slice_get os n ≡ Some o
           → o.event ≡ return_event handed → Settles b v → (k : VariableKind) → v.kind ≡ k
           → is_unsettled (cancels i n) (groups i n) pending_groups k ≡ true → ⊥
       broken_by n o handed here returns settles cancel kind e =
-          let class = cancel_broken n e in
+          let class = unsettled_class (cancels i n) (groups i n) pending_groups e in
           let it = (tells.of_cancel i v there kind).found n o class.0 here class.1 in
           let safe_there : is_settled b v it.before cancel ≡ true =
           sym (ap (is_settled b v it.before) kind)

@@ -35,6 +35,27 @@ Cancels = ℕ → ℕ → CancelClass → Bool
 abbrev pub Groups : Type 0
 Groups = ℕ → ℕ → GroupClass → Bool
 
+-- what a node does of which a class may be a fault
+pub data Deed : Type 0 where
+  nothing : Deed
+  binds : VariableAt → Deed
+  makes : VariableAt → Deed
+  returns : List Handed → Deed
+
+abbrev pub deed_of : Event → Deed
+deed_of (obtain u f k is_declared) = binds u
+deed_of (clear u) = binds u
+deed_of (make u state) = makes u
+deed_of (return_event handed) = returns handed
+deed_of e = nothing
+
+abbrev pub is_return_deed : Deed → Bool
+is_return_deed (returns handed) = true
+is_return_deed d = false
+
+abbrev pub is_return : Event → Bool
+is_return e = is_return_deed (deed_of e)
+
 abbrev pub is_live_group : Variable → (GroupClass → Bool) → Bool
 is_live_group g has = is_group (Some g.kind) && has (in_state live)
 
@@ -80,6 +101,9 @@ is_live_there vs groups nodes at order j = any_from (λ n o. is_live_at vs group
 abbrev pub is_left_to : List Variable → (CancelClass → Bool) → (ℕ → Bool) → Bool
 is_left_to vs has lives = any_from (λ j g. is_group (Some g.kind) && (has (pending g.number) && lives j)) 0 vs
 
+abbrev pub is_uncalled : List Variable → (CancelClass → Bool) → (ℕ → Bool) → Bool
+is_uncalled vs has lives = has opened || is_left_to vs has lives
+
 abbrev pub owes_call : Variable → List Handed → Bool
 owes_call v handed = is_cancel (Some v.kind) && (is_declared v.role && not (is_handed v.number handed))
 
@@ -111,16 +135,28 @@ return_faults vs cancels groups lives n at handed =
 
 -- All paths
 
--- of a node and what it does, where this test tells which groups may be live there
+-- the variable of the place i is a fault of what the node does, where this test tells which groups may be live there
+abbrev pub is_fault
+    : List Variable → Cancels → Groups → List ℕ → (ℕ → Bool) → ℕ → Deed → ℕ → Variable → Bool
+is_fault vs cancels groups pending_groups lives n nothing i v = false
+is_fault vs cancels groups pending_groups lives n (binds u) i v = loses_cancel vs cancels pending_groups n u.number i v
+is_fault vs cancels groups pending_groups lives n (makes u) i v = loses_group groups n u.number i v
+is_fault vs cancels groups pending_groups lives n (returns handed) i v =
+    (owes_call v handed && is_uncalled vs (cancels i n) lives) || returns_live groups n i v
+
+-- the same with places and codes, of all variables
+abbrev pub deed_faults
+    : List Variable → Cancels → Groups → List ℕ → (ℕ → Bool) → ℕ → ℕ → Deed → List PathFault
+deed_faults vs cancels groups pending_groups lives n at nothing = []
+deed_faults vs cancels groups pending_groups lives n at (binds u) = binding_faults vs cancels pending_groups n u
+deed_faults vs cancels groups pending_groups lives n at (makes u) = making_faults vs groups n u
+deed_faults vs cancels groups pending_groups lives n at (returns handed) =
+    return_faults vs cancels groups lives n at handed
+
 abbrev pub event_faults
     : List Variable → Cancels → Groups → List ℕ → (ℕ → Bool) → ℕ → ℕ → Event → List PathFault
-event_faults vs cancels groups pending_groups lives n at (obtain u f k is_declared) =
-    binding_faults vs cancels pending_groups n u
-event_faults vs cancels groups pending_groups lives n at (clear u) = binding_faults vs cancels pending_groups n u
-event_faults vs cancels groups pending_groups lives n at (make u state) = making_faults vs groups n u
-event_faults vs cancels groups pending_groups lives n at (return_event handed) =
-    return_faults vs cancels groups lives n at handed
-event_faults vs cancels groups pending_groups lives n at e = []
+event_faults vs cancels groups pending_groups lives n at e =
+    deed_faults vs cancels groups pending_groups lives n at (deed_of e)
 
 -- of all nodes, where this test tells which groups may be live at an offset and an order there
 abbrev pub faults_of_nodes
@@ -129,13 +165,6 @@ faults_of_nodes vs cancels groups pending_groups lives nodes = each_from
     (λ n o. event_faults vs cancels groups pending_groups (lives o.at o.order) n o.at o.event) 0 nodes
 
 -- Answers on one variable
-
-abbrev pub is_return : Event → Bool
-is_return (return_event handed) = true
-is_return e = false
-
-abbrev pub is_uncalled : List Variable → (CancelClass → Bool) → (ℕ → Bool) → Bool
-is_uncalled vs has lives = has opened || is_left_to vs has lives
 
 -- the cancel variable of the place i may be uncalled at some return
 abbrev pub breaks_call : List Variable → Cancels → (ℕ → ℕ → ℕ → Bool) → List (Occurrence Event) → ℕ → Bool

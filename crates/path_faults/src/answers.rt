@@ -2,72 +2,29 @@
 
 ghost use Rattle.std.specs.Prelude.{◌≡◌, ◌≤◌, ◌↔◌, IsTrue, Some, IfOk, length, map, slice_get};
 ghost use Rattle.std.specs.List.{list_any};
-ghost use Rattle.tracked_rows.specs.EventViews.{event_view};
 ghost use Rattle.bodies.specs.Classified.{Classifies};
-ghost use Rattle.bodies.specs.NodeEvents.{node_event_view, events_graph, IsGraphOf};
+ghost use Rattle.bodies.specs.NodeEvents.{events_graph, IsGraphOf};
 ghost use Rattle.facts.specs.FactViews.{kind_view};
 ghost use Rattle.meaning.specs.BodyEvents.{Variable as MeantVariable};
 ghost use Rattle.meaning.specs.Classes.{pending};
 ghost use Rattle.meaning.specs.FunctionFacts.{cancel};
 ghost use Rattle.meaning_packages.specs.Credits.{Settles};
 ghost use Rattle.meaning_packages.specs.PathFaults.{Paths, KeepsCall};
-ghost use Rattle.path_faults.specs.FoundFaults.{is_return, is_uncalled, breaks_call, is_unsettled, breaks_settling};
+ghost use Rattle.path_faults.specs.FoundFaults.{breaks_call, is_unsettled, breaks_settling};
 ghost use Rattle.path_faults.specs.LiveViews.{has_live};
 ghost use Rattle.events.specs.VariableViews.{variable_view};
 
 use crate::at_node::AtNode;
+use crate::deeds::is_return;
 use crate::live::{LiveGroups, live_groups};
-use crate::returns::is_left_to;
+use crate::returns::is_uncalled;
 use bodies::NodeEvent;
 use events::Variable;
 use facts::VariableKind;
 use flow::{Graph, NodePlace};
 use states::{Arrivals, CancelClass, GroupClass};
 use std::alloc::{AllocError, Global};
-use tracked_rows::{Event, GroupState};
-
-fn does_return(event: &Event<'_>) -> bool
-    ensures { result ≡ is_return (event_view event.now) }
-{
-    match event {
-        Event::Return { .. } => true,
-        Event::Obtain { .. }
-        | Event::Clear { .. }
-        | Event::Call { .. }
-        | Event::DeferCall { .. }
-        | Event::Pass { .. }
-        | Event::DeferPass { .. }
-        | Event::Lend { .. }
-        | Event::Start { .. }
-        | Event::Try { .. }
-        | Event::Wait { .. }
-        | Event::DeferWait { .. }
-        | Event::Make { .. }
-        | Event::DeferLiteral { .. } => false,
-    }
-}
-
-/// Whether the node is a return; the end of the body is one.
-pub fn is_return(event: NodeEvent<'_, '_>) -> bool
-    ensures { result ≡ is_return (node_event_view event.entry) }
-{
-    match event {
-        NodeEvent::Other => false,
-        NodeEvent::FallsOff => true,
-        NodeEvent::Does(event) => does_return(event),
-    }
-}
-
-/// Whether the cancel variable at that place in the list may be open at the node, or left there to a live group.
-fn is_uncalled<A: Arrivals>(at: &AtNode<'_, '_, A>, variable: usize) -> bool
-    ensures { result ≡ is_uncalled (map variable_view at.now.variables.now)
-        (A.cancels at.now.arrivals.now variable at.now.node.node)
-        (has_live at.now.live.now at.now.node.at at.now.node.order) }
-{
-    at.arrivals
-        .has_cancel(variable, at.node.node, CancelClass::Opened)
-        || is_left_to(at, variable)
-}
+use tracked_rows::GroupState;
 
 /// Whether the cancel variable at that place in the list may be uncalled at some return.
 fn breaks_call<'a, A: Arrivals>(
@@ -154,7 +111,7 @@ fn is_unsettled<A: Arrivals>(arrivals: &A, node: usize, variable: usize, kind: V
 }
 
 /// Whether the variable at that place in the list may be unsettled at some return.
-fn breaks_settling<A: Arrivals>(
+pub fn breaks_settling<A: Arrivals>(
     graph: &Graph<NodeEvent<'_, '_>>,
     arrivals: &A,
     variable: usize,

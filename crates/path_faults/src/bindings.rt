@@ -14,8 +14,8 @@ use std::alloc::AllocError;
 use tracked_rows::VariableAt;
 
 /// Adds the faults of a node that binds a cancel variable.
-pub fn add_binding<'a, A: Arrivals>(
-    at: &AtNode<'_, 'a, A>,
+pub fn add_binding<'a, A: Arrivals, L>(
+    at: &AtNode<'_, 'a, A, L>,
     bound: VariableAt,
     faults: &mut Vec<PathFault<'a>>,
 ) -> Result<(), AllocError>
@@ -37,8 +37,8 @@ pub fn add_binding<'a, A: Arrivals>(
 }
 
 /// Adds the faults of a node that makes a group.
-pub fn add_making<'a, A: Arrivals>(
-    at: &AtNode<'_, 'a, A>,
+pub fn add_making<'a, A: Arrivals, L>(
+    at: &AtNode<'_, 'a, A, L>,
     made: VariableAt,
     faults: &mut Vec<PathFault<'a>>,
 ) -> Result<(), AllocError>

@@ -5,6 +5,7 @@
 mod answers;
 mod at_node;
 mod bindings;
+mod deeds;
 mod fault;
 mod kinds;
 mod live;
@@ -13,8 +14,11 @@ mod passes;
 mod paths;
 mod returns;
 
-pub use answers::{is_return, keeps_call, settles};
+pub use answers::{breaks_settling, keeps_call, settles};
+pub use at_node::AtNode;
+pub use deeds::{Deed, deed_of, is_fault, is_return_deed};
 pub use fault::{PathCode, PathFault};
-pub use kinds::{is_declared, is_handed, makes_it};
+pub use live::Lives;
 pub use passes::pass_faults;
 pub use paths::path_faults;
+pub use returns::is_uncalled;

@@ -1,10 +1,11 @@
 //! Groups that may be live at nodes.
 
-ghost use Rattle.std.specs.Prelude.{◌≡◌, ◌&&◌, ℕ, IfOk, OnOk, map};
+ghost use Rattle.std.specs.Prelude.{◌≡◌, ◌&&◌, ℕ, Bool, IfOk, OnOk, map};
 ghost use Rattle.bodies.specs.NodeEvents.{events_graph};
 ghost use Rattle.path_faults.specs.FoundFaults.{is_same_place, is_live_at, is_live_there};
 ghost use Rattle.path_faults.specs.LiveViews.{has_live, AddsLive};
 ghost use Rattle.events.specs.VariableViews.{variable_view};
+ghost use Rattle.flow.specs.declared.order.NodePlace;
 
 use crate::losses::is_live_group;
 use bodies::NodeEvent;
@@ -13,6 +14,15 @@ use flow::{Graph, NodePlace};
 use indexmap::IndexSet;
 use states::Arrivals;
 use std::alloc::{AllocError, Global};
+
+/// Which groups may be live at nodes.
+pub trait Lives {
+    ghost lives: { Self → NodePlace.NodePlace → ℕ → Bool };
+
+    /// Whether the group of that place in the list of variables may be live where the node comes next.
+    fn is_live(&self, node: NodePlace, group: usize) -> bool
+        ensures { result ≡ lives self.now node group };
+}
 
 /// A group by its place in the list of variables, with the byte offset of a node and its order there.
 #[derive(Clone, Copy, PartialEq, Eq, Hash)]
@@ -28,15 +38,19 @@ pub struct LiveGroups {
     places: IndexSet<LivePlace>,
 }
 
-impl LiveGroups {
-    /// Whether the group of that place in the list of variables may be live at a node at that byte offset and of that
-    /// order there.
-    pub fn has(&self, at: u32, order: usize, group: usize) -> bool
-        ensures { result ≡ has_live self.now at order group }
-    {
-        self.places.contains(&LivePlace { at, order, group })
-    }
+impl Lives for LiveGroups {
+    ghost lives = { λ live node j. has_live live node.at node.order j };
 
+    fn is_live(&self, node: NodePlace, group: usize) -> bool {
+        self.places.contains(&LivePlace {
+            at: node.at,
+            order: node.order,
+            group,
+        })
+    }
+}
+
+impl LiveGroups {
     /// Adds a group at a place, if it may be live there.
     fn add_if(
         &mut self,

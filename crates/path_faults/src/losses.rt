@@ -46,8 +46,8 @@ fn may_be_lost<A: Arrivals>(
 
 /// Whether the variable at that place in the list is a cancel variable of that number, and may lose at the node what
 /// it holds.
-pub fn loses_cancel<'a, A: Arrivals>(
-    at: &AtNode<'_, 'a, A>,
+pub fn loses_cancel<'a, A: Arrivals, L>(
+    at: &AtNode<'_, 'a, A, L>,
     number: u32,
     place: usize,
     variable: Variable<'a>,
@@ -75,8 +75,8 @@ pub fn is_live_group<A: Arrivals>(
 
 /// Whether the variable at that place in the list is a group of that number that may be live where the node comes
 /// next.
-pub fn loses_group<'a, A: Arrivals>(
-    at: &AtNode<'_, 'a, A>,
+pub fn loses_group<'a, A: Arrivals, L>(
+    at: &AtNode<'_, 'a, A, L>,
     number: u32,
     place: usize,
     variable: Variable<'a>,

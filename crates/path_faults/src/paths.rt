@@ -1,77 +1,57 @@
 //! The faults of a body's paths.
 
 ghost use Rattle.std.specs.Prelude.{◌≡◌, ◌↔◌, Contains, IfOk, OnOk, map};
-ghost use Rattle.tracked_rows.specs.EventViews.{event_view};
 ghost use Rattle.bodies.specs.Classified.{Classifies};
 ghost use Rattle.bodies.specs.NodeEvents.{node_event_view, events_graph, IsGraphOf};
 ghost use Rattle.meaning_packages.specs.PathFaults.{Paths, PathFault as MeantFault, IsPathFault};
-ghost use Rattle.path_faults.specs.FaultViews.{fault_view, AddsFaults};
-ghost use Rattle.path_faults.specs.FoundFaults.{event_faults, faults_of_nodes};
+ghost use Rattle.path_faults.specs.FaultViews.{deed_view, fault_view, AddsFaults};
+ghost use Rattle.path_faults.specs.FoundFaults.{deed_faults, event_faults, faults_of_nodes};
 ghost use Rattle.path_faults.specs.LiveViews.{has_live};
 ghost use Rattle.events.specs.VariableViews.{variable_view};
 
 use crate::at_node::AtNode;
 use crate::bindings::{add_binding, add_making};
+use crate::deeds::{Deed, deed_of};
 use crate::fault::PathFault;
-use crate::live::{LiveGroups, live_groups};
+use crate::live::{LiveGroups, Lives, live_groups};
 use crate::returns::add_return;
 use bodies::NodeEvent;
 use events::Variable;
 use flow::{Graph, NodePlace};
 use states::Arrivals;
 use std::alloc::{AllocError, Global};
-use tracked_rows::Event;
 
-/// Adds the faults of a node that does this.
-fn add_event<'a, A: Arrivals>(
-    at: &AtNode<'_, 'a, A>,
-    event: &Event<'_>,
+/// Adds the faults of what a node does.
+fn add_deed<'a, A: Arrivals, L: Lives>(
+    at: &AtNode<'_, 'a, A, L>,
+    deed: Deed<'_>,
     faults: &mut Vec<PathFault<'a>>,
 ) -> Result<(), AllocError>
-    ensures { OnOk result (AddsFaults faults.old.items faults.new.items (event_faults
+    ensures { OnOk result (AddsFaults faults.old.items faults.new.items (deed_faults
         (map variable_view at.now.variables.now) (A.cancels at.now.arrivals.now) (A.groups at.now.arrivals.now)
-        (A.pending_groups at.now.arrivals.now) (has_live at.now.live.now at.now.node.at at.now.node.order)
-        at.now.node.node at.now.node.at
-        (event_view event.now))) }
+        (A.pending_groups at.now.arrivals.now) (L.lives at.now.live.now at.now.node)
+        at.now.node.node at.now.node.at (deed_view deed.entry))) }
 {
-    match event {
-        Event::Obtain {
-            variable: bound,
-            ..
-        }
-        | Event::Clear { variable: bound } => { add_binding(at, *bound, faults) }
-        Event::Make { variable: made, .. } => add_making(at, *made, faults),
-        Event::Return { handed } => add_return(at, handed, faults),
-        Event::Call { .. }
-        | Event::DeferCall { .. }
-        | Event::Pass { .. }
-        | Event::DeferPass { .. }
-        | Event::Lend { .. }
-        | Event::Start { .. }
-        | Event::Try { .. }
-        | Event::Wait { .. }
-        | Event::DeferWait { .. }
-        | Event::DeferLiteral { .. } => Ok(()),
+    match deed {
+        Deed::Nothing => Ok(()),
+        Deed::Binds(bound) => add_binding(at, bound, faults),
+        Deed::Makes(made) => add_making(at, made, faults),
+        Deed::Returns(handed) => add_return(at, handed, faults),
     }
 }
 
 /// Adds the faults of a node.
 fn add_node<'a, A: Arrivals>(
-    at: &AtNode<'_, 'a, A>,
+    at: &AtNode<'_, 'a, A, LiveGroups>,
     event: NodeEvent<'_, '_>,
     faults: &mut Vec<PathFault<'a>>,
 ) -> Result<(), AllocError>
     ensures { OnOk result (AddsFaults faults.old.items faults.new.items (event_faults
         (map variable_view at.now.variables.now) (A.cancels at.now.arrivals.now) (A.groups at.now.arrivals.now)
         (A.pending_groups at.now.arrivals.now) (has_live at.now.live.now at.now.node.at at.now.node.order)
-        at.now.node.node at.now.node.at
-        (node_event_view event.entry))) }
+        at.now.node.node at.now.node.at (node_event_view event.entry))) }
 {
-    match event {
-        NodeEvent::Other => Ok(()),
-        NodeEvent::FallsOff => add_return(at, &[], faults),
-        NodeEvent::Does(event) => add_event(at, event, faults),
-    }
+    add_deed(at, deed_of(event), faults)
 }
 
 /// Adds the faults of all nodes.

@@ -3,13 +3,13 @@
 ghost use Rattle.std.specs.Prelude.{◌≡◌, OnOk, map};
 ghost use Rattle.tracked_rows.specs.EventViews.{handed_view};
 ghost use Rattle.path_faults.specs.FaultViews.{AddsFaults};
-ghost use Rattle.path_faults.specs.FoundFaults.{is_left_to, returns_open, open_faults, returns_left, left_faults, returns_live, live_faults, return_faults};
-ghost use Rattle.path_faults.specs.LiveViews.{has_live};
+ghost use Rattle.path_faults.specs.FoundFaults.{is_left_to, is_uncalled, returns_open, open_faults, returns_left, left_faults, returns_live, live_faults, return_faults};
 ghost use Rattle.events.specs.VariableViews.{variable_view};
 
 use crate::at_node::AtNode;
 use crate::fault::{PathCode, PathFault, add_if};
 use crate::kinds::{is_declared, owes_call};
+use crate::live::Lives;
 use crate::losses::is_live_group;
 use events::Variable;
 use states::{Arrivals, CancelClass};
@@ -17,17 +17,17 @@ use std::alloc::AllocError;
 use tracked_rows::Handed;
 
 /// Whether the cancel variable at that place in the list may be pending at the node in a group that may be live there.
-pub fn is_left_to<A: Arrivals>(at: &AtNode<'_, '_, A>, place: usize) -> bool
+pub fn is_left_to<A: Arrivals, L: Lives>(at: &AtNode<'_, '_, A, L>, place: usize) -> bool
     ensures { result ≡ is_left_to (map variable_view at.now.variables.now)
         (A.cancels at.now.arrivals.now place at.now.node.node)
-        (has_live at.now.live.now at.now.node.at at.now.node.order) }
+        (L.lives at.now.live.now at.now.node) }
 {
     for (group_place, group) in at.variables.iter().enumerate() {
         if group.kind.is_group()
             && at
                 .arrivals
                 .has_cancel(place, at.node.node, CancelClass::Pending(group.number))
-            && at.live.has(at.node.at, at.node.order, group_place)
+            && at.live.is_live(at.node, group_place)
         {
             return true;
         }
@@ -35,9 +35,20 @@ pub fn is_left_to<A: Arrivals>(at: &AtNode<'_, '_, A>, place: usize) -> bool
     false
 }
 
+/// Whether the cancel variable at that place in the list may be open at the node, or left there to a live group.
+pub fn is_uncalled<A: Arrivals, L: Lives>(at: &AtNode<'_, '_, A, L>, variable: usize) -> bool
+    ensures { result ≡ is_uncalled (map variable_view at.now.variables.now)
+        (A.cancels at.now.arrivals.now variable at.now.node.node)
+        (L.lives at.now.live.now at.now.node) }
+{
+    at.arrivals
+        .has_cancel(variable, at.node.node, CancelClass::Opened)
+        || is_left_to(at, variable)
+}
+
 /// Whether the variable at that place in the list is a cancel variable that is owed at a return, and may be open there.
-fn returns_open<'a, A: Arrivals>(
-    at: &AtNode<'_, 'a, A>,
+fn returns_open<'a, A: Arrivals, L>(
+    at: &AtNode<'_, 'a, A, L>,
     handed: &[Handed],
     place: usize,
     variable: Variable<'a>,
@@ -51,8 +62,8 @@ fn returns_open<'a, A: Arrivals>(
             .has_cancel(place, at.node.node, CancelClass::Opened)
 }
 
-fn add_open<'a, A: Arrivals>(
-    at: &AtNode<'_, 'a, A>,
+fn add_open<'a, A: Arrivals, L>(
+    at: &AtNode<'_, 'a, A, L>,
     handed: &[Handed],
     faults: &mut Vec<PathFault<'a>>,
 ) -> Result<(), AllocError>
@@ -75,27 +86,27 @@ fn add_open<'a, A: Arrivals>(
 
 /// Whether the variable at that place in the list is a cancel variable that is owed at a return, and may be left there
 /// to a live group.
-fn returns_left<'a, A: Arrivals>(
-    at: &AtNode<'_, 'a, A>,
+fn returns_left<'a, A: Arrivals, L: Lives>(
+    at: &AtNode<'_, 'a, A, L>,
     handed: &[Handed],
     place: usize,
     variable: Variable<'a>,
 ) -> bool
     ensures { result ≡ returns_left (map variable_view at.now.variables.now) (A.cancels at.now.arrivals.now)
-        (has_live at.now.live.now at.now.node.at at.now.node.order) at.now.node.node (map handed_view handed.now) place
+        (L.lives at.now.live.now at.now.node) at.now.node.node (map handed_view handed.now) place
         (variable_view variable.entry) }
 {
     owes_call(variable, handed) && is_left_to(at, place)
 }
 
-fn add_left<'a, A: Arrivals>(
-    at: &AtNode<'_, 'a, A>,
+fn add_left<'a, A: Arrivals, L: Lives>(
+    at: &AtNode<'_, 'a, A, L>,
     handed: &[Handed],
     faults: &mut Vec<PathFault<'a>>,
 ) -> Result<(), AllocError>
     ensures { OnOk result (AddsFaults faults.old.items faults.new.items (left_faults
         (map variable_view at.now.variables.now) (A.cancels at.now.arrivals.now)
-        (has_live at.now.live.now at.now.node.at at.now.node.order) at.now.node.node at.now.node.at
+        (L.lives at.now.live.now at.now.node) at.now.node.node at.now.node.at
         (map handed_view handed.now))) }
 {
     for (place, variable) in at.variables.iter().enumerate() {
@@ -112,7 +123,7 @@ fn add_left<'a, A: Arrivals>(
 }
 
 /// Whether the variable at that place in the list is a group that the body declares, and may be live at a return.
-fn returns_live<A: Arrivals>(
+pub fn returns_live<A: Arrivals>(
     arrivals: &A,
     node: usize,
     place: usize,
@@ -123,8 +134,8 @@ fn returns_live<A: Arrivals>(
     is_declared(variable.role) && is_live_group(arrivals, node, place, variable)
 }
 
-fn add_live<'a, A: Arrivals>(
-    at: &AtNode<'_, 'a, A>,
+fn add_live<'a, A: Arrivals, L>(
+    at: &AtNode<'_, 'a, A, L>,
     faults: &mut Vec<PathFault<'a>>,
 ) -> Result<(), AllocError>
     ensures { OnOk result (AddsFaults faults.old.items faults.new.items (live_faults
@@ -144,14 +155,14 @@ fn add_live<'a, A: Arrivals>(
 }
 
 /// Adds the faults of a return that hands these on.
-pub fn add_return<'a, A: Arrivals>(
-    at: &AtNode<'_, 'a, A>,
+pub fn add_return<'a, A: Arrivals, L: Lives>(
+    at: &AtNode<'_, 'a, A, L>,
     handed: &[Handed],
     faults: &mut Vec<PathFault<'a>>,
 ) -> Result<(), AllocError>
     ensures { OnOk result (AddsFaults faults.old.items faults.new.items (return_faults
         (map variable_view at.now.variables.now) (A.cancels at.now.arrivals.now) (A.groups at.now.arrivals.now)
-        (has_live at.now.live.now at.now.node.at at.now.node.order) at.now.node.node at.now.node.at
+        (L.lives at.now.live.now at.now.node) at.now.node.node at.now.node.at
         (map handed_view handed.now))) }
 {
     add_open(at, handed, faults)?;

@@ -1,23 +1,24 @@
 -- What is read of the members of a function.
-use Rattle.std.proofs.Common.{◌≡◌, inl, inr, ℕ, Bool, true, false, List, [], ◌∷◌, Option, Some, None, is_some, option_map, option_and_then, if◌then◌else◌, map, codes, Vec, Global, true≢false, refl, sym, ap, subst, ◌∙◌}
-use Rattle.std.specs.List.{AllZip, list_all}
+use Rattle.std.proofs.Common.{◌≡◌, inl, inr, ℕ, Bool, true, false, List, [], Option, Some, None, is_some, option_map, option_and_then, if◌then◌else◌, codes, true≢false, refl, sym, ap, subst, ◌∙◌}
+use Rattle.std.specs.List.{list_all}
 use Rattle.json.specs.Token.{Token}
 use Rattle.serde_json.specs.Data.{Data, string, object, Members, no_members, put}
 use Rattle.serde_json.specs.Find.{as_object, get_member}
-use Rattle.json_reading.specs.Keyed.{chosen, members_in, with_member, HasOther, IsUnder, KeysRise}
-use Rattle.json_reading.specs.Standing.{IsListOf, IsNoList, Judges, ReadsAs, Refutes}
+use Rattle.json_reading.specs.Keyed.{chosen, members_in, with_member, IsUnder, KeysRise}
+use Rattle.json_reading.specs.Made.{IsNoObjectOf, IsObjectOf}
+use Rattle.json_reading.specs.Standing.{Judges, ReadsAs, Refutes}
 use Rattle.json_reading.proofs.ObjectKeys.{differs, set, kept, none_under, under_value, other_kept, other_put, has_no_other}
-use Rattle.table_json.specs.MembersRead.{entry_with, function_keys, newer_with, older_with, AreFunctionsIn, ArePositions, AreParameters, HasFunctionMembers, IsText}
-use Rattle.table_json.specs.Tables.{Entry, are_apart, by_bytes, entry_of, itself, name_of, position_of, IsArranged}
-use Rattle.table_json.specs.TableValues.{is_older, list, parameter_value, whole, function_with, older_function_with, AreFunctionsOf, AreValuesOf, IsFunctionIn, IsFunctionValue, IsOlderFunctionValue}
+use Rattle.table_json.specs.MembersRead.{entry_with, function_keys, newer_with, older_with, ArePositions, AreParameters, HasFunctionMembers, IsText}
+use Rattle.table_json.specs.Tables.{Entry, are_apart, entry_of, itself, position_of}
+use Rattle.table_json.specs.TableValues.{is_older, list, parameter_value, whole, function_with, older_function_with, AreValuesOf, IsFunctionIn, IsFunctionValue, IsOlderFunctionValue}
 use Rattle.table_json.specs.declared.table.Function.{Function}
 use Rattle.table_json.specs.declared.table.Parameter.{Parameter}
 use Rattle.table_json.specs.declared.table.Version.{Version}
 use Rattle.table_json.specs.declared.table.Version.TheVariants.{Older, Newer}
-use Rattle.table_json.proofs.Readings.{none_ordered, one_kept}
+use Rattle.table_json.proofs.Readings.{one_kept}
 use Rattle.table_json.proofs.ParametersRead.{same_value, none_here, none_there}
-use Rattle.table_json.proofs.ValueParts.{finds_positions, finds_parameters, same_items}
-use Rattle.table_json.proofs.ValuesRead.{array_same, list_kept, no_list, none_zip, seen_back, zip_seen}
+use Rattle.table_json.proofs.ValueParts.{finds_positions, finds_parameters}
+use Rattle.table_json.proofs.ValuesRead.{array_same}
 use Rattle.table_json.specs.Parts.{position_in, parameter_in}
 
 -- Putting one more member
@@ -279,58 +280,42 @@ no_function_in Newer value e f = λ is. none_here (as_object value) _ e (ap as_o
 
 -- Functions of a list
 
-pub function_read : (version v : Version) (value : Data) (standing : Option (Data × List Token)) (new : List Token) (found : Option Function)
-    → version ≡ v
-    → standing ≡ Some (value, new)
-    → Judges (IsFunctionIn v) (Refutes (IsFunctionIn v)) value (option_map entry_of found)
-    → ReadsAs (λ d f. IsFunctionIn version d (entry_of f)) (Refutes (IsFunctionIn version)) standing new found
-function_read version v value standing new found same stands h = record {
-  value = value;
-  stands = stands;
-  judged =
-      seen_back (IsFunctionIn version) entry_of (Refutes (IsFunctionIn version)) value found
-      (subst (λ w. Judges (IsFunctionIn w) (Refutes (IsFunctionIn w)) value (option_map entry_of found)) (sym same) h);
-}
+at_object : (version : Version) (ms : Members) (found : Option Function)
+    → Judges (IsFunctionIn version) (Refutes (IsFunctionIn version)) (object ms) (option_map entry_of found)
+    → Judges (λ m f. IsFunctionIn version (object m) (entry_of f)) (λ m. Refutes (IsFunctionIn version) (object m)) ms found
+at_object version ms None h = h
+at_object version ms (Some f) h = h
 
-module _ (version : Version) (standing : Option (Data × List Token)) (new : List Token) where
-  abbrev ReadsList : Option (Vec Function Global) → Type 0
-  ReadsList found =
-      ReadsAs (IsListOf (λ d f. IsFunctionIn version d (entry_of f))) (IsNoList (Refutes (IsFunctionIn version))) standing new
-      (option_map (λ list. list.items) found)
+-- what is made of the members that were read in a version
+pub function_made : (begun version v : Version) (ms : Members) (found : Option Function) → version ≡ v → version ≡ begun
+    → Judges (IsFunctionIn v) (Refutes (IsFunctionIn v)) (object ms) (option_map entry_of found)
+    → Judges (λ m f. IsFunctionIn begun (object m) (entry_of f)) (λ m. Refutes (IsFunctionIn begun) (object m)) ms found
+function_made begun version v ms found is same h =
+    at_object begun ms found
+    (subst (λ w. Judges (IsFunctionIn w) (Refutes (IsFunctionIn w)) (object ms) (option_map entry_of found))
+    (sym is ∙ same) h)
 
-  ordered : (values : List Data) (given : List Entry) (found : Option (List Entry))
-      → AllZip (IsFunctionIn version) values given
-      → Judges (IsArranged by_bytes name_of) (Refutes (IsArranged by_bytes name_of)) given found
-      → Judges (AreFunctionsOf (IsFunctionIn version)) (Refutes (AreFunctionsOf (IsFunctionIn version))) values found
-  ordered values given None each h = none_ordered version values given each h
-  ordered values given (Some kept_ones) each h = record { given = given; each = each; arranged = h }
+module _ (begun : Version) where
+  abbrev IsObject : Data → Function → Type 0
+  IsObject = IsObjectOf (λ m f. IsFunctionIn begun (object m) (entry_of f))
 
-  pub functions_kept : (read : Option (Vec Function Global)) (given : Vec Function Global) (found : Option (List Entry))
-      → read ≡ Some given
-      → ReadsList read
-      → Judges (IsArranged by_bytes name_of) (Refutes (IsArranged by_bytes name_of)) (map entry_of given.items) found
-      → ReadsAs (AreFunctionsIn version) (Refutes (AreFunctionsIn version)) standing new found
-  functions_kept read given found is as_list h =
-      let list_read = subst ReadsList is as_list in
-      record {
-        value = list_read.value;
-        stands = list_read.stands;
-        judged =
-            list_kept (IsFunctionIn version) (AreFunctionsOf (IsFunctionIn version)) list_read.value list_read.judged.0 found
-            list_read.judged.1
-            (ordered list_read.judged.0 (map entry_of given.items) found
-            (zip_seen (IsFunctionIn version) entry_of list_read.judged.0 given.items list_read.judged.2) h);
-      }
+  abbrev IsNoObject : Data → Type 0
+  IsNoObject = IsNoObjectOf (λ m. Refutes (IsFunctionIn begun) (object m))
 
-  pub no_functions : (read : Option (Vec Function Global)) → read ≡ None → ReadsList read
-      → ReadsAs (AreFunctionsIn version) (Refutes (AreFunctionsIn version)) standing new None
-  no_functions read is as_list =
-      let list_read = subst ReadsList is as_list in
-      record {
-        value = list_read.value;
-        stands = list_read.stands;
-        judged =
-            no_list (IsFunctionIn version) (AreFunctionsOf (IsFunctionIn version))
-            (λ values h kept_ones are. none_zip (IsFunctionIn version) values h are.given are.each) list_read.value
-            list_read.judged;
-      }
+  of_object : (value : Data) (found : Option Function) → Judges IsObject IsNoObject value found
+      → Judges (λ d f. IsFunctionIn begun d (entry_of f)) (Refutes (IsFunctionIn begun)) value found
+  of_object value None (inl none) = no_function_in begun value none
+  of_object value None (inr none) = subst (Refutes (IsFunctionIn begun)) (sym none.1) none.2
+  of_object value (Some f) is = subst (λ d. IsFunctionIn begun d (entry_of f)) (sym is.1) is.2
+
+  pub function_read : (version : Version) (standing : Option (Data × List Token)) (new : List Token) (found : Option Function)
+      → begun ≡ version
+      → ReadsAs IsObject IsNoObject standing new found
+      → ReadsAs (λ d f. IsFunctionIn version d (entry_of f)) (Refutes (IsFunctionIn version)) standing new found
+  function_read version standing new found same read = record {
+    value = read.value;
+    stands = read.stands;
+    judged =
+        subst (λ v. Judges (λ d f. IsFunctionIn v d (entry_of f)) (Refutes (IsFunctionIn v)) read.value found) same
+        (of_object read.value found read.judged);
+  }

@@ -1,7 +1,9 @@
 pub mod Arranged
+pub mod ArrangedRead
 pub mod DistinctTexts
 pub mod FunctionsRead
-pub mod ListsSeen
+pub mod ListedRead
+pub mod OneList
 pub mod ParametersRead
 pub mod Readings
 pub mod TableLaws

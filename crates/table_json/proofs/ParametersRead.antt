@@ -100,7 +100,7 @@ same_value e = cc
 some_text : {s t : List ℕ} → Some s ≡ Some t → s ≡ t
 some_text e = cc
 
-same_text : {s t : List ℕ} → string s ≡ string t → s ≡ t
+pub same_text : {s t : List ℕ} → string s ≡ string t → s ≡ t
 same_text e = some_text (ap as_str e)
 
 pub none_there : (o : Option Data) → false ≡ is_some o → o ≡ None

@@ -1,7 +1,6 @@
 -- Lists, functions and tables, from what is found in their values.
-use Rattle.std.proofs.Common.{◌≡◌, inl, inr, ℕ, List, [], ◌∷◌, Option, Some, None, refl, sym, ap, subst, ◌∙◌}
+use Rattle.std.proofs.Common.{◌≡◌, inl, inr, ℕ, List, Option, Some, None, refl, sym, ap, subst, ◌∙◌}
 use Rattle.std.proofs.lemmas.Cmp.{nat_cmp_total, nat_list_cmp_total}
-use Rattle.std.specs.List.{AllZip}
 use Rattle.std.specs.Ordering.{nat_cmp}
 use Rattle.serde_json.specs.Data.{Data, Items}
 use Rattle.serde_json.specs.View.{items_of}
@@ -10,10 +9,11 @@ use Rattle.table_json.specs.declared.fault.TableFault.TheVariants.{NotJson, Wron
 use Rattle.table_json.specs.declared.table.Version.{Version}
 use Rattle.table_json.specs.declared.table.Version.TheVariants.{Older, Newer}
 use Rattle.table_json.specs.Parts.{all_of, function_in, functions_in, older_function_in, parameter_in, position_in, IsValueFault, Refuses}
-use Rattle.table_json.specs.Tables.{Entry, by_bytes, itself, name_of, position_of, IsArranged}
+use Rattle.table_json.specs.Tables.{Entry, itself, name_of, position_of, IsArranged}
 use Rattle.table_json.specs.TableTexts.{version_of, HasKnownVersion, HasWrongShape}
 use Rattle.table_json.specs.TableValues.{number_of, whole, parameter_value, AreFunctionsOf, AreValuesOf, IsFunctionIn, IsFunctionValue, IsOlderFunctionValue, IsTableIn, IsTableValue}
 use Rattle.table_json.proofs.Arranged.{one_arrangement}
+use Rattle.table_json.proofs.OneList.{one_arranged}
 use Rattle.table_json.proofs.ValueParts.{Finds, finds_positions, finds_parameters, all_there, function_there, older_function_there, functions_there, same_items, some_same, version_fits}
 
 -- The values of a list
@@ -132,46 +132,17 @@ one_older_function value f g h k =
 
 -- Lists of functions, and tables of one version
 
--- a list whose elements stand for one thing each stands for one list
-pub one_list : {A B : Type 0} (R : A → B → Type 0) → ((x : A) (y z : B) → R x y → R x z → y ≡ z) → (xs : List A)
-    (ys zs : List B)
-    → AllZip R xs ys
-    → AllZip R xs zs
-    → ys ≡ zs
-one_list R one [] [] [] h k = refl
-one_list R one [] [] (z ∷ zs) h k = absurd k
-one_list R one [] (y ∷ ys) zs h k = absurd h
-one_list R one (x ∷ xs) [] zs h k = absurd h
-one_list R one (x ∷ xs) (y ∷ ys) [] h k = absurd k
-one_list R one (x ∷ xs) (y ∷ ys) (z ∷ zs) h k =
-    let first = one x y z h.0 k.0 in
-    let rest = one_list R one xs ys zs h.1 k.1 in
-    λ i. first i ∷ rest i
-
-one_in : (version : Version) (value : Data) (f g : Entry) → IsFunctionIn version value f → IsFunctionIn version value g
+pub one_in : (version : Version) (value : Data) (f g : Entry) → IsFunctionIn version value f → IsFunctionIn version value g
     → f ≡ g
 one_in Older = one_older_function
 one_in Newer = one_function
-
-pub none_ordered : (version : Version) (values : List Data) (given : List Entry)
-    → AllZip (IsFunctionIn version) values given
-    → ((other : List Entry) → ¬ IsArranged by_bytes name_of given other)
-    → (kept : List Entry)
-    → ¬ AreFunctionsOf (IsFunctionIn version) values kept
-none_ordered version values given each none kept h =
-    none kept
-    (subst (λ g. IsArranged by_bytes name_of g kept)
-    (one_list (IsFunctionIn version) (one_in version) values h.given given h.each each) h.arranged)
 
 -- a list of values is that of one list of functions at most
 pub one_functions : (version : Version) (values : List Data) (a b : List Entry)
     → AreFunctionsOf (IsFunctionIn version) values a
     → AreFunctionsOf (IsFunctionIn version) values b
     → a ≡ b
-one_functions version values a b h k =
-    let same = one_list (IsFunctionIn version) (one_in version) values h.given k.given h.each k.each in
-    one_arrangement nat_list_cmp_total name_of k.given a b
-    (subst (λ g. IsArranged by_bytes name_of g a) same h.arranged) k.arranged
+one_functions version = one_arranged nat_list_cmp_total name_of (IsFunctionIn version) (one_in version)
 
 pub functions_of : (version : Version) (value : Data) (functions : List Data) (table : List Entry)
     → functions_in value ≡ Some (items_of functions)

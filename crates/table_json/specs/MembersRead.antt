@@ -1,6 +1,6 @@
 -- What serves the proofs: what is read of values, and of the members of objects.
-use Rattle.std.specs.Prelude.{ℕ, ◌≡◌, Bool, true, false, List, [], ◌∷◌, Option, Some, None, is_some, option_map, option_and_then, if◌then◌else◌, codes}
-use Rattle.std.specs.List.{AllZip, list_all}
+use Rattle.std.specs.Prelude.{ℕ, ◌≡◌, Bool, List, [], ◌∷◌, Option, Some, None, is_some, option_map, option_and_then, if◌then◌else◌, codes}
+use Rattle.std.specs.List.{list_all}
 use Rattle.serde_json.specs.Data.{Data, boolean, string, Members}
 use Rattle.serde_json.specs.Find.{get_member}
 use Rattle.json_reading.specs.Keyed.{HasOther, IsUnder}
@@ -115,13 +115,3 @@ older_with has_other has_causes gives name params =
     if list_all is_older p
     then option_and_then (λ g. option_map (λ n. entry_with [] g n p) name) gives
     else None) params
-
--- Tables
-
-abbrev pub table_keys : List (List ℕ)
-table_keys = codes "functions" ∷ codes "version" ∷ []
-
-pub record HasTableMembers (version : Version) (has_other : Bool) (functions : Option (List Entry)) (ms : Members)
-    : Type 0 where
-  pub others : HasOther table_keys ms has_other
-  pub functions_under : IsUnder (AreFunctionsIn version) (get_member (codes "functions") ms) functions

@@ -3,6 +3,7 @@
 -- What is written is version 2. Version 1, which knows of no causes, is read too.
 use Rattle.std.specs.Prelude.{ℕ, ◌≡◌, ◌<◌, ◌^◌, ◌⊎◌, Bool, true, false, if◌then◌else◌, List, [], Option, Some, None, nat_lt, map, codes}
 use Rattle.std.specs.List.{AllByRecursion, AllZip, list_all}
+use Rattle.std.specs.declared.cmp.Ordering.{Ordering}
 use Rattle.std.specs.Ordering.{nat_cmp}
 use Rattle.serde_json.specs.Data.{Data, boolean, number, unsigned, string, array, object, member, no_members}
 use Rattle.serde_json.specs.View.{items_of}
@@ -76,6 +77,13 @@ pub record AreValuesOf {A : Type 0} (value_of : A → Data) (position : A → �
   pub fit : AllFit position given
   pub arranged : IsArranged nat_cmp position given kept
 
+-- these are the values of what is kept, in any order: no key comes twice
+module _ {A K : Type 0} (IsValue : Data → A → Type 0) (cmp : K → K → Ordering) (key : A → K) where
+  pub record AreArrangedOf (values : List Data) (kept : List A) : Type 0 where
+    pub given : List A
+    pub each : AllZip IsValue values given
+    pub arranged : IsArranged cmp key given kept
+
 -- Functions in version 2
 
 -- no position stands in both `gives` and `causes`
@@ -126,10 +134,8 @@ IsFunctionIn Older = IsOlderFunctionValue
 IsFunctionIn Newer = IsFunctionValue
 
 -- these are the values of the functions, in any order: no name comes twice
-pub record AreFunctionsOf (IsFunction : Data → Entry → Type 0) (values : List Data) (kept : List Entry) : Type 0 where
-  pub given : List Entry
-  pub each : AllZip IsFunction values given
-  pub arranged : IsArranged by_bytes name_of given kept
+abbrev pub AreFunctionsOf : (Data → Entry → Type 0) → List Data → List Entry → Type 0
+AreFunctionsOf IsFunction = AreArrangedOf IsFunction by_bytes name_of
 
 -- Tables
 

@@ -13,7 +13,7 @@ use crate::positions::read_positions;
 use crate::table::{Function, Parameter, Version};
 use json::Reader;
 use json_reading::{
-    Leaf, ReadItem, ReadMember, Stop, pass_value, read_leaf, read_list, read_object,
+    Leaf, MakeItem, ReadItem, ReadMember, Stop, pass_value, read_leaf, read_list, read_made,
 };
 use std::alloc::Global;
 
@@ -59,15 +59,7 @@ fn are_older(parameters: &[Parameter]) -> bool
 }
 
 /// Reads the next value as a text.
-///
-/// # Errors
-///
-/// No value stands there, or memory was refused.
-pub fn read_text(
-    alloc: Global,
-    reader: &mut Reader<'_>,
-    depth: usize,
-) -> Result<Option<String>, Stop>
+fn read_text(alloc: Global, reader: &mut Reader<'_>, depth: usize) -> Result<Option<String>, Stop>
     ensures ok { IfOk result (λ found. ReadsAs IsText (Refutes IsText)
         (value_at depth reader.old) reader.new (option_map string_bytes found)) }
     ensures err { IfErr result (Stops (value_at depth reader.old)) }
@@ -78,9 +70,35 @@ pub fn read_text(
     }
 }
 
-/// What was read of the members of a function.
+/// Texts, one by one.
+#[derive(Clone, Copy, Drop)]
+pub struct Texts;
+
+impl ReadItem for Texts {
+    ghost use Rattle.std.specs.Prelude.{string_bytes};
+    ghost use Rattle.json_reading.specs.Standing.{Refutes};
+    ghost use Rattle.table_json.specs.MembersRead.{IsText};
+
+    type Item = String;
+
+    ghost is_item = { λ _ value text. IsText value (string_bytes text) };
+
+    ghost is_none = { λ _. Refutes IsText };
+
+    fn read_item(
+        &self,
+        alloc: Global,
+        reader: &mut Reader<'_>,
+        depth: usize,
+    ) -> Result<Option<String>, Stop> {
+        read_text(alloc, reader, depth)
+    }
+}
+
+/// What was read of the members of a function in this version.
 #[derive(Drop)]
 pub struct FunctionMembers {
+    version: Version,
     causes: Option<Vec<u32>>,
     has_causes: bool,
     gives: Option<Vec<u32>>,
@@ -90,17 +108,19 @@ pub struct FunctionMembers {
 }
 
 impl FunctionMembers {
-    ghost use Rattle.std.specs.Prelude.{option_map, string_bytes};
+    ghost use Rattle.std.specs.Prelude.{◌≡◌, option_map, string_bytes};
     ghost use Rattle.serde_json.specs.Data.{no_members};
     ghost use Rattle.table_json.specs.MembersRead.{HasFunctionMembers};
 
     /// What was read before the first one.
-    pub fn new() -> FunctionMembers
-        ensures { HasFunctionMembers result.has_other result.has_causes
+    pub fn new(version: Version) -> FunctionMembers
+        ensures version { result.version ≡ version }
+        ensures members { HasFunctionMembers result.has_other result.has_causes
             (option_map (λ list. list.items) result.causes) (option_map (λ list. list.items) result.gives)
             (option_map string_bytes result.name) (option_map (λ list. list.items) result.params) no_members }
     {
         FunctionMembers {
+            version,
             causes: None,
             has_causes: false,
             gives: None,
@@ -112,12 +132,13 @@ impl FunctionMembers {
 }
 
 impl ReadMember for FunctionMembers {
-    ghost use Rattle.std.specs.Prelude.{option_map, string_bytes};
+    ghost use Rattle.std.specs.Prelude.{◌≡◌, option_map, string_bytes};
     ghost use Rattle.table_json.specs.MembersRead.{HasFunctionMembers};
 
-    ghost holds = { λ _ read. HasFunctionMembers read.has_other read.has_causes
+    ghost holds = { λ begun read found. (read.version ≡ begun.version)
+        × HasFunctionMembers read.has_other read.has_causes
         (option_map (λ list. list.items) read.causes) (option_map (λ list. list.items) read.gives)
-        (option_map string_bytes read.name) (option_map (λ list. list.items) read.params) };
+        (option_map string_bytes read.name) (option_map (λ list. list.items) read.params) found };
 
     fn read_member(
         &mut self,
@@ -145,7 +166,7 @@ impl ReadMember for FunctionMembers {
 
 /// The function of an object with these members in the newer version.
 #[tactic(auto, unfolding(crate::specs::MembersRead::newer_with))]
-pub fn newer_with(members: FunctionMembers) -> Option<Function>
+fn newer_with(members: FunctionMembers) -> Option<Function>
     ensures { option_map entry_of result ≡ newer_with members.has_other
         (option_map (λ list. list.items) members.causes) (option_map (λ list. list.items) members.gives)
         (option_map string_bytes members.name) (option_map (λ list. list.items) members.params) }
@@ -191,6 +212,26 @@ fn older_with(alloc: Global, members: FunctionMembers) -> Option<Function>
     })
 }
 
+impl MakeItem for FunctionMembers {
+    ghost use Rattle.serde_json.specs.Data.{object};
+    ghost use Rattle.json_reading.specs.Standing.{Refutes};
+    ghost use Rattle.table_json.specs.Tables.{entry_of};
+    ghost use Rattle.table_json.specs.TableValues.{IsFunctionIn};
+
+    type Item = Function;
+
+    ghost is_made = { λ begun ms function. IsFunctionIn begun.version (object ms) (entry_of function) };
+
+    ghost is_none = { λ begun ms. Refutes (IsFunctionIn begun.version) (object ms) };
+
+    fn make(self, alloc: Global) -> Option<Function> {
+        match self.version {
+            Version::Older => older_with(alloc, self),
+            Version::Newer => newer_with(self),
+        }
+    }
+}
+
 /// The functions of a list, in this version.
 #[derive(Clone, Copy, Drop)]
 struct Functions {
@@ -214,24 +255,14 @@ impl ReadItem for Functions {
         reader: &mut Reader<'_>,
         depth: usize,
     ) -> Result<Option<Function>, Stop> {
-        let mut members = FunctionMembers::new();
-        if !read_object(alloc, &mut members, reader, depth)? {
-            return Ok(None);
-        }
-        match self.version {
-            Version::Older => Ok(older_with(alloc, members)),
-            Version::Newer => Ok(newer_with(members)),
-        }
+        let members = FunctionMembers::new(self.version);
+        read_made(alloc, members, reader, depth)
     }
 }
 
 /// Reads the next value as a list of functions in this version, in the order of their names and each with its positions
 /// in order, however they stand there; `None` where one is no function of that version, or a name comes twice.
-///
-/// # Errors
-///
-/// No value stands there, or memory was refused.
-pub fn read_functions(
+fn read_functions(
     alloc: Global,
     version: Version,
     reader: &mut Reader<'_>,
@@ -244,5 +275,33 @@ pub fn read_functions(
     match read_list(alloc, &Functions { version }, reader, depth)? {
         Some(given) => Ok(functions_in_order(given)),
         None => Ok(None),
+    }
+}
+
+/// Lists of functions in this version.
+#[derive(Clone, Copy, Drop)]
+pub struct FunctionLists {
+    pub version: Version,
+}
+
+impl ReadItem for FunctionLists {
+    ghost use Rattle.std.specs.Prelude.{map};
+    ghost use Rattle.json_reading.specs.Standing.{Refutes};
+    ghost use Rattle.table_json.specs.MembersRead.{AreFunctionsIn};
+    ghost use Rattle.table_json.specs.Tables.{entry_of};
+
+    type Item = Vec<Function>;
+
+    ghost is_item = { λ lists value list. AreFunctionsIn lists.version value (map entry_of list.items) };
+
+    ghost is_none = { λ lists. Refutes (AreFunctionsIn lists.version) };
+
+    fn read_item(
+        &self,
+        alloc: Global,
+        reader: &mut Reader<'_>,
+        depth: usize,
+    ) -> Result<Option<Vec<Function>>, Stop> {
+        read_functions(alloc, self.version, reader, depth)
     }
 }

@@ -16,9 +16,9 @@ mod table;
 mod written;
 
 pub use fault::TableFault;
-pub use functions::{FunctionMembers, newer_with, read_functions, read_text};
+pub use functions::{FunctionLists, FunctionMembers, Texts};
 pub use order::are_distinct;
-pub use positions::{if_fits, read_position};
+pub use positions::{Positions, if_fits};
 pub use read::{from_json, known_version};
 pub use table::{Function, OLDER_VERSION, Parameter, Table, VERSION, Version};
 pub use written::{as_written, function_values, to_json};

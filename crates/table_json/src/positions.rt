@@ -26,11 +26,7 @@ pub(crate) fn fitting(number: Option<u64>) -> Option<u32>
 }
 
 /// Reads the next value as a position: a whole number of at most 32 bits.
-///
-/// # Errors
-///
-/// No value stands there.
-pub fn read_position(reader: &mut Reader<'_>, depth: usize) -> Result<Option<u32>, Stop>
+pub(crate) fn read_position(reader: &mut Reader<'_>, depth: usize) -> Result<Option<u32>, Stop>
     ensures ok { IfOk result (ReadsAs IsPosition (Refutes IsPosition) (value_at depth reader.old) reader.new) }
     ensures err { IfErr result (Stops (value_at depth reader.old)) }
 {
@@ -38,9 +34,9 @@ pub fn read_position(reader: &mut Reader<'_>, depth: usize) -> Result<Option<u32
     Ok(fitting(number))
 }
 
-/// The positions of a list.
+/// Positions, one by one: whole numbers of at most 32 bits.
 #[derive(Clone, Copy, Drop)]
-struct Positions;
+pub struct Positions;
 
 impl ReadItem for Positions {
     ghost use Rattle.json_reading.specs.Standing.{Refutes};

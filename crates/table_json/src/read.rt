@@ -10,94 +10,11 @@ ghost use Rattle.table_json.specs.TableTexts.{version_of, IsTableFault, IsTableT
 ghost use Rattle.table_json.specs.TableValues.{number_of};
 
 use crate::fault::TableFault;
-use crate::functions::read_functions;
+use crate::functions::FunctionLists;
 use crate::positions::fitting;
-use crate::table::{Function, OLDER_VERSION, Table, VERSION, Version};
-use json::Reader;
-use json_reading::{
-    ReadItem, ReadMember, Stop, pass_value, read_object, read_whole, whole_number_under,
-};
+use crate::table::{OLDER_VERSION, Table, VERSION, Version};
+use json_reading::{read_versioned, whole_number_under};
 use std::alloc::Global;
-
-/// What was read of the members of a table.
-#[derive(Drop)]
-struct TableMembers {
-    version: Version,
-    functions: Option<Vec<Function>>,
-    has_other: bool,
-}
-
-impl ReadMember for TableMembers {
-    ghost use Rattle.std.specs.Prelude.{◌≡◌, map, option_map};
-    ghost use Rattle.table_json.specs.MembersRead.{HasTableMembers};
-    ghost use Rattle.table_json.specs.Tables.{entry_of};
-
-    ghost holds = { λ begun read found. (read.version ≡ begun.version)
-        × HasTableMembers begun.version read.has_other
-        (option_map (λ list. map entry_of list.items) read.functions) found };
-
-    fn read_member(
-        &mut self,
-        alloc: Global,
-        key: &str,
-        reader: &mut Reader<'_>,
-        depth: usize,
-    ) -> Result<(), Stop> {
-        if key == "functions" {
-            self.functions = read_functions(alloc, self.version, reader, depth)?;
-        } else if key == "version" {
-            pass_value(reader, depth)?;
-        } else {
-            pass_value(reader, depth)?;
-            self.has_other = true;
-        }
-        Ok(())
-    }
-}
-
-/// The table of a text in this version.
-#[derive(Clone, Copy, Drop)]
-struct Tables {
-    version: Version,
-}
-
-impl ReadItem for Tables {
-    ghost use Rattle.std.specs.Prelude.{◌≡◌, Some};
-    ghost use Rattle.json_reading.specs.Standing.{Refutes};
-    ghost use Rattle.table_json.specs.Tables.{entries_of};
-    ghost use Rattle.table_json.specs.TableTexts.{version_of};
-    ghost use Rattle.table_json.specs.TableValues.{number_of, IsFunctionIn, IsTableIn};
-
-    type Item = Table;
-
-    ghost is_item = { λ tables value table. version_of value ≡ Some (number_of tables.version)
-        → IsTableIn (number_of tables.version) (IsFunctionIn tables.version) value (entries_of table) };
-
-    ghost is_none = { λ tables. Refutes (IsTableIn (number_of tables.version) (IsFunctionIn tables.version)) };
-
-    fn read_item(
-        &self,
-        alloc: Global,
-        reader: &mut Reader<'_>,
-        depth: usize,
-    ) -> Result<Option<Table>, Stop> {
-        let mut members = TableMembers {
-            version: self.version,
-            functions: None,
-            has_other: false,
-        };
-        if !read_object(alloc, &mut members, reader, depth)? {
-            return Ok(None);
-        }
-        if members.has_other {
-            return Ok(None);
-        }
-        match members.functions {
-            Some(functions) => Ok(Some(Table { functions })),
-            None => Ok(None),
-        }
-    }
-}
 
 /// The version of a text, one that is read. All of the text is gone over.
 ///
@@ -142,8 +59,8 @@ pub fn from_json(alloc: Global, text: &str) -> Result<Table, TableFault>
         (λ fault. (table : List Entry) → IsTableText text.now table → fault ≡ OutOfMemory) }
 {
     let version = known_version(alloc, text)?;
-    match read_whole(alloc, &Tables { version }, text)? {
-        Some(table) => Ok(table),
+    match read_versioned(alloc, "functions", &FunctionLists { version }, text)? {
+        Some(functions) => Ok(Table { functions }),
         None => Err(TableFault::WrongShape),
     }
 }

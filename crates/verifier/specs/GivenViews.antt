@@ -3,7 +3,7 @@
 use Rattle.std.specs.Prelude.{ℕ, ◌≡◌, ◌==◌, ◌&&◌, if◌then◌else◌, List, [], ◌∷◌, Option, Some, None, option_map}
 use Rattle.std.specs.Str.{bytes_eq}
 use Rattle.indexmap.specs.IndexMap.{get_by}
-use Rattle.names.specs.Answers.{at_name}
+use Rattle.first_values.specs.ValuesByName.{value_of}
 use Rattle.meaning.specs.FunctionFacts.{CancelType, plain, with_cause}
 use Rattle.table_json.specs.declared.table.Parameter.{Parameter}
 use Rattle.table_json.specs.declared.table.Parameter.TheVariants.{Cancel, Cause, Group}
@@ -61,7 +61,7 @@ package_in [] path = None
 package_in (p ∷ ps) path = if bytes_eq p.path path then Some p else package_in ps path
 
 abbrev pub package_by : ByCertificates → List ℕ → Option PackageEntry
-package_by by path = option_map (λ p. package_of p.now) (at_name by.packages path)
+package_by by path = option_map (λ p. package_of p.now) (value_of by.packages path)
 
 abbrev pub given_by : ByCertificates → GivenByPath
 given_by by path = given_of (package_by by path)
@@ -73,7 +73,7 @@ rows_at given number at =
     option_map (λ rows. rows_of rows.now) (get_by (λ place. (number == place.file) && (at == place.at)) given.bodies)
 
 abbrev pub params_at : GivenClaims → List ℕ → Option (List Parameter)
-params_at given name = option_map (λ params. params.now) (at_name given.functions name)
+params_at given name = option_map (λ params. params.now) (value_of given.functions name)
 
 pub record TellsGiven (given : Given) (kept : GivenPackage) : Type 0 where
   pub are_rows : (number at : ℕ) → rows_at kept.rows number at ≡ given.rows number at

@@ -2,18 +2,18 @@
 
 ghost use Rattle.std.specs.Prelude.{◌≡◌, ℕ, List, IfOk, OnOk, option_map};
 ghost use Rattle.certificate_json.specs.Certificates.{package_of, packages_of};
+ghost use Rattle.first_values.specs.ValuesByName.{only_at};
 ghost use Rattle.meaning.specs.OuterBlocks.{or_else};
-ghost use Rattle.names.specs.Maps.{only_at};
 ghost use Rattle.verifier.specs.GivenViews.{package_by, package_in};
 
 use certificate_json::{Certificates, Package};
-use indexmap::IndexMap;
+use first_values::FirstValues;
 use std::alloc::{AllocError, Global};
 
 /// Certificates of packages, by the import path of each; of several with one path the first counts.
 #[derive(Drop)]
 pub struct ByCertificates<'c> {
-    packages: IndexMap<&'c str, &'c Package>,
+    packages: FirstValues<'c, &'c Package>,
 }
 
 impl<'c> ByCertificates<'c> {
@@ -27,7 +27,7 @@ impl<'c> ByCertificates<'c> {
             → package_by by path ≡ package_in (packages_of certificates.now) path) }
     {
         let mut by = ByCertificates {
-            packages: IndexMap::new(alloc),
+            packages: FirstValues::new(alloc),
         };
         for found in &certificates.packages {
             by.insert(found)?;
@@ -39,11 +39,7 @@ impl<'c> ByCertificates<'c> {
         ensures { OnOk result ((path : List ℕ) → package_by self.new path ≡ or_else (package_by self.old path)
             (only_at (package_of found.now).path (package_of found.now) path)) }
     {
-        let path = found.path.as_str();
-        if !self.packages.contains_key(path) {
-            self.packages.insert(path, found)?;
-        }
-        Ok(())
+        self.packages.insert(found.path.as_str(), found)
     }
 
     /// What is given for the package of that path.

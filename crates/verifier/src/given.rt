@@ -3,14 +3,15 @@
 ghost use Rattle.std.specs.Prelude.{◌≡◌, ℕ, List, IfOk, OnOk, None, map, option_map};
 ghost use Rattle.certificate_json.specs.Certificates.{body_of, package_of, rows_of};
 ghost use Rattle.facts.specs.FactViews.{type_view};
+ghost use Rattle.first_values.specs.ValuesByName.{only_at};
 ghost use Rattle.meaning.specs.OuterBlocks.{or_else};
-ghost use Rattle.names.specs.Maps.{only_at};
 ghost use Rattle.table_json.specs.Tables.{entry_of};
 ghost use Rattle.verifier.specs.GivenViews.{rows_at, only_rows, rows_in, params_at, claim_of, claim_at, claim_in, first_params, given_of, TellsGiven};
 
 use crate::first::keep_first;
 use certificate_json::{Body, Package, Rows};
 use facts::CancelType;
+use first_values::FirstValues;
 use indexmap::IndexMap;
 use std::alloc::{AllocError, Global};
 use table_json::{Function, Parameter};
@@ -97,7 +98,7 @@ fn claim_at(parameters: &[Parameter], position: usize) -> Option<CancelType>
 /// The parameters of functions, by the names of these; of several with one name the first counts.
 #[derive(Drop)]
 pub struct GivenClaims<'c> {
-    functions: IndexMap<&'c str, &'c [Parameter]>,
+    functions: FirstValues<'c, &'c [Parameter]>,
 }
 
 impl<'c> GivenClaims<'c> {
@@ -105,7 +106,7 @@ impl<'c> GivenClaims<'c> {
         ensures { (name : List ℕ) → params_at result name ≡ None }
     {
         GivenClaims {
-            functions: IndexMap::new(alloc),
+            functions: FirstValues::new(alloc),
         }
     }
 
@@ -123,11 +124,8 @@ impl<'c> GivenClaims<'c> {
         ensures { OnOk result ((name : List ℕ) → params_at self.new name ≡ or_else (params_at self.old name)
             (only_at (entry_of function.now).name (entry_of function.now).params name)) }
     {
-        let name = function.name.as_str();
-        if !self.functions.contains_key(name) {
-            self.functions.insert(name, function.params.as_slice())?;
-        }
-        Ok(())
+        self.functions
+            .insert(function.name.as_str(), function.params.as_slice())
     }
 }
 

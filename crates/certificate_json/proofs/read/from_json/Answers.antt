@@ -3,7 +3,7 @@ use Rattle.table_json.proofs.TablesRead.{version_again}
 use Rattle.certificate_json.specs.Certificates.{package_of}
 use Rattle.certificate_json.specs.declared.fault.CertificateFault.TheVariants.{WrongShape}
 use Rattle.certificate_json.proofs.CertificateLaws.{in_order, no_other, only_memory}
-use Rattle.certificate_json.proofs.WholeRead.{no_whole, whole_read}
+use Rattle.certificate_json.proofs.PackagesRead.{no_whole, whole_read}
 use Rattle.certificate_json.proofs.read.from_json.Goals as goal
 
 pub returns-in-Some-clause-certificates : goal.returns-in-Some-clause-certificates

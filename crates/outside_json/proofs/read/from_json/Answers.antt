@@ -2,7 +2,7 @@ use Rattle.std.proofs.Common.{map, sym, ap, ◌∙◌}
 use Rattle.outside_json.specs.declared.fault.OutsideFault.TheVariants.{WrongShape, Reserved}
 use Rattle.outside_json.specs.Outside.{first_reserved, package_of}
 use Rattle.outside_json.proofs.OutsideLaws.{in_order, newer_again, no_other, only_memory}
-use Rattle.outside_json.proofs.WholeRead.{no_whole, whole_read}
+use Rattle.outside_json.proofs.PackagesRead.{no_whole, whole_read}
 use Rattle.outside_json.proofs.read.from_json.Goals as goal
 
 pub returns-in_default-clause-only_memory : goal.returns-in_default-clause-only_memory

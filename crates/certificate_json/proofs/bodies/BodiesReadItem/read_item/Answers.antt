@@ -1,24 +1,26 @@
-use Rattle.std.proofs.Common.{option_map, sym, subst}
-use Rattle.serde_json.specs.Data.{object}
-use Rattle.json_reading.specs.Standing.{Judges, Refutes}
-use Rattle.json_reading.proofs.ObjectsRead.{object_read}
-use Rattle.table_json.proofs.ValuesRead.{seen_back}
-use Rattle.certificate_json.specs.Certificates.{body_of, rows_of}
-use Rattle.certificate_json.specs.CertificateValues.{IsBodyValue}
-use Rattle.certificate_json.proofs.BodiesRead.{body_judged, no_body_members}
+use Rattle.std.proofs.Common.{refl}
+use Rattle.json_reading.proofs.ItemsMade.{item_read, no_item_read, none_yet}
+use Rattle.certificate_json.specs.Certificates.{rows_of}
+use Rattle.certificate_json.proofs.BodiesRead.{body_read, no_body}
 use Rattle.certificate_json.proofs.bodies.BodiesReadItem.read_item.Goals as goal
 
-pub returns-then-branch-clause-ok : goal.returns-then-branch-clause-ok
-returns-then-branch-clause-ok c =
-    let read =
-    object_read _ _ _ _ c.in_ok-read_object.field-0 c.in_ok-read_object.ensures.ok c.if-branch.true no_body_members in
-    let members = c.read_object.new.members in
+pub read_made-requires : goal.read_made-requires
+read_made-requires c = (
+  refl,
+  refl,
+  none_yet _ _ _ _ _ refl (refl, refl, none_yet _ _ _ _ _ refl (refl, refl, none_yet _ _ _ _ _ refl refl)),
+)
+
+pub returns-in-Some-clause-ok : goal.returns-in-Some-clause-ok
+returns-in-Some-clause-ok c =
+    let read = item_read _ _ _ _ c.in_ok-found.field-0 c.in_ok-found.ensures.ok _ c.in-Some.is in
     record {
-      value = object read.0;
+      value = read.0;
       stands = read.1;
-      judged =
-          seen_back IsBodyValue body_of (Refutes IsBodyValue) (object read.0) c.body_with.result
-          (subst (Judges IsBodyValue (Refutes IsBodyValue) (object read.0)) (sym c.body_with.ensures)
-          (body_judged read.0 members.has_other members.at members.file
-          (option_map rows_of members.states) read.2));
+      judged = body_read rows_of read.0 c.in-Some.found.0 c.in-Some.found.1.0 c.in-Some.found.1.1.0 c.in-Some.found.1.1.1 read.2;
     }
+
+pub returns-in-None-clause-ok : goal.returns-in-None-clause-ok
+returns-in-None-clause-ok c =
+    let none = no_item_read _ _ _ _ c.in_ok-found.field-0 c.in_ok-found.ensures.ok c.in-None.is in
+    record { value = none.0; stands = none.1; judged = no_body none.0 none.2 }

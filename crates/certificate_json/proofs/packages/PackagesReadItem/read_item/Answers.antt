@@ -1,35 +1,29 @@
-use Rattle.std.proofs.Common.{string_bytes, map, option_map, refl, sym, subst}
-use Rattle.serde_json.specs.Data.{object}
-use Rattle.json_reading.specs.Standing.{Judges, Refutes}
-use Rattle.json_reading.proofs.ObjectsRead.{object_read, no_object_read}
+use Rattle.std.proofs.Common.{map, string_bytes, refl}
+use Rattle.json_reading.proofs.ItemsMade.{item_read, no_item_read, none_yet}
 use Rattle.table_json.specs.Tables.{entry_of}
-use Rattle.table_json.proofs.ValuesRead.{seen_back}
-use Rattle.certificate_json.specs.Certificates.{body_of, package_of}
-use Rattle.certificate_json.specs.CertificateValues.{IsPackageIn}
-use Rattle.certificate_json.proofs.PackagesRead.{no_package_members, no_package_value, package_judged}
+use Rattle.certificate_json.specs.Certificates.{body_of}
+use Rattle.certificate_json.proofs.PackagesRead.{no_package, package_read}
 use Rattle.certificate_json.proofs.packages.PackagesReadItem.read_item.Goals as goal
 
-pub returns-then-branch-clause-ok : goal.returns-then-branch-clause-ok
-returns-then-branch-clause-ok c =
-    let version = c.args.self.now.version in
-    let read =
-    object_read _ _ _ _ c.in_ok-read_object.field-0 c.in_ok-read_object.ensures.ok c.if-branch.true
-    (refl, no_package_members version) in
-    let members = c.read_object.new.members in
+pub read_made-requires : goal.read_made-requires
+read_made-requires c = (
+  refl,
+  refl,
+  none_yet _ _ _ _ _ refl (refl, refl, none_yet _ _ _ _ _ refl (refl, refl, none_yet _ _ _ _ _ refl refl)),
+)
+
+pub returns-in-Some-clause-ok : goal.returns-in-Some-clause-ok
+returns-in-Some-clause-ok c =
+    let read = item_read _ _ _ _ c.in_ok-found.field-0 c.in_ok-found.ensures.ok _ c.in-Some.is in
     record {
-      value = object read.0;
+      value = read.0;
       stands = read.1;
       judged =
-          seen_back (IsPackageIn version) package_of (Refutes (IsPackageIn version)) (object read.0)
-          c.package_with.result
-          (subst (Judges (IsPackageIn version) (Refutes (IsPackageIn version)) (object read.0))
-          (sym c.package_with.ensures)
-          (package_judged version read.0 members.has_other (option_map (λ bodies. map body_of bodies.items) members.bodies)
-          (option_map (λ facts. map entry_of facts.items) members.facts) (option_map string_bytes members.path) read.2.1));
+          package_read c.args.self.now.version (λ bs. map body_of bs.items) (λ fs. map entry_of fs.items) string_bytes
+          read.0 c.in-Some.found.0 c.in-Some.found.1.0 c.in-Some.found.1.1.0 c.in-Some.found.1.1.1 read.2;
     }
 
-pub returns-else-branch-clause-ok : goal.returns-else-branch-clause-ok
-returns-else-branch-clause-ok c =
-    let none =
-    no_object_read _ _ _ _ c.in_ok-read_object.field-0 c.in_ok-read_object.ensures.ok c.if-branch.false in
-    record { value = none.0; stands = none.1; judged = no_package_value c.args.self.now.version none.0 none.2 }
+pub returns-in-None-clause-ok : goal.returns-in-None-clause-ok
+returns-in-None-clause-ok c =
+    let none = no_item_read _ _ _ _ c.in_ok-found.field-0 c.in_ok-found.ensures.ok c.in-None.is in
+    record { value = none.0; stands = none.1; judged = no_package c.args.self.now.version none.0 none.2 }

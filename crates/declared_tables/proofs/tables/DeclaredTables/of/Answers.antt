@@ -1,6 +1,6 @@
 use Rattle.std.proofs.Common.{◌≡◌, ◌<◌, ◌≤◌, ap, drop, get_or, length, map, option_map, subst}
 use Rattle.std.proofs.lemmas.List.{drop_all}
-use Rattle.names.specs.Answers.{at_name}
+use Rattle.first_values.specs.ValuesByName.{value_of}
 use Rattle.outside_json.specs.Outside.{package_of, packages_of, table_at}
 use Rattle.declared_tables.specs.DeclaredTables.{table_of, table_view}
 use Rattle.declared_tables.proofs.AddedTables.{table_last, table_next}
@@ -15,7 +15,7 @@ loop-one-preserved c = (
       let same = c.deref-one-items.ensures.value in
       table_next packages i one (subst (λ xs. i < length xs) same c.loop-one-test.true)
       (subst (λ xs. one ≡ get_or xs i one) same c.one-item.is) path
-      (option_map table_view (at_name c.loop-one.packages path)) (option_map table_view (at_name c.add_package.new.packages path))
+      (option_map table_view (value_of c.loop-one.packages path)) (option_map table_view (value_of c.add_package.new.packages path))
       _ (c.in_ok-add_package.ensures.table path) (c.loop-one.invariant.0 path),
   c.in_ok-add_package.ensures.marks c.loop-one.invariant.1,
 )
@@ -24,7 +24,7 @@ pub returns-clause-tables : goal.returns-clause-tables
 returns-clause-tables c = λ path.
     let packages = c.args.outside.now.packages.items in
     let i = c.loop-one.one-index in
-    table_last (at_name c.loop-one.packages path) (option_map table_of (table_at path (map package_of (drop i packages))))
+    table_last (value_of c.loop-one.packages path) (option_map table_of (table_at path (map package_of (drop i packages))))
     (table_at path (packages_of c.args.outside.now))
     (ap (λ xs. option_map table_of (table_at path (map package_of xs)))
     (drop_all i packages (subst (λ xs. length xs ≤ i) c.deref-one-items.ensures.value c.loop-one-test.false)))

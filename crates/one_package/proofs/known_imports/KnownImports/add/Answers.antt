@@ -1,7 +1,7 @@
 use Rattle.std.proofs.Common.{ap, ◌∙◌}
 use Rattle.std.specs.Prelude.{not}
 use Rattle.meaning.specs.OuterBlocks.{or_else}
-use Rattle.names.specs.Maps.{only_at}
+use Rattle.first_values.specs.ValuesByName.{only_at}
 use Rattle.one_package.specs.Judgments.{mark_by_path}
 use Rattle.one_package.specs.Results.{is_not_yes}
 use Rattle.one_package.proofs.FirstJudged.{first_more}

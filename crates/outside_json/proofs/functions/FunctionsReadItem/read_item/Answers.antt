@@ -1,30 +1,19 @@
-use Rattle.std.proofs.Common.{sym, subst}
-use Rattle.serde_json.specs.Data.{object}
-use Rattle.json_reading.specs.Standing.{Judges, Refutes}
-use Rattle.json_reading.proofs.ObjectsRead.{object_read, no_object_read}
-use Rattle.table_json.proofs.FunctionsRead.{newer_judged}
-use Rattle.table_json.proofs.ValuesRead.{seen_back}
-use Rattle.outside_json.specs.Outside.{function_of}
-use Rattle.outside_json.specs.OutsideValues.{IsDeclaredValue}
-use Rattle.outside_json.proofs.FunctionsRead.{declared_judged, no_declared_members, no_declared_value}
+use Rattle.std.proofs.Common.{refl}
+use Rattle.json_reading.specs.Standing.{value_at}
+use Rattle.json_reading.proofs.ItemsMade.{none_yet}
+use Rattle.outside_json.proofs.FunctionsRead.{declared_read, none_declared}
 use Rattle.outside_json.proofs.functions.FunctionsReadItem.read_item.Goals as goal
 
-pub returns-then-branch-clause-ok : goal.returns-then-branch-clause-ok
-returns-then-branch-clause-ok c =
-    let read =
-    object_read _ _ _ _ c.in_ok-read_object.field-0 c.in_ok-read_object.ensures.ok c.if-branch.true
-    (no_declared_members _ c.new.ensures) in
-    record {
-      value = object read.0;
-      stands = read.1;
-      judged =
-          seen_back IsDeclaredValue function_of (Refutes IsDeclaredValue) (object read.0) c.declared_with.result
-          (subst (Judges IsDeclaredValue (Refutes IsDeclaredValue) (object read.0)) (sym c.declared_with.ensures)
-          (declared_judged _ _ read.0 read.2 _ (λ facts h. newer_judged facts _ _ _ _ _ _ h)));
-    }
+pub read_made-requires : goal.read_made-requires
+read_made-requires c = (refl, refl, none_yet _ _ _ _ _ refl (refl, c.new.ensures.members))
 
-pub returns-else-branch-clause-ok : goal.returns-else-branch-clause-ok
-returns-else-branch-clause-ok c =
-    let none =
-    no_object_read _ _ _ _ c.in_ok-read_object.field-0 c.in_ok-read_object.ensures.ok c.if-branch.false in
-    record { value = none.0; stands = none.1; judged = no_declared_value none.0 none.2 }
+pub returns-in-Some-clause-ok : goal.returns-in-Some-clause-ok
+returns-in-Some-clause-ok c =
+    declared_read c.new.result.version c.new.ensures.version (value_at c.args.depth c.args.reader.now)
+    c.read_made.new.reader c.in_ok-results.field-0 c.in-Some.results c.in-Some.facts c.declared_with.result
+    c.in_ok-results.ensures.ok c.in-Some.is c.declared_with.ensures
+
+pub returns-in-None-clause-ok : goal.returns-in-None-clause-ok
+returns-in-None-clause-ok c =
+    none_declared c.new.result.version c.new.ensures.version (value_at c.args.depth c.args.reader.now)
+    c.read_made.new.reader c.in_ok-results.field-0 c.in_ok-results.ensures.ok c.in-None.is

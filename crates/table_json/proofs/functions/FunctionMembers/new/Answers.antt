@@ -1,5 +1,5 @@
 use Rattle.table_json.proofs.FunctionsRead.{no_function_members}
 use Rattle.table_json.proofs.functions.FunctionMembers.new.Goals as goal
 
-pub returns : goal.returns
-returns c = no_function_members
+pub returns-clause-members : goal.returns-clause-members
+returns-clause-members c = no_function_members

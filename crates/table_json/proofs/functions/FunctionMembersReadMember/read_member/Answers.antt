@@ -9,8 +9,11 @@ returns-in_ok-self-clause-ok c =
     let key = c.args.key.now in (
       read.value,
       read.stands,
-      λ begun ms h. causes_put key read.value ms _ _ _ _ _ _ h _ (same_key key (codes "causes") c.if-eq.ensures)
-          read.judged,
+      λ begun ms h. (
+        h.0,
+        causes_put key read.value ms _ _ _ _ _ _ h.1 _ (same_key key (codes "causes") c.if-eq.ensures)
+            read.judged,
+      ),
     )
 
 pub returns-in_ok-self-2-clause-ok : goal.returns-in_ok-self-2-clause-ok
@@ -19,8 +22,11 @@ returns-in_ok-self-2-clause-ok c =
     let key = c.args.key.now in (
       read.value,
       read.stands,
-      λ begun ms h. gives_put key read.value ms _ _ _ _ _ _ h _ (same_key key (codes "gives") c.if-eq-2.ensures)
-          read.judged,
+      λ begun ms h. (
+        h.0,
+        gives_put key read.value ms _ _ _ _ _ _ h.1 _ (same_key key (codes "gives") c.if-eq-2.ensures)
+            read.judged,
+      ),
     )
 
 pub returns-in_ok-self-3-clause-ok : goal.returns-in_ok-self-3-clause-ok
@@ -29,8 +35,11 @@ returns-in_ok-self-3-clause-ok c =
     let key = c.args.key.now in (
       read.value,
       read.stands,
-      λ begun ms h. name_put key read.value ms _ _ _ _ _ _ h _ (same_key key (codes "name") c.if-eq-3.ensures)
-          read.judged,
+      λ begun ms h. (
+        h.0,
+        name_put key read.value ms _ _ _ _ _ _ h.1 _ (same_key key (codes "name") c.if-eq-3.ensures)
+            read.judged,
+      ),
     )
 
 pub returns-in_ok-self-4-clause-ok : goal.returns-in_ok-self-4-clause-ok
@@ -39,8 +48,11 @@ returns-in_ok-self-4-clause-ok c =
     let key = c.args.key.now in (
       read.value,
       read.stands,
-      λ begun ms h. params_put key read.value ms _ _ _ _ _ _ h _ (same_key key (codes "params") c.if-eq-4.ensures)
-          read.judged,
+      λ begun ms h. (
+        h.0,
+        params_put key read.value ms _ _ _ _ _ _ h.1 _ (same_key key (codes "params") c.if-eq-4.ensures)
+            read.judged,
+      ),
     )
 
 pub returns-in_ok-pass_value-clause-ok : goal.returns-in_ok-pass_value-clause-ok
@@ -49,7 +61,10 @@ returns-in_ok-pass_value-clause-ok c =
     let key = c.args.key.now in (
       passed.0,
       passed.1,
-      λ begun ms h. unknown_put key passed.0 ms _ _ _ _ _ _ h (other_key key (codes "causes") c.if-eq.ensures)
-          (other_key key (codes "gives") c.if-eq-2.ensures) (other_key key (codes "name") c.if-eq-3.ensures)
-          (other_key key (codes "params") c.if-eq-4.ensures),
+      λ begun ms h. (
+        h.0,
+        unknown_put key passed.0 ms _ _ _ _ _ _ h.1 (other_key key (codes "causes") c.if-eq.ensures)
+            (other_key key (codes "gives") c.if-eq-2.ensures) (other_key key (codes "name") c.if-eq-3.ensures)
+            (other_key key (codes "params") c.if-eq-4.ensures),
+      ),
     )

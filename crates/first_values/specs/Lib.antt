@@ -1,0 +1,2 @@
+-- What the contracts of this crate name: the value of a name.
+pub mod ValuesByName
