@@ -19,7 +19,7 @@ use Rattle.package_pieces.proofs.Numbered.{come_zip, zip_kept, zip_first}
 use Rattle.package_pieces.specs.Numbers.{kept_numbers, numbers_from}
 use Rattle.package_pieces.specs.declared.numbers.BodyNumber.{BodyNumber}
 use Rattle.path_faults.specs.FoundFaults.{each_from}
-use Rattle.pieces.specs.Pieces.{ComeOf, joined}
+use Rattle.workers.specs.Pieces.{ComeOf, joined}
 
 -- where nothing was there, what was added is all
 pub only_added : (AreAdded : List BodyEntry → Type 0) (before after : List BodyEntry) → before ≡ []

@@ -8,11 +8,11 @@ use crate::files::{entries_of_files, entries_with};
 use calls_flags::KnownCalls;
 use one_package::{Alone, Around, FileRules, FoundFiles, JudgedBodies, ToldPackage, judge_bodies};
 use package_pieces::{ByHelpers, PieceRules};
-use pieces::{Free, Helpers, PieceFault};
 use std::alloc::{AllocError, Global};
 use std::sync::Wait;
 use std::thread::Threads;
 use whole_packages::LoadedPackage;
+use workers::{Free, Helpers, PieceFault};
 
 /// Files are judged by the paths of their bodies. Each body gets its least certificate while it is there, also where
 /// nothing is to be found in it: so all files have to be told of.

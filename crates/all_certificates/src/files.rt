@@ -15,10 +15,10 @@ use bodies::Body;
 use calls_flags::{FileBodies, KnownCalls};
 use certificate_json::Body as Entry;
 use package_pieces::{BodyNumber, have_several, numbers_kept};
-use pieces::{Free, Helpers, Piece, PieceFault, joined, work_all};
 use std::alloc::{AllocError, Global};
 use std::sync::Wait;
 use std::thread::Threads;
+use workers::{Free, Helpers, Piece, PieceFault, joined, work_all};
 
 /// Adds the least certificates of the bodies of a file.
 fn add_file<'f, 'a>(

@@ -7,8 +7,8 @@ use Rattle.std.proofs.lemmas.Slice.Zip.{AllZip-long}
 use Rattle.std.proofs.lemmas.Option.{same_Some}
 use Rattle.bodies.specs.Bodies.{TellsBody}
 use Rattle.bodies.specs.declared.body.Body.{Body as KeptBody}
-use Rattle.credit_search.proofs.PairedLists.{pair_at}
-use Rattle.credit_search.proofs.SettledBodies.{paths_there}
+use Rattle.credits.proofs.PairedLists.{pair_at}
+use Rattle.credits.proofs.SettledBodies.{paths_there}
 use Rattle.credits.specs.CreditViews.{has}
 use Rattle.meaning.specs.BodyEvents.{Variable, bodies_of, variables_of, too_many_faults}
 use Rattle.meaning.specs.FunctionFacts.{cancel}

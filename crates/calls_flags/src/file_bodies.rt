@@ -8,8 +8,7 @@ ghost use Rattle.meaning.specs.Uses.{Seen};
 
 use crate::told_file::ToldFile;
 use bodies::{Body, bodies};
-use credit_search::find_credits;
-use credits::Credits;
+use credits::{Credits, find_credits};
 use events::Told;
 use std::alloc::{AllocError, Global};
 

@@ -18,8 +18,7 @@ use crate::claims::Claim;
 use crate::file_bodies::FileBodies;
 use crate::known_calls::KnownCalls;
 use bodies::Body;
-use credit_search::search_body;
-use credits::Credits;
+use credits::{Credits, search_body};
 use path_faults::keeps_call;
 use std::alloc::{AllocError, Global};
 

@@ -13,8 +13,7 @@ ghost use Rattle.meaning_packages.specs.PathFaults.{paths_of};
 
 use crate::rows::rows_of;
 use bodies::{Body, BodyGraph, ordered_graph};
-use credit_search::search_body;
-use credits::{Calls, Credits};
+use credits::{Calls, Credits, search_body};
 use events::Told;
 use states::{Arrivals, CancelClass, GroupClass};
 use std::alloc::{AllocError, Global};

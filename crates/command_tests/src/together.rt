@@ -14,7 +14,6 @@ use one_package::{
 use outside_json::Outside;
 use package_pieces::{PieceRules, build_all, find_called_with, solve_all};
 use package_workers::{CheckFault, Crew, Gate, Open, check_by_workers};
-use pieces::{BodyGate, Free, Helpers, PieceFault};
 use report_formats::Format;
 use std::alloc::{AllocError, Global};
 use std::sync::Wait;
@@ -24,7 +23,7 @@ use std::thread::Threads;
 use std::time::{Clock, Duration};
 use std::{fs, thread};
 use whole_packages::LoadedPackage;
-use workers::Workers;
+use workers::{BodyGate, Free, Helpers, PieceFault, Workers};
 
 /// So many times of a millisecond a worker waits for another one.
 const MOST_TURNS: u32 = 10_000;

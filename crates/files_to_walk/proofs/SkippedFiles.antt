@@ -12,7 +12,7 @@ use Rattle.meaning.specs.TreeOfText.{IsTreeOf}
 use Rattle.meaning_reports.specs.Loaded.{Reading, has_tree, has_text_fault, has_tree_fault, LoadedPackage, NumberedTree, Tables, trees_from, trees_of, imports_of, signatures_of, imported_signatures, known_in}
 use Rattle.meaning_reports.specs.WholeFaults.{HasNoWholeFault, has_no_tokens, has_no_tree}
 use Rattle.meaning.proofs.Membership.{contains_here}
-use Rattle.named_words.specs.NamedWords.{LacksEach, LacksWord}
+use Rattle.silent_files.specs.NamedWords.{LacksEach, LacksWord}
 use Rattle.silent_files.specs.SilentPackages.{GiveNone, NamesNoGiver, MayBeSkipped}
 use Rattle.silent_files.specs.WalkedFiles.{is_walked, SkipsSilent}
 use Rattle.silent_files.proofs.OneMore.{last_or_before}

@@ -6,7 +6,7 @@ use Rattle.lexer.specs.declared.source.Source.{Source}
 use Rattle.tree.specs.Syntax.{SourceFile, TopLevelDeclaration, function_declaration, general_declaration}
 use Rattle.meaning.specs.FunctionFacts.{CancelResult, FunctionFacts}
 use Rattle.meaning_reports.specs.Loaded.{imports_of}
-use Rattle.named_words.specs.NamedWords.{LacksEach, LacksWord}
+use Rattle.silent_files.specs.NamedWords.{LacksEach, LacksWord}
 use Rattle.silent_files.specs.SilentPackages.{imports_first, imports_group}
 use Rattle.silent_files.specs.SilentWords.{telling_words}
 

@@ -1,12 +1,12 @@
 //! Words that tell that something of a file may have to be tracked, or that it may recover.
 
 ghost use Rattle.std.specs.Prelude.{◌≡◌, IfOk, false, codes};
-ghost use Rattle.named_words.specs.NamedWords.{LacksEach, LacksWord};
-ghost use Rattle.named_words.specs.WordsSought.{bytes_of};
+ghost use Rattle.silent_files.specs.NamedWords.{LacksEach, LacksWord};
+ghost use Rattle.silent_files.specs.WordsSought.{bytes_of};
 ghost use Rattle.silent_files.specs.SilentWords.{telling_words};
 
 use lexer::Source;
-use named_words::{names_one, occurs_one};
+use silent_files::{names_one, occurs_one};
 use std::alloc::{AllocError, Global};
 
 /// The names of the makers of `context`, and of its types of cancel functions.

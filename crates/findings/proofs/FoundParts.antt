@@ -5,7 +5,7 @@ use Rattle.std.proofs.lemmas.Bool.{false≢true}
 use Rattle.bodies.specs.Bodies.{TellsBody}
 use Rattle.bodies.specs.declared.body.Body.{Body as KeptBody}
 use Rattle.bodies.specs.declared.graph.BodyGraph.{BodyGraph as KeptGraph}
-use Rattle.credit_search.proofs.SettledBodies.{paths_there, few_there}
+use Rattle.credits.proofs.SettledBodies.{paths_there, few_there}
 use Rattle.std.proofs.lemmas.List.Elements.{Contains-append_left, Contains-append_right, Contains-append_cases}
 use Rattle.std.proofs.lemmas.Option.{none-some, same_Some}
 use Rattle.meaning.specs.Mentions.{BodyPlace}

@@ -5,7 +5,7 @@ use crate::graph_lines::push_graph;
 use crate::page::{FilePage, Page, place_of};
 use bodies::{Body, BodyGraph, NodeEvent, ordered_graph};
 use code::Occurrence;
-use credit_search::search_body;
+use credits::search_body;
 use std::alloc::{AllocError, Global};
 
 /// The lines of a body's nodes. A body without variables has no graph, since nobody asks for its paths: it is made

@@ -1,3 +1,4 @@
+mod SamePackages
 pub mod QuietYes
 pub mod LoadedPackages
 pub mod SourcePlaces
@@ -9,3 +10,28 @@ mod OneReport
 mod CertifiedReports
 mod VerifiedPlaces
 mod VerifiedReports
+mod BodyVariables
+mod OwnGroups
+mod LowerLaws
+mod MoreKnown
+mod OneTable
+mod Agreement
+mod OuterBodies
+mod EvenMarks
+mod BlockRules
+mod ClearStarts
+mod BlocksSpelled
+mod FileBlocks
+mod OutermostStarts
+mod OneParameter
+mod PackageFiles
+mod PackageAgreement
+mod GivenClaims
+mod GivenRowsFound
+mod CertificateAgreement
+mod FewParameters
+mod MoreFaults
+mod FullCredits
+mod WrittenNumbers
+mod AlikePackages
+mod GivenReports

@@ -1,3 +1,5 @@
+-- To be trusted: which packages mention cancel functions with a cause.
+pub mod CauseMentions
 -- For a reader of the contracts: the report of given packages.
 pub mod QuietYes
 pub mod SourcePlaces
@@ -6,3 +8,12 @@ pub mod OneReport
 pub mod CheckFaults
 pub mod Certified
 pub mod Verified
+-- To be trusted: where `check` and `verify` agree, of the bytes of files.
+pub mod GivenPackages
+pub mod FullCredits
+-- The same of trees.
+pub mod AgreementLaws
+pub mod PackageLaws
+pub mod CertificateLaws
+-- For a reader of the laws: in which groups the bodies of a file start literals.
+pub mod OwnGroups

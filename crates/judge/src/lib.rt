@@ -2,16 +2,25 @@
 //! format, where something may be declared of others. What the report of given packages is says `specs/Reports.antt`.
 #![tactic(auto)]
 
+mod agreement;
 mod certified;
 mod check_fault;
+mod first;
 mod laws;
+mod mentioned;
 mod reports;
 mod verified;
 
+pub use agreement::{
+    certificates_agree, full_credits_are_believed, least_certificates_are_believed, reports_agree,
+    starts_have_own_groups, texts_start_no_outermost, what_is_believed_has_no_finding,
+    written_certificates_are_believed, yes_with_full_credits_is_yes,
+};
 pub use all_certificates::Settings;
 pub use all_packages::{Counts, Report};
 pub use certified::{CertifiedReport, certified_report_by};
 pub use check_fault::CheckFault;
+pub use first::first_with_causes;
 pub use laws::given_packages_have_one_report;
 pub use report_formats::Format;
 pub use reports::{report_by, report_of};

@@ -7,8 +7,8 @@ ghost use Rattle.judge.specs.Verified.{given_in, IsTooOldFor, IsVerifiedReport, 
 ghost use Rattle.outside_json.specs.Outside.{packages_of};
 ghost use Rattle.verifier.specs.Rules.{by_certificates};
 
+use crate::first::first_with_causes;
 use all_packages::{Report, check_by, told};
-use cause_mentions::first_with_causes;
 use certificate_json::Certificates;
 use load::{GivenPackage, Leave, LoadFault, Loaded, load_beside};
 use outside_json::Outside;

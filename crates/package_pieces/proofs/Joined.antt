@@ -21,8 +21,8 @@ use Rattle.package_pieces.specs.Numbers.{kept_numbers}
 use Rattle.package_pieces.specs.declared.numbers.BodyNumber.{BodyNumber}
 use Rattle.path_faults.proofs.Places.{element_at, place_of, contains_at, given_at, gives_at}
 use Rattle.path_faults.specs.FoundFaults.{each_from}
-use Rattle.pieces.proofs.Parts.{come_as_many, come_at}
-use Rattle.pieces.specs.Pieces.{ComeOf, joined}
+use Rattle.workers.proofs.Parts.{come_as_many, come_at}
+use Rattle.workers.specs.Pieces.{ComeOf, joined}
 use Rattle.report.specs.Entries.{Entry, entry_of}
 use Rattle.report.specs.declared.diagnostics.Diagnostic.{Diagnostic}
 

@@ -6,7 +6,7 @@ use Rattle.bodies.specs.Bodies.{TellsBody}
 use Rattle.bodies.specs.declared.body.Body.{Body}
 use Rattle.calls_flags.specs.FilesBodies.{TellAll, TellsWithCredits}
 use Rattle.calls_flags.specs.declared.file_bodies.FileBodies.{FileBodies}
-use Rattle.credit_search.proofs.PairedLists.{pair_at}
+use Rattle.credits.proofs.PairedLists.{pair_at}
 use Rattle.meaning.specs.BodyEvents.{bodies_of}
 use Rattle.meaning.specs.Mentions.{BodyPlace}
 use Rattle.meaning_packages.specs.CallsFlags.{FileWithCredits}

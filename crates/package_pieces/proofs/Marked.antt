@@ -7,7 +7,7 @@ use Rattle.meaning.specs.Uses.{Callee}
 use Rattle.meaning_packages.specs.CallsFlags.{FileWithCredits}
 use Rattle.package_pieces.specs.Marks.{is_marked, IsMark, AreMarks}
 use Rattle.path_faults.proofs.Places.{element_at}
-use Rattle.pieces.proofs.Parts.{come_as_many, come_at}
+use Rattle.workers.proofs.Parts.{come_as_many, come_at}
 
 pub mark_at : (fs : List FileWithCredits) (calls : Callee → ℕ → Bool) (claims : List Claim) (marks : List Bool)
     → AreMarks fs calls claims marks

@@ -6,7 +6,7 @@ use Rattle.std.proofs.lemmas.List.{append-nil, append_assoc}
 use Rattle.meaning.proofs.Membership.{contains_nil, contains_here, contains_there, contains_cases}
 use Rattle.package_pieces.specs.Numbers.{numbers_from}
 use Rattle.package_pieces.specs.declared.numbers.BodyNumber.{BodyNumber}
-use Rattle.pieces.specs.Pieces.{ComeOf}
+use Rattle.workers.specs.Pieces.{ComeOf}
 
 -- what comes of items without regard to their places
 pub come_zip : {T X : Type 0} (R : T → X → Type 0) (place : ℕ) (ts : List T) (xs : List X) → ComeOf (λ n. R) place ts xs

@@ -6,7 +6,7 @@ use Rattle.meaning.specs.BodyEvents.{Variable}
 use Rattle.meaning.specs.Mentions.{BodyPlace}
 use Rattle.meaning.specs.Uses.{Callee}
 use Rattle.meaning_packages.specs.CallsFlags.{FileWithCredits}
-use Rattle.pieces.specs.Pieces.{ComeOf}
+use Rattle.workers.specs.Pieces.{ComeOf}
 
 -- whether that place has a mark, and this says yes
 abbrev pub is_marked : List Bool → ℕ → Bool

@@ -14,12 +14,12 @@ ghost use Rattle.path_faults.specs.FoundFaults.{each_from};
 use crate::numbers::{BodyNumber, numbers_opened, opened_count};
 use bodies::{Body, body_at};
 use calls_flags::{FileBodies, ToldFile};
-use credit_search::find_credits;
-use pieces::{BodyGate, Helpers, Piece, PieceFault, work_all};
+use credits::find_credits;
 use std::alloc::{AllocError, Global};
 use std::sync::Wait;
 use std::thread::Threads;
 use std::vec::IntoIter;
+use workers::{BodyGate, Helpers, Piece, PieceFault, work_all};
 
 /// How the bodies of these files are made. The files are taken from here, so that they may be borrowed from for longer
 /// than an item is lent.

@@ -9,11 +9,11 @@ use calls_flags::{FileBodies, KnownCalls, ToldFile, bodies_of_files};
 use facts::Table;
 use findings::find_faults;
 use one_package::Hands;
-use pieces::{Free, Helpers, PieceFault};
 use report::Diagnostic;
 use std::alloc::Global;
 use std::sync::Wait;
 use std::thread::Threads;
+use workers::{Free, Helpers, PieceFault};
 
 /// These helpers make the bodies of a package, and judge them. Where there is nothing to share, the thread that asks
 /// does it alone, so that none is started for nothing.

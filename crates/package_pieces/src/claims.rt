@@ -12,10 +12,10 @@ ghost use Rattle.package_pieces.specs.Marks.{is_marked, AreMarks};
 use called_parameters::{Called, ImportedCalls};
 use calls_flags::{Claim, FileBodies, KnownCalls, called_by, find_claims, keeps_claim};
 use facts::Table;
-use pieces::{BodyGate, Helpers, Piece, PieceFault, work_all};
 use std::alloc::{AllocError, Global};
 use std::sync::Wait;
 use std::thread::Threads;
+use workers::{BodyGate, Helpers, Piece, PieceFault, work_all};
 
 /// By what it is looked whether a claim is kept.
 #[derive(Clone, Copy)]

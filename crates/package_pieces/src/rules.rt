@@ -12,10 +12,10 @@ use crate::by_helpers::ByHelpers;
 use one_package::{
     Around, ByPaths, FileRules, FoundFiles, JudgedBodies, ToldPackage, judge_bodies,
 };
-use pieces::{Free, Helpers, PieceFault};
 use std::alloc::Global;
 use std::sync::Wait;
 use std::thread::Threads;
+use workers::{Free, Helpers, PieceFault};
 
 /// Rules for the files of a package by which helpers can judge one package. They find what one thread finds.
 pub trait PieceRules: FileRules {

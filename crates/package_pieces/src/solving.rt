@@ -12,11 +12,11 @@ ghost use Rattle.report.specs.Entries.{Entry, entry_of};
 use crate::numbers::{BodyNumber, numbers_kept};
 use calls_flags::{FileBodies, KnownCalls};
 use findings::{add_body, add_use_faults};
-use pieces::{BodyGate, Helpers, Piece, PieceFault, joined, work_all};
 use report::Diagnostic;
 use std::alloc::{AllocError, Global};
 use std::sync::Wait;
 use std::thread::Threads;
+use workers::{BodyGate, Helpers, Piece, PieceFault, joined, work_all};
 
 /// By what the paths of bodies are solved, and the files of which they are.
 #[derive(Clone, Copy)]

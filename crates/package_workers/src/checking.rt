@@ -30,14 +30,13 @@ use board::{Core, Outcome};
 use one_package::{FileRules, Judged, given_packages};
 use outside_json::Outside;
 use package_pieces::PieceRules;
-use pieces::{Free, Helpers};
 use std::alloc::{AllocError, Global};
 use std::marker::Brand;
 use std::sync::atomic::{AtomicBool, Ordering};
 use std::sync::{Condvar, Mutex, Wait};
 use std::thread::Threads;
 use whole_packages::LoadedPackage;
-use workers::Workers;
+use workers::{Free, Helpers, Workers};
 
 /// Who judges: so many workers of this system, and what each passes before it judges a package.
 #[derive(Drop)]

@@ -2,12 +2,12 @@
 
 use one_package::{Around, FileRules, FoundFiles, ToldPackage};
 use package_pieces::PieceRules;
-use pieces::{Free, Helpers, PieceFault};
 use std::alloc::{AllocError, Global};
 use std::sync::Wait;
 use std::sync::atomic::{AtomicBool, Ordering};
 use std::thread::Threads;
 use whole_packages::LoadedPackage;
+use workers::{Free, Helpers, PieceFault};
 
 /// The same rules, by which helpers judge one package. As rules they can tell of want of memory alone: what else kept
 /// them from an answer is kept here.

@@ -14,11 +14,11 @@ use crate::results::PackageResult;
 use one_package::{Given, KnownImports, judge_package};
 use outside_json::Outside;
 use package_pieces::PieceRules;
-use pieces::{Free, Helpers, PieceFault};
 use std::alloc::{AllocError, Global};
 use std::sync::Wait;
 use std::sync::atomic::AtomicBool;
 use std::thread::Threads;
+use workers::{Free, Helpers, PieceFault};
 
 /// By what workers judge.
 #[derive(Drop)]

@@ -3,9 +3,9 @@
 use crate::naming::Naming;
 use crate::results::PackageResult;
 use board::Core;
-use pieces::PieceFault;
 use std::sync::atomic::{AtomicBool, Ordering};
 use std::sync::{Condvar, Mutex};
+use workers::PieceFault;
 
 /// The board that workers share.
 #[derive(Drop)]

@@ -18,10 +18,10 @@ use crate::shared_board::Board;
 use board::{Core, Task};
 use one_package::Given;
 use package_pieces::PieceRules;
-use pieces::{Free, Helpers, PieceFault};
 use std::alloc::{AllocError, Global};
 use std::sync::{MutexGuard, Wait};
 use std::thread::Threads;
+use workers::{Free, Helpers, PieceFault};
 
 /// Why a worker has nothing to judge.
 #[derive(Clone, Copy)]

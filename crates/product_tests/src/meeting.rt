@@ -1,12 +1,11 @@
 //! Work that several threads share, at the same time.
 
-use pieces::{BodyGate, Helpers, Piece, work_all};
 use std::alloc::{AllocError, Global};
 use std::sync::atomic::{AtomicU64, Ordering};
 use std::test::Fail;
 use std::thread;
 use std::time::{Clock, Duration};
-use workers::{Work, Workers, outcomes};
+use workers::{BodyGate, Helpers, Piece, Work, Workers, outcomes, work_all};
 
 /// So many times of a millisecond the first thread waits for the second one.
 const MOST_TURNS: u32 = 10_000;

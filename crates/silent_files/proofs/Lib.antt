@@ -1,3 +1,9 @@
+mod WordRules
+mod NoMarks
+mod WordParts
+mod WordsSpelled
+mod SoughtWords
+pub mod NamedWords
 pub mod SilentFiles
 pub mod SilentPackages
 pub mod SilentSignatures

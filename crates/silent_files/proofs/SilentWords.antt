@@ -11,8 +11,8 @@ use Rattle.meaning.specs.FunctionFacts.{Meanings, context_path, is_of, is_import
 use Rattle.meaning.specs.Tracked.{Known, plain_makers, cause_makers, only_call, receiver_items}
 use Rattle.meaning.specs.TreeOfText.{IsTreeOf}
 use Rattle.meaning.proofs.Membership.{contains_here, contains_there}
-use Rattle.named_words.specs.NamedWords.{Lexed, LacksWord, LacksEach, IsSelectedWord, AreWords, AreWordsIf, CallHasWords, TypeHasWords, FormHasWords, RowHasWords, RoleHasWords, ParametersHaveWords, ReceiverHasWords, SignatureHasWords, HasWords}
-use Rattle.named_words.proofs.NamedWords.{names_are_words, lacked_words_are_no_names}
+use Rattle.silent_files.specs.NamedWords.{Lexed, LacksWord, LacksEach, IsSelectedWord, AreWords, AreWordsIf, CallHasWords, TypeHasWords, FormHasWords, RowHasWords, RoleHasWords, ParametersHaveWords, ReceiverHasWords, SignatureHasWords, HasWords}
+use Rattle.silent_files.proofs.NamedWords.{names_are_words, lacked_words_are_no_names}
 use Rattle.silent_files.specs.SilentFiles.{tells, named_tells, call_tells, type_tells, items_tell, signature_tells, form_tells, row_tells, role_tells, mark_tells, names_recover}
 use Rattle.silent_files.specs.SilentWords.{cancel_types, telling_words, WordsTell}
 use Rattle.silent_files.proofs.SilentFiles.{neither_first}

@@ -7,7 +7,7 @@ use Rattle.tree.specs.Syntax.{SourceFile}
 use Rattle.meaning.specs.Mentions.{file_marks}
 use Rattle.meaning.specs.Tracked.{Known, plain_makers, cause_makers}
 use Rattle.meaning.specs.TreeOfText.{IsTreeOf}
-use Rattle.named_words.specs.NamedWords.{LacksWord, LacksEach}
+use Rattle.silent_files.specs.NamedWords.{LacksWord, LacksEach}
 use Rattle.silent_files.specs.SilentFiles.{mark_tells, names_recover}
 
 -- the names of the types of cancel functions

@@ -1,11 +1,18 @@
-//! Files in which nothing is to be found: definitions and laws. It runs nothing.
+//! Files in which nothing is to be found: definitions and laws. And the words by which they are known: that the names of
+//! a file are words of its text, and whether a text has one of some words as a name.
 #![tactic(auto)]
+
+mod laws_of_words;
+mod words;
 
 ghost use Rattle.silent_files.specs.DeclaredGivers.{DeclaredGiversCount};
 ghost use Rattle.silent_files.specs.SilentSignatures.{SignaturesWithoutNames};
 ghost use Rattle.silent_files.specs.WalkedFiles.{WalkedFilesAreEnough};
 ghost use Rattle.silent_files.specs.SilentWords.{WordsTell};
 ghost use Rattle.silent_files.specs.SilentLaws.{SilentFilesAreSilent, FilesWithoutMakersAreSilent, SkippedFilesAreSilent, ImportsTell, SilentFilesChangeNothing};
+
+pub use laws_of_words::{lacked_words_are_no_names, names_are_words};
+pub use words::{names_one, occurs_one};
 
 /// Where what is known gives no cancel function and makes no group, and no name is `recover`, nothing is to be found.
 pub fn silent_files_are_silent()

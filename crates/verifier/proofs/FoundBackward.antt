@@ -6,7 +6,7 @@ use Rattle.std.proofs.lemmas.Bool.{ne_eqb, true≢false}
 use Rattle.std.proofs.lemmas.Bool.Decides.{Decides-eqb}
 use Rattle.std.proofs.lemmas.List.{take_all, take_more, drop_all, drop_more}
 use Rattle.std.proofs.lemmas.Option.{none-some, same_Some, get_or_from_slice_get, slice_get_within}
-use Rattle.credit_search.proofs.BodiesByPlace.{none_of_more, is_first, is_behind}
+use Rattle.credits.proofs.BodiesByPlace.{none_of_more, is_first, is_behind}
 use Rattle.findings.proofs.FoundParts.{adds_so, adds_none, adds_both, first_body, no_body}
 use Rattle.findings.specs.FoundEntries.{AddsEntries}
 use Rattle.meaning.specs.BodyEvents.{bodies_of, opened_in}

@@ -1,1 +1,2 @@
 mod Placed
+pub mod Parts

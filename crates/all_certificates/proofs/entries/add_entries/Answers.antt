@@ -7,7 +7,7 @@ use Rattle.all_certificates.specs.CertifiedBodies.{AreOfBody}
 use Rattle.bodies.specs.Bodies.{TellsBody}
 use Rattle.calls_flags.specs.KnownCalls.{known_calls}
 use Rattle.certificate_json.specs.Certificates.{body_of}
-use Rattle.credit_search.proofs.PairedLists.{pair_at, next_is}
+use Rattle.credits.proofs.PairedLists.{pair_at, next_is}
 use Rattle.credits.specs.CreditViews.{has}
 use Rattle.meaning.specs.BodyEvents.{bodies_of}
 use Rattle.all_certificates.proofs.entries.add_entries.Goals as goal

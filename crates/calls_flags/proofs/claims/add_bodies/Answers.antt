@@ -4,7 +4,7 @@ use Rattle.std.proofs.lemmas.Option.{slice_get_read}
 use Rattle.std.proofs.lemmas.Slice.Zip.{AllZip-long}
 use Rattle.bodies.specs.Bodies.{TellsBody}
 use Rattle.calls_flags.proofs.ClaimsAdded.{claims_next, claims_all}
-use Rattle.credit_search.proofs.PairedLists.{pair_at, next_is}
+use Rattle.credits.proofs.PairedLists.{pair_at, next_is}
 use Rattle.calls_flags.specs.Claims.{claim_view, body_claims}
 use Rattle.facts.specs.FactViews.{facts_by_name}
 use Rattle.meaning.specs.BodyEvents.{bodies_of, variables_of}

@@ -1,5 +1,5 @@
 use Rattle.std.proofs.Common.{ℕ, List, subst}
-use Rattle.named_words.specs.NamedWords.{LacksEach}
+use Rattle.silent_files.specs.NamedWords.{LacksEach}
 use Rattle.files_to_walk.proofs.words.may_name_telling.Goals as goal
 
 pub returns : goal.returns

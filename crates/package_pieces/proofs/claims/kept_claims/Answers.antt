@@ -4,7 +4,7 @@ use Rattle.called_parameters.specs.Called.{flags_by_path, is_called}
 use Rattle.calls_flags.specs.Claims.{claim_view, KeepsClaim, Sieves}
 use Rattle.meaning_packages.specs.CallsFlags.{calls_by}
 use Rattle.package_pieces.specs.Marks.{IsMark, AreMarks}
-use Rattle.pieces.proofs.Parts.{come_so}
+use Rattle.workers.proofs.Parts.{come_so}
 use Rattle.package_pieces.proofs.SharedJobs.{keeping_sync}
 use Rattle.package_pieces.proofs.claims.kept_claims.Goals as goal
 

@@ -4,7 +4,7 @@ use Rattle.std.proofs.lemmas.Option.{slice_get_read}
 use Rattle.std.proofs.lemmas.Slice.Zip.{AllZip-long}
 use Rattle.bodies.specs.Bodies.{TellsBody}
 use Rattle.calls_flags.specs.KnownCalls.{known_calls}
-use Rattle.credit_search.proofs.PairedLists.{pair_at, next_is}
+use Rattle.credits.proofs.PairedLists.{pair_at, next_is}
 use Rattle.credits.specs.CreditViews.{has}
 use Rattle.findings.proofs.FoundParts.{adds_next, adds_all, first_body, no_body}
 use Rattle.meaning.specs.BodyEvents.{bodies_of}

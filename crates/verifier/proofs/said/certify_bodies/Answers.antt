@@ -4,7 +4,7 @@ use Rattle.std.proofs.lemmas.Slice.Zip.{AllZip-long}
 use Rattle.bodies.specs.Bodies.{TellsBody}
 use Rattle.called_parameters.specs.Called.{is_called}
 use Rattle.calls_flags.specs.KnownCalls.{known_calls}
-use Rattle.credit_search.proofs.PairedLists.{pair_at}
+use Rattle.credits.proofs.PairedLists.{pair_at}
 use Rattle.credits.specs.CreditViews.{has}
 use Rattle.meaning.specs.BodyEvents.{bodies_of}
 use Rattle.verifier.proofs.FoundBackward.{none_yet, next_found, all_given, all_entries}

@@ -1,5 +1,0 @@
-use Rattle.agreement.proofs.OutermostStarts.{texts_start_no_outermost as lemma}
-use Rattle.agreement.proofs.texts_start_no_outermost.Goals as goal
-
-pub returns : goal.returns
-returns c = lemma

@@ -1,2 +1,0 @@
--- To be trusted: which packages mention cancel functions with a cause.
-pub mod CauseMentions

@@ -1,5 +1,0 @@
-pub mod BodiesByPlace
-mod FoundBackward
-pub mod PairedLists
-mod SearchedPaths
-pub mod SettledBodies

@@ -1,4 +1,0 @@
--- For a reader of the contracts: how the credits of a file are found, and which classes arrive at the nodes of a body.
--- The rules are those of `meaning_packages/specs/Credits.antt`.
-pub mod FoundCredits
-pub mod PathNodes

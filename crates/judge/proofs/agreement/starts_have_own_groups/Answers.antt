@@ -1,0 +1,5 @@
+use Rattle.judge.proofs.OwnGroups.{starts_have_own_groups as lemma}
+use Rattle.judge.proofs.starts_have_own_groups.Goals as goal
+
+pub returns : goal.returns
+returns c = lemma

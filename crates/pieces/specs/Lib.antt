@@ -1,3 +1,0 @@
--- What comes of the pieces of a list.
-pub mod Pieces
-pub mod Faults
