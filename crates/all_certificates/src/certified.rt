@@ -3,7 +3,7 @@
 ghost use Rattle.std.specs.Prelude.{IfErr, IfOk, length};
 ghost use Rattle.all_certificates.specs.CertifiedReports.{TellsCertified};
 ghost use Rattle.declared_tables.specs.DeclaredTables.{declared_tables};
-ghost use Rattle.outside_json.specs.Outside.{packages_of};
+ghost use Rattle.declared_json.specs.DeclaredPackages.{packages_of};
 ghost use Rattle.package_workers.specs.Faults.{IsFaultOf};
 ghost use Rattle.workers.specs.Counts.{count_of};
 
@@ -12,7 +12,7 @@ use crate::packages::{CertifiedPackages, certified_packages};
 use crate::settings::Settings;
 use all_packages::{Report, report_from};
 use certificate_json::Certificates;
-use outside_json::Outside;
+use declared_json::DeclaredPackages;
 use package_workers::{CheckFault, Crew, Open, check_by_workers};
 use std::alloc::Global;
 use std::sync::Wait;
@@ -34,11 +34,11 @@ pub struct Certified {
 /// # Errors
 ///
 /// As of `check_by_workers`.
-pub fn certified_report_by<R: Threads + Wait + Sync>(
+pub fn certified_report_by_workers<R: Threads + Wait + Sync>(
     rt: &R,
     alloc: Global,
     packages: &[LoadedPackage],
-    outside: &Outside,
+    outside: &DeclaredPackages,
     settings: Settings,
 ) -> Result<Certified, CheckFault>
     ensures certified { IfOk result

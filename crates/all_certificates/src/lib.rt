@@ -10,6 +10,6 @@ mod laws;
 mod packages;
 mod settings;
 
-pub use certified::{Certified, certified_report_by};
+pub use certified::{Certified, certified_report_by_workers};
 pub use laws::{certificates_are_in_order, certificates_read_back};
 pub use settings::Settings;

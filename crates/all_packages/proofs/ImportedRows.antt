@@ -18,7 +18,7 @@ use Rattle.one_package.specs.Certified.{CertificateRule}
 use Rattle.one_package.specs.Judgments.{table_view, said_view}
 use Rattle.all_packages.specs.Progress.{Slots, slot_at, results_of, imports_at, AreRight, WasJudged, IsReady}
 use Rattle.one_package.specs.Given.{TellsGiven}
-use Rattle.one_package.specs.Results.{judged_at, said_at, results_by, AllMarked, AreImported, HaveTheirTables}
+use Rattle.one_package.specs.Results.{judged_at, said_at, results_by_path, AllMarked, AreImported, HaveTheirTables}
 use Rattle.one_package.proofs.ImportedTables.{tables_so}
 use Rattle.all_packages.proofs.KeptPackages.{kept_of}
 use Rattle.one_package.proofs.FirstJudged.{found_at, is_found, some_from}
@@ -82,7 +82,7 @@ module _ (rules : Rules) {rule : CertificateRule} (ps : List LoadedPackage) (kep
       are_marked = are_marked;
     }
 
-    pub results_so : HaveDistinctPaths ps → AreResults rules ps (results_by ps js)
+    pub results_so : HaveDistinctPaths ps → AreResults rules ps (results_by_path ps js)
     results_so distinct k q said is found = by (judged_at js q.path) refl (sym (ap (said_at js) is) ∙ found)
       where
         by : (o : Option Judged) → judged_at js q.path ≡ o → option_map said_view o ≡ Some said → IsResult rules ps k q said

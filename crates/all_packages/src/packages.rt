@@ -7,13 +7,13 @@ ghost use Rattle.all_packages.specs.JudgedPackages.{AreAll, AreAllBy, IsFoundBy,
 ghost use Rattle.one_package.specs.Judgments.{TellsSources, said_view};
 ghost use Rattle.all_packages.specs.Progress.{imports_at, judged_in, slots_in, AreRight, AreRankedJudged, AreAllJudged, IsNext, IsReady};
 ghost use Rattle.one_package.specs.Given.{TellsGiven};
-ghost use Rattle.one_package.specs.Results.{results_by, AreImported};
+ghost use Rattle.one_package.specs.Results.{results_by_path, AreImported};
 ghost use Rattle.one_package.specs.declared.judged.Judged.{Judged};
 ghost use Rattle.declared_tables.specs.DeclaredTables.{declared_tables};
 ghost use Rattle.gathering.specs.Results.{FollowsFrom};
 ghost use Rattle.imports.specs.Ranks.{IsOrder};
 ghost use Rattle.imports.specs.Views.{package_view};
-ghost use Rattle.outside_json.specs.Outside.{packages_of};
+ghost use Rattle.declared_json.specs.DeclaredPackages.{packages_of};
 ghost use Rattle.whole_packages.specs.LoadedViews.{HaveDistinctPaths, TellPackages, TellsPackage};
 ghost use Rattle.meaning_reports.specs.Loaded.{LoadedPackage as MeantPackage, Tables, import_list, imported_paths};
 
@@ -23,9 +23,9 @@ use called_parameters::ImportedCalls;
 use imports::ImportList;
 use one_package::{
     ByPaths, FileRules, Given, Judged, KnownImports, ToldPackage, around, given_packages,
-    judge_package, told_of,
+    judge_package, tell_unless_faulty,
 };
-use outside_json::Outside;
+use declared_json::DeclaredPackages;
 use std::alloc::{AllocError, Global};
 use whole_packages::LoadedPackage;
 
@@ -51,13 +51,13 @@ fn judge_one<'a, R: FileRules>(
         → (package_view importer.entry.list.now).imports ≡ imported_paths p
         → AreImported ps i (filter_map (judged_in progress.now) importer.entry.places.now)
         → FollowsFrom (R.rules rules.now declared) ps i p
-        (results_by ps (filter_map (judged_in progress.now) importer.entry.places.now)) (said_view judged)) }
+        (results_by_path ps (filter_map (judged_in progress.now) importer.entry.places.now)) (said_view judged)) }
     ensures certified { IfOk result (λ judged. (declared : Tables) (ps : List MeantPackage) (i : ℕ) (p : MeantPackage)
         → TellsGiven declared ps given.now → slice_get ps i ≡ Some p → TellsPackage p importer.entry.loaded.now
         → (package_view importer.entry.list.now).imports ≡ imported_paths p
         → AreImported ps i (filter_map (judged_in progress.now) importer.entry.places.now)
         → CertificatesFollow (R.rules rules.now declared) (R.certificates rules.now) ps i p
-        (results_by ps (filter_map (judged_in progress.now) importer.entry.places.now)) judged) }
+        (results_by_path ps (filter_map (judged_in progress.now) importer.entry.places.now)) judged) }
 {
     let imports = known_imports(
         alloc,
@@ -182,10 +182,10 @@ pub struct JudgedPackages<'a> {
 /// # Errors
 ///
 /// Memory was refused.
-pub fn judge_packages_by<'a, R: FileRules>(
+pub fn judge_packages_by_rules<'a, R: FileRules>(
     alloc: Global,
     packages: &'a [LoadedPackage],
-    outside: &'a Outside,
+    outside: &'a DeclaredPackages,
     rules: &R,
 ) -> Result<JudgedPackages<'a>, AllocError>
     ensures packages { IfOk result (λ all. all.given.packages.now ≡ packages.now) }
@@ -209,13 +209,13 @@ pub fn judge_packages_by<'a, R: FileRules>(
 pub fn judge_packages<'a>(
     alloc: Global,
     packages: &'a [LoadedPackage],
-    outside: &'a Outside,
+    outside: &'a DeclaredPackages,
 ) -> Result<JudgedPackages<'a>, AllocError>
     ensures packages { IfOk result (λ all. all.given.packages.now ≡ packages.now) }
     ensures judged { IfOk result (λ all. (ps : List MeantPackage) → TellPackages ps packages.now
         → HaveDistinctPaths ps → AreAll (declared_tables (packages_of outside.now)) ps all) }
 {
-    judge_packages_by(alloc, packages, outside, &ByPaths)
+    judge_packages_by_rules(alloc, packages, outside, &ByPaths)
 }
 
 /// What is said of a package that was judged, and what it was judged by.
@@ -252,7 +252,7 @@ impl<'a> JudgedPackages<'a> {
             &self.progress,
             importer.places,
         )?;
-        let told = told_of(alloc, importer.loaded, around(&self.given, &imports))?;
+        let told = tell_unless_faulty(alloc, importer.loaded, around(&self.given, &imports))?;
         let KnownImports { calls, .. } = imports;
         Ok(JudgedBy {
             judged,
@@ -331,10 +331,10 @@ pub fn judge_left<'a, R: FileRules>(
 /// # Errors
 ///
 /// Memory was refused.
-pub fn check_by<'a, R: FileRules>(
+pub fn check_by_rules<'a, R: FileRules>(
     alloc: Global,
     packages: &'a [LoadedPackage],
-    outside: &'a Outside,
+    outside: &'a DeclaredPackages,
     rules: &R,
 ) -> Result<Vec<Judged<'a>>, AllocError>
     ensures reports { IfOk result (λ found. (ps : List MeantPackage) → TellPackages ps packages.now
@@ -359,10 +359,10 @@ pub fn check_by<'a, R: FileRules>(
 pub fn check<'a>(
     alloc: Global,
     packages: &'a [LoadedPackage],
-    outside: &'a Outside,
+    outside: &'a DeclaredPackages,
 ) -> Result<Vec<Judged<'a>>, AllocError>
     ensures { IfOk result (λ found. (ps : List MeantPackage) → TellPackages ps packages.now → HaveDistinctPaths ps
         → AreReports (declared_tables (packages_of outside.now)) ps packages.now found.items) }
 {
-    check_by(alloc, packages, outside, &ByPaths)
+    check_by_rules(alloc, packages, outside, &ByPaths)
 }

@@ -20,7 +20,7 @@ use Rattle.board.specs.Legal.{IsIn, IsReady, AreImportsIn}
 use Rattle.board.specs.Ready.{row, CanTake, AreListed, Listing, Stands, Takes}
 use Rattle.board.specs.declared.entries.Task.{Task}
 use Rattle.board.specs.declared.entries.Task.TheVariants.{Wait, Over}
-use Rattle.board.specs.Answers.{Board, flat, state_in, told, CanRead, IsTask, IsWaiting, IsOver, refusal_at}
+use Rattle.board.specs.Answers.{Board, flat, state_in, told, CanBeJudged, IsTask, IsWaiting, IsOver, refusal_at}
 use Rattle.board.specs.Kept.{Fields, IsBoard, Fits, kept_at, IsKept}
 use Rattle.board.proofs.Lists.{get_there}
 use Rattle.board.proofs.Phases.{true_false, stays_in}
@@ -84,9 +84,9 @@ idle_then old now w k t e same =
     ]
 
 pub idle_reads : (packages : List Package) (phases : List Phase) (k : ℕ) (t : Task) → t ≡ (if k == 0 then Over else Wait)
-    → CanRead packages phases t
+    → CanBeJudged packages phases t
 idle_reads packages phases k t e =
-    let P : Task → Type 0 = λ x. CanRead packages phases x in
+    let P : Task → Type 0 = λ x. CanBeJudged packages phases x in
     elim (idle_by k t e) [
       | inl h ↦ subst P (sym h.1) tt
       | inr h ↦ subst P (sym h.1) tt

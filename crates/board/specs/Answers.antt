@@ -67,10 +67,10 @@ IsTask packages rank s Wait = IsWaiting packages rank s
 IsTask packages rank s Over = IsOver rank s
 
 -- what the worker is to judge can be judged: all that it imports was delivered
-abbrev pub CanRead : List Package → List Phase → Task → Type 0
-CanRead packages phases (Work place) = AreImportsIn packages phases place
-CanRead packages phases Wait = Unit {0}
-CanRead packages phases Over = Unit {0}
+abbrev pub CanBeJudged : List Package → List Phase → Task → Type 0
+CanBeJudged packages phases (Work place) = AreImportsIn packages phases place
+CanBeJudged packages phases Wait = Unit {0}
+CanBeJudged packages phases Over = Unit {0}
 
 -- the board after that answer
 abbrev pub told : {X : Type 0} → Board X → ℕ → Task → Board X

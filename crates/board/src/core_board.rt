@@ -62,7 +62,7 @@ impl<'k, R: Outcome> Model for Core<'k, R> {
 }
 
 impl<'k, R: Outcome> Core<'k, R> {
-    ghost use Rattle.board.specs.Answers.{opened, state_in, outcome_in, told, IsTask, CanRead, refusal_in, IsDelivery, IsReturn};
+    ghost use Rattle.board.specs.Answers.{opened, state_in, outcome_in, told, IsTask, CanBeJudged, refusal_in, IsDelivery, IsReturn};
     ghost use Rattle.board.specs.Legal.{AreImportsIn, IsIn, IsLegal};
 
     /// A board on which nothing was done with the packages, by what each imports, and by their ranks. It has room for
@@ -103,7 +103,7 @@ impl<'k, R: Outcome> Core<'k, R> {
     pub fn take(&mut self, worker: usize) -> Task
         ensures task { IsTask R.packages R.rank (state_in R.packages self.old) result }
         ensures then { self.new ≡ told self.old worker result }
-        ensures imports { CanRead R.packages (state_in R.packages self.new).phases result }
+        ensures imports { CanBeJudged R.packages (state_in R.packages self.new).phases result }
     {
         if self.stopped {
             return Task::Over;

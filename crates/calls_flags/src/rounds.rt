@@ -33,7 +33,7 @@ pub fn called_by<'a>(alloc: Global, claims: &[Claim<'a>]) -> Result<Called<'a>, 
 }
 
 /// Those of the claims that the paths of their functions keep, by what is known of functions.
-fn sieved<'a>(
+fn kept_by_paths<'a>(
     alloc: Global,
     files: &[FileBodies<'_, 'a>],
     calls: KnownCalls<'_, 'a>,
@@ -72,7 +72,7 @@ fn kept_claims<'a>(
         own: &own,
         imported: &*imported,
     };
-    sieved(alloc, files, calls, claims)
+    kept_by_paths(alloc, files, calls, claims)
 }
 
 /// Finds which functions of a package are known to call which of their parameters, where the functions of the package

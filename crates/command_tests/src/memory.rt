@@ -1,13 +1,13 @@
 //! Packages that are loaded and judged where memory is refused. No test here refuses any: `bench/hostile` does, to this
 //! program of tests. Whoever is refused it is asked once more, with the same packages, and says what it says else.
 
-use crate::together::{package, report_by_workers};
-use all_packages::{Report, check_by, told};
+use crate::together::{package, workers_report};
+use all_packages::{Report, check_by_rules, told};
 use certificate_json::{CertificateFault, Certificates, from_json};
 use evidence_rows::memory::{CERTIFICATES, CHECKED, PACKAGES, VERIFIED};
 use load::{LoadFault, load, release};
 use one_package::ByPaths;
-use outside_json::Outside;
+use declared_json::DeclaredPackages;
 use package_workers::{CheckFault, Crew, Open};
 use report_formats::Format;
 use std::alloc::Global;
@@ -37,12 +37,12 @@ fn report_of<R: AllocGlobal + Threads + Wait + Sync>(
     workers: Option<Workers>,
     certificates: &Certificates,
 ) -> Result<Report, CheckFault> {
-    let outside = Outside {
+    let outside = DeclaredPackages {
         packages: Vec::new(rt.alloc()),
     };
     let Some(workers) = workers else {
         let rules = ByCertificates::new(rt.alloc(), certificates)?;
-        let judged = check_by(rt.alloc(), packages, &outside, &rules)?;
+        let judged = check_by_rules(rt.alloc(), packages, &outside, &rules)?;
         return Ok(told(rt.alloc(), Format::Text, judged)?);
     };
     let crew = Crew {
@@ -50,7 +50,7 @@ fn report_of<R: AllocGlobal + Threads + Wait + Sync>(
         workers,
         gate: &Open,
     };
-    report_by_workers(rt.alloc(), crew, packages, &outside, &ByPaths)
+    workers_report(rt.alloc(), crew, packages, &outside, &ByPaths)
 }
 
 /// Where memory or a thread is refused to the first call, what the second one says.

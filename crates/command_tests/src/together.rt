@@ -11,7 +11,7 @@ use one_package::{
     Around, ByPaths, FileRules, FoundFiles, Given, KnownImports, ToldPackage, around,
     given_packages, told_of,
 };
-use outside_json::Outside;
+use declared_json::DeclaredPackages;
 use package_pieces::{PieceRules, build_all, find_called_with, solve_all};
 use package_workers::{CheckFault, Crew, Gate, Open, check_by_workers};
 use report_formats::Format;
@@ -146,11 +146,11 @@ pub fn package(alloc: Global, path: &str, texts: &[&str]) -> Result<GivenPackage
 }
 
 /// The report of the packages, as these judge them.
-pub fn report_by_workers<R: PieceRules + Send + Sync, T: Threads + Wait + Sync, G: Gate + Sync>(
+pub fn workers_report<R: PieceRules + Send + Sync, T: Threads + Wait + Sync, G: Gate + Sync>(
     alloc: Global,
     crew: Crew<'_, T, G>,
     packages: &[LoadedPackage],
-    outside: &Outside,
+    outside: &DeclaredPackages,
     rules: &R,
 ) -> Result<Report, CheckFault> {
     let judged = check_by_workers(alloc, crew, packages, outside, rules)?;
@@ -167,11 +167,11 @@ fn report_of<T: AllocGlobal + Threads + Wait + Sync, R: PieceRules + Send + Sync
     let mut given = Vec::new(alloc);
     given.push(package(alloc, "a", &[texts[0]])?)?;
     given.push(package(alloc, "b", &[texts[1]])?)?;
-    let outside = Outside {
+    let outside = DeclaredPackages {
         packages: Vec::new(alloc),
     };
     let packages = load(alloc, given)?;
-    let answer = report_by_workers(alloc, crew, &packages, &outside, rules);
+    let answer = workers_report(alloc, crew, &packages, &outside, rules);
     release(packages);
     Ok(answer?.text)
 }
@@ -260,7 +260,7 @@ fn solved_first<R: Threads + Wait, G: BodyGate + Sync>(
     hired: &Hired<'_, R, G>,
     packages: &[LoadedPackage],
 ) -> Option<Vec<(usize, u32)>> {
-    let outside = Outside {
+    let outside = DeclaredPackages {
         packages: Vec::new(alloc),
     };
     let given = given_packages(alloc, packages, &outside).ok()?;

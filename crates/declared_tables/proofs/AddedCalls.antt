@@ -14,8 +14,8 @@ use Rattle.meaning.specs.FunctionFacts.{FunctionFacts}
 use Rattle.meaning.specs.OuterBlocks.{or_else}
 use Rattle.first_values.specs.ValuesByName.{only_at}
 use Rattle.names.proofs.Adding.{or_else-none}
-use Rattle.outside_json.specs.declared.outside.OutsideFunction.{OutsideFunction}
-use Rattle.outside_json.specs.Outside.{FunctionEntry, function_of}
+use Rattle.declared_json.specs.declared.outside.DeclaredFunction.{DeclaredFunction}
+use Rattle.declared_json.specs.DeclaredPackages.{FunctionEntry, function_of}
 use Rattle.declared_tables.specs.AddedFunctions.{AddsFunction}
 use Rattle.declared_tables.specs.DeclaredTables.{calls_in, facts_of, function_in, is_called_at}
 
@@ -144,7 +144,7 @@ call_step h (Some y) x false b f rest = sym (or_false (b || false))
 call_step h None x true b f rest = sym (or_false (b || h (Some f)))
 call_step h None x false b f rest = ap (λ c. c || h rest) (sym (or_false b))
 
-module _ (functions : List OutsideFunction) (i : ℕ) (x : OutsideFunction) (within : i < length functions)
+module _ (functions : List DeclaredFunction) (i : ℕ) (x : DeclaredFunction) (within : i < length functions)
     (is_x : x ≡ get_or functions i x) (facts facts_after : Table) (calls calls_after : Called)
     (adds : AddsFunction (function_of x) facts calls facts_after calls_after) (name : List ℕ)
   where

@@ -4,8 +4,8 @@ use Rattle.meaning.specs.OuterBlocks.{or_else}
 use Rattle.meaning_reports.specs.Loaded.{PackageTable}
 use Rattle.first_values.specs.ValuesByName.{only_at}
 use Rattle.names.proofs.Adding.{or_else-none}
-use Rattle.outside_json.specs.declared.outside.OutsidePackage.{OutsidePackage}
-use Rattle.outside_json.specs.Outside.{FunctionEntry, package_of, table_at}
+use Rattle.declared_json.specs.declared.outside.DeclaredPackage.{DeclaredPackage}
+use Rattle.declared_json.specs.DeclaredPackages.{FunctionEntry, package_of, table_at}
 use Rattle.declared_tables.specs.declared.tables.PackageTable.{PackageTable as KeptTable}
 use Rattle.declared_tables.specs.DeclaredTables.{table_declared, table_if_any, table_of, table_view}
 use Rattle.declared_tables.proofs.AddedCalls.{item_next}
@@ -18,7 +18,7 @@ table_step g None true x rest = refl
 table_step g None false x rest = refl
 
 -- one more was added
-pub table_next : (packages : List OutsidePackage) (i : ℕ) (x : OutsidePackage) → i < length packages
+pub table_next : (packages : List DeclaredPackage) (i : ℕ) (x : DeclaredPackage) → i < length packages
     → x ≡ get_or packages i x
     → (path : List ℕ) (now after whole : Option PackageTable)
     → after ≡ or_else now (only_at (package_of x).path (table_of (package_of x).functions) path)

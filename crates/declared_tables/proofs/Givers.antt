@@ -7,7 +7,7 @@ use Rattle.std.proofs.lemmas.Bool.{ltb-false, or_parts}
 use Rattle.std.proofs.lemmas.Option.{none-some, same_Some}
 use Rattle.meaning.specs.FunctionFacts.{CancelType, plain, with_cause, FunctionFacts}
 use Rattle.meaning_reports.specs.Loaded.{PackageTable}
-use Rattle.outside_json.specs.Outside.{FunctionEntry}
+use Rattle.declared_json.specs.DeclaredPackages.{FunctionEntry}
 use Rattle.silent_files.specs.SilentPackages.{GiveNone}
 use Rattle.declared_tables.specs.declared.tables.PackageTable.{PackageTable as KeptTable}
 use Rattle.declared_tables.specs.DeclaredTables.{facts_of, function_in, results_of, table_of, table_view}

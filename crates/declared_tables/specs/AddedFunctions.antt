@@ -10,7 +10,7 @@ use Rattle.called_parameters.specs.Called.{is_called}
 use Rattle.meaning.specs.FunctionFacts.{FunctionFacts}
 use Rattle.meaning.specs.OuterBlocks.{or_else}
 use Rattle.first_values.specs.ValuesByName.{only_at}
-use Rattle.outside_json.specs.Outside.{FunctionEntry}
+use Rattle.declared_json.specs.DeclaredPackages.{FunctionEntry}
 use Rattle.declared_tables.specs.DeclaredTables.{facts_of, is_called_at}
 
 -- the function has that name, there are no facts of that name yet, and it is declared to call its parameter there

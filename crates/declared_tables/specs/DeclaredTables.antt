@@ -5,7 +5,7 @@ use Rattle.std.specs.List.{list_any}
 use Rattle.std.specs.Str.{bytes_eq}
 use Rattle.table_json.specs.declared.table.Parameter.{Parameter}
 use Rattle.table_json.specs.declared.table.Parameter.TheVariants.{Cancel, Cause, Group}
-use Rattle.outside_json.specs.Outside.{FunctionEntry, PackageEntry, table_at}
+use Rattle.declared_json.specs.DeclaredPackages.{FunctionEntry, PackageEntry, table_at}
 use Rattle.meaning.specs.FunctionFacts.{CancelType, plain, with_cause, cancel_type, group_type, TrackedParameter, CancelResult, FunctionFacts}
 use Rattle.meaning_reports.specs.Loaded.{PackageTable, Tables, no_table}
 use Rattle.facts.specs.FactViews.{facts_by_name}

@@ -3,7 +3,7 @@
 use Rattle.std.specs.Prelude.{ℕ, ◌≡◌, ◌||◌, nat_lt, Bool, false, List, length, Some}
 use Rattle.first_values.specs.ValuesByName.{value_of}
 use Rattle.first_values.specs.declared.FirstValues.{FirstValues}
-use Rattle.outside_json.specs.Outside.{FunctionEntry}
+use Rattle.declared_json.specs.DeclaredPackages.{FunctionEntry}
 use Rattle.silent_files.specs.SilentPackages.{GiveNone}
 use Rattle.declared_tables.specs.DeclaredTables.{table_view}
 use Rattle.declared_tables.specs.declared.tables.DeclaredTables.{DeclaredTables}

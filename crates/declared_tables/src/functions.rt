@@ -7,11 +7,11 @@ ghost use Rattle.called_parameters.specs.Called.{is_called};
 ghost use Rattle.declared_tables.specs.AddedFunctions.{AddsFunction};
 ghost use Rattle.declared_tables.specs.DeclaredTables.{facts_of, is_called_at, parameter_of, results_of};
 ghost use Rattle.facts.specs.FactViews.{cancel_result_view, facts_view, parameter_view, type_view};
-ghost use Rattle.outside_json.specs.Outside.{function_of};
+ghost use Rattle.declared_json.specs.DeclaredPackages.{function_of};
 
 use called_parameters::{Called, FunctionParameter};
 use facts::{CancelResult, CancelType, FunctionFacts, Table, TrackedParameter, TrackedType};
-use outside_json::OutsideFunction;
+use declared_json::DeclaredFunction;
 use std::alloc::{AllocError, Global};
 use table_json::Parameter;
 
@@ -63,7 +63,7 @@ fn parameters_of(alloc: Global, params: &[Parameter]) -> Result<Vec<TrackedParam
 }
 
 /// What is declared of a function, as what its signature says.
-fn facts_of(alloc: Global, function: &OutsideFunction) -> Result<FunctionFacts, AllocError>
+fn facts_of(alloc: Global, function: &DeclaredFunction) -> Result<FunctionFacts, AllocError>
     ensures { IfOk result (λ facts. facts_view facts ≡ facts_of (function_of function.now)) }
 {
     let mut gives = Vec::new(alloc);
@@ -130,7 +130,7 @@ fn add_calls<'a>(
 /// Adds what is declared of a function, unless something is of its name.
 pub fn add_function<'a>(
     alloc: Global,
-    function: &'a OutsideFunction,
+    function: &'a DeclaredFunction,
     signatures: &mut Table<'a>,
     called: &mut Called<'a>,
 ) -> Result<(), AllocError>

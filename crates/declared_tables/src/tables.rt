@@ -6,13 +6,13 @@ ghost use Rattle.declared_tables.specs.DeclaredTables.{declared_tables, declared
 ghost use Rattle.declared_tables.specs.MarkedGivers.{AllMarkGivers, AreMarked, MarksGivers, is_giver};
 ghost use Rattle.first_values.specs.ValuesByName.{only_at, value_of};
 ghost use Rattle.meaning.specs.OuterBlocks.{or_else};
-ghost use Rattle.outside_json.specs.Outside.{function_of, package_of, packages_of};
+ghost use Rattle.declared_json.specs.DeclaredPackages.{function_of, package_of, packages_of};
 
 use crate::functions::add_function;
 use called_parameters::Called;
 use facts::Table;
 use first_values::FirstValues;
-use outside_json::{Outside, OutsideFunction, OutsidePackage};
+use declared_json::{DeclaredPackages, DeclaredFunction, DeclaredPackage};
 use std::alloc::{AllocError, Global};
 
 /// What is known of the functions of a package.
@@ -27,13 +27,13 @@ pub struct PackageTable<'a> {
 }
 
 /// Whether the function is declared to give a cancel function, of whatever type.
-fn is_giver(function: &OutsideFunction) -> bool
+fn is_giver(function: &DeclaredFunction) -> bool
     ensures { result ≡ is_giver (function_of function.now) }
 {
     0 < function.facts.gives.len() || 0 < function.facts.causes.len()
 }
 
-fn any_is_giver(functions: &[OutsideFunction]) -> bool
+fn any_is_giver(functions: &[DeclaredFunction]) -> bool
     ensures { result ≡ list_any is_giver (map function_of functions.now) }
 {
     for function in functions {
@@ -47,7 +47,7 @@ fn any_is_giver(functions: &[OutsideFunction]) -> bool
 /// What is declared of these functions. Of several of one name the first counts.
 fn table_of<'a>(
     alloc: Global,
-    functions: &'a [OutsideFunction],
+    functions: &'a [DeclaredFunction],
 ) -> Result<PackageTable<'a>, AllocError>
     ensures table { IfOk result (λ table. table_view table ≡ table_of (map function_of functions.now)) }
     ensures marks { IfOk result MarksGivers }
@@ -67,7 +67,7 @@ fn table_of<'a>(
 /// Adds what is declared of a package, unless something is of its path.
 fn add_package<'a>(
     alloc: Global,
-    outside: &'a OutsidePackage,
+    outside: &'a DeclaredPackage,
     packages: &mut FirstValues<'a, PackageTable<'a>>,
 ) -> Result<(), AllocError>
     ensures table { OnOk result ((path : List ℕ) → option_map table_view (value_of packages.new path)
@@ -92,7 +92,7 @@ impl<'a> DeclaredTables<'a> {
     /// # Errors
     ///
     /// Memory was refused.
-    pub fn of(alloc: Global, outside: &'a Outside) -> Result<Self, AllocError>
+    pub fn of(alloc: Global, outside: &'a DeclaredPackages) -> Result<Self, AllocError>
         ensures tables { IfOk result (λ kept. (path : List ℕ)
             → declared_view kept path ≡ declared_tables (packages_of outside.now) path) }
         ensures marks { IfOk result AllMarkGivers }

@@ -5,8 +5,8 @@ use Rattle.command_line.specs.Words.{option_texts, texts_of}
 use Rattle.command_line.specs.declared.words.Sources.{Sources}
 use Rattle.load.specs.declared.packages.GivenPackage.{GivenPackage}
 use Rattle.certificate_json.specs.declared.certificates.Certificates.{Certificates}
-use Rattle.outside_json.specs.Outside.{packages_of}
-use Rattle.outside_json.specs.declared.outside.Outside.{Outside}
+use Rattle.declared_json.specs.DeclaredPackages.{packages_of}
+use Rattle.declared_json.specs.declared.outside.DeclaredPackages.{DeclaredPackages}
 use Rattle.folders.specs.ReadFaults.{IsReadFault}
 use Rattle.folders.specs.declared.fault.Fault.{Fault}
 use Rattle.folders.specs.declared.fault.Fault.TheVariants.{BadPackage, CannotRead, CannotWrite, CannotWriteFile, CertificateNotJson, CertificateWrongShape, CertificateWrongVersion, CertificateTooOld, FactsNotJson, FactsWrongShape, FactsWrongVersion, FactsReserved, FactsNameGiven, ListNotJson, ListWrongShape, ListIncomplete, TwoPackages, TooManyPackages, OutOfMemory}
@@ -139,7 +139,7 @@ module _ (sources : Sources) (well : HasBadSource sources → ⊥) where
   of_sources (ListIncomplete text) is = (well, is)
   of_sources _ is = absurd is.is_fault
 
-module _ (sources : Sources) (given : List GivenPackage) (files : FilesRead) (outside : Outside)
+module _ (sources : Sources) (given : List GivenPackage) (files : FilesRead) (outside : DeclaredPackages)
     (certificates : Certificates) (are : AreReadFor sources files outside given) (stand : StandIn certificates) where
   of_verified : (fault : Fault) → IsVerdictFault (packages_of outside) given certificates fault
       → IsVerifiedFault sources fault

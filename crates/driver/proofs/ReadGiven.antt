@@ -4,8 +4,8 @@ use Rattle.std.proofs.lemmas.Result.{err_from_is_err_and}
 use Rattle.command_line.specs.Words.{option_texts, texts_of}
 use Rattle.command_line.specs.declared.words.Sources.{Sources}
 use Rattle.load.specs.declared.packages.GivenPackage.{GivenPackage}
-use Rattle.outside_json.specs.Outside.{packages_of}
-use Rattle.outside_json.specs.declared.outside.Outside.{Outside}
+use Rattle.declared_json.specs.DeclaredPackages.{packages_of}
+use Rattle.declared_json.specs.declared.outside.DeclaredPackages.{DeclaredPackages}
 use Rattle.package_list.specs.ListedValues.{PackageEntry}
 use Rattle.folders.specs.declared.fault.Fault.{Fault}
 use Rattle.folders.specs.declared.fault.Fault.TheVariants.{BadPackage, CannotRead, FactsNotJson, FactsWrongShape, FactsWrongVersion, FactsReserved, FactsNameGiven, ListNotJson, ListWrongShape, ListIncomplete, TwoPackages, TooManyPackages, NoThread, OutOfMemory}
@@ -48,7 +48,7 @@ none_bad (w ∷ ws) (n ∷ ns) h (inr bad) = none_bad ws ns h.1 bad.1
 
 module _ (sources : Sources) where
   -- where the sources are read, no word is bad
-  pub read_words : (files : FilesRead) (outside : Outside) (given : List GivenPackage)
+  pub read_words : (files : FilesRead) (outside : DeclaredPackages) (given : List GivenPackage)
       → AreReadFor sources files outside given
       → HasBadSource sources
       → ⊥
@@ -56,7 +56,7 @@ module _ (sources : Sources) where
       none_bad (texts_of sources.packages.items) are.are_given.packages are.are_given.are_named
 
   -- what is declared, named, read and listed, one after the other
-  pub read_for : (files : FilesRead) (outside : Outside) (packages : List NamedPackage) (of_words given : List GivenPackage)
+  pub read_for : (files : FilesRead) (outside : DeclaredPackages) (packages : List NamedPackage) (of_words given : List GivenPackage)
       (entries : List PackageEntry)
       → AreDeclaredBy (option_texts sources.facts) files.facts outside
       → AreRead packages of_words
@@ -99,7 +99,7 @@ module _ (sources : Sources) where
   of_reading workers (ListIncomplete text) well is = (well, is)
   of_reading workers _ well is = absurd is.is_fault
 
-module _ (sources : Sources) (workers : ℕ) (given : List GivenPackage) (files : FilesRead) (outside : Outside)
+module _ (sources : Sources) (workers : ℕ) (given : List GivenPackage) (files : FilesRead) (outside : DeclaredPackages)
     (are : AreReadFor sources files outside given) where
   of_given : (fault : Fault) → IsSharedReportFault (packages_of outside) given workers fault
       → IsGivenFault sources workers fault

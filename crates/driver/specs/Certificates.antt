@@ -41,8 +41,8 @@ IsInputFault fault = HaveFault fault
 -- What serves the proofs
 
 -- why a text is none of certificates, as the program tells it
-abbrev pub told_certificate_fault : CertificateFault → Fault
-told_certificate_fault certificate_fault.NotJson = CertificateNotJson
-told_certificate_fault certificate_fault.WrongShape = CertificateWrongShape
-told_certificate_fault certificate_fault.WrongVersion = CertificateWrongVersion
-told_certificate_fault certificate_fault.OutOfMemory = OutOfMemory
+abbrev pub fault_of_certificates : CertificateFault → Fault
+fault_of_certificates certificate_fault.NotJson = CertificateNotJson
+fault_of_certificates certificate_fault.WrongShape = CertificateWrongShape
+fault_of_certificates certificate_fault.WrongVersion = CertificateWrongVersion
+fault_of_certificates certificate_fault.OutOfMemory = OutOfMemory

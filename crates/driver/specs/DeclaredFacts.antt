@@ -1,11 +1,11 @@
 -- The declared facts that are read from a file, and why none are. Which bytes a file has, no contract can say.
 use Rattle.std.specs.Prelude.{◌≡◌, ◌⊎◌, ⊤, ℕ, List, [], ◌∷◌, Option, Some, None}
 use Rattle.std.specs.Str.{IsUtf8}
-use Rattle.outside_json.specs.Outside.{packages_of, reserved_text}
-use Rattle.outside_json.specs.OutsideTexts.{IsOutsideFault, IsOutsideText}
-use Rattle.outside_json.specs.declared.fault.OutsideFault.TheVariants as outside_fault
-use Rattle.outside_json.specs.declared.outside.Outside.{Outside}
-use Rattle.outside_json.specs.declared.reserved.ReservedPath.{ReservedPath}
+use Rattle.declared_json.specs.DeclaredPackages.{packages_of, reserved_text}
+use Rattle.declared_json.specs.DeclaredTexts.{IsDeclaredFault, IsDeclaredText}
+use Rattle.declared_json.specs.declared.fault.DeclaredFault.TheVariants as outside_fault
+use Rattle.declared_json.specs.declared.outside.DeclaredPackages.{DeclaredPackages}
+use Rattle.declared_json.specs.declared.reserved.ReservedPath.{ReservedPath}
 use Rattle.folders.specs.ReadFiles.{bytes_read, name_read}
 use Rattle.folders.specs.declared.fault.Fault.{Fault}
 use Rattle.folders.specs.declared.fault.Fault.TheVariants.{CannotRead, FactsNotJson, FactsWrongShape, FactsWrongVersion, FactsReserved, OutOfMemory}
@@ -13,21 +13,21 @@ use Rattle.folders.specs.declared.whole_files.ReadFile.{ReadFile}
 
 -- Where words name a file of declared facts, it was read, and what is declared is what its bytes say. Where they name
 -- none, nothing is declared.
-abbrev pub AreDeclaredBy : List (List ℕ) → Option ReadFile → Outside → Type 0
+abbrev pub AreDeclaredBy : List (List ℕ) → Option ReadFile → DeclaredPackages → Type 0
 AreDeclaredBy [] None outside = packages_of outside ≡ []
 AreDeclaredBy [] (Some file) outside = ⊥
 AreDeclaredBy (name ∷ []) None outside = ⊥
 AreDeclaredBy (name ∷ []) (Some file) outside =
-    (name_read file ≡ name) × IsOutsideText (bytes_read file) (packages_of outside)
+    (name_read file ≡ name) × IsDeclaredText (bytes_read file) (packages_of outside)
 AreDeclaredBy (name ∷ another ∷ more) file outside = ⊥
 
 -- why these bytes are the text of none; what is not UTF-8 is no JSON
 abbrev pub IsFactsFault : List ℕ → Fault → Type 0
-IsFactsFault bytes FactsNotJson = (IsUtf8 bytes → ⊥) ⊎ IsOutsideFault bytes outside_fault.NotJson
-IsFactsFault bytes FactsWrongShape = IsOutsideFault bytes outside_fault.WrongShape
-IsFactsFault bytes FactsWrongVersion = IsOutsideFault bytes outside_fault.WrongVersion
+IsFactsFault bytes FactsNotJson = (IsUtf8 bytes → ⊥) ⊎ IsDeclaredFault bytes outside_fault.NotJson
+IsFactsFault bytes FactsWrongShape = IsDeclaredFault bytes outside_fault.WrongShape
+IsFactsFault bytes FactsWrongVersion = IsDeclaredFault bytes outside_fault.WrongVersion
 IsFactsFault bytes (FactsReserved text) =
-    (path : ReservedPath) × (text.now ≡ reserved_text path) × IsOutsideFault bytes (outside_fault.Reserved path)
+    (path : ReservedPath) × (text.now ≡ reserved_text path) × IsDeclaredFault bytes (outside_fault.Reserved path)
 IsFactsFault bytes OutOfMemory = ⊤
 IsFactsFault bytes _ = ⊥
 

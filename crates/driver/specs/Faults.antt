@@ -4,8 +4,8 @@ use Rattle.load.specs.declared.packages.GivenPackage.{GivenPackage}
 use Rattle.load.specs.declared.packages.LoadFault.{LoadFault}
 use Rattle.load.specs.declared.packages.LoadFault.TheVariants as load_fault
 use Rattle.load.specs.LoadedBeside.{IsLoadFaultBeside}
-use Rattle.outside_json.specs.Outside.{PackageEntry, packages_of}
-use Rattle.outside_json.specs.declared.outside.Outside.{Outside}
+use Rattle.declared_json.specs.DeclaredPackages.{PackageEntry, packages_of}
+use Rattle.declared_json.specs.declared.outside.DeclaredPackages.{DeclaredPackages}
 use Rattle.certificate_json.specs.declared.certificates.Certificates.{Certificates}
 use Rattle.judge.specs.CheckFaults.{NeedThreads}
 use Rattle.judge.specs.Verified.{IsVerifyFault}
@@ -72,7 +72,7 @@ IsSharedReportFault outside given workers fault = IsReportFault outside given fa
 pub record IsGivenFault (sources : Sources) (workers : ℕ) (fault : Fault) : Type 0 where
   pub given : List GivenPackage
   pub files : FilesRead
-  pub outside : Outside
+  pub outside : DeclaredPackages
   pub are_read : AreReadFor sources files outside given
   pub is_fault : IsSharedReportFault (packages_of outside) given workers fault
 
@@ -128,7 +128,7 @@ IsVerdictFault outside given certificates _ = ⊥
 pub record IsVerifiedFault (sources : Sources) (fault : Fault) : Type 0 where
   pub given : List GivenPackage
   pub files : FilesRead
-  pub outside : Outside
+  pub outside : DeclaredPackages
   pub are_read : AreReadFor sources files outside given
   pub certificates : Certificates
   pub stand_in : StandIn certificates
@@ -215,16 +215,16 @@ LeavesUnwritten fault old new = is_of_output fault ≡ false → new ≡ old
 -- What serves the proofs
 
 -- why packages are not loaded, not judged by several threads, and not judged by certificates, as the program tells it
-abbrev pub told_fault : LoadFault → Fault
-told_fault load_fault.TooMany = TooManyPackages
-told_fault (load_fault.TwoPackages path) = TwoPackages path
-told_fault (load_fault.NamesGiven path) = FactsNameGiven path
-told_fault load_fault.OutOfMemory = OutOfMemory
+abbrev pub fault_of_load : LoadFault → Fault
+fault_of_load load_fault.TooMany = TooManyPackages
+fault_of_load (load_fault.TwoPackages path) = TwoPackages path
+fault_of_load (load_fault.NamesGiven path) = FactsNameGiven path
+fault_of_load load_fault.OutOfMemory = OutOfMemory
 
-abbrev pub told_check_fault : CheckFault → Fault
-told_check_fault (check_fault.NotLoaded fault) = told_fault fault
-told_check_fault check_fault.NoThread = NoThread
+abbrev pub fault_of_check : CheckFault → Fault
+fault_of_check (check_fault.NotLoaded fault) = fault_of_load fault
+fault_of_check check_fault.NoThread = NoThread
 
-abbrev pub told_verify_fault : VerifyFault → Fault
-told_verify_fault (verify_fault.NotLoaded fault) = told_fault fault
-told_verify_fault (verify_fault.TooOld path) = CertificateTooOld path
+abbrev pub fault_of_verify : VerifyFault → Fault
+fault_of_verify (verify_fault.NotLoaded fault) = fault_of_load fault
+fault_of_verify (verify_fault.TooOld path) = CertificateTooOld path

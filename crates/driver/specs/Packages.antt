@@ -14,7 +14,7 @@ use Rattle.folders.specs.ReadFiles.{bytes_read, name_read}
 use Rattle.folders.specs.declared.whole_files.ReadFile.{ReadFile}
 use Rattle.package_list.specs.ListTexts.{first_incomplete, AreListedIn}
 use Rattle.package_list.specs.ListedValues.{PackageEntry}
-use Rattle.outside_json.specs.declared.outside.Outside.{Outside}
+use Rattle.declared_json.specs.declared.outside.DeclaredPackages.{DeclaredPackages}
 use Rattle.driver.specs.DeclaredFacts.{AreDeclaredBy}
 use Rattle.driver.specs.declared.input.FilesRead.{FilesRead}
 use Rattle.driver.specs.declared.packages.NamedPackage.{NamedPackage}
@@ -91,7 +91,7 @@ pub record AreGiven (sources : Sources) (list : Option ReadFile) (given : List G
   pub of_list : AddListed entries of_words given
 
 -- What was read: the files that the words name beside those of packages, what these declare, and the packages.
-pub record AreReadFor (sources : Sources) (files : FilesRead) (outside : Outside) (given : List GivenPackage)
+pub record AreReadFor (sources : Sources) (files : FilesRead) (outside : DeclaredPackages) (given : List GivenPackage)
     : Type 0 where
   pub are_declared : AreDeclaredBy (option_texts sources.facts) files.facts outside
   pub are_given : AreGiven sources files.list given

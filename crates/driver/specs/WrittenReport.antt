@@ -6,8 +6,8 @@ use Rattle.std.specs.Prelude.{◌≡◌, ◌⊎◌, ℕ, Bool, true, false, List
 use Rattle.std.specs.Io.KnownBytes.{Appends}
 use Rattle.certificate_json.specs.declared.certificates.Certificates.{Certificates}
 use Rattle.load.specs.declared.packages.GivenPackage.{GivenPackage}
-use Rattle.outside_json.specs.Outside.{packages_of}
-use Rattle.outside_json.specs.declared.outside.Outside.{Outside}
+use Rattle.declared_json.specs.DeclaredPackages.{packages_of}
+use Rattle.declared_json.specs.declared.outside.DeclaredPackages.{DeclaredPackages}
 use Rattle.command_line.specs.Words.{AsksForCertificates, AsksForCheck, AsksForHelp, AsksForVerification}
 use Rattle.command_line.specs.declared.words.CertifyWords.{CertifyWords}
 use Rattle.command_line.specs.declared.words.CheckWords.{CheckWords}
@@ -39,7 +39,7 @@ module _ (sources : Sources) (format : Format) (files : FilesRead) where
   -- this holds of the report, in this form, on the packages of these sources, where these files were read for it
   pub record OfReport (holds : Report → Type 0) : Type 0 where
     pub given : List GivenPackage
-    pub outside : Outside
+    pub outside : DeclaredPackages
     pub are_read : AreReadFor sources files outside given
     pub report : Report
     pub is_report : IsReport format (packages_of outside) given report
@@ -48,7 +48,7 @@ module _ (sources : Sources) (format : Format) (files : FilesRead) where
   -- the same where this is the text of their certificates
   pub record OfCertifiedReport (text : List ℕ) (holds : Report → Type 0) : Type 0 where
     pub given : List GivenPackage
-    pub outside : Outside
+    pub outside : DeclaredPackages
     pub are_read : AreReadFor sources files outside given
     pub report : Report
     pub is_report : IsCertifiedReport format (packages_of outside) given report text
@@ -57,7 +57,7 @@ module _ (sources : Sources) (format : Format) (files : FilesRead) where
   -- the same of their report by certificates that stand in a file
   pub record OfVerifiedReport (holds : Report → Type 0) : Type 0 where
     pub given : List GivenPackage
-    pub outside : Outside
+    pub outside : DeclaredPackages
     pub are_read : AreReadFor sources files outside given
     pub certificates : Certificates
     pub stand_in : StandIn certificates

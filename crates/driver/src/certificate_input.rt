@@ -1,7 +1,7 @@
 //! The certificates that are read from a file.
 
 ghost use Rattle.std.specs.Prelude.{◌≡◌, IfErr, IfOk};
-ghost use Rattle.driver.specs.Certificates.{told_certificate_fault, AreTextOf, IsBytesFault, IsInputFault, StandIn};
+ghost use Rattle.driver.specs.Certificates.{fault_of_certificates, AreTextOf, IsBytesFault, IsInputFault, StandIn};
 
 use certificate_json::{CertificateFault, Certificates, from_json};
 use folders::{Fault, read_file};
@@ -29,15 +29,15 @@ fn certificates_of(alloc: Global, bytes: &[u8]) -> Result<Certificates, Fault>
     match str::from_utf8(bytes) {
         Ok(text) => match from_json(alloc, text) {
             Ok(certificates) => Ok(certificates),
-            Err(fault) => Err(told_fault(fault)),
+            Err(fault) => Err(fault_of_certificates(fault)),
         },
         Err(_) => Err(Fault::CertificateNotJson),
     }
 }
 
 /// Why a text is none of certificates, as the program tells it.
-fn told_fault(fault: CertificateFault) -> Fault
-    ensures { result ≡ told_certificate_fault fault }
+fn fault_of_certificates(fault: CertificateFault) -> Fault
+    ensures { result ≡ fault_of_certificates fault }
 {
     match fault {
         CertificateFault::NotJson => Fault::CertificateNotJson,

@@ -12,7 +12,7 @@ ghost use Rattle.workers.specs.Counts.{count_of};
 use crate::input::{FilesRead, read_sources};
 use crate::notes::note;
 use crate::printing::print;
-use crate::reports::certified_report_by;
+use crate::reports::certified_report_by_workers;
 use crate::status::Status;
 use crate::writers::Refusals;
 use command_line::CertifyWords;
@@ -70,7 +70,7 @@ pub fn certify<
         workers: asked.workers,
         format: asked.format,
     };
-    let told = certified_report_by::<R, L>(rt, input.given, input.outside, settings)?;
+    let told = certified_report_by_workers::<R, L>(rt, input.given, input.outside, settings)?;
     print(out, &told.report.text, refusals)?;
     note(&input.files, &input.empty, told.report.counts, err);
     let status = Status::of_verdict(told.report.yes);

@@ -3,11 +3,11 @@
 ghost use Rattle.std.specs.Prelude.{◌≡◌, ℕ, List, [], IfErr, IfOk};
 ghost use Rattle.command_line.specs.Words.{option_texts};
 ghost use Rattle.driver.specs.DeclaredFacts.{AreDeclaredBy, IsFactsFault, IsReadFactsFault};
-ghost use Rattle.outside_json.specs.Outside.{packages_of};
-ghost use Rattle.outside_json.specs.OutsideTexts.{IsOutsideFault, IsOutsideText};
+ghost use Rattle.declared_json.specs.DeclaredPackages.{packages_of};
+ghost use Rattle.declared_json.specs.DeclaredTexts.{IsDeclaredFault, IsDeclaredText};
 
 use folders::{Fault, ReadFile, read_file};
-use outside_json::{Outside, OutsideFault, from_json};
+use declared_json::{DeclaredPackages, DeclaredFault, from_json};
 use std::alloc::Global;
 use std::rt::Files;
 
@@ -15,7 +15,7 @@ use std::rt::Files;
 #[derive(Drop)]
 pub struct Declared<'a> {
     pub file: Option<ReadFile<'a>>,
-    pub outside: Outside,
+    pub outside: DeclaredPackages,
 }
 
 /// What is declared in the file of this name, or nothing where none is named.
@@ -48,37 +48,37 @@ pub fn read_facts<'a, R: Files + AllocGlobal>(
 }
 
 /// Nothing is declared.
-pub fn nothing_declared(alloc: Global) -> Outside
+pub fn nothing_declared(alloc: Global) -> DeclaredPackages
     ensures { packages_of result ≡ [] }
 {
-    Outside {
+    DeclaredPackages {
         packages: Vec::new(alloc),
     }
 }
 
 /// What is declared in the text that these bytes are.
-fn facts_of(alloc: Global, bytes: &[u8]) -> Result<Outside, Fault>
-    ensures declared { IfOk result (λ outside. IsOutsideText bytes.now (packages_of outside)) }
+fn facts_of(alloc: Global, bytes: &[u8]) -> Result<DeclaredPackages, Fault>
+    ensures declared { IfOk result (λ outside. IsDeclaredText bytes.now (packages_of outside)) }
     ensures fault { IfErr result (IsFactsFault bytes.now) }
 {
     match str::from_utf8(bytes) {
         Ok(text) => match from_json(alloc, text) {
             Ok(outside) => Ok(outside),
-            Err(fault) => Err(told_fault(fault)),
+            Err(fault) => Err(fault_of_facts(fault)),
         },
         Err(_) => Err(Fault::FactsNotJson),
     }
 }
 
 /// Why a text is none of declared facts, as the program tells it.
-fn told_fault(fault: OutsideFault) -> Fault
-    ensures { (bytes : List ℕ) → IsOutsideFault bytes fault → IsFactsFault bytes result }
+fn fault_of_facts(fault: DeclaredFault) -> Fault
+    ensures { (bytes : List ℕ) → IsDeclaredFault bytes fault → IsFactsFault bytes result }
 {
     match fault {
-        OutsideFault::NotJson => Fault::FactsNotJson,
-        OutsideFault::WrongShape => Fault::FactsWrongShape,
-        OutsideFault::WrongVersion => Fault::FactsWrongVersion,
-        OutsideFault::Reserved(path) => Fault::FactsReserved(path.text()),
-        OutsideFault::OutOfMemory => Fault::OutOfMemory,
+        DeclaredFault::NotJson => Fault::FactsNotJson,
+        DeclaredFault::WrongShape => Fault::FactsWrongShape,
+        DeclaredFault::WrongVersion => Fault::FactsWrongVersion,
+        DeclaredFault::Reserved(path) => Fault::FactsReserved(path.text()),
+        DeclaredFault::OutOfMemory => Fault::OutOfMemory,
     }
 }

@@ -13,7 +13,7 @@ use crate::packages::{FoldersAsked, NamedPackage, all_named, read_packages};
 use command_line::Sources;
 use folders::{Fault, ReadFile, Surroundings};
 use load::GivenPackage;
-use outside_json::Outside;
+use declared_json::DeclaredPackages;
 use std::rt::Files;
 
 /// The files that were read for a report beside those of packages, where they are named: that of declared facts, and
@@ -28,7 +28,7 @@ pub struct FilesRead<'a> {
 #[derive(Drop)]
 pub struct Input<'a> {
     pub files: FilesRead<'a>,
-    pub outside: Outside,
+    pub outside: DeclaredPackages,
     pub given: Vec<GivenPackage>,
     pub empty: Vec<String>,
 }

@@ -58,7 +58,7 @@ fn packages_in(alloc: Global, bytes: &[u8]) -> Result<Vec<ListedPackage>, Fault>
 {
     let packages = match read_list(alloc, bytes) {
         Ok(packages) => packages,
-        Err(fault) => return Err(told_fault(alloc, fault)),
+        Err(fault) => return Err(fault_of_list(alloc, fault)),
     };
     match first_bad_path(&packages) {
         Some(path) => Err(Fault::BadPackage(escaped(alloc, path)?)),
@@ -80,7 +80,7 @@ fn first_bad_path(packages: &[ListedPackage]) -> Option<&str>
 }
 
 /// Why the bytes are no list, as the program tells it.
-fn told_fault(alloc: Global, fault: ListFault) -> Fault
+fn fault_of_list(alloc: Global, fault: ListFault) -> Fault
     ensures { (bytes : List ℕ) → IsListFault bytes fault → IsListBytesFault bytes result }
 {
     match fault {

@@ -12,7 +12,7 @@ use crate::certify::certify;
 use crate::input::{FilesRead, read_sources};
 use crate::notes::{PROGRAM, note};
 use crate::printing::print;
-use crate::reports::report_by;
+use crate::reports::report_by_workers;
 use crate::status::Status;
 use crate::verify::verify;
 use crate::writers::Refusals;
@@ -147,7 +147,7 @@ fn check<
         workers: asked.workers,
         format: asked.format,
     };
-    let report = report_by::<R, L>(rt, input.given, input.outside, settings)?;
+    let report = report_by_workers::<R, L>(rt, input.given, input.outside, settings)?;
     print(out, &report.text, refusals)?;
     note(&input.files, &input.empty, report.counts, err);
     Ok(Checked {

@@ -1,11 +1,11 @@
 //! The reports of given packages, with the faults that the program tells.
 
 ghost use Rattle.std.specs.Prelude.{◌≡◌, [], IfErr, IfOk, string_bytes};
-ghost use Rattle.driver.specs.Faults.{told_check_fault, told_fault, told_verify_fault, IsReportFault, IsSharedReportFault, IsVerdictFault};
+ghost use Rattle.driver.specs.Faults.{fault_of_check, fault_of_load, fault_of_verify, IsReportFault, IsSharedReportFault, IsVerdictFault};
 ghost use Rattle.judge.specs.Certified.{IsCertifiedReport};
 ghost use Rattle.judge.specs.Reports.{IsReport};
 ghost use Rattle.judge.specs.Verified.{IsVerifiedReport};
-ghost use Rattle.outside_json.specs.Outside.{packages_of};
+ghost use Rattle.declared_json.specs.DeclaredPackages.{packages_of};
 ghost use Rattle.workers.specs.Counts.{count_of};
 
 use crate::facts_input::nothing_declared;
@@ -13,14 +13,14 @@ use certificate_json::Certificates;
 use folders::Fault;
 use judge::{CertifiedReport, CheckFault, Format, Report, Settings, VerifyFault};
 use load::{GivenPackage, Leave, LoadFault};
-use outside_json::Outside;
+use declared_json::DeclaredPackages;
 use std::alloc::Global;
 use std::sync::Wait;
 use std::thread::Threads;
 
 /// Why packages are not loaded, as the program tells it.
-fn told_fault(fault: LoadFault) -> Fault
-    ensures { result ≡ told_fault fault }
+fn fault_of_load(fault: LoadFault) -> Fault
+    ensures { result ≡ fault_of_load fault }
 {
     match fault {
         LoadFault::TooMany => Fault::TooManyPackages,
@@ -43,16 +43,16 @@ pub fn report_of(alloc: Global, given: Vec<GivenPackage>) -> Result<Report, Faul
 {
     match judge::report_of(alloc, given, nothing_declared(alloc), Format::Text) {
         Ok(report) => Ok(report),
-        Err(fault) => Err(told_fault(fault)),
+        Err(fault) => Err(fault_of_load(fault)),
     }
 }
 
 /// Why packages are not judged by several threads, as the program tells it.
-fn told_check_fault(fault: CheckFault) -> Fault
-    ensures { result ≡ told_check_fault fault }
+fn fault_of_check(fault: CheckFault) -> Fault
+    ensures { result ≡ fault_of_check fault }
 {
     match fault {
-        CheckFault::NotLoaded(fault) => told_fault(fault),
+        CheckFault::NotLoaded(fault) => fault_of_load(fault),
         CheckFault::NoThread => Fault::NoThread,
     }
 }
@@ -64,18 +64,18 @@ fn told_check_fault(fault: CheckFault) -> Fault
 ///
 /// As `report_of`; after these faults, something is declared of a package that is given; after that, a thread that
 /// should judge packages can't be started. One worker needs none.
-pub fn report_by<R: AllocGlobal + Threads + Wait + Sync, L: Leave>(
+pub fn report_by_workers<R: AllocGlobal + Threads + Wait + Sync, L: Leave>(
     rt: &R,
     given: Vec<GivenPackage>,
-    outside: Outside,
+    outside: DeclaredPackages,
     settings: Settings,
 ) -> Result<Report, Fault>
     ensures report { IfOk result (IsReport settings.format (packages_of outside) given.items) }
     ensures fault { IfErr result (IsSharedReportFault (packages_of outside) given.items (count_of settings.workers)) }
 {
-    match judge::report_by::<R, L>(rt, rt.alloc(), given, outside, settings) {
+    match judge::report_by_workers::<R, L>(rt, rt.alloc(), given, outside, settings) {
         Ok(report) => Ok(report),
-        Err(fault) => Err(told_check_fault(fault)),
+        Err(fault) => Err(fault_of_check(fault)),
     }
 }
 
@@ -84,29 +84,29 @@ pub fn report_by<R: AllocGlobal + Threads + Wait + Sync, L: Leave>(
 ///
 /// # Errors
 ///
-/// As `report_by`.
-pub fn certified_report_by<R: AllocGlobal + Threads + Wait + Sync, L: Leave>(
+/// As `report_by_workers`.
+pub fn certified_report_by_workers<R: AllocGlobal + Threads + Wait + Sync, L: Leave>(
     rt: &R,
     given: Vec<GivenPackage>,
-    outside: Outside,
+    outside: DeclaredPackages,
     settings: Settings,
 ) -> Result<CertifiedReport, Fault>
     ensures report { IfOk result (λ told. IsCertifiedReport settings.format (packages_of outside) given.items
         told.report (string_bytes told.certificates)) }
     ensures fault { IfErr result (IsSharedReportFault (packages_of outside) given.items (count_of settings.workers)) }
 {
-    match judge::certified_report_by::<R, L>(rt, rt.alloc(), given, outside, settings) {
+    match judge::certified_report_by_workers::<R, L>(rt, rt.alloc(), given, outside, settings) {
         Ok(told) => Ok(told),
-        Err(fault) => Err(told_check_fault(fault)),
+        Err(fault) => Err(fault_of_check(fault)),
     }
 }
 
 /// Why packages are not judged by certificates, as the program tells it.
-fn told_verify_fault(fault: VerifyFault) -> Fault
-    ensures { result ≡ told_verify_fault fault }
+fn fault_of_verify(fault: VerifyFault) -> Fault
+    ensures { result ≡ fault_of_verify fault }
 {
     match fault {
-        VerifyFault::NotLoaded(fault) => told_fault(fault),
+        VerifyFault::NotLoaded(fault) => fault_of_load(fault),
         VerifyFault::TooOld(path) => Fault::CertificateTooOld(path),
     }
 }
@@ -115,11 +115,11 @@ fn told_verify_fault(fault: VerifyFault) -> Fault
 ///
 /// # Errors
 ///
-/// As `report_by`; after these faults, the certificates are too old.
+/// As `report_by_workers`; after these faults, the certificates are too old.
 pub fn verified_report_of<L: Leave>(
     alloc: Global,
     given: Vec<GivenPackage>,
-    outside: Outside,
+    outside: DeclaredPackages,
     certificates: &Certificates,
     format: Format,
 ) -> Result<Report, Fault>
@@ -128,6 +128,6 @@ pub fn verified_report_of<L: Leave>(
 {
     match judge::verified_report_of::<L>(alloc, given, outside, certificates, format) {
         Ok(report) => Ok(report),
-        Err(fault) => Err(told_verify_fault(fault)),
+        Err(fault) => Err(fault_of_verify(fault)),
     }
 }

@@ -30,7 +30,7 @@ use std::alloc::{AllocError, Global};
 /// # Errors
 ///
 /// Memory was refused.
-pub fn add_passes_by<'a, C: Calls>(
+pub fn add_passes_by_calls<'a, C: Calls>(
     alloc: Global,
     told: &Told<'a>,
     reliance: &Reliance<'_, C>,
@@ -64,7 +64,7 @@ fn add_passes<'a>(
         credits: &file.credits,
         at: body.place.at,
     };
-    add_passes_by(alloc, file.told, &reliance, body, diagnostics)
+    add_passes_by_calls(alloc, file.told, &reliance, body, diagnostics)
 }
 
 /// Adds the faults of a body's paths, if it has variables and not too many.

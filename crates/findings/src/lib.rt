@@ -6,4 +6,4 @@ mod entries;
 mod found;
 
 pub use entries::add_use_faults;
-pub use found::{add_body, add_file, add_passes_by, find_faults};
+pub use found::{add_body, add_file, add_passes_by_calls, find_faults};

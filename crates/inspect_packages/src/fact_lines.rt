@@ -1,7 +1,7 @@
 //! The lines of packages' tables.
 
 use crate::final_tables::final_tables;
-use outside_json::Outside;
+use declared_json::DeclaredPackages;
 use std::alloc::{AllocError, Global};
 use table_json::to_json;
 use whole_packages::LoadedPackage;
@@ -12,7 +12,7 @@ use whole_packages::LoadedPackage;
 ///
 /// Memory was refused.
 pub fn text_of_facts(alloc: Global, packages: &[LoadedPackage]) -> Result<String, AllocError> {
-    let nothing = Outside {
+    let nothing = DeclaredPackages {
         packages: Vec::new(alloc),
     };
     let tables = final_tables(alloc, packages, &nothing)?;

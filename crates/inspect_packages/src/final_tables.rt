@@ -3,11 +3,11 @@
 ghost use Rattle.std.specs.Prelude.{IfOk};
 ghost use Rattle.declared_tables.specs.DeclaredTables.{declared_tables};
 ghost use Rattle.inspect_packages.specs.FinalTables.{AreTablesFrom, IsTableAt, TellsTables};
-ghost use Rattle.outside_json.specs.Outside.{packages_of};
+ghost use Rattle.declared_json.specs.DeclaredPackages.{packages_of};
 
 use all_packages::check;
 use one_package::Judged;
-use outside_json::Outside;
+use declared_json::DeclaredPackages;
 use plain_tables::package_table;
 use std::alloc::{AllocError, Global};
 use table_json::Table;
@@ -54,7 +54,7 @@ fn tables_of(
 pub fn final_tables(
     alloc: Global,
     packages: &[LoadedPackage],
-    outside: &Outside,
+    outside: &DeclaredPackages,
 ) -> Result<Vec<Table>, AllocError>
     ensures { IfOk result (λ tables. TellsTables (declared_tables (packages_of outside.now)) packages.now
         tables.items) }

@@ -6,7 +6,7 @@ use crate::use_fault_lines::push_outer;
 use all_packages::{JudgedBy, judge_packages};
 use calls_flags::{KnownCalls, bodies_of_files};
 use one_package::ToldPackage;
-use outside_json::Outside;
+use declared_json::DeclaredPackages;
 use report::PackageReport;
 use std::alloc::{AllocError, Global};
 use whole_packages::LoadedPackage;
@@ -33,7 +33,7 @@ pub fn text_of_bodies(
     packages: &[LoadedPackage],
     nodes: Nodes,
 ) -> Result<String, AllocError> {
-    let nothing = Outside {
+    let nothing = DeclaredPackages {
         packages: Vec::new(alloc),
     };
     let all = judge_packages(alloc, packages, &nothing)?;

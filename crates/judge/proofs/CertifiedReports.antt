@@ -11,7 +11,7 @@ use Rattle.load.specs.declared.packages.GivenPackage.{GivenPackage}
 use Rattle.meaning_reports.specs.PackageReports.{by_paths}
 use Rattle.meaning_runs.proofs.EntryPlaces.{entries_lie_in_files}
 use Rattle.meaning_runs.proofs.PackageYes.{yes_of_a_package_is_quiet}
-use Rattle.outside_json.specs.Outside.{PackageEntry, packages_of}
+use Rattle.declared_json.specs.DeclaredPackages.{PackageEntry, packages_of}
 use Rattle.report_formats.specs.declared.formats.Format.{Format}
 
 certified_so : (format : Format) (outside : List PackageEntry) (given : List GivenPackage) (loaded : Loaded)

@@ -38,7 +38,7 @@ use Rattle.meaning_runs.specs.PackageYes.{IsYesIn}
 use Rattle.meaning_runs.specs.Promise.{AreTreesOfTexts}
 use Rattle.one_package.specs.Judgments.{said_view, says_nothing, is_yes}
 use Rattle.one_package.specs.declared.judged.Judged.{Judged}
-use Rattle.outside_json.specs.Outside as outside_json
+use Rattle.declared_json.specs.DeclaredPackages as declared_json
 use Rattle.report.specs.Entries.{entry_of}
 use Rattle.report.specs.declared.diagnostics.Diagnostic.{Diagnostic}
 use Rattle.report_formats.specs.declared.formats.Format.{Format}
@@ -136,7 +136,7 @@ all_too ps qs said others alike long longer each e = all_yes others λ i j is.
 
 -- Two reports
 
-module _ (outside : List outside_json.PackageEntry) (given : List GivenPackage) (by : GivenByPath) (checked verified : Report)
+module _ (outside : List declared_json.PackageEntry) (given : List GivenPackage) (by : GivenByPath) (checked verified : Report)
     (format other : Format) (h : IsReportBy by_paths format outside given checked)
     (k : IsReportBy (by_certificates by) other outside given verified) where
   abbrev declared : Tables
@@ -238,7 +238,7 @@ read_back text certificates entries written read =
     let same = read Newer entries written in (sym same.0, sym same.1)
 
 -- of each package, where these are the certificates of `check`
-each_believed : LowerLaws → BodiesAreApart → (format other : Format) (outside : List outside_json.PackageEntry)
+each_believed : LowerLaws → BodiesAreApart → (format other : Format) (outside : List declared_json.PackageEntry)
     (given : List GivenPackage) (certificates : Certificates) (checked verified : Report)
     (h : IsReportBy by_paths format outside given checked)
     (k : IsReportBy (by_certificates (given_in certificates)) other outside given verified)

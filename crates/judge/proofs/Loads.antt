@@ -18,7 +18,7 @@ use Rattle.meaning_runs.proofs.EntryPlaces.{entries_lie_in_files}
 use Rattle.meaning_runs.proofs.PackageYes.{yes_of_a_package_is_quiet}
 use Rattle.meaning_runs.specs.EntryPlaces.{EntriesLieInFilesBy}
 use Rattle.meaning_runs.specs.PackageYes.{YesOfAPackageIsQuietBy}
-use Rattle.outside_json.specs.Outside.{PackageEntry, packages_of}
+use Rattle.declared_json.specs.DeclaredPackages.{PackageEntry, packages_of}
 use Rattle.report_formats.specs.declared.formats.Format.{Format}
 use Rattle.whole_packages.specs.LoadedViews.{TellPackages}
 use Rattle.whole_packages.specs.declared.loaded_package.LoadedPackage.{LoadedPackage as KeptPackage}

@@ -27,7 +27,7 @@ use Rattle.one_package.specs.Judgments.{table_view, said_view, says_nothing, is_
 use Rattle.all_packages.specs.Reports.{AreCounted, findings_on, most_findings, report_in}
 use Rattle.all_packages.specs.declared.reports.Counts.{Counts}
 use Rattle.declared_tables.specs.DeclaredTables.{declared_tables}
-use Rattle.outside_json.specs.Outside.{PackageEntry}
+use Rattle.declared_json.specs.DeclaredPackages.{PackageEntry}
 use Rattle.judge.specs.Reports.{Report, IsReport}
 use Rattle.judge.specs.OneReport.{HaveTrees, GivenPackagesHaveOneReport}
 use Rattle.judge.proofs.LoadedPackages.{are_as_many, each_loaded}

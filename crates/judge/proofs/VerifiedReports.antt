@@ -13,7 +13,7 @@ use Rattle.judge.proofs.VerifiedPlaces.{verified_entries_lie}
 use Rattle.load.specs.LoadedBeside.{IsLoadBeside}
 use Rattle.load.specs.declared.loaded.Loaded.{Loaded}
 use Rattle.load.specs.declared.packages.GivenPackage.{GivenPackage}
-use Rattle.outside_json.specs.Outside.{PackageEntry, packages_of}
+use Rattle.declared_json.specs.DeclaredPackages.{PackageEntry, packages_of}
 use Rattle.report_formats.specs.declared.formats.Format.{Format}
 use Rattle.checker.proofs.CheckedLists.{leaves_no_fault, keeps_claims, settles_what_it_says}
 use Rattle.verifier.proofs.VerifiedYes.{yes_of_verified_is_quiet}

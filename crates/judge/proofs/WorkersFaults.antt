@@ -5,7 +5,7 @@ use Rattle.judge.specs.declared.check_fault.CheckFault.{CheckFault}
 use Rattle.load.specs.LoadedBeside.{IsLoadBeside}
 use Rattle.load.specs.declared.loaded.Loaded.{Loaded}
 use Rattle.load.specs.declared.packages.GivenPackage.{GivenPackage}
-use Rattle.outside_json.specs.Outside.{PackageEntry}
+use Rattle.declared_json.specs.DeclaredPackages.{PackageEntry}
 use Rattle.package_workers.specs.Faults.{IsFaultOf}
 use Rattle.package_workers.specs.declared.faults.CheckFault.{CheckFault as WorkersFault}
 use Rattle.package_workers.specs.declared.faults.CheckFault.TheVariants.{Memory, Thread}

@@ -10,7 +10,7 @@ use Rattle.judge.specs.Reports.{Report, IsReport}
 use Rattle.judge.specs.declared.certified.CertifiedReport.{CertifiedReport}
 use Rattle.load.specs.declared.packages.GivenPackage.{GivenPackage}
 use Rattle.meaning_reports.specs.Loaded.{LoadedPackage, Tables}
-use Rattle.outside_json.specs.Outside.{PackageEntry as DeclaredEntry}
+use Rattle.declared_json.specs.DeclaredPackages.{PackageEntry as DeclaredEntry}
 use Rattle.report_formats.specs.declared.formats.Format.{Format}
 use Rattle.whole_packages.specs.LoadedViews.{TellPackages, HaveDistinctPaths}
 use Rattle.whole_packages.specs.declared.loaded_package.LoadedPackage.{LoadedPackage as KeptPackage}

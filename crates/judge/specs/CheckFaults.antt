@@ -7,7 +7,7 @@ use Rattle.load.specs.LoadedBeside.{IsLoadBeside, IsLoadFaultBeside}
 use Rattle.load.specs.declared.loaded.Loaded.{Loaded}
 use Rattle.load.specs.declared.packages.GivenPackage.{GivenPackage}
 use Rattle.load.specs.declared.packages.LoadFault.TheVariants.{OutOfMemory}
-use Rattle.outside_json.specs.Outside.{PackageEntry}
+use Rattle.declared_json.specs.DeclaredPackages.{PackageEntry}
 use Rattle.package_workers.specs.declared.faults.CheckFault.{CheckFault as WorkersFault}
 use Rattle.package_workers.specs.declared.faults.CheckFault.TheVariants as workers
 

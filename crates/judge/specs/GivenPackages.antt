@@ -16,7 +16,7 @@ use Rattle.meaning_reports.specs.Loaded.{Tables}
 use Rattle.meaning_reports.specs.PackageReports.{Rules}
 use Rattle.meaning_runs.specs.Bodies.{Program}
 use Rattle.meaning_runs.specs.PackageYes.{program_of}
-use Rattle.outside_json.specs.Outside.{PackageEntry}
+use Rattle.declared_json.specs.DeclaredPackages.{PackageEntry}
 use Rattle.report_formats.specs.declared.formats.Format.{Format}
 use Rattle.table_json.specs.declared.table.Version.{Version}
 

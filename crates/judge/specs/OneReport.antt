@@ -8,7 +8,7 @@ use Rattle.lexer.specs.Tokens.{IsTokens}
 use Rattle.tree.specs.Syntax.{SourceFile}
 use Rattle.meaning.specs.TreeOfText.{IsTreeOf}
 use Rattle.load.specs.declared.packages.GivenPackage.{GivenPackage}
-use Rattle.outside_json.specs.Outside.{PackageEntry}
+use Rattle.declared_json.specs.DeclaredPackages.{PackageEntry}
 use Rattle.report_formats.specs.declared.formats.Format.{Format}
 use Rattle.judge.specs.Reports.{Report, IsReport}
 

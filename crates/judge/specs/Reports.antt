@@ -12,7 +12,7 @@ use Rattle.all_packages.specs.Reports.{AreReportsBy, IsTold}
 pub use Rattle.all_packages.specs.declared.reports.Report.{Report}
 use Rattle.meaning_reports.specs.Loaded.{Tables}
 use Rattle.meaning_reports.specs.PackageReports.{Rules, by_paths}
-use Rattle.outside_json.specs.Outside.{PackageEntry}
+use Rattle.declared_json.specs.DeclaredPackages.{PackageEntry}
 use Rattle.report_formats.specs.declared.formats.Format.{Format}
 use Rattle.judge.specs.QuietYes.{YesAreQuiet}
 use Rattle.judge.specs.SourcePlaces.{StandInSources}

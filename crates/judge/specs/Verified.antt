@@ -14,7 +14,7 @@ use Rattle.load.specs.LoadedBeside.{IsLoadBeside, IsLoadFaultBeside}
 use Rattle.load.specs.declared.loaded.Loaded.{Loaded}
 use Rattle.load.specs.declared.packages.GivenPackage.{GivenPackage}
 use Rattle.meaning_reports.specs.Loaded.{LoadedPackage, Tables}
-use Rattle.outside_json.specs.Outside.{PackageEntry}
+use Rattle.declared_json.specs.DeclaredPackages.{PackageEntry}
 use Rattle.report_formats.specs.declared.formats.Format.{Format}
 use Rattle.table_json.specs.declared.table.Version.{Version}
 use Rattle.table_json.specs.declared.table.Version.TheVariants.{Older, Newer}

@@ -4,7 +4,7 @@ ghost use Rattle.std.specs.Prelude.{IfErr, IfOk, length, string_bytes};
 ghost use Rattle.declared_tables.specs.DeclaredTables.{declared_tables};
 ghost use Rattle.judge.specs.CheckFaults.{IsCheckFault};
 ghost use Rattle.judge.specs.Certified.{IsCertifiedReport, TellsCertifiedText};
-ghost use Rattle.outside_json.specs.Outside.{packages_of};
+ghost use Rattle.declared_json.specs.DeclaredPackages.{packages_of};
 ghost use Rattle.package_workers.specs.Faults.{IsFaultOf};
 ghost use Rattle.workers.specs.Counts.{count_of};
 
@@ -12,8 +12,8 @@ use crate::check_fault::{CheckFault, of_workers};
 use all_certificates::{Certified, Settings};
 use all_packages::Report;
 use certificate_json::to_json;
-use load::{GivenPackage, Leave, Loaded, load_beside_by};
-use outside_json::Outside;
+use load::{GivenPackage, Leave, Loaded, load_beside_by_workers};
+use declared_json::DeclaredPackages;
 use package_workers::CheckFault as WorkersFault;
 use std::alloc::Global;
 use std::sync::Wait;
@@ -29,11 +29,11 @@ pub struct CertifiedReport {
 
 /// The report and the certificates of packages of different paths, where that is declared of others, by so many
 /// workers.
-fn told_of<R: Threads + Wait + Sync>(
+fn certified_text_of<R: Threads + Wait + Sync>(
     rt: &R,
     alloc: Global,
     packages: &[LoadedPackage],
-    outside: &Outside,
+    outside: &DeclaredPackages,
     settings: Settings,
 ) -> Result<CertifiedReport, WorkersFault>
     ensures certified { IfOk result
@@ -43,7 +43,7 @@ fn told_of<R: Threads + Wait + Sync>(
     let Certified {
         report,
         certificates,
-    } = all_certificates::certified_report_by(rt, alloc, packages, outside, settings)?;
+    } = all_certificates::certified_report_by_workers(rt, alloc, packages, outside, settings)?;
     let certificates = to_json(alloc, &certificates)?;
     Ok(CertifiedReport {
         report,
@@ -52,7 +52,7 @@ fn told_of<R: Threads + Wait + Sync>(
 }
 
 /// The same, where `L` says what becomes of the packages then.
-fn told_loaded<R: Threads + Wait + Sync, L: Leave>(
+fn certified_loaded<R: Threads + Wait + Sync, L: Leave>(
     rt: &R,
     alloc: Global,
     loaded: Loaded,
@@ -62,7 +62,7 @@ fn told_loaded<R: Threads + Wait + Sync, L: Leave>(
         (TellsCertifiedText settings.format (declared_tables (packages_of loaded.outside)) loaded.packages.items) }
     ensures fault { IfErr result (IsFaultOf (count_of settings.workers) (length loaded.packages.items)) }
 {
-    let told = told_of(rt, alloc, &loaded.packages, &loaded.outside, settings);
+    let told = certified_text_of(rt, alloc, &loaded.packages, &loaded.outside, settings);
     L::leave(loaded);
     told
 }
@@ -74,23 +74,23 @@ fn told_loaded<R: Threads + Wait + Sync, L: Leave>(
 ///
 /// # Errors
 ///
-/// As `report_by`.
-pub fn certified_report_by<R: Threads + Wait + Sync, L: Leave>(
+/// As `report_by_workers`.
+pub fn certified_report_by_workers<R: Threads + Wait + Sync, L: Leave>(
     rt: &R,
     alloc: Global,
     given: Vec<GivenPackage>,
-    outside: Outside,
+    outside: DeclaredPackages,
     settings: Settings,
 ) -> Result<CertifiedReport, CheckFault>
     ensures report { IfOk result (λ told. IsCertifiedReport settings.format (packages_of outside) given.items
         told.report (string_bytes told.certificates)) }
     ensures fault { IfErr result (IsCheckFault (packages_of outside) given.items (count_of settings.workers)) }
 {
-    let loaded = match load_beside_by(rt, alloc, given, outside, settings.workers) {
+    let loaded = match load_beside_by_workers(rt, alloc, given, outside, settings.workers) {
         Ok(loaded) => loaded,
         Err(fault) => return Err(CheckFault::NotLoaded(fault)),
     };
-    match told_loaded::<R, L>(rt, alloc, loaded, settings) {
+    match certified_loaded::<R, L>(rt, alloc, loaded, settings) {
         Ok(told) => Ok(told),
         Err(fault) => Err(of_workers(fault)),
     }

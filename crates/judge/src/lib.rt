@@ -18,10 +18,10 @@ pub use agreement::{
 };
 pub use all_certificates::Settings;
 pub use all_packages::{Counts, Report};
-pub use certified::{CertifiedReport, certified_report_by};
+pub use certified::{CertifiedReport, certified_report_by_workers};
 pub use check_fault::CheckFault;
 pub use first::first_with_causes;
 pub use laws::given_packages_have_one_report;
 pub use report_formats::Format;
-pub use reports::{report_by, report_of};
+pub use reports::{report_by_workers, report_of};
 pub use verified::{VerifyFault, verified_report_of};

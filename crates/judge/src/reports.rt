@@ -6,16 +6,16 @@ ghost use Rattle.declared_tables.specs.DeclaredTables.{declared_tables};
 ghost use Rattle.judge.specs.CheckFaults.{IsCheckFault};
 ghost use Rattle.judge.specs.Reports.{IsReport};
 ghost use Rattle.load.specs.LoadedBeside.{IsLoadFaultBeside};
-ghost use Rattle.outside_json.specs.Outside.{packages_of};
+ghost use Rattle.declared_json.specs.DeclaredPackages.{packages_of};
 ghost use Rattle.package_workers.specs.Faults.{IsFaultOf};
 ghost use Rattle.workers.specs.Counts.{count_of};
 
 use crate::check_fault::{CheckFault, of_workers};
 use all_certificates::Settings;
 use all_packages::{Report, check, told};
-use load::{GivenPackage, Leave, LoadFault, Loaded, load_beside, load_beside_by};
+use load::{GivenPackage, Leave, LoadFault, Loaded, load_beside, load_beside_by_workers};
 use one_package::ByPaths;
-use outside_json::Outside;
+use declared_json::DeclaredPackages;
 use package_workers::{CheckFault as WorkersFault, Crew, Open, check_by_workers};
 use report_formats::Format;
 use std::alloc::{AllocError, Global};
@@ -27,7 +27,7 @@ use whole_packages::LoadedPackage;
 fn whole_report(
     alloc: Global,
     packages: &[LoadedPackage],
-    outside: &Outside,
+    outside: &DeclaredPackages,
     format: Format,
 ) -> Result<Report, AllocError>
     ensures { IfOk result (TellsReport format (declared_tables (packages_of outside.now)) packages.now) }
@@ -46,11 +46,11 @@ fn report_loaded(alloc: Global, loaded: Loaded, format: Format) -> Result<Report
 }
 
 /// The report of packages of different paths by so many workers, where that is declared of others.
-fn whole_report_by<R: Threads + Wait + Sync>(
+fn whole_report_by_workers<R: Threads + Wait + Sync>(
     rt: &R,
     alloc: Global,
     packages: &[LoadedPackage],
-    outside: &Outside,
+    outside: &DeclaredPackages,
     settings: Settings,
 ) -> Result<Report, WorkersFault>
     ensures report { IfOk result
@@ -67,7 +67,7 @@ fn whole_report_by<R: Threads + Wait + Sync>(
 }
 
 /// The same, where `L` says what becomes of the packages then.
-fn report_loaded_by<R: Threads + Wait + Sync, L: Leave>(
+fn report_loaded_by_workers<R: Threads + Wait + Sync, L: Leave>(
     rt: &R,
     alloc: Global,
     loaded: Loaded,
@@ -77,7 +77,7 @@ fn report_loaded_by<R: Threads + Wait + Sync, L: Leave>(
         (TellsReport settings.format (declared_tables (packages_of loaded.outside)) loaded.packages.items) }
     ensures fault { IfErr result (IsFaultOf (count_of settings.workers) (length loaded.packages.items)) }
 {
-    let report = whole_report_by(rt, alloc, &loaded.packages, &loaded.outside, settings);
+    let report = whole_report_by_workers(rt, alloc, &loaded.packages, &loaded.outside, settings);
     L::leave(loaded);
     report
 }
@@ -95,7 +95,7 @@ fn report_loaded_by<R: Threads + Wait + Sync, L: Leave>(
 pub fn report_of(
     alloc: Global,
     given: Vec<GivenPackage>,
-    outside: Outside,
+    outside: DeclaredPackages,
     format: Format,
 ) -> Result<Report, LoadFault>
     ensures report { IfOk result (IsReport format (packages_of outside) given.items) }
@@ -113,21 +113,21 @@ pub fn report_of(
 ///
 /// As `report_of`; once the packages are loaded, a thread that should judge them, or help to, can't be started. One
 /// worker needs none.
-pub fn report_by<R: Threads + Wait + Sync, L: Leave>(
+pub fn report_by_workers<R: Threads + Wait + Sync, L: Leave>(
     rt: &R,
     alloc: Global,
     given: Vec<GivenPackage>,
-    outside: Outside,
+    outside: DeclaredPackages,
     settings: Settings,
 ) -> Result<Report, CheckFault>
     ensures report { IfOk result (IsReport settings.format (packages_of outside) given.items) }
     ensures fault { IfErr result (IsCheckFault (packages_of outside) given.items (count_of settings.workers)) }
 {
-    let loaded = match load_beside_by(rt, alloc, given, outside, settings.workers) {
+    let loaded = match load_beside_by_workers(rt, alloc, given, outside, settings.workers) {
         Ok(loaded) => loaded,
         Err(fault) => return Err(CheckFault::NotLoaded(fault)),
     };
-    match report_loaded_by::<R, L>(rt, alloc, loaded, settings) {
+    match report_loaded_by_workers::<R, L>(rt, alloc, loaded, settings) {
         Ok(report) => Ok(report),
         Err(fault) => Err(of_workers(fault)),
     }

@@ -4,14 +4,14 @@ ghost use Rattle.std.specs.Prelude.{IfErr, IfOk, option_map};
 ghost use Rattle.all_packages.specs.Reports.{TellsReportBy};
 ghost use Rattle.declared_tables.specs.DeclaredTables.{declared_tables};
 ghost use Rattle.judge.specs.Verified.{given_in, IsTooOldFor, IsVerifiedReport, IsVerifyFault, TellsVerified};
-ghost use Rattle.outside_json.specs.Outside.{packages_of};
+ghost use Rattle.declared_json.specs.DeclaredPackages.{packages_of};
 ghost use Rattle.verifier.specs.Rules.{by_certificates};
 
 use crate::first::first_with_causes;
-use all_packages::{Report, check_by, told};
+use all_packages::{Report, check_by_rules, told};
 use certificate_json::Certificates;
 use load::{GivenPackage, Leave, LoadFault, Loaded, load_beside};
-use outside_json::Outside;
+use declared_json::DeclaredPackages;
 use report_formats::Format;
 use std::alloc::{AllocError, Global};
 use table_json::Version;
@@ -54,7 +54,7 @@ fn too_old<'a>(
 fn told_by(
     alloc: Global,
     packages: &[LoadedPackage],
-    outside: &Outside,
+    outside: &DeclaredPackages,
     certificates: &Certificates,
     format: Format,
 ) -> Result<Report, AllocError>
@@ -62,7 +62,7 @@ fn told_by(
         (by_certificates (given_in certificates.now) (declared_tables (packages_of outside.now))) packages.now) }
 {
     let rules = ByCertificates::new(alloc, certificates)?;
-    let judged = check_by(alloc, packages, outside, &rules)?;
+    let judged = check_by_rules(alloc, packages, outside, &rules)?;
     told(alloc, format, judged)
 }
 
@@ -70,7 +70,7 @@ fn told_by(
 fn told_unless_old(
     alloc: Global,
     packages: &[LoadedPackage],
-    outside: &Outside,
+    outside: &DeclaredPackages,
     certificates: &Certificates,
     format: Format,
 ) -> Result<Verified, AllocError>
@@ -115,7 +115,7 @@ fn verified_loaded<L: Leave>(
 pub fn verified_report_of<L: Leave>(
     alloc: Global,
     given: Vec<GivenPackage>,
-    outside: Outside,
+    outside: DeclaredPackages,
     certificates: &Certificates,
     format: Format,
 ) -> Result<Report, VerifyFault>

@@ -20,7 +20,7 @@ use crate::numbers::{number_size, starts_number};
 use crate::operators::operator;
 use crate::pieces::{Piece, PieceKind, byte_at, is_white_space, token_piece};
 use crate::quotes::{is_quote, quoted};
-use crate::semicolons::{add_piece, end_line};
+use crate::semicolons::{add_tokens_of, end_line};
 use crate::source::{MOST_BYTES, Source};
 use crate::token::{Token, TokenKind};
 use crate::words::word_size;
@@ -124,7 +124,7 @@ fn lex_text(alloc: Global, text: &str) -> Result<Vec<Token>, LexFault>
             return Err(stop(rest.as_bytes(), at));
         };
         let end = at + found.size as u32;
-        let Ok(next) = add_piece(&mut tokens, found.kind, at, end, due) else {
+        let Ok(next) = add_tokens_of(&mut tokens, found.kind, at, end, due) else {
             return Err(LexFault::OutOfMemory);
         };
         let (_, after) = rest.split_at(found.size);

@@ -47,7 +47,7 @@ pub fn end_line(tokens: &mut Vec<Token>, due: Option<u32>) -> Result<(), AllocEr
 
 /// Appends what a piece from `start` to `end` adds to the tokens.
 /// `due` is the end of a token that wants a semicolon if its line ends; returned is what is due after the piece.
-pub fn add_piece(
+pub fn add_tokens_of(
     tokens: &mut Vec<Token>,
     piece: PieceKind,
     start: u32,

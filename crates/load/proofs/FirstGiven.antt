@@ -8,9 +8,9 @@ use Rattle.std.specs.declared.alloc.Global.{Global}
 use Rattle.std.proofs.lemmas.List.Sorted.{IsPermutation-map, list_any-IsPermutation}
 use Rattle.std.proofs.lemmas.Option.{get_or_from_slice_get, slice_get-map}
 use Rattle.meaning_reports.specs.Loaded.{LoadedPackage}
-use Rattle.outside_json.specs.Outside.{PackageEntry, package_of, packages_of}
-use Rattle.outside_json.specs.declared.outside.Outside.{Outside}
-use Rattle.outside_json.specs.declared.outside.OutsidePackage.{OutsidePackage}
+use Rattle.declared_json.specs.DeclaredPackages.{PackageEntry, package_of, packages_of}
+use Rattle.declared_json.specs.declared.outside.DeclaredPackages.{DeclaredPackages}
+use Rattle.declared_json.specs.declared.outside.DeclaredPackage.{DeclaredPackage}
 use Rattle.whole_packages.specs.declared.loaded_package.LoadedPackage.{LoadedPackage as KeptPackage}
 use Rattle.load.specs.GivenPackages.{PathAndFiles, entry_of, AreLoadable, AreLoaded, IsLoad}
 use Rattle.load.specs.LoadedBeside.{first_given, first_place, given_path, kept_path, IsLoadBeside, IsLoadFaultBeside, TellsGivenPath}
@@ -65,7 +65,7 @@ stands_there n paths (p ∷ outside) place is =
         }
 
 -- what stands there in memory has that path
-pub path_there : (paths : List (List ℕ)) (outside : List OutsidePackage) (place : ℕ) (named : OutsidePackage)
+pub path_there : (paths : List (List ℕ)) (outside : List DeclaredPackage) (place : ℕ) (named : DeclaredPackage)
     → first_place 0 paths (map package_of outside) ≡ Some place
     → named ≡ slice_index_or outside place named
     → first_given paths (map package_of outside) ≡ Some (string_bytes named.path)
@@ -77,7 +77,7 @@ path_there paths outside place named is taken = at (slice_get outside place) ref
     same : slice_get (map package_of outside) place ≡ Some stands.entry
     same = let e = stands.is_place in ap (slice_get (map package_of outside)) (omega (arith, e)) ∙ stands.is_entry
 
-    at : (found : Option OutsidePackage) → slice_get outside place ≡ found
+    at : (found : Option DeclaredPackage) → slice_get outside place ≡ found
         → first_given paths (map package_of outside) ≡ Some (string_bytes named.path)
     at None none =
         let bad : None ≡ Some stands.entry =
@@ -89,7 +89,7 @@ path_there paths outside place named is taken = at (slice_get outside place) ref
         let is_named : named ≡ one = taken ∙ get_or_from_slice_get outside place one named found in
         stands.is_path
         ∙ (ap (option_map (λ (p : PackageEntry). p.path)) (sym entry)
-        ∙ ap (λ (p : OutsidePackage). Some (string_bytes p.path)) (sym is_named))
+        ∙ ap (λ (p : DeclaredPackage). Some (string_bytes p.path)) (sym is_named))
 
 -- As given and as loaded
 
@@ -134,7 +134,7 @@ same_given given kept load = first_alike (map kept_path kept) (map given_path gi
 
 -- Beside what is declared
 
-pub is_beside : (given : List GivenPackage) (kept : Vec KeptPackage Global) (outside : Outside)
+pub is_beside : (given : List GivenPackage) (kept : Vec KeptPackage Global) (outside : DeclaredPackages)
     (result : Result Loaded LoadFault)
     → IsLoad given kept.items
     → AreLoadable given

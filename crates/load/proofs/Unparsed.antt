@@ -73,10 +73,10 @@ unreadable text fault (kept.NoTokens at why) is told =
 unreadable text fault (kept.NoTree at why) is told = absurd told
 
 -- what became of a text without a tree is what became of its file
-pub treeless : (text : List ℕ) (read : Result KeptReading AllocError) (made : Result Parsed AllocError)
+pub parsed_without_tree : (text : List ℕ) (read : Result KeptReading AllocError) (made : Result Parsed AllocError)
     → IfOk read (λ reading. IsKeptWith text reading [])
     → IfOk made (λ parsed. IsErrAnd parsed (λ reading. read ≡ Ok reading))
     → IfOk made (λ parsed. IsKeptWith text (reading_of parsed) (trees_of parsed))
-treeless text read (Err e) is so = tt
-treeless text read (Ok (Ok tree)) is so = absurd so
-treeless text read (Ok (Err reading)) is so = subst (λ r. IfOk r (λ one. IsKeptWith text one [])) so is
+parsed_without_tree text read (Err e) is so = tt
+parsed_without_tree text read (Ok (Ok tree)) is so = absurd so
+parsed_without_tree text read (Ok (Err reading)) is so = subst (λ r. IfOk r (λ one. IsKeptWith text one [])) so is

@@ -2,7 +2,7 @@
 use Rattle.std.specs.Prelude.{ℕ, ◌+◌, ◌≡◌, ⊤, if◌then◌else◌, List, [], ◌∷◌, map, Option, Some, None, string_bytes}
 use Rattle.std.specs.List.{list_any}
 use Rattle.std.specs.Str.{bytes_eq}
-use Rattle.outside_json.specs.Outside.{PackageEntry, packages_of}
+use Rattle.declared_json.specs.DeclaredPackages.{PackageEntry, packages_of}
 use Rattle.whole_packages.specs.declared.loaded_package.LoadedPackage.{LoadedPackage as KeptPackage}
 use Rattle.load.specs.GivenPackages.{AreLoadable, IsLoad, IsLoadFault}
 use Rattle.load.specs.declared.loaded.Loaded.{Loaded}

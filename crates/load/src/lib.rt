@@ -8,5 +8,5 @@ mod package;
 mod packages;
 mod source;
 
-pub use loaded::{Leave, LetGo, Loaded, ToTheEnd, load_beside, load_beside_by};
-pub use packages::{GivenPackage, LoadFault, load, load_by, release};
+pub use loaded::{Leave, LetGo, Loaded, ToTheEnd, load_beside, load_beside_by_workers};
+pub use packages::{GivenPackage, LoadFault, load, load_by_workers, release};

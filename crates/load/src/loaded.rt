@@ -4,10 +4,10 @@ ghost use Rattle.std.specs.Prelude.{◌<◌, ◌≡◌, [], length, map, IfErr, 
 ghost use Rattle.std.specs.List.{list_any};
 ghost use Rattle.std.specs.Str.{bytes_eq};
 ghost use Rattle.load.specs.LoadedBeside.{first_given, first_place, kept_path, IsLoadBeside, IsLoadFaultBeside, TellsGivenPath};
-ghost use Rattle.outside_json.specs.Outside.{package_of, packages_of};
+ghost use Rattle.declared_json.specs.DeclaredPackages.{package_of, packages_of};
 
-use crate::packages::{GivenPackage, LoadFault, load, load_by, release};
-use outside_json::{Outside, OutsidePackage};
+use crate::packages::{GivenPackage, LoadFault, load, load_by_workers, release};
+use declared_json::{DeclaredPackages, DeclaredPackage};
 use std::alloc::Global;
 use std::mem;
 use std::thread::Threads;
@@ -17,7 +17,7 @@ use workers::Workers;
 /// Packages that were loaded, and what is declared of others. It is let go by `release` alone.
 pub struct Loaded {
     pub packages: Vec<LoadedPackage>,
-    pub outside: Outside,
+    pub outside: DeclaredPackages,
 }
 
 fn is_given(packages: &[LoadedPackage], path: &str) -> bool
@@ -32,7 +32,7 @@ fn is_given(packages: &[LoadedPackage], path: &str) -> bool
 }
 
 /// The place of the first of these packages whose path one of those has that were loaded.
-fn first_given(packages: &[LoadedPackage], outside: &[OutsidePackage]) -> Option<usize>
+fn first_given(packages: &[LoadedPackage], outside: &[DeclaredPackage]) -> Option<usize>
     ensures place { result ≡ first_place 0 (map kept_path packages.now) (map package_of outside.now) }
     ensures within { IfSome result (λ place. place < length outside.now) }
 {
@@ -52,7 +52,7 @@ impl Loaded {
     {
         Loaded {
             packages,
-            outside: Outside {
+            outside: DeclaredPackages {
                 packages: Vec::new(alloc),
             },
         }
@@ -63,7 +63,7 @@ impl Loaded {
     /// # Errors
     ///
     /// Something is declared of a package that is one of these: the first such path, and all as it was.
-    pub fn with_outside(self, outside: Outside) -> Result<Loaded, (LoadFault, Loaded)>
+    pub fn with_outside(self, outside: DeclaredPackages) -> Result<Loaded, (LoadFault, Loaded)>
         ensures packages { IfOk result (λ loaded. loaded.packages ≡ self.packages) }
         ensures outside { IfOk result (λ loaded. loaded.outside ≡ outside) }
         ensures apart { IfOk result
@@ -75,7 +75,7 @@ impl Loaded {
         match first_given(&self.packages, &outside.packages) {
             Some(place) => {
                 let mut outside = outside;
-                let OutsidePackage { path, functions } = outside.packages.swap_remove(place);
+                let DeclaredPackage { path, functions } = outside.packages.swap_remove(place);
                 drop(functions);
                 Err((LoadFault::NamesGiven(path), self))
             }
@@ -133,7 +133,7 @@ impl Leave for ToTheEnd {
 fn beside(
     alloc: Global,
     packages: Vec<LoadedPackage>,
-    outside: Outside,
+    outside: DeclaredPackages,
 ) -> Result<Loaded, LoadFault>
     ensures packages { IfOk result (λ loaded. loaded.packages ≡ packages) }
     ensures outside { IfOk result (λ loaded. loaded.outside ≡ outside) }
@@ -159,7 +159,7 @@ fn beside(
 pub fn load_beside(
     alloc: Global,
     given: Vec<GivenPackage>,
-    outside: Outside,
+    outside: DeclaredPackages,
 ) -> Result<Loaded, LoadFault>
     ensures loaded { IfOk result (IsLoadBeside given.items (packages_of outside)) }
     ensures fault { IfErr result (IsLoadFaultBeside given.items (packages_of outside)) }
@@ -168,21 +168,21 @@ pub fn load_beside(
     beside(alloc, packages, outside)
 }
 
-/// As `load_by`, with what is declared of other packages.
+/// As `load_by_workers`, with what is declared of other packages.
 ///
 /// # Errors
 ///
 /// As `load_beside`.
-pub fn load_beside_by<R: Threads + Sync>(
+pub fn load_beside_by_workers<R: Threads + Sync>(
     rt: &R,
     alloc: Global,
     given: Vec<GivenPackage>,
-    outside: Outside,
+    outside: DeclaredPackages,
     workers: Workers,
 ) -> Result<Loaded, LoadFault>
     ensures loaded { IfOk result (IsLoadBeside given.items (packages_of outside)) }
     ensures fault { IfErr result (IsLoadFaultBeside given.items (packages_of outside)) }
 {
-    let packages = load_by(rt, alloc, given, workers)?;
+    let packages = load_by_workers(rt, alloc, given, workers)?;
     beside(alloc, packages, outside)
 }

@@ -181,7 +181,7 @@ pub fn load(alloc: Global, given: Vec<GivenPackage>) -> Result<Vec<LoadedPackage
 /// # Errors
 ///
 /// As `load`.
-pub fn load_by<R: Threads + Sync>(
+pub fn load_by_workers<R: Threads + Sync>(
     rt: &R,
     alloc: Global,
     given: Vec<GivenPackage>,

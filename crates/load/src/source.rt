@@ -58,7 +58,7 @@ fn without_tokens(fault: LexFault) -> Result<Reading, AllocError>
 }
 
 /// What became of a file without a tree.
-fn treeless(read: Result<Reading, AllocError>) -> Result<Parsed, AllocError>
+fn parsed_without_tree(read: Result<Reading, AllocError>) -> Result<Parsed, AllocError>
     ensures { IfOk result (λ parsed. IsErrAnd parsed (λ reading. read ≡ Ok reading)) }
 {
     match read {
@@ -78,9 +78,9 @@ pub fn read_source(alloc: Global, source: &Source) -> Result<Parsed, AllocError>
     match lex(alloc, source) {
         Ok(tokens) => match parse(alloc, &source.bytes, &tokens) {
             Ok(tree) => Ok(Ok(tree)),
-            Err(fault) => treeless(without_tree(fault)),
+            Err(fault) => parsed_without_tree(without_tree(fault)),
         },
-        Err(fault) => treeless(without_tokens(fault)),
+        Err(fault) => parsed_without_tree(without_tokens(fault)),
     }
 }
 

@@ -32,7 +32,7 @@ use Rattle.meaning_runs.proofs.BodyOffsets.{are_sited, opens_one}
 use Rattle.meaning_runs.proofs.OccurrencePlaces.{occurrences_lie_in_texts}
 use Rattle.meaning_runs.proofs.FilePlaces.{whole_places_lie_in_files}
 use Rattle.meaning_runs.proofs.NamePlaces.{names_lie_in_texts}
-use Rattle.meaning_runs.proofs.FaultPlaces.{MarkLies, MarksLie, FileLies, locals_lie, outer_faults_lie, body_faults_lie, fault_lies}
+use Rattle.meaning_runs.proofs.FaultPlaces.{MarkStandsWithin, MarksStandWithin, FileStandsWithin, locals_lie, outer_faults_lie, body_faults_lie, fault_lies}
 
 -- Occurrences
 
@@ -68,7 +68,7 @@ list_there c t x (passes {w} {a} l n) o h = list_there a t x l o h
 
 -- what is said of the file stands there, and its bodies begin there
 pub record Stands (n : ℕ) (seen : Seen) : Type 0 where
-  pub lies : FileLies n seen
+  pub lies : FileStandsWithin n seen
   pub begun : (b : BodyPlace) → Contains (bodies_of seen) b → b.at ≤ n
   pub reached : (promises : Promises) (b : BodyPlace) (t : List (Occurrence Event)) (o : Occurrence Event)
       → Contains (bodies_of seen) b
@@ -85,14 +85,14 @@ module _ (text : List ℕ) (tree : SourceFile) (known : Known) (is : IsTreeOf te
         | inr within ↦ let low = within.1 in omega (arith, low, end)
       ]
 
-  mark_in : (mark : Mark) → Contains (file_marks tree) mark → MarkLies (length text) mark
+  mark_in : (mark : Mark) → Contains (file_marks tree) mark → MarkStandsWithin (length text) mark
   mark_in (mentions m) among = (site_in m among, names_lie_in_texts text tree (mentions m) is among)
   mark_in (defers_literal site at) among = tt
   mark_in (returns at es) among = tt
   mark_in (opens b) among = names_lie_in_texts text tree (opens b) is among
   mark_in closes among = tt
 
-  marks_in : MarksLie (length text) (placed [] (file_marks tree))
+  marks_in : MarksStandWithin (length text) (placed [] (file_marks tree))
   marks_in = record { each = λ p among. mark_in p.mark (is_placed [] (file_marks tree) p among) }
 
   file_stands : Stands (length text) (seen_file known tree)

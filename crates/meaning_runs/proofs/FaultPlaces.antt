@@ -16,35 +16,35 @@ use Rattle.meaning.specs.BodyEvents.{mark_faults, outer_faults_of, faults_of, ha
 use Rattle.meaning.specs.Classes.{Promises}
 use Rattle.meaning.proofs.Membership.{contains_nil, contains_here, contains_there, contains_cases}
 use Rattle.meaning_packages.specs.PathFaults.{PathFault, BindsCancel, obtains, clears, PassesOn, passes, defers, IsPathFault, loses_cancel, loses_group, returns_live, returns_open, returns_pending, IsPassFault, passes_on, block_of, paths_of, IsFaultOf, of_a_pass, of_a_path}
-use Rattle.meaning_runs.specs.NamePlaces.{ParametersLie, ReceiverLies, SignatureLies, Lies}
+use Rattle.meaning_runs.specs.NamePlaces.{ParametersStandWithin, ReceiverStandsWithin, SignatureStandsWithin, StandsWithin}
 use Rattle.meaning_runs.proofs.EventSources.{list_has, of_body, marked}
 use Rattle.meaning_runs.proofs.OwnVariables.{order_from, among_from, found_is}
 use Rattle.meaning_runs.proofs.NameParts.{NameIn}
-use Rattle.meaning_runs.proofs.MentionPlaces.{EventLies, EventsLie, FaultsLie, no_event, one_event, no_fault, one_fault, both_faults, faults_if, variable_lies, mention_faults_lie}
+use Rattle.meaning_runs.proofs.MentionPlaces.{EventStandsWithin, EventsStandWithin, FaultsStandWithin, no_event, one_event, no_fault, one_fault, both_faults, faults_if, variable_lies, mention_faults_lie}
 
 -- what the mark names stands there, and so does the site of a mention
-abbrev pub MarkLies : ℕ → Mark → Type 0
-MarkLies n (mentions m) = (m.site ≤ n) × Lies n (mentions m)
-MarkLies n (defers_literal site at) = Unit {0}
-MarkLies n (returns at es) = Unit {0}
-MarkLies n (opens b) = Lies n (opens b)
-MarkLies n closes = Unit {0}
+abbrev pub MarkStandsWithin : ℕ → Mark → Type 0
+MarkStandsWithin n (mentions m) = (m.site ≤ n) × StandsWithin n (mentions m)
+MarkStandsWithin n (defers_literal site at) = Unit {0}
+MarkStandsWithin n (returns at es) = Unit {0}
+MarkStandsWithin n (opens b) = StandsWithin n (opens b)
+MarkStandsWithin n closes = Unit {0}
 
-pub record MarksLie (n : ℕ) (ps : List Placed) : Type 0 where
-  pub each : (p : Placed) → Contains ps p → MarkLies n p.mark
+pub record MarksStandWithin (n : ℕ) (ps : List Placed) : Type 0 where
+  pub each : (p : Placed) → Contains ps p → MarkStandsWithin n p.mark
 
-later_marks : {n : ℕ} (p : Placed) (ps : List Placed) → MarksLie n (p ∷ ps) → MarksLie n ps
+later_marks : {n : ℕ} (p : Placed) (ps : List Placed) → MarksStandWithin n (p ∷ ps) → MarksStandWithin n ps
 later_marks p ps h = record { each = λ q among. h.each q (contains_there p q ps among) }
 
 -- Locals
 
-pub record LocalsLie (n : ℕ) (ls : List Local) : Type 0 where
+pub record LocalsStandWithin (n : ℕ) (ls : List Local) : Type 0 where
   pub each : (l : Local) → Contains ls l → l.at ≤ n
 
-no_local : {n : ℕ} → LocalsLie n []
+no_local : {n : ℕ} → LocalsStandWithin n []
 no_local = record { each = λ l h. absurd (contains_nil l h) }
 
-one_local : {n : ℕ} (x : Local) → x.at ≤ n → LocalsLie n (x ∷ [])
+one_local : {n : ℕ} (x : Local) → x.at ≤ n → LocalsStandWithin n (x ∷ [])
 one_local {n} x h = record {
   each = λ l among. elim (contains_cases x l [] among) [
     | inl same ↦ subst (λ (y : Local). y.at ≤ n) same h
@@ -52,22 +52,22 @@ one_local {n} x h = record {
   ];
 }
 
-both_locals : {n : ℕ} {xs ys : List Local} → LocalsLie n xs → LocalsLie n ys → LocalsLie n (xs ++ ys)
+both_locals : {n : ℕ} {xs ys : List Local} → LocalsStandWithin n xs → LocalsStandWithin n ys → LocalsStandWithin n (xs ++ ys)
 both_locals {n} {xs} {ys} h k = record {
   each = λ l among. elim (Contains-append_cases xs ys l among) [ inl r ↦ h.each l r | inr r ↦ k.each l r ];
 }
 
 -- the names of the items begin there
-abbrev ItemsLie : ℕ → List Item → Type 0
-ItemsLie n [] = Unit {0}
-ItemsLie n (i ∷ is) = NameIn n i.name × ItemsLie n is
+abbrev ItemsStandWithin : ℕ → List Item → Type 0
+ItemsStandWithin n [] = Unit {0}
+ItemsStandWithin n (i ∷ is) = NameIn n i.name × ItemsStandWithin n is
 
 module _ (n : ℕ) where
   alone_lies : (name : Identifier) (is : List Item) → name.span.start ≤ n → NameIn n (alone name is).name
   alone_lies name [] h = h
   alone_lies name (i ∷ is) h = h
 
-  items_lie : (ps : Parameters) → ParametersLie n ps → ItemsLie n (items_of ps)
+  items_lie : (ps : Parameters) → ParametersStandWithin n ps → ItemsStandWithin n (items_of ps)
   items_lie no_parameter h = tt
   items_lie (named_and name ellipsis t ps) h = (h.0, items_lie ps h.1)
   items_lie (unnamed_and ellipsis t ps) h = (tt, items_lie ps h)
@@ -75,74 +75,74 @@ module _ (n : ℕ) where
 
   module _ (known : Known) (b : BodyPlace) where
     item_lies : (role : LocalRole) (typed : Option TrackedType) (o : Option Identifier) → NameIn n o
-        → LocalsLie n (item_local b role typed o)
+        → LocalsStandWithin n (item_local b role typed o)
     item_lies role typed None h = no_local
     item_lies role typed (Some name) h = by (is_blank name.text) (one_local _ h)
       where
-        by : (c : Bool) {xs : List Local} → LocalsLie n xs → LocalsLie n (if c then [] else xs)
+        by : (c : Bool) {xs : List Local} → LocalsStandWithin n xs → LocalsStandWithin n (if c then [] else xs)
         by true k = no_local
         by false k = k
 
-    parameters_lie : (k : ℕ) (is : List Item) → ItemsLie n is → LocalsLie n (parameter_locals known b k is)
+    parameters_lie : (k : ℕ) (is : List Item) → ItemsStandWithin n is → LocalsStandWithin n (parameter_locals known b k is)
     parameters_lie k [] h = no_local
     parameters_lie k (i ∷ is) h =
         both_locals (item_lies (parameter_role (parameter k) i) (item_type known.means i) i.name h.0)
         (parameters_lie (k + 1) is h.1)
 
-    receivers_lie : (is : List Item) → ItemsLie n is → LocalsLie n (receiver_locals known b is)
+    receivers_lie : (is : List Item) → ItemsStandWithin n is → LocalsStandWithin n (receiver_locals known b is)
     receivers_lie [] h = no_local
     receivers_lie (i ∷ is) h =
         both_locals (item_lies (parameter_role receiver i) (item_type known.means i) i.name h.0) (receivers_lie is h.1)
 
-    results_lie : (is : List Item) → ItemsLie n is → LocalsLie n (result_locals known b is)
+    results_lie : (is : List Item) → ItemsStandWithin n is → LocalsStandWithin n (result_locals known b is)
     results_lie [] h = no_local
     results_lie (i ∷ is) h =
         both_locals (item_lies result (only_cancel (item_type known.means i)) i.name h.0) (results_lie is h.1)
 
-    receiver_items_lie : (o : Option Parameters) → ReceiverLies n o → ItemsLie n (receiver_items o)
+    receiver_items_lie : (o : Option Parameters) → ReceiverStandsWithin n o → ItemsStandWithin n (receiver_items o)
     receiver_items_lie None h = tt
     receiver_items_lie (Some ps) h = items_lie ps h
 
-    signature_lies : (s : Signature) → SignatureLies n s → LocalsLie n (signature_locals known b s)
+    signature_lies : (s : Signature) → SignatureStandsWithin n s → LocalsStandWithin n (signature_locals known b s)
     signature_lies (signature_of ps rs brackets) h =
         both_locals (parameters_lie 0 (items_of ps) (items_lie ps h.0)) (results_lie (items_of rs) (items_lie rs h.1))
 
-    body_locals_lie : Lies n (opens b) → LocalsLie n (body_locals known b)
+    body_locals_lie : StandsWithin n (opens b) → LocalsStandWithin n (body_locals known b)
     body_locals_lie h =
         both_locals (receivers_lie (receiver_items b.receiver) (receiver_items_lie b.receiver h.0))
         (signature_lies b.signature h.1)
 
   declared_lies : (known : Known) (m : Mention) → m.named.at ≤ n → (bodies : List BodyPlace) (o : Option ℕ)
-      → LocalsLie n (declared_local known m bodies o)
+      → LocalsStandWithin n (declared_local known m bodies o)
   declared_lies known m h [] o = no_local
   declared_lies known m h (b ∷ bs) None = no_local
   declared_lies known m h (b ∷ bs) (Some number) = one_local _ h
 
-  there_lie : (known : Known) (bodies : List BodyPlace) (mark : Mark) → MarkLies n mark
-      → LocalsLie n (locals_there known bodies mark)
+  there_lie : (known : Known) (bodies : List BodyPlace) (mark : Mark) → MarkStandsWithin n mark
+      → LocalsStandWithin n (locals_there known bodies mark)
   there_lie known bodies (mentions m) h = declared_lies known m h.1.0 bodies (declared_by known m)
   there_lie known bodies (defers_literal site at) h = no_local
   there_lie known bodies (returns at es) h = no_local
   there_lie known bodies (opens b) h = body_locals_lie known b h
   there_lie known bodies closes h = no_local
 
-  pub locals_lie : (known : Known) (ps : List Placed) → MarksLie n ps → LocalsLie n (locals_of known ps)
+  pub locals_lie : (known : Known) (ps : List Placed) → MarksStandWithin n ps → LocalsStandWithin n (locals_of known ps)
   unfolding locals_of
   locals_lie known [] h = no_local
   locals_lie known (p ∷ ps) h =
       both_locals (there_lie known p.bodies p.mark (h.each p (contains_here p ps))) (locals_lie known ps (later_marks p ps h))
 
 -- what the marks of a file name stands there, and so do its locals
-pub record FileLies (n : ℕ) (seen : Seen) : Type 0 where
-  pub marks : MarksLie n seen.marks
-  pub locals : LocalsLie n seen.locals
+pub record FileStandsWithin (n : ℕ) (seen : Seen) : Type 0 where
+  pub marks : MarksStandWithin n seen.marks
+  pub locals : LocalsStandWithin n seen.locals
 
 -- the offset, if it is one
 abbrev IsLow : ℕ → Option ℕ → Type 0
 IsLow n None = Unit {0}
 IsLow n (Some k) = k ≤ n
 
-record VariablesLie (n : ℕ) (vs : List Variable) : Type 0 where
+record VariablesStandWithin (n : ℕ) (vs : List Variable) : Type 0 where
   each : (v : Variable) → Contains vs v → v.first ≤ n
 
 from_filter : {X : Type 0} (p : X → Bool) (x : X) (xs : List X) → Contains (filter p xs) x → Contains xs x
@@ -157,30 +157,30 @@ from_filter p x (y ∷ ys) h = by (p y) (from_filter p x ys) h
     ]
     by false rest k = contains_there y x ys (rest k)
 
-module _ (n : ℕ) (seen : Seen) (lies : FileLies n seen) where
+module _ (n : ℕ) (seen : Seen) (lies : FileStandsWithin n seen) where
   -- use faults of marks
 
-  results_faults_lie : (ls : List Local) → LocalsLie n ls → FaultsLie n (result_faults ls)
+  results_faults_lie : (ls : List Local) → LocalsStandWithin n ls → FaultsStandWithin n (result_faults ls)
   results_faults_lie [] h = no_fault
   results_faults_lie (l ∷ ls) h =
       let rest = results_faults_lie ls record { each = λ k among. h.each k (contains_there l k ls among) } in
       faults_if (is_result l.role && is_cancel (option_map kind_of_type l.typed))
       (both_faults (one_fault l.at bound_again l.name (h.each l (contains_here l ls))) rest) rest
 
-  mark_lies : (bodies : List BodyPlace) (mark : Mark) → MarkLies n mark → FaultsLie n (mark_faults seen bodies mark)
+  mark_lies : (bodies : List BodyPlace) (mark : Mark) → MarkStandsWithin n mark → FaultsStandWithin n (mark_faults seen bodies mark)
   mark_lies bodies (mentions m) h = mention_faults_lie n seen bodies m h.1.0 h.0 h.1.1
   mark_lies bodies (defers_literal site at) h = no_fault
   mark_lies bodies (returns at es) h = no_fault
   mark_lies bodies (opens b) h = results_faults_lie (body_locals seen.known b) (body_locals_lie n seen.known b h)
   mark_lies bodies closes h = no_fault
 
-  outer_lie : (ps : List Placed) → MarksLie n ps → FaultsLie n (outer_faults_of seen ps)
+  outer_lie : (ps : List Placed) → MarksStandWithin n ps → FaultsStandWithin n (outer_faults_of seen ps)
   outer_lie [] h = no_fault
   outer_lie (p ∷ ps) h =
       let rest = outer_lie ps (later_marks p ps h) in
       faults_if (is_outside p.bodies) (both_faults (mark_lies p.bodies p.mark (h.each p (contains_here p ps))) rest) rest
 
-  inner_lie : (body : ℕ) (ps : List Placed) → MarksLie n ps → FaultsLie n (faults_of seen body ps)
+  inner_lie : (body : ℕ) (ps : List Placed) → MarksStandWithin n ps → FaultsStandWithin n (faults_of seen body ps)
   inner_lie body [] h = no_fault
   inner_lie body (p ∷ ps) h =
       let rest = inner_lie body ps (later_marks p ps h) in
@@ -199,7 +199,7 @@ module _ (n : ℕ) (seen : Seen) (lies : FileLies n seen) where
   least_low k None h l = h
   least_low k (Some j) h l = lesser_low k j h l
 
-  occurs_low : (body : ℕ) (l : Local) (bodies : List BodyPlace) (mark : Mark) → MarkLies n mark
+  occurs_low : (body : ℕ) (l : Local) (bodies : List BodyPlace) (mark : Mark) → MarkStandsWithin n mark
       → occurs_in seen.known body l bodies mark ≡ true
       → occurrence mark ≤ n
   occurs_low body l bodies (mentions m) h e = h.1.0
@@ -208,7 +208,7 @@ module _ (n : ℕ) (seen : Seen) (lies : FileLies n seen) where
   occurs_low body l bodies (opens b) h e = absurd (true≢false (sym e))
   occurs_low body l bodies closes h e = absurd (true≢false (sym e))
 
-  first_low : (body : ℕ) (l : Local) (ps : List Placed) → MarksLie n ps → IsLow n (first_occurrence seen.known body l ps)
+  first_low : (body : ℕ) (l : Local) (ps : List Placed) → MarksStandWithin n ps → IsLow n (first_occurrence seen.known body l ps)
   first_low body l [] h = tt
   first_low body l (p ∷ ps) h =
       by (occurs_in seen.known body l p.bodies p.mark) (occurs_low body l p.bodies p.mark (h.each p (contains_here p ps)))
@@ -227,10 +227,10 @@ module _ (n : ℕ) (seen : Seen) (lies : FileLies n seen) where
   first_in_low captured l None h low = h
   first_in_low captured l (Some first) h low = low
 
-  none_there : VariablesLie n []
+  none_there : VariablesStandWithin n []
   none_there = record { each = λ v h. absurd (contains_nil v h) }
 
-  variable_low : (body : ℕ) (l : Local) (o : Option VariableKind) → l.at ≤ n → VariablesLie n (variable_there seen body l o)
+  variable_low : (body : ℕ) (l : Local) (o : Option VariableKind) → l.at ≤ n → VariablesStandWithin n (variable_there seen body l o)
   variable_low body l None h = none_there
   variable_low body l (Some kind) h = record {
     each = λ v among. elim (contains_cases _ v [] among) [
@@ -240,20 +240,20 @@ module _ (n : ℕ) (seen : Seen) (lies : FileLies n seen) where
     ];
   }
 
-  found_low : (body k : ℕ) → VariablesLie n (variable_found seen body (found seen (Some k)))
+  found_low : (body k : ℕ) → VariablesStandWithin n (variable_found seen body (found seen (Some k)))
   found_low body k = by (found seen (Some k)) refl
     where
-      if_so : (c : Bool) (xs : List Variable) → VariablesLie n xs → VariablesLie n (if c then xs else [])
+      if_so : (c : Bool) (xs : List Variable) → VariablesStandWithin n xs → VariablesStandWithin n (if c then xs else [])
       if_so true xs h = h
       if_so false xs h = none_there
 
-      by : (o : Option Local) → found seen (Some k) ≡ o → VariablesLie n (variable_found seen body o)
+      by : (o : Option Local) → found seen (Some k) ≡ o → VariablesStandWithin n (variable_found seen body o)
       by None e = none_there
       by (Some l) e =
           if_so (is_variable_of seen body l) (variable_there seen body l (tracked_kind seen (Some l)))
           (variable_low body l (tracked_kind seen (Some l)) (lies.locals.each l (found_is seen (Some k) l e).1))
 
-  variables_low : (body : ℕ) → VariablesLie n (variables_of seen body)
+  variables_low : (body : ℕ) → VariablesStandWithin n (variables_of seen body)
   variables_low body = record {
     each = λ v among.
         let numbers = distinct (map (λ (l : Local). l.number) seen.locals) in
@@ -261,38 +261,38 @@ module _ (n : ℕ) (seen : Seen) (lies : FileLies n seen) where
         (found_low body w.0).each v w.1;
   }
 
-  after_low : (k : ℕ) (vs : List Variable) → VariablesLie n vs → FaultsLie n (fault_after k vs)
+  after_low : (k : ℕ) (vs : List Variable) → VariablesStandWithin n vs → FaultsStandWithin n (fault_after k vs)
   after_low k [] h = no_fault
   after_low zero (v ∷ vs) h = one_fault v.first too_many_variables v.name (h.each v (contains_here v vs))
   after_low (suc k) (v ∷ vs) h = after_low k vs record { each = λ u among. h.each u (contains_there v u vs among) }
 
-  some_low : (p : Variable → Bool) (vs : List Variable) → VariablesLie n vs → VariablesLie n (filter p vs)
+  some_low : (p : Variable → Bool) (vs : List Variable) → VariablesStandWithin n vs → VariablesStandWithin n (filter p vs)
   some_low p vs h = record { each = λ v among. h.each v (from_filter p v vs among) }
 
-  too_many_lie : (vs : List Variable) → VariablesLie n vs → FaultsLie n (too_many_faults vs)
+  too_many_lie : (vs : List Variable) → VariablesStandWithin n vs → FaultsStandWithin n (too_many_faults vs)
   too_many_lie vs h =
       both_faults (after_low _ (filter is_cancel_variable vs) (some_low is_cancel_variable vs h))
       (after_low _ (filter (λ v. not (is_cancel_variable v)) vs) (some_low (λ v. not (is_cancel_variable v)) vs h))
 
   -- all use faults
 
-  pub outer_faults_lie : FaultsLie n (outer_faults seen)
+  pub outer_faults_lie : FaultsStandWithin n (outer_faults seen)
   outer_faults_lie = outer_lie seen.marks lies.marks
 
-  pub body_faults_lie : (body : ℕ) → FaultsLie n (body_faults seen body)
+  pub body_faults_lie : (body : ℕ) → FaultsStandWithin n (body_faults seen body)
   body_faults_lie body =
       both_faults (inner_lie body seen.marks lies.marks) (too_many_lie (variables_of seen body) (variables_low body))
 
   -- events
 
-  given_lies : (bodies : List BodyPlace) (mark : Mark) → MarkLies n mark → EventsLie n (mark_events seen bodies mark)
+  given_lies : (bodies : List BodyPlace) (mark : Mark) → MarkStandsWithin n mark → EventsStandWithin n (mark_events seen bodies mark)
   given_lies bodies (mentions m) h = (variable_lies n seen bodies m h.1.0).events
   given_lies bodies (defers_literal site at) h = one_event (defer_literal at) tt
   given_lies bodies (returns at es) h = one_event (return_event (handed_on seen (body_gives seen.known bodies) 0 es)) tt
   given_lies bodies (opens b) h = no_event
   given_lies bodies closes h = no_event
 
-  event_lies : (body at : ℕ) (e : Event) → Contains (events_at seen body seen.marks at) e → EventLies n e
+  event_lies : (body at : ℕ) (e : Event) → Contains (events_at seen body seen.marks at) e → EventStandsWithin n e
   event_lies body at e among =
       let w = marked seen body seen.marks at e among in
       (given_lies w.0.bodies w.0.mark (lies.marks.each w.0 w.1)).each e w.3
@@ -302,23 +302,23 @@ module _ (n : ℕ) (seen : Seen) (lies : FileLies n seen) where
   module _ (promises : Promises) (b : BodyPlace)
       (stand : (t : List (Occurrence Event)) (o : Occurrence Event) → Reaches (paths_of seen promises b).code t o → o.at ≤ n) where
     reached_lies : (t : List (Occurrence Event)) (o : Occurrence Event) → Reaches (paths_of seen promises b).code t o
-        → EventLies n o.event
+        → EventStandsWithin n o.event
     reached_lies t o reached =
-        list_has (EventLies n) (paths_of seen promises b).code (t ++ o ∷ []) stopped reached
-        (of_body (EventLies n) (sites_of seen b.at) tt tt (event_lies b.at) (block_of b)) o
+        list_has (EventStandsWithin n) (paths_of seen promises b).code (t ++ o ∷ []) stopped reached
+        (of_body (EventStandsWithin n) (sites_of seen b.at) tt tt (event_lies b.at) (block_of b)) o
         (Contains-append_right t (o ∷ []) o (contains_here o []))
 
-    binds_low : (e : Event) (u : VariableAt) → BindsCancel e u → EventLies n e → u.at ≤ n
+    binds_low : (e : Event) (u : VariableAt) → BindsCancel e u → EventStandsWithin n e → u.at ≤ n
     binds_low e u obtains h = h
     binds_low e u clears h = h
 
-    passes_low : (e : Event) (u : VariableAt) → PassesOn promises e u → EventLies n e → u.at ≤ n
+    passes_low : (e : Event) (u : VariableAt) → PassesOn promises e u → EventStandsWithin n e → u.at ≤ n
     passes_low e u (passes none) h = h
     passes_low e u (defers none) h = h
 
     path_lies : (f : PathFault) → IsPathFault (paths_of seen promises b) f → f.at ≤ n
     path_lies f (loses_cancel v u t o is kind reached binds same lost) = binds_low o.event u binds (reached_lies t o reached)
-    path_lies f (loses_group g u state t o reached makes same live) = subst (EventLies n) makes (reached_lies t o reached)
+    path_lies f (loses_group g u state t o reached makes same live) = subst (EventStandsWithin n) makes (reached_lies t o reached)
     path_lies f (returns_live g handed t o comes declared live) = stand t o comes.reaches
     path_lies f (returns_open v handed t o comes owes opened) = stand t o comes.reaches
     path_lies f (returns_pending v handed t o comes owes left) = stand t o comes.reaches

@@ -10,47 +10,47 @@ use Rattle.meaning.specs.Mentions.{BodyPlace, Standing, ordinary, first_of_for, 
 use Rattle.meaning.specs.Tracked.{is_universe, variable_of, declared_by, is_maker, Giving, giving_of, row_giving, are_locals, LocalRole, parameter, receiver, variadic, result, in_block, Local}
 use Rattle.meaning.specs.Uses.{Seen, found, kind_of, tracked_kind, last_name, Event, other, obtain, clear, call, defer_call, pass, defer_pass, lend, start, try, wait, defer_wait, make, defer_literal, return_event, Binding, obtained, cleared, made, binding_at, binding_event, row_binds, allowed_if, either_use, variable_at, cancel_called, cancel_passed, cancel_use, only_argument, group_started, group_tried, group_awaited, group_limited, group_called, group_lent, group_use, is_own, body_gives, has_no_argument, has_its_arguments, is_statement_place, is_deferred_place, is_item_place, is_statement_or_value, is_call_place, takes, is_given_as, cancel_type_of, type_from, callee_of, is_free, started_literal, is_member_of, literals_between, is_deferred, UseCode, recover_used, cancel_discarded, cancel_used_otherwise, group_used_otherwise, bound_again, UseFault, fault_at, otherwise, Outcome, if_not, again_faults, type_faults, first_faults, binding_outcome, use_outcome, kind_use, mention_outcome, row_outcome, role_outcome, local_outcome, variable_outcome, last_fault, has_blank, row_call_faults, hands_on, call_faults, giving_role_faults, giving_faults, is_made_or_parameter, mention_faults, is_in_literal}
 use Rattle.meaning.proofs.Membership.{contains_nil, contains_cases}
-use Rattle.meaning_runs.specs.NamePlaces.{PlaceLies, RoleLies}
+use Rattle.meaning_runs.specs.NamePlaces.{PlaceStandsWithin, RoleStandsWithin}
 
 -- the offset of an event, where it has one
-abbrev pub EventLies : ℕ → Event → Type 0
-EventLies n other = Unit {0}
-EventLies n (obtain u f k is_new) = u.at ≤ n
-EventLies n (clear u) = u.at ≤ n
-EventLies n (call v) = Unit {0}
-EventLies n (defer_call v) = Unit {0}
-EventLies n (pass u f k) = u.at ≤ n
-EventLies n (defer_pass u f k) = u.at ≤ n
-EventLies n (lend g f k) = Unit {0}
-EventLies n (start g literal) = Unit {0}
-EventLies n (try g literal) = Unit {0}
-EventLies n (wait g) = Unit {0}
-EventLies n (defer_wait g) = Unit {0}
-EventLies n (make u state) = u.at ≤ n
-EventLies n (defer_literal at) = Unit {0}
-EventLies n (return_event handed) = Unit {0}
+abbrev pub EventStandsWithin : ℕ → Event → Type 0
+EventStandsWithin n other = Unit {0}
+EventStandsWithin n (obtain u f k is_new) = u.at ≤ n
+EventStandsWithin n (clear u) = u.at ≤ n
+EventStandsWithin n (call v) = Unit {0}
+EventStandsWithin n (defer_call v) = Unit {0}
+EventStandsWithin n (pass u f k) = u.at ≤ n
+EventStandsWithin n (defer_pass u f k) = u.at ≤ n
+EventStandsWithin n (lend g f k) = Unit {0}
+EventStandsWithin n (start g literal) = Unit {0}
+EventStandsWithin n (try g literal) = Unit {0}
+EventStandsWithin n (wait g) = Unit {0}
+EventStandsWithin n (defer_wait g) = Unit {0}
+EventStandsWithin n (make u state) = u.at ≤ n
+EventStandsWithin n (defer_literal at) = Unit {0}
+EventStandsWithin n (return_event handed) = Unit {0}
 
-pub record EventsLie (n : ℕ) (es : List Event) : Type 0 where
-  pub each : (e : Event) → Contains es e → EventLies n e
+pub record EventsStandWithin (n : ℕ) (es : List Event) : Type 0 where
+  pub each : (e : Event) → Contains es e → EventStandsWithin n e
 
-pub record FaultsLie (n : ℕ) (fs : List UseFault) : Type 0 where
+pub record FaultsStandWithin (n : ℕ) (fs : List UseFault) : Type 0 where
   pub each : (f : UseFault) → Contains fs f → f.at ≤ n
 
-pub no_event : {n : ℕ} → EventsLie n []
+pub no_event : {n : ℕ} → EventsStandWithin n []
 no_event = record { each = λ e h. absurd (contains_nil e h) }
 
-pub one_event : {n : ℕ} (x : Event) → EventLies n x → EventsLie n (x ∷ [])
+pub one_event : {n : ℕ} (x : Event) → EventStandsWithin n x → EventsStandWithin n (x ∷ [])
 one_event {n} x h = record {
   each = λ e among. elim (contains_cases x e [] among) [
-    | inl same ↦ subst (EventLies n) same h
+    | inl same ↦ subst (EventStandsWithin n) same h
     | inr none ↦ absurd (contains_nil e none)
   ];
 }
 
-pub no_fault : {n : ℕ} → FaultsLie n []
+pub no_fault : {n : ℕ} → FaultsStandWithin n []
 no_fault = record { each = λ f h. absurd (contains_nil f h) }
 
-pub one_fault : {n : ℕ} (at : ℕ) (code : UseCode) (name : List ℕ) → at ≤ n → FaultsLie n (fault_at at code name)
+pub one_fault : {n : ℕ} (at : ℕ) (code : UseCode) (name : List ℕ) → at ≤ n → FaultsStandWithin n (fault_at at code name)
 one_fault {n} at code name h = record {
   each = λ f among. elim (contains_cases _ f [] among) [
     | inl same ↦ subst (λ (x : UseFault). x.at ≤ n) same h
@@ -58,29 +58,29 @@ one_fault {n} at code name h = record {
   ];
 }
 
-pub both_faults : {n : ℕ} {xs ys : List UseFault} → FaultsLie n xs → FaultsLie n ys → FaultsLie n (xs ++ ys)
+pub both_faults : {n : ℕ} {xs ys : List UseFault} → FaultsStandWithin n xs → FaultsStandWithin n ys → FaultsStandWithin n (xs ++ ys)
 both_faults {n} {xs} {ys} h k = record {
   each = λ f among. elim (Contains-append_cases xs ys f among) [ inl r ↦ h.each f r | inr r ↦ k.each f r ];
 }
 
-pub faults_if : {n : ℕ} (b : Bool) {xs ys : List UseFault} → FaultsLie n xs → FaultsLie n ys → FaultsLie n (if b then xs else ys)
+pub faults_if : {n : ℕ} (b : Bool) {xs ys : List UseFault} → FaultsStandWithin n xs → FaultsStandWithin n ys → FaultsStandWithin n (if b then xs else ys)
 faults_if true h k = h
 faults_if false h k = k
 
-not_if : {n : ℕ} (b : Bool) {xs : List UseFault} → FaultsLie n xs → FaultsLie n (if_not b xs)
+not_if : {n : ℕ} (b : Bool) {xs : List UseFault} → FaultsStandWithin n xs → FaultsStandWithin n (if_not b xs)
 not_if b h = faults_if b no_fault h
 
 -- what an allowed mention gives
 abbrev EventsLieIf : ℕ → Option (List Event) → Type 0
 EventsLieIf n None = Unit {0}
-EventsLieIf n (Some es) = EventsLie n es
+EventsLieIf n (Some es) = EventsStandWithin n es
 
-pub record OutcomeLies (n : ℕ) (o : Outcome) : Type 0 where
-  pub faults : FaultsLie n o.faults
-  pub events : EventsLie n o.events
+pub record OutcomeStandsWithin (n : ℕ) (o : Outcome) : Type 0 where
+  pub faults : FaultsStandWithin n o.faults
+  pub events : EventsStandWithin n o.events
 
 module _ (n : ℕ) where
-  allowed : (b : Bool) (es : List Event) → EventsLie n es → EventsLieIf n (allowed_if b es)
+  allowed : (b : Bool) (es : List Event) → EventsStandWithin n es → EventsLieIf n (allowed_if b es)
   allowed true es h = h
   allowed false es h = tt
 
@@ -89,8 +89,8 @@ module _ (n : ℕ) where
   one_of (Some es) k h m = h
 
   one_allowed : (b c : Bool) (x y : Event)
-      → EventLies n x
-      → EventLies n y
+      → EventStandsWithin n x
+      → EventStandsWithin n y
       → EventsLieIf n (either_use (allowed_if b (x ∷ [])) (allowed_if c (y ∷ [])))
   one_allowed b c x y h k =
       one_of (allowed_if b (x ∷ [])) (allowed_if c (y ∷ [])) (allowed b (x ∷ []) (one_event x h))
@@ -181,44 +181,44 @@ module _ (n : ℕ) where
     kind_lies cancel = cancel_lies m.role
     kind_lies group = group_lies m.role
 
-    use_lies : (kind : VariableKind) (o : Option (List Event)) → EventsLieIf n o → OutcomeLies n (use_outcome kind l m o)
+    use_lies : (kind : VariableKind) (o : Option (List Event)) → EventsLieIf n o → OutcomeStandsWithin n (use_outcome kind l m o)
     use_lies kind None h = record { faults = one_fault m.named.at (otherwise kind) l.name low; events = no_event }
     use_lies kind (Some es) h = record { faults = no_fault; events = h }
 
-    unbound_lies : (kind : Option VariableKind) → OutcomeLies n (mention_outcome seen l kind bodies m)
+    unbound_lies : (kind : Option VariableKind) → OutcomeStandsWithin n (mention_outcome seen l kind bodies m)
     unbound_lies None = record { faults = no_fault; events = no_event }
     unbound_lies (Some kind) = use_lies kind (kind_use seen l kind bodies m) (kind_lies kind)
 
     -- bindings
 
-    again_lies : FaultsLie n (again_faults seen l m)
+    again_lies : FaultsStandWithin n (again_faults seen l m)
     again_lies =
         faults_if (is_in_literal seen l && not (is_some (declared_by seen.known m)))
         (one_fault m.named.at bound_again l.name low) no_fault
 
-    type_lies : (row : Row) (binding : Binding) → FaultsLie n (type_faults seen l m row binding)
+    type_lies : (row : Row) (binding : Binding) → FaultsStandWithin n (type_faults seen l m row binding)
     type_lies row (obtained k) =
         not_if (is_same_type its_type (type_from k (row_giving seen.known row)))
         (one_fault m.named.at cancel_used_otherwise l.name low)
     type_lies row cleared = no_fault
     type_lies row (made state) = no_fault
 
-    first_lies : (standing : Standing) (kind : VariableKind) → FaultsLie n (first_faults standing kind l m)
+    first_lies : (standing : Standing) (kind : VariableKind) → FaultsStandWithin n (first_faults standing kind l m)
     first_lies ordinary kind = no_fault
     first_lies first_of_for kind = one_fault m.named.at (otherwise kind) l.name low
     first_lies communication kind = no_fault
 
-    event_lies : (row : Row) (binding : Binding) → EventLies n (binding_event seen.known l m row binding)
+    event_lies : (row : Row) (binding : Binding) → EventStandsWithin n (binding_event seen.known l m row binding)
     event_lies row (obtained k) = low
     event_lies row cleared = low
     event_lies row (made state) = low
 
-    here_lies : (own : Bool) (x : Event) → EventLies n x → EventsLie n (if own then x ∷ [] else [])
+    here_lies : (own : Bool) (x : Event) → EventStandsWithin n x → EventsStandWithin n (if own then x ∷ [] else [])
     here_lies true x h = one_event x h
     here_lies false x h = no_event
 
     bound_lies : (kind : VariableKind) (row : Row) (binding : Binding) (r : LocalRole)
-        → OutcomeLies n (binding_outcome seen l kind bodies m row binding r)
+        → OutcomeStandsWithin n (binding_outcome seen l kind bodies m row binding r)
     bound_lies kind row binding (parameter k) =
         record { faults = both_faults (one_fault m.named.at (otherwise kind) l.name low) again_lies; events = no_event }
     bound_lies kind row binding receiver =
@@ -233,13 +233,13 @@ module _ (n : ℕ) where
     }
 
     row_lies : (kind : Option VariableKind) (row : Row) (binding : Option Binding)
-        → OutcomeLies n (row_outcome seen l kind bodies m row binding)
+        → OutcomeStandsWithin n (row_outcome seen l kind bodies m row binding)
     row_lies None row None = record { faults = no_fault; events = no_event }
     row_lies None row (Some binding) = record { faults = no_fault; events = no_event }
     row_lies (Some kind) row None = unbound_lies (tracked_kind seen (Some l))
     row_lies (Some kind) row (Some binding) = bound_lies kind row binding l.role
 
-    role_lies : (r : Role) → OutcomeLies n (role_outcome seen l bodies m r)
+    role_lies : (r : Role) → OutcomeStandsWithin n (role_outcome seen l bodies m r)
     role_lies (left k row) = row_lies (kind_of seen (Some l)) row (binding_at seen row k)
     role_lies elsewhere = unbound_lies (tracked_kind seen (Some l))
     role_lies (called c) = unbound_lies (tracked_kind seen (Some l))
@@ -251,25 +251,25 @@ module _ (n : ℕ) where
     role_lies parameter_pointer = unbound_lies (tracked_kind seen (Some l))
 
   module _ (seen : Seen) (bodies : List BodyPlace) (m : Mention) (low : m.named.at ≤ n) where
-    local_lies : (o : Option Local) → OutcomeLies n (local_outcome seen bodies m o)
+    local_lies : (o : Option Local) → OutcomeStandsWithin n (local_outcome seen bodies m o)
     local_lies None = record { faults = no_fault; events = no_event }
     local_lies (Some l) = role_lies seen l bodies m low m.role
 
-    pub variable_lies : OutcomeLies n (variable_outcome seen bodies m)
+    pub variable_lies : OutcomeStandsWithin n (variable_outcome seen bodies m)
     variable_lies = local_lies (found seen (variable_of seen.known m))
 
     -- makers and givers
 
-    last_lies : (code : UseCode) → FaultsLie n (last_fault code m.named)
+    last_lies : (code : UseCode) → FaultsStandWithin n (last_fault code m.named)
     last_lies code = one_fault m.named.at code (last_name m.named) low
 
-    row_call_lies : (row : Row) (o : Option Giving) → row.statement ≤ n → FaultsLie n (row_call_faults seen m.named row o)
+    row_call_lies : (row : Row) (o : Option Giving) → row.statement ≤ n → FaultsStandWithin n (row_call_faults seen m.named row o)
     row_call_lies row None starts = last_lies cancel_used_otherwise
     row_call_lies row (Some g) starts =
         faults_if (has_blank row g.gives) (one_fault row.statement cancel_discarded (last_name m.named) starts)
         (faults_if (are_locals seen.known row g.gives && row_binds seen row) no_fault (last_lies cancel_used_otherwise))
 
-    call_lies : (g : Giving) (place : CallPlace) → m.site ≤ n → PlaceLies n place → FaultsLie n (call_faults seen bodies m g place)
+    call_lies : (g : Giving) (place : CallPlace) → m.site ≤ n → PlaceStandsWithin n place → FaultsStandWithin n (call_faults seen bodies m g place)
     call_lies g nowhere site h = last_lies cancel_used_otherwise
     call_lies g as_statement site h = one_fault m.site cancel_discarded (last_name m.named) site
     call_lies g (only_value row) site h = row_call_lies row (row_giving seen.known row) h
@@ -277,10 +277,10 @@ module _ (n : ℕ) where
         not_if (hands_on (body_gives seen.known bodies) k g) (last_lies cancel_used_otherwise)
     call_lies g deferred site h = last_lies cancel_used_otherwise
 
-    maker_lies : FaultsLie n (if is_maker seen.known m.named then last_fault cancel_used_otherwise m.named else [])
+    maker_lies : FaultsStandWithin n (if is_maker seen.known m.named then last_fault cancel_used_otherwise m.named else [])
     maker_lies = faults_if (is_maker seen.known m.named) (last_lies cancel_used_otherwise) no_fault
 
-    giving_role_lies : (g : Giving) (r : Role) → m.site ≤ n → RoleLies n r → FaultsLie n (giving_role_faults seen bodies m g r)
+    giving_role_lies : (g : Giving) (r : Role) → m.site ≤ n → RoleStandsWithin n r → FaultsStandWithin n (giving_role_faults seen bodies m g r)
     giving_role_lies g (called c) site h = call_lies g c.place site h
     giving_role_lies g called_in_brackets site h = last_lies cancel_used_otherwise
     giving_role_lies g elsewhere site h = maker_lies
@@ -291,12 +291,12 @@ module _ (n : ℕ) where
     giving_role_lies g (new_literal row) site h = maker_lies
     giving_role_lies g parameter_pointer site h = maker_lies
 
-    giving_lies : (o : Option Giving) → m.site ≤ n → RoleLies n m.role → FaultsLie n (giving_faults seen bodies m o)
+    giving_lies : (o : Option Giving) → m.site ≤ n → RoleStandsWithin n m.role → FaultsStandWithin n (giving_faults seen bodies m o)
     giving_lies None site h = no_fault
     giving_lies (Some g) site h = giving_role_lies g m.role site h
 
     -- all of a mention
-    pub mention_faults_lie : m.site ≤ n → RoleLies n m.role → FaultsLie n (mention_faults seen bodies m)
+    pub mention_faults_lie : m.site ≤ n → RoleStandsWithin n m.role → FaultsStandWithin n (mention_faults seen bodies m)
     mention_faults_lie site h =
         both_faults variable_lies.faults
         (both_faults (giving_lies (giving_of seen.known m.named) site h)

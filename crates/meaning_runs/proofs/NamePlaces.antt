@@ -7,23 +7,23 @@ use Rattle.meaning.specs.Mentions.{part_of, expressions_marks, receiver_marks, f
 use Rattle.meaning.specs.TreeOfText.{first_place, IsTreeOf}
 use Rattle.meaning.specs.Grammar.{as_type, as_expression, SpellsSpecs, SpellsDeclaration, SpellsImportSpec, SpellsImportSpecs, SpellsOneImport, SpellsImports, SpellsReceiver, SpellsFunction, SpellsTopLevel, SpellsTopLevels, SpellsFile}
 use Rattle.meaning.proofs.Membership.{contains_nil, contains_cases}
-use Rattle.meaning_runs.specs.NamePlaces.{ReceiverLies, NamesLieInTexts}
+use Rattle.meaning_runs.specs.NamePlaces.{ReceiverStandsWithin, NamesLieInTexts}
 use Rattle.meaning_runs.proofs.BodyOffsetsTokens.{Ordered, first_ordered, tokens_ordered, tokens_under}
 use Rattle.meaning_runs.proofs.BodyOffsetsSpelled.{no_expressions}
 use Rattle.meaning_runs.proofs.BodyOffsets.{no_outer_specs}
-use Rattle.meaning_runs.proofs.NameRules.{IsInside, Says, Keeps, AllLie, none_lie, both_lie, says_nothing, keeps_nothing, says_never, keeps_token, says_both, behind, ending, says_chosen, so, given, spanned, keeps_only_if, enclosed, keeps_string, keeps_semicolon, says_identifier, keeps_optional_identifier, says_identifiers, both}
+use Rattle.meaning_runs.proofs.NameRules.{IsInside, Says, Keeps, AllStandWithin, none_lie, both_lie, says_nothing, keeps_nothing, says_never, keeps_token, says_both, behind, ending, says_chosen, so, given, spanned, keeps_only_if, enclosed, keeps_string, keeps_semicolon, says_identifier, keeps_optional_identifier, says_identifiers, both}
 use Rattle.meaning_runs.proofs.NameParts.{body_lies, says_perhaps, says_expressions}
 use Rattle.meaning_runs.proofs.NamesSpelled.{says_last, of_expression, of_each, of_optional, of_signature, of_items, of_statements}
 
 module _ (text : List ℕ) (n : ℕ) where
   receiver : (site : ℕ) (ps : Option Parameters)
-      → Says n (AllLie n (receiver_marks site ps) × ReceiverLies n ps) (SpellsReceiver text ps)
+      → Says n (AllStandWithin n (receiver_marks site ps) × ReceiverStandsWithin n ps) (SpellsReceiver text ps)
   receiver site None = says_nothing (none_lie, tt)
   receiver site (Some ps) = given (enclosed _ _ (of_items text n true true site ps))
 
   -- a function by its parts
   with_block : (f : Function) (b : Option Block)
-      → Says n (AllLie n (function_marks f b)) (SpellsFunction text record f { body = b })
+      → Says n (AllStandWithin n (function_marks f b)) (SpellsFunction text record f { body = b })
   with_block f None =
       spanned (behind (keeps_token _) (so (λ w. both_lie w.0.0 w.1.0)
       (says_both (receiver f.span.start f.receiver) (behind (says_identifier text f.name)
@@ -36,7 +36,7 @@ module _ (text : List ℕ) (n : ℕ) where
       (spanned (enclosed _ _ (of_statements text n b.statements))))))))
 
   outer_specs : (keyword : DeclKeyword) (is_grouped : Bool) (specs : Specs)
-      → Says n (AllLie n (outer_specs_marks specs)) (SpellsSpecs text keyword is_grouped specs)
+      → Says n (AllStandWithin n (outer_specs_marks specs)) (SpellsSpecs text keyword is_grouped specs)
   unfolding SpellsSpecs
   outer_specs keyword is_grouped no_spec = says_chosen is_grouped (says_nothing none_lie) says_never
   outer_specs keyword is_grouped (value_and names t es span specs) =
@@ -54,14 +54,14 @@ module _ (text : List ℕ) (n : ℕ) where
       (says_chosen is_grouped (behind keeps_semicolon (outer_specs keyword true specs))
       (says_last n (outer_specs_marks specs) specs (no_outer_specs specs))))
 
-  top_level : (d : TopLevelDeclaration) → Says n (AllLie n (top_level_marks d)) (SpellsTopLevel text d)
+  top_level : (d : TopLevelDeclaration) → Says n (AllStandWithin n (top_level_marks d)) (SpellsTopLevel text d)
   unfolding SpellsDeclaration
   top_level (function_declaration f) = with_block f f.body
   top_level (general_declaration (declaration_of keyword specs is_grouped span)) =
       spanned (behind (keeps_token _)
       (says_chosen is_grouped (enclosed _ _ (outer_specs keyword true specs)) (outer_specs keyword false specs)))
 
-  top_levels : (ds : List TopLevelDeclaration) → Says n (AllLie n (top_levels_marks ds)) (SpellsTopLevels text ds)
+  top_levels : (ds : List TopLevelDeclaration) → Says n (AllStandWithin n (top_levels_marks ds)) (SpellsTopLevels text ds)
   top_levels [] = says_nothing none_lie
   top_levels (d ∷ ds) = both (top_level d) (behind keeps_semicolon (top_levels ds))
 
@@ -84,7 +84,7 @@ module _ (text : List ℕ) (n : ℕ) where
       (says_chosen d.is_grouped (enclosed _ _ (import_specs d.specs)) (one_import d.specs))))
       (behind keeps_semicolon (imports ds))
 
-  whole_file : (file : SourceFile) → Says n (AllLie n (file_marks file)) (SpellsFile text file)
+  whole_file : (file : SourceFile) → Says n (AllStandWithin n (file_marks file)) (SpellsFile text file)
   whole_file file =
       spanned (behind (keeps_token _) (behind (says_identifier text file.package_name) (behind keeps_semicolon
       (behind (imports file.imports) (top_levels file.declarations)))))

@@ -10,7 +10,7 @@ use Rattle.tree.specs.Syntax.{Identifier}
 use Rattle.meaning.specs.Mentions.{Mark}
 use Rattle.meaning.specs.Cursor.{Cursor, Rule, ◌⨾◌, ◌⇒◌, nothing, never, one_of, optional, chosen, only_if, token, string_token, not_before, semicolon, TakesSemicolon, Semicolons, no_semicolon, semicolon_and, semicolons, spanning, start_at, first_start, word, identifier, optional_identifier, more_identifiers, identifiers}
 use Rattle.meaning.proofs.Membership.{contains_nil, contains_here, contains_there, contains_cases}
-use Rattle.meaning_runs.specs.NamePlaces.{Lies}
+use Rattle.meaning_runs.specs.NamePlaces.{StandsWithin}
 
 -- the tokens that are left stand at the offset or before, and so does the end of the last one that was taken
 pub record IsInside (n : ℕ) (place : Cursor) : Type 0 where
@@ -31,21 +31,21 @@ abbrev pub Keeps : ℕ → Rule → Type 0
 Keeps n rule = Says n (Unit {0}) rule
 
 -- all marks have their names there
-pub record AllLie (n : ℕ) (ms : List Mark) : Type 0 where
-  pub each : (m : Mark) → Contains ms m → Lies n m
+pub record AllStandWithin (n : ℕ) (ms : List Mark) : Type 0 where
+  pub each : (m : Mark) → Contains ms m → StandsWithin n m
 
-pub none_lie : {n : ℕ} → AllLie n []
+pub none_lie : {n : ℕ} → AllStandWithin n []
 none_lie = record { each = λ m h. absurd (contains_nil m h) }
 
-pub lie_and : {n : ℕ} (x : Mark) (xs : List Mark) → Lies n x → AllLie n xs → AllLie n (x ∷ xs)
+pub lie_and : {n : ℕ} (x : Mark) (xs : List Mark) → StandsWithin n x → AllStandWithin n xs → AllStandWithin n (x ∷ xs)
 lie_and {n} x xs s h = record {
-  each = λ m among. elim (contains_cases x m xs among) [ inl q ↦ subst (Lies n) q s | inr r ↦ h.each m r ];
+  each = λ m among. elim (contains_cases x m xs among) [ inl q ↦ subst (StandsWithin n) q s | inr r ↦ h.each m r ];
 }
 
-pub one_lies : {n : ℕ} (x : Mark) → Lies n x → AllLie n (x ∷ [])
+pub one_lies : {n : ℕ} (x : Mark) → StandsWithin n x → AllStandWithin n (x ∷ [])
 one_lies x s = lie_and x [] s none_lie
 
-pub both_lie : {n : ℕ} {xs ys : List Mark} → AllLie n xs → AllLie n ys → AllLie n (xs ++ ys)
+pub both_lie : {n : ℕ} {xs ys : List Mark} → AllStandWithin n xs → AllStandWithin n ys → AllStandWithin n (xs ++ ys)
 both_lie {n} {xs} {ys} h k = record {
   each = λ m among. elim (Contains-append_cases xs ys m among) [ inl r ↦ h.each m r | inr r ↦ k.each m r ];
 }
@@ -199,15 +199,15 @@ module _ {n : ℕ} where
   -- Marks
 
   module _ {ms ns : List Mark} {first second : Rule} where
-    pub both : Says n (AllLie n ms) first → Says n (AllLie n ns) second → Says n (AllLie n (ms ++ ns)) (first ⨾ second)
+    pub both : Says n (AllStandWithin n ms) first → Says n (AllStandWithin n ns) second → Says n (AllStandWithin n (ms ++ ns)) (first ⨾ second)
     both h l = so (λ w. both_lie w.0 w.1) (says_both h l)
 
     -- the marks of the second part stand before those of the first
-    pub turned : Says n (AllLie n ms) first → Says n (AllLie n ns) second → Says n (AllLie n (ns ++ ms)) (first ⨾ second)
+    pub turned : Says n (AllStandWithin n ms) first → Says n (AllStandWithin n ns) second → Says n (AllStandWithin n (ns ++ ms)) (first ⨾ second)
     turned h l = so (λ w. both_lie w.1 w.0) (says_both h l)
 
-  pub moved : {ms ns : List Mark} {rule : Rule} → ms ≡ ns → Says n (AllLie n ms) rule → Says n (AllLie n ns) rule
-  moved {rule = rule} e h = subst (λ (l : List Mark). Says n (AllLie n l) rule) e h
+  pub moved : {ms ns : List Mark} {rule : Rule} → ms ≡ ns → Says n (AllStandWithin n ms) rule → Says n (AllStandWithin n ns) rule
+  moved {rule = rule} e h = subst (λ (l : List Mark). Says n (AllStandWithin n l) rule) e h
 
-  pub no_marks : {rule : Rule} → Keeps n rule → Says n (AllLie n []) rule
+  pub no_marks : {rule : Rule} → Keeps n rule → Says n (AllStandWithin n []) rule
   no_marks h = so (λ w. none_lie) h

@@ -7,8 +7,8 @@ use Rattle.tree.specs.Syntax.{Identifier, Expression, expression_node, Expressio
 use Rattle.meaning.specs.Mentions.{as_named, as_new_literal, embedded, defines, assigns, declares, Standing, ordinary, first_of_for, communication, Row, nowhere, as_statement, deferred, place_in, call_of, callee_use, elsewhere, names_type, Mark, returns, Spot, part_of, whole, mention, literal_body, value_spot, row_of, expression_marks, form_marks, expressions_marks, optional_marks, arguments_marks, items_marks, names_type_marks, signature_marks, parameters_marks, fields_marks, statement_marks, statement_form_marks, statements_marks, optional_statement_marks, cases_marks, communications_marks, declaration_marks, specs_marks}
 use Rattle.meaning.specs.Cursor.{Cursor, Rule, ◌⇒◌, nothing, spanning}
 use Rattle.meaning.specs.Grammar.{Position, as_type, as_expression, as_value, as_element, inside, statement_start, of_struct, of_interface, Owner, IsMissing, IsLast, SpellsExpression, SpellsForm, SpellsExpressions, SpellsMore, SpellsOptional, SpellsSignature, SpellsResult, SpellsItems, SpellsFields, SpellsStatement, SpellsStatementForm, SpellsOptionalStatement, SpellsElse, SpellsStatements, SpellsCases, SpellsCommunications, SpellsDeclaration, SpellsSpecs}
-use Rattle.meaning_runs.specs.NamePlaces.{PlaceLies, ParametersLie, SignatureLies}
-use Rattle.meaning_runs.proofs.NameRules.{IsInside, Says, AllLie, none_lie, lie_and, one_lies, both_lie, start_in, says_nothing, keeps_nothing, says_never, keeps_not_before, keeps_token, says_both, behind, ending, knowing, says_chosen, so, given, spanned, spanned_at, keeps_only_if, enclosed, keeps_semicolon, keeps_semicolons, keeps_word, says_identifier, keeps_optional_identifier, says_identifiers, both, turned, moved, no_marks}
+use Rattle.meaning_runs.specs.NamePlaces.{PlaceStandsWithin, ParametersStandWithin, SignatureStandsWithin}
+use Rattle.meaning_runs.proofs.NameRules.{IsInside, Says, AllStandWithin, none_lie, lie_and, one_lies, both_lie, start_in, says_nothing, keeps_nothing, says_never, keeps_not_before, keeps_token, says_both, behind, ending, knowing, says_chosen, so, given, spanned, spanned_at, keeps_only_if, enclosed, keeps_semicolon, keeps_semicolons, keeps_word, says_identifier, keeps_optional_identifier, says_identifiers, both, turned, moved, no_marks}
 use Rattle.meaning_runs.proofs.NameParts.{name_there, new_there, in_place, selected, callee_by, newly, typed, role_of_name, value_place, statement_place, names_lie, elsewhere_lie, NameIn, guard_lies, deferral_lies, body_lies, keeps_end_of_name, keeps_end_of_type, keeps_channel, keeps_assign_operator, keeps_tag, keeps_before_item, keeps_after_items, says_type_name, says_guard_name, says_arguments, says_perhaps, says_elements, says_range_left, says_case_head, says_third_bound, says_initial, says_communication, EachSays, says_expressions, says_argument_list, says_items, says_lefts}
 use Rattle.meaning_runs.proofs.BodyOffsetsSpelled.{missing_gives_none, missing_statement_gives_none, no_expressions, no_arguments, no_items, three_and_one, no_specs_left}
 
@@ -18,13 +18,13 @@ statement_in n empty_statement from k = k.end
 statement_in n _ from k = start_in n from k
 
 module _ (n : ℕ) where
-  pub says_last : (ms : List Mark) (specs : Specs) → (IsLast specs → ms ≡ []) → Says n (AllLie n ms) (IsLast specs ⇒ nothing)
+  pub says_last : (ms : List Mark) (specs : Specs) → (IsLast specs → ms ≡ []) → Says n (AllStandWithin n ms) (IsLast specs ⇒ nothing)
   says_last ms specs e from to k t = moved (sym (e t.0)) (says_nothing none_lie) from to k t.1
 
   -- the header of a `for` without semicolons has a condition alone
   only_condition : (at : ℕ) (init : OptionalStatement) (c : OptionalExpression) (post : OptionalStatement) {rule : Rule}
-      → Says n (AllLie n (optional_marks at c)) rule
-      → Says n (AllLie n (optional_statement_marks first_of_for init
+      → Says n (AllStandWithin n (optional_marks at c)) rule
+      → Says n (AllStandWithin n (optional_statement_marks first_of_for init
       ++ (optional_marks at c ++ optional_statement_marks ordinary post)))
       (IsMissing init ⇒ IsMissing post ⇒ rule)
   unfolding optional_statement_marks
@@ -33,13 +33,13 @@ module _ (n : ℕ) where
   only_condition at missing_statement c (present_statement s) h = λ from to k t. absurd t.1.0
   only_condition at (present_statement s) c post h = λ from to k t. absurd t.0
 
-  none_behind : (site : ℕ) (ps : Parameters) → ps ≡ no_parameter → AllLie n (parameters_marks false site ps) × ParametersLie n ps
+  none_behind : (site : ℕ) (ps : Parameters) → ps ≡ no_parameter → AllStandWithin n (parameters_marks false site ps) × ParametersStandWithin n ps
   unfolding parameters_marks
   none_behind site ps e =
-      subst (λ (qs : Parameters). AllLie n (parameters_marks false site qs) × ParametersLie n qs) (sym e) (none_lie, tt)
+      subst (λ (qs : Parameters). AllStandWithin n (parameters_marks false site qs) × ParametersStandWithin n qs) (sym e) (none_lie, tt)
 
-  alone : (site : ℕ) (t : Expression) (ps : Parameters) → ps ≡ no_parameter → AllLie n (expression_marks (part_of site) t)
-      → AllLie n (expression_marks (part_of site) t ++ parameters_marks false site ps) × ParametersLie n ps
+  alone : (site : ℕ) (t : Expression) (ps : Parameters) → ps ≡ no_parameter → AllStandWithin n (expression_marks (part_of site) t)
+      → AllStandWithin n (expression_marks (part_of site) t ++ parameters_marks false site ps) × ParametersStandWithin n ps
   alone site t ps e h = let rest = none_behind site ps e in (both_lie h rest.0, rest.1)
 
 module _ (text : List ℕ) (n : ℕ) where
@@ -50,12 +50,12 @@ module _ (text : List ℕ) (n : ℕ) where
         names_type_marks signature_marks parameters_marks fields_marks statement_marks statement_form_marks
         statements_marks optional_statement_marks cases_marks communications_marks declaration_marks specs_marks
 
-    pub of_expression : (place : Position) (spot : Spot) (e : Expression) → PlaceLies n spot.place
-        → Says n (AllLie n (expression_marks spot e)) (SpellsExpression text place e)
+    pub of_expression : (place : Position) (spot : Spot) (e : Expression) → PlaceStandsWithin n spot.place
+        → Says n (AllStandWithin n (expression_marks spot e)) (SpellsExpression text place e)
     of_expression place spot (expression_node form span) low = of_form place spot span form low
 
-    of_form : (place : Position) (spot : Spot) (span : Span) (form : ExpressionForm) → PlaceLies n spot.place
-        → Says n (AllLie n (form_marks spot span form)) (spanning span (SpellsForm text place form))
+    of_form : (place : Position) (spot : Spot) (span : Span) (form : ExpressionForm) → PlaceStandsWithin n spot.place
+        → Says n (AllStandWithin n (form_marks spot span form)) (spanning span (SpellsForm text place form))
     of_form place spot span (name_expression name) low =
         spanned_at λ here. so (λ w. one_lies _ (here, role_of_name n spot.place))
         (behind (keeps_word text name) (keeps_end_of_name place))
@@ -138,26 +138,26 @@ module _ (text : List ℕ) (n : ℕ) where
     of_each place (expression_and e es) = (λ spot low. of_expression place spot e low, of_each place es)
 
     pub of_optional : (place : Position) (site : ℕ) (e : OptionalExpression)
-        → Says n (AllLie n (optional_marks site e)) (SpellsOptional text place e)
+        → Says n (AllStandWithin n (optional_marks site e)) (SpellsOptional text place e)
     of_optional place site missing_expression = says_nothing none_lie
     of_optional place site (present_expression e) = of_expression place (part_of site) e tt
 
     of_names_type : (row : Row) (site : ℕ) (t : OptionalExpression)
-        → Says n (AllLie n (names_type_marks row site t)) (SpellsOptional text as_type t)
+        → Says n (AllStandWithin n (names_type_marks row site t)) (SpellsOptional text as_type t)
     of_names_type row site missing_expression = says_nothing none_lie
     of_names_type row site (present_expression t) =
         so (λ w. in_place (as_named t) site (names_type row) (name_there (part_of site) t w) tt w)
         (of_expression as_type (part_of site) t tt)
 
     pub of_signature : (site : ℕ) (s : Signature)
-        → Says n (AllLie n (signature_marks site s) × SignatureLies n s) (SpellsSignature text s)
+        → Says n (AllStandWithin n (signature_marks site s) × SignatureStandsWithin n s) (SpellsSignature text s)
     of_signature site (signature_of ps rs brackets) =
         given (so (λ w. (both_lie w.0.0 w.1.0, (w.0.1, w.1.1)))
         (says_both (enclosed _ _ (of_items true true site ps))
         (says_chosen brackets (given (enclosed _ _ (of_items false true site rs))) (of_result site rs))))
 
     of_result : (site : ℕ) (rs : Parameters)
-        → Says n (AllLie n (parameters_marks false site rs) × ParametersLie n rs) (SpellsResult text rs)
+        → Says n (AllStandWithin n (parameters_marks false site rs) × ParametersStandWithin n rs) (SpellsResult text rs)
     of_result site no_parameter = so (λ w. (none_lie, tt)) (keeps_not_before _)
     of_result site (unnamed_and ellipsis t ps) = λ from to k s.
         so (λ w. alone n site t ps s.1.0 w) (of_expression as_type (part_of site) t tt) from to k s.1.1.1
@@ -165,7 +165,7 @@ module _ (text : List ℕ) (n : ℕ) where
     of_result site (name_alone_and name ps) = says_never
 
     pub of_items : (are_parameters first : Bool) (site : ℕ) (ps : Parameters)
-        → Says n (AllLie n (parameters_marks are_parameters site ps) × ParametersLie n ps) (SpellsItems text first ps)
+        → Says n (AllStandWithin n (parameters_marks are_parameters site ps) × ParametersStandWithin n ps) (SpellsItems text first ps)
     of_items are_parameters first site no_parameter = so (λ w. (none_lie, tt)) (keeps_after_items first)
     of_items are_parameters first site (named_and name ellipsis t ps) =
         behind (keeps_before_item first)
@@ -181,7 +181,7 @@ module _ (text : List ℕ) (n : ℕ) where
         (says_both (says_identifier text name) (of_items are_parameters false site ps)))
 
     of_fields : (owner : Owner) (site : ℕ) (fs : Fields)
-        → Says n (AllLie n (fields_marks site fs)) (SpellsFields text owner fs)
+        → Says n (AllStandWithin n (fields_marks site fs)) (SpellsFields text owner fs)
     of_fields owner site no_field = says_nothing none_lie
     of_fields owner site (fields_and names t tag span fs) =
         given (both (spanned (behind (says_identifiers text names)
@@ -196,14 +196,14 @@ module _ (text : List ℕ) (n : ℕ) where
         (behind keeps_semicolon (of_fields owner site fs)))
 
     pub of_statement : (standing : Standing) (s : Statement)
-        → Says n (AllLie n (statement_marks standing s)) (SpellsStatement text s)
+        → Says n (AllStandWithin n (statement_marks standing s)) (SpellsStatement text s)
     of_statement standing (statement_node form span) = λ from to k t.
         let low = statement_in n form from k in
         let here : span.start ≡ statement_start form from = t.1 in
         of_statement_form standing span.start form (omega (arith, low, here)) from to k t.0
 
     of_statement_form : (standing : Standing) (at : ℕ) (form : StatementForm) → at ≤ n
-        → Says n (AllLie n (statement_form_marks standing at form)) (SpellsStatementForm text form)
+        → Says n (AllStandWithin n (statement_form_marks standing at form)) (SpellsStatementForm text form)
     of_statement_form standing at empty_statement low = says_nothing none_lie
     of_statement_form standing at (declaration_statement d) low = of_declaration d
     of_statement_form standing at (labeled_statement name s) low =
@@ -281,21 +281,21 @@ module _ (text : List ℕ) (n : ℕ) where
         behind (keeps_token _) (enclosed _ _ (of_communications cs))
 
     of_optional_statement : (standing : Standing) (s : OptionalStatement)
-        → Says n (AllLie n (optional_statement_marks standing s)) (SpellsOptionalStatement text s)
+        → Says n (AllStandWithin n (optional_statement_marks standing s)) (SpellsOptionalStatement text s)
     of_optional_statement standing missing_statement = says_nothing none_lie
     of_optional_statement standing (present_statement s) = of_statement standing s
 
-    of_else : (s : OptionalStatement) → Says n (AllLie n (optional_statement_marks ordinary s)) (SpellsElse text s)
+    of_else : (s : OptionalStatement) → Says n (AllStandWithin n (optional_statement_marks ordinary s)) (SpellsElse text s)
     of_else missing_statement = says_nothing none_lie
     of_else (present_statement s) = given (behind (keeps_token _) (of_statement ordinary s))
 
-    pub of_statements : (ss : Statements) → Says n (AllLie n (statements_marks ss)) (SpellsStatements text ss)
+    pub of_statements : (ss : Statements) → Says n (AllStandWithin n (statements_marks ss)) (SpellsStatements text ss)
     of_statements no_statement = no_marks keeps_semicolons
     of_statements (statement_and s ss) =
         behind keeps_semicolons (both (given (of_statement ordinary s)) (behind keeps_semicolon (of_statements ss)))
 
     of_cases : (at : ℕ) (guard : Option Identifier) → NameIn n guard → (cs : CaseClauses)
-        → Says n (AllLie n (cases_marks at guard cs)) (SpellsCases text cs)
+        → Says n (AllStandWithin n (cases_marks at guard cs)) (SpellsCases text cs)
     of_cases at guard h no_case = says_nothing none_lie
     of_cases at guard h (case_and es ss span cs) =
         so (λ w. both_lie (guard_lies at guard span h) w)
@@ -306,7 +306,7 @@ module _ (text : List ℕ) (n : ℕ) where
         (behind (keeps_token _) (of_statements ss)))) (of_cases at guard h cs)))
 
     of_communications : (cs : CommunicationClauses)
-        → Says n (AllLie n (communications_marks cs)) (SpellsCommunications text cs)
+        → Says n (AllStandWithin n (communications_marks cs)) (SpellsCommunications text cs)
     of_communications no_communication = says_nothing none_lie
     of_communications (communication_and c ss span cs) =
         moved (append_assoc (optional_statement_marks communication c) (statements_marks ss) (communications_marks cs))
@@ -314,14 +314,14 @@ module _ (text : List ℕ) (n : ℕ) where
         (both (says_communication c (missing_statement_gives_none communication c) (of_optional_statement communication c))
         (behind (keeps_token _) (of_statements ss)))) (of_communications cs)))
 
-    of_declaration : (d : Declaration) → Says n (AllLie n (declaration_marks d)) (SpellsDeclaration text d)
+    of_declaration : (d : Declaration) → Says n (AllStandWithin n (declaration_marks d)) (SpellsDeclaration text d)
     of_declaration (declaration_of keyword specs is_grouped span) =
         spanned_at λ here. behind (keeps_token _)
         (says_chosen is_grouped (enclosed _ _ (of_specs keyword true span.start here specs))
         (of_specs keyword false span.start here specs))
 
     of_specs : (keyword : DeclKeyword) (is_grouped : Bool) (at : ℕ) → at ≤ n → (specs : Specs)
-        → Says n (AllLie n (specs_marks keyword at specs)) (SpellsSpecs text keyword is_grouped specs)
+        → Says n (AllStandWithin n (specs_marks keyword at specs)) (SpellsSpecs text keyword is_grouped specs)
     of_specs keyword is_grouped at low no_spec = says_chosen is_grouped (says_nothing none_lie) says_never
     of_specs keyword is_grouped at low (value_and names t es span specs) =
         let row = row_of ordinary at (declares keyword names t) es in

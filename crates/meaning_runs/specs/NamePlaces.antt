@@ -8,47 +8,47 @@ use Rattle.meaning.specs.Mentions.{CallPlace, nowhere, as_statement, only_value,
 use Rattle.meaning.specs.TreeOfText.{IsTreeOf}
 
 -- the statement of the row whose only value stands there
-abbrev pub PlaceLies : ℕ → CallPlace → Type 0
-PlaceLies n nowhere = Unit {0}
-PlaceLies n as_statement = Unit {0}
-PlaceLies n (only_value row) = row.statement ≤ n
-PlaceLies n (return_item k) = Unit {0}
-PlaceLies n deferred = Unit {0}
+abbrev pub PlaceStandsWithin : ℕ → CallPlace → Type 0
+PlaceStandsWithin n nowhere = Unit {0}
+PlaceStandsWithin n as_statement = Unit {0}
+PlaceStandsWithin n (only_value row) = row.statement ≤ n
+PlaceStandsWithin n (return_item k) = Unit {0}
+PlaceStandsWithin n deferred = Unit {0}
 
-abbrev pub RoleLies : ℕ → Role → Type 0
-RoleLies n elsewhere = Unit {0}
-RoleLies n (called c) = PlaceLies n c.place
-RoleLies n called_in_brackets = Unit {0}
-RoleLies n (argument k has_address c) = Unit {0}
-RoleLies n (returned k) = Unit {0}
-RoleLies n (left k row) = Unit {0}
-RoleLies n (names_type row) = Unit {0}
-RoleLies n (new_literal row) = Unit {0}
-RoleLies n parameter_pointer = Unit {0}
+abbrev pub RoleStandsWithin : ℕ → Role → Type 0
+RoleStandsWithin n elsewhere = Unit {0}
+RoleStandsWithin n (called c) = PlaceStandsWithin n c.place
+RoleStandsWithin n called_in_brackets = Unit {0}
+RoleStandsWithin n (argument k has_address c) = Unit {0}
+RoleStandsWithin n (returned k) = Unit {0}
+RoleStandsWithin n (left k row) = Unit {0}
+RoleStandsWithin n (names_type row) = Unit {0}
+RoleStandsWithin n (new_literal row) = Unit {0}
+RoleStandsWithin n parameter_pointer = Unit {0}
 
-abbrev pub ParametersLie : ℕ → Parameters → Type 0
-ParametersLie n no_parameter = Unit {0}
-ParametersLie n (named_and name ellipsis t ps) = (name.span.start ≤ n) × ParametersLie n ps
-ParametersLie n (unnamed_and ellipsis t ps) = ParametersLie n ps
-ParametersLie n (name_alone_and name ps) = (name.span.start ≤ n) × ParametersLie n ps
+abbrev pub ParametersStandWithin : ℕ → Parameters → Type 0
+ParametersStandWithin n no_parameter = Unit {0}
+ParametersStandWithin n (named_and name ellipsis t ps) = (name.span.start ≤ n) × ParametersStandWithin n ps
+ParametersStandWithin n (unnamed_and ellipsis t ps) = ParametersStandWithin n ps
+ParametersStandWithin n (name_alone_and name ps) = (name.span.start ≤ n) × ParametersStandWithin n ps
 
-abbrev pub ReceiverLies : ℕ → Option Parameters → Type 0
-ReceiverLies n None = Unit {0}
-ReceiverLies n (Some ps) = ParametersLie n ps
+abbrev pub ReceiverStandsWithin : ℕ → Option Parameters → Type 0
+ReceiverStandsWithin n None = Unit {0}
+ReceiverStandsWithin n (Some ps) = ParametersStandWithin n ps
 
-abbrev pub SignatureLies : ℕ → Signature → Type 0
-SignatureLies n (signature_of ps rs brackets) = ParametersLie n ps × ParametersLie n rs
+abbrev pub SignatureStandsWithin : ℕ → Signature → Type 0
+SignatureStandsWithin n (signature_of ps rs brackets) = ParametersStandWithin n ps × ParametersStandWithin n rs
 
 -- what the mark names stands at that offset or before
-abbrev pub Lies : ℕ → Mark → Type 0
-Lies n (mentions m) = (m.named.at ≤ n) × RoleLies n m.role
-Lies n (defers_literal site at) = Unit {0}
-Lies n (returns at es) = Unit {0}
-Lies n (opens b) = ReceiverLies n b.receiver × SignatureLies n b.signature
-Lies n closes = Unit {0}
+abbrev pub StandsWithin : ℕ → Mark → Type 0
+StandsWithin n (mentions m) = (m.named.at ≤ n) × RoleStandsWithin n m.role
+StandsWithin n (defers_literal site at) = Unit {0}
+StandsWithin n (returns at es) = Unit {0}
+StandsWithin n (opens b) = ReceiverStandsWithin n b.receiver × SignatureStandsWithin n b.signature
+StandsWithin n closes = Unit {0}
 
 abbrev pub NamesLieInTexts : Type 0
 NamesLieInTexts = (text : List ℕ) (tree : SourceFile) (m : Mark)
     → IsTreeOf text tree
     → Contains (file_marks tree) m
-    → Lies (length text) m
+    → StandsWithin (length text) m

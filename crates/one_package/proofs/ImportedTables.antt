@@ -27,7 +27,7 @@ use Rattle.one_package.specs.declared.judged.Judged.{Judged}
 use Rattle.one_package.specs.declared.known_imports.KnownImports.{KnownImports}
 use Rattle.one_package.specs.Judgments.{table_view, KnownAround, IsOfImport, said_view}
 use Rattle.one_package.specs.Given.{TellsGiven}
-use Rattle.one_package.specs.Results.{declared_among, declared_outside, first_at, judged_at, said_at, results_by, table_or, AllMarked, AreImported, HaveTheirTables, KnowsImports}
+use Rattle.one_package.specs.Results.{declared_among, declared_outside, first_at, judged_at, said_at, results_by_path, table_or, AllMarked, AreImported, HaveTheirTables, KnowsImports}
 use Rattle.one_package.proofs.DeclaredImports.{among_is, is_outside, was_given}
 use Rattle.one_package.proofs.FirstJudged.{first_is, found_at}
 
@@ -99,7 +99,7 @@ module _ (ps : List LoadedPackage) (i : ℕ) (p : LoadedPackage) (is_p : slice_g
         by (Some j) e false names = absurd (false≢true (sym names ∙ is_named path (there j e)))
 
     pub tables_by_results : (rules : Rules) → rules.declared ≡ declared → AreImported ps i js
-        → HaveResults rules ps tables i (results_by ps js)
+        → HaveResults rules ps tables i (results_by_path ps js)
         → HaveTheirTables given p tables js
     tables_by_results rules is are have =
         tables_so are.of_imports

@@ -15,7 +15,7 @@ use Rattle.meaning_reports.specs.WholeFaults.{HasNoWholeFault}
 use Rattle.gathering.specs.Results.{HaveResults}
 use Rattle.one_package.specs.declared.judged.Judged.{Judged}
 use Rattle.one_package.specs.Judgments.{AreNotYes, IsOfImport, said_view, says_nothing}
-use Rattle.one_package.specs.Results.{first_at, judged_at, said_at, results_by, is_not_yes, AreImported}
+use Rattle.one_package.specs.Results.{first_at, judged_at, said_at, results_by_path, is_not_yes, AreImported}
 use Rattle.one_package.proofs.FirstJudged.{first_is, found_at, some_from}
 
 -- a package is not yes where something is to be said of it
@@ -25,7 +25,7 @@ not_yes_is (d ∷ ds) = (λ e. (entry_of d, contains_here (entry_of d) (map entr
 
 module _ (rules : Rules) (ps : List LoadedPackage) (i : ℕ) (p : LoadedPackage) (is_p : slice_get ps i ≡ Some p)
     (none : HasNoWholeFault ps i) (js : List Judged) (are : AreImported ps i js) (tables : Tables)
-    (have : HaveResults rules ps tables i (results_by ps js)) where
+    (have : HaveResults rules ps tables i (results_by_path ps js)) where
   rank_below : (j : ℕ) → Imports (import_list ps) i j → HasRank (import_list ps) j
   rank_below j im k l chain on back =
       cannot_be_unranked ps i p is_p none λ rank. rank k l (goes_on im chain) on back

@@ -39,8 +39,8 @@ said_at js None = None
 said_at js (Some p) = option_map said_view (judged_at js p.path)
 
 -- what these say of packages, by the places of these
-abbrev pub results_by : List LoadedPackage → List Judged → Results
-results_by ps js i = said_at js (slice_get ps i)
+abbrev pub results_by_path : List LoadedPackage → List Judged → Results
+results_by_path ps js i = said_at js (slice_get ps i)
 
 -- the table of each has the flag of its givers
 abbrev pub AllMarked : List Judged → Type 0

@@ -8,7 +8,7 @@ ghost use Rattle.imports.specs.Settling.{given_imports};
 ghost use Rattle.imports.specs.Views.{packages_view, rank_of, ranked_of, rows_view};
 ghost use Rattle.whole_packages.specs.LoadedViews.{HaveDistinctPaths, TellPackages};
 ghost use Rattle.meaning_reports.specs.Loaded.{LoadedPackage as MeantPackage};
-ghost use Rattle.outside_json.specs.Outside.{packages_of};
+ghost use Rattle.declared_json.specs.DeclaredPackages.{packages_of};
 
 use crate::package_names::names_of_packages;
 use declared_tables::DeclaredTables;
@@ -16,7 +16,7 @@ use imports::given::given_imports;
 use imports::{ImportList, Order, first_places, order};
 use indexmap::IndexMap;
 use names::PackageNames;
-use outside_json::Outside;
+use declared_json::DeclaredPackages;
 use std::alloc::{AllocError, Global};
 use whole_packages::{LoadedPackage, import_lists, unranked};
 
@@ -46,7 +46,7 @@ pub struct Given<'a> {
 pub fn given_packages<'a>(
     alloc: Global,
     packages: &'a [LoadedPackage],
-    outside: &'a Outside,
+    outside: &'a DeclaredPackages,
 ) -> Result<Given<'a>, AllocError>
     ensures packages { IfOk result (λ given. given.packages.now ≡ packages.now) }
     ensures given { IfOk result (λ given. (ps : List MeantPackage) → TellPackages ps packages.now

@@ -92,7 +92,7 @@ pub fn find_grounds<'a>(
 /// # Errors
 ///
 /// Memory was refused.
-pub fn told_of<'a>(
+pub fn tell_unless_faulty<'a>(
     alloc: Global,
     loaded: &'a LoadedPackage,
     around: Around<'_, 'a>,

@@ -6,7 +6,7 @@ ghost use Rattle.meaning_reports.specs.Loaded.{LoadedPackage as MeantPackage, Ta
 ghost use Rattle.one_package.specs.Certified.{CertificatesFollow};
 ghost use Rattle.one_package.specs.Given.{TellsGiven};
 ghost use Rattle.one_package.specs.Judgments.{said_view, TellsAround, TellsSources};
-ghost use Rattle.one_package.specs.Results.{results_by, AllMarked, AreImported, HaveTheirTables, KnowsImports};
+ghost use Rattle.one_package.specs.Results.{results_by_path, AllMarked, AreImported, HaveTheirTables, KnowsImports};
 ghost use Rattle.one_package.specs.declared.judged.Judged.{Judged};
 ghost use Rattle.whole_packages.specs.LoadedViews.{TellsPackage};
 
@@ -56,11 +56,11 @@ pub fn judge_package<'a, R: FileRules>(
     ensures follows { IfOk result (λ judged. (declared : Tables) (ps : List MeantPackage) (i : ℕ) (p : MeantPackage)
         (js : List Judged) → TellsGiven declared ps given.now → slice_get ps i ≡ Some p → TellsPackage p loaded.now
         → KnowsImports given.now (imported_paths p) js imports.now → AreImported ps i js
-        → FollowsFrom (R.rules rules.now declared) ps i p (results_by ps js) (said_view judged)) }
+        → FollowsFrom (R.rules rules.now declared) ps i p (results_by_path ps js) (said_view judged)) }
     ensures certified { IfOk result (λ judged. (declared : Tables) (ps : List MeantPackage) (i : ℕ) (p : MeantPackage)
         (js : List Judged) → TellsGiven declared ps given.now → slice_get ps i ≡ Some p → TellsPackage p loaded.now
         → KnowsImports given.now (imported_paths p) js imports.now → AreImported ps i js
-        → CertificatesFollow (R.rules rules.now declared) (R.certificates rules.now) ps i p (results_by ps js)
+        → CertificatesFollow (R.rules rules.now declared) (R.certificates rules.now) ps i p (results_by_path ps js)
         judged) }
 {
     rules.are_determined();

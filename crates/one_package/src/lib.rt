@@ -17,7 +17,7 @@ mod verdicts;
 pub use by_paths::{ByPaths, JudgedBodies, judge_bodies};
 pub use file_rules::{FileRules, FoundFiles};
 pub use given::{Given, given_packages};
-pub use grounds::told_of;
+pub use grounds::tell_unless_faulty;
 pub use hands::{Alone, Hands};
 pub use judged::{Around, Judged};
 pub use judging::{around, judge_package};

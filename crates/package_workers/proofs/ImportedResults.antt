@@ -16,7 +16,7 @@ use Rattle.one_package.specs.declared.judged.Judged.{Judged}
 use Rattle.one_package.specs.Certified.{CertificateRule}
 use Rattle.one_package.specs.Judgments.{said_view}
 use Rattle.declared_tables.specs.MarkedGivers.{MarksGivers}
-use Rattle.one_package.specs.Results.{judged_at, said_at, results_by, AreImported}
+use Rattle.one_package.specs.Results.{judged_at, said_at, results_by_path, AreImported}
 use Rattle.all_packages.proofs.KeptPackages.{kept_of}
 use Rattle.one_package.proofs.FirstJudged.{found_at, is_found}
 use Rattle.package_workers.specs.Results.{Kept, place_of, judged_of, imports_at, IsRight}
@@ -91,7 +91,7 @@ module _ (rules : Rules) (rule : CertificateRule) (kept : List KeptPackage) (ks 
   }
 
   -- and each of them is a result
-  pub are_results : HaveDistinctPaths ps → AreResults rules ps (results_by ps js)
+  pub are_results : HaveDistinctPaths ps → AreResults rules ps (results_by_path ps js)
   are_results distinct k q said is found = by (judged_at js q.path) refl (sym (ap (said_at js) is) ∙ found)
     where
       by : (o : Option Judged) → judged_at js q.path ≡ o → option_map said_view o ≡ Some said → IsResult rules ps k q said

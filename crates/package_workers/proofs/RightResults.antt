@@ -18,7 +18,7 @@ use Rattle.one_package.specs.declared.known_imports.KnownImports.{KnownImports}
 use Rattle.one_package.specs.Certified.{CertificateRule, CertificatesFollow}
 use Rattle.one_package.specs.Given.{TellsGiven}
 use Rattle.one_package.specs.Judgments.{TellsSources, said_view}
-use Rattle.one_package.specs.Results.{results_by, AreImported, KnowsImports}
+use Rattle.one_package.specs.Results.{results_by_path, AreImported, KnowsImports}
 use Rattle.all_packages.proofs.FoundPackages.{list_so}
 use Rattle.package_workers.specs.Results.{Kept, place_of, judged_of, imports_at, IsRight, IsNamed}
 use Rattle.package_workers.proofs.ImportedResults.{AreRightEach, are_imported, are_results}
@@ -32,7 +32,7 @@ module _ (declared : Tables) (rules : Rules) (rule : CertificateRule) (given : G
       → TellsPackage p loaded
       → KnowsImports given (imported_paths p) js imports
       → AreImported ps i js
-      → FollowsFrom rules ps i p (results_by ps js) (said_view judged)
+      → FollowsFrom rules ps i p (results_by_path ps js) (said_view judged)
 
   -- and so do its certificates
   abbrev pub HasWhatFollows : Type 0
@@ -41,7 +41,7 @@ module _ (declared : Tables) (rules : Rules) (rule : CertificateRule) (given : G
       → TellsPackage p loaded
       → KnowsImports given (imported_paths p) js imports
       → AreImported ps i js
-      → CertificatesFollow rules rule ps i p (results_by ps js) judged
+      → CertificatesFollow rules rule ps i p (results_by_path ps js) judged
 
 module _ (declared : Tables) (rules : Rules) (rule : CertificateRule) (determined : AreDetermined rules.are_flags)
     (given : Given) (packages : List Package) (rank : ℕ → Option ℕ) (told : ℕ → Judged → Type 0)
@@ -72,7 +72,7 @@ module _ (declared : Tables) (rules : Rules) (rule : CertificateRule) (determine
     is_result = λ ps p tell distinct is.
         let tells = named.are_given ps tell distinct in
         let own = row_of ps tells in
-        what_follows_is_a_result_by rules determined ps place p (results_by ps (map judged_of ks)) (said_view judged) is
+        what_follows_is_a_result_by rules determined ps place p (results_by_path ps (map judged_of ks)) (said_view judged) is
         (are_results rules rule given.packages.now ks right_each ps tell place own distinct)
         (says ps place p (map judged_of ks) tells is (tell.each place p loaded is is_loaded) (knows_by ps p tells is)
         (are_imported rules rule given.packages.now ks right_each ps tell place own));
@@ -81,7 +81,7 @@ module _ (declared : Tables) (rules : Rules) (rule : CertificateRule) (determine
         let own = row_of ps tells in
         has ps place p (map judged_of ks) tells is (tell.each place p loaded is is_loaded) (knows_by ps p tells is)
         (are_imported rules rule given.packages.now ks right_each ps tell place own)
-        tables (have_results rules determined ps tables place (results_by ps (map judged_of ks)) below
+        tables (have_results rules determined ps tables place (results_by_path ps (map judged_of ks)) below
         (are_results rules rule given.packages.now ks right_each ps tell place own distinct));
   }
 

@@ -13,7 +13,7 @@ use Rattle.imports.proofs.import_list.ImportList.TheSendSync as list
 use Rattle.imports.proofs.ranks.Order.TheSendSync as order
 use Rattle.names.proofs.package_names.PackageNames.TheSendSync as names
 use Rattle.declared_tables.proofs.tables.DeclaredTables.TheSendSync as tables
-use Rattle.outside_json.proofs.outside.Outside.TheSendSync as outside
+use Rattle.declared_json.proofs.outside.DeclaredPackages.TheSendSync as outside
 use Rattle.workers.proofs.count.Workers.TheSendSync as count
 use Rattle.whole_packages.specs.contracts.loaded_package.LoadedPackage as loaded
 use Rattle.one_package.specs.contracts.given.Given as given

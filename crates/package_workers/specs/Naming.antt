@@ -2,7 +2,7 @@
 use Rattle.std.specs.Prelude.{ℕ, List, Option}
 use Rattle.imports.specs.Ranks.{Package}
 use Rattle.declared_tables.specs.DeclaredTables.{declared_tables}
-use Rattle.outside_json.specs.Outside.{packages_of}
+use Rattle.declared_json.specs.DeclaredPackages.{packages_of}
 use Rattle.meaning_reports.specs.Loaded.{Tables}
 use Rattle.meaning_reports.specs.PackageReports.{Rules}
 use Rattle.one_package.specs.Certified.{CertificateRule}

@@ -9,7 +9,7 @@ ghost use Rattle.imports.specs.Ranks.{IsOrder};
 ghost use Rattle.imports.specs.Settling.{given_imports};
 ghost use Rattle.imports.specs.Views.{packages_view, rank_of, ranked_of, rows_view};
 ghost use Rattle.meaning_reports.specs.Loaded.{LoadedPackage as MeantPackage};
-ghost use Rattle.outside_json.specs.Outside.{packages_of};
+ghost use Rattle.declared_json.specs.DeclaredPackages.{packages_of};
 ghost use Rattle.package_workers.specs.Faults.{IsFaultOf, TellsFault, fault_by};
 ghost use Rattle.package_workers.specs.Naming.{Names};
 ghost use Rattle.package_workers.specs.Slots.{MayBeKept};
@@ -28,7 +28,7 @@ use crate::working::{Worker, until_over};
 use all_packages::{Progress, judge_left};
 use board::{Core, Outcome};
 use one_package::{FileRules, Judged, given_packages};
-use outside_json::Outside;
+use declared_json::DeclaredPackages;
 use package_pieces::PieceRules;
 use std::alloc::{AllocError, Global};
 use std::marker::Brand;
@@ -261,7 +261,7 @@ fn check_named<
 
 /// Judges packages of different paths, and their files by these rules, where this is declared of packages that are not
 /// given, by so many workers: what is to be said of each, in their order, what is known of its functions, and the
-/// certificates of its bodies, if the rules make some. It promises what `check_by` does. A package is judged once all
+/// certificates of its bodies, if the rules make some. It promises what `check_by_rules` does. A package is judged once all
 /// that it imports was judged. Where there are more workers than packages, those that are over help with the bodies of
 /// each package. One worker starts no thread. The gate is passed once before each package, and again where one has to
 /// be judged anew.
@@ -274,7 +274,7 @@ pub fn check_by_workers<'a, R: PieceRules + Send + Sync, T: Threads + Wait + Syn
     alloc: Global,
     crew: Crew<'_, T, G>,
     packages: &'a [LoadedPackage],
-    outside: &'a Outside,
+    outside: &'a DeclaredPackages,
     rules: &R,
 ) -> Result<Vec<Judged<'a>>, CheckFault>
     ensures reports { IfOk result (λ found. (ps : List MeantPackage) → TellPackages ps packages.now

@@ -12,7 +12,7 @@ use crate::jobs::Job;
 use crate::naming::Naming;
 use crate::results::PackageResult;
 use one_package::{Given, KnownImports, judge_package};
-use outside_json::Outside;
+use declared_json::DeclaredPackages;
 use package_pieces::PieceRules;
 use std::alloc::{AllocError, Global};
 use std::sync::Wait;
@@ -25,7 +25,7 @@ use workers::{Free, Helpers, PieceFault};
 pub struct Judging<'g, 'a, R> {
     pub given: &'g Given<'a>,
     /// What is declared of packages that are not given.
-    pub outside: &'a Outside,
+    pub outside: &'a DeclaredPackages,
     pub rules: &'g R,
 }
 

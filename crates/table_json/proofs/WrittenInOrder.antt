@@ -11,7 +11,7 @@ use Rattle.std.proofs.lemmas.List.Sorted.{IsPermutation-refl}
 use Rattle.std.proofs.lemmas.Bool.{and_parts}
 use Rattle.std.proofs.lemmas.List.{get_or-map, length-map}
 use Rattle.table_json.specs.Tables.{Entry, Rise, HasOrder, by_bytes, itself, name_of, position_of}
-use Rattle.table_json.specs.WrittenTables.{is_told, IsOrdered, IsWrittenAs, TablesInOrderAreWritten}
+use Rattle.table_json.specs.WrittenTables.{says_something, IsOrdered, IsWrittenAs, TablesInOrderAreWritten}
 use Rattle.table_json.proofs.Arranged.{rise_of_adjacent, none_arranged, one_arrangement}
 
 module _ {A K : Type 0} {cmp : K → K → Ordering} (total : IsTotalOrder cmp) (key : A → K) where
@@ -82,11 +82,11 @@ entries_as_they_stand (f ∷ fs) [] order h = absurd h
 entries_as_they_stand (f ∷ fs) (w ∷ ws) order h =
     λ i. entry_as_it_stands f w order.0 h.0 i ∷ entries_as_they_stand fs ws order.1 h.1 i
 
-all_told : (fs : List Entry) → list_all is_told fs ≡ true → filter is_told fs ≡ fs
+all_told : (fs : List Entry) → list_all says_something fs ≡ true → filter says_something fs ≡ fs
 all_told [] e = refl
 all_told (f ∷ fs) e =
-    let parts = and_parts (is_told f) (list_all is_told fs) e in
-    ap (λ b. if b then f ∷ filter is_told fs else filter is_told fs) parts.0 ∙ ap (λ rest. f ∷ rest) (all_told fs parts.1)
+    let parts = and_parts (says_something f) (list_all says_something fs) e in
+    ap (λ b. if b then f ∷ filter says_something fs else filter says_something fs) parts.0 ∙ ap (λ rest. f ∷ rest) (all_told fs parts.1)
 
 pub written_as_it_stands : TablesInOrderAreWritten
 written_as_it_stands table written are order told =

@@ -16,8 +16,8 @@ pub record IsOrdered {A K : Type 0} (cmp : K → K → Ordering) (key : A → K)
   pub in_order : IsSortedByKey key cmp kept
 
 -- anything is told but the name
-abbrev pub is_told : Entry → Bool
-is_told f = not ((length f.gives == 0) && (length f.causes == 0) && (length f.params == 0))
+abbrev pub says_something : Entry → Bool
+says_something f = not ((length f.gives == 0) && (length f.causes == 0) && (length f.params == 0))
 
 pub record IsWrittenAs (f written : Entry) : Type 0 where
   pub is_name : written.name ≡ f.name
@@ -27,7 +27,7 @@ pub record IsWrittenAs (f written : Entry) : Type 0 where
 
 pub record AreWritten (table written : List Entry) : Type 0 where
   pub told : List Entry
-  pub are_told : IsOrdered by_bytes name_of (filter is_told table) told
+  pub are_told : IsOrdered by_bytes name_of (filter says_something table) told
   pub each : AllZip IsWrittenAs told written
 
 -- the text of what is written of the table; where no name comes twice in that, and no position among the results or the
@@ -43,5 +43,5 @@ abbrev pub TablesInOrderAreWritten : Type 0
 TablesInOrderAreWritten = (table written : List Entry)
     → AreWritten table written
     → IsInOrder table
-    → list_all is_told table ≡ true
+    → list_all says_something table ≡ true
     → written ≡ table

@@ -7,7 +7,7 @@ ghost use Rattle.serde_json.specs.View.{view};
 ghost use Rattle.table_json.specs.Parts.{HasFits};
 ghost use Rattle.table_json.specs.Tables.{Entry, by_bytes, entry_of, entries_of, itself, name_of, position_of};
 ghost use Rattle.table_json.specs.TableValues.{function_value, parameter_value, table_value, whole, AllFit, Fits};
-ghost use Rattle.table_json.specs.WrittenTables.{is_told, AreWritten, IsOrdered, IsWrittenAs, IsWrittenText};
+ghost use Rattle.table_json.specs.WrittenTables.{says_something, AreWritten, IsOrdered, IsWrittenAs, IsWrittenText};
 
 use crate::table::{Function, Parameter, Table, VERSION};
 use serde_json::{Value, json};
@@ -16,8 +16,8 @@ use std::alloc::{AllocError, Global};
 // What is written
 
 /// Whether anything is told of the function but its name.
-fn is_told(function: &Function) -> bool
-    ensures { result ≡ is_told (entry_of function.now) }
+fn says_something(function: &Function) -> bool
+    ensures { result ≡ says_something (entry_of function.now) }
 {
     !(function.gives.is_empty() && function.causes.is_empty() && function.params.is_empty())
 }
@@ -25,11 +25,11 @@ fn is_told(function: &Function) -> bool
 /// The functions of which anything is told.
 fn told(alloc: Global, functions: &[Function]) -> Result<Vec<&Function>, AllocError>
     ensures { IfOk result (λ told. map (λ f. entry_of f.now) told.items
-        ≡ filter is_told (map entry_of functions.now)) }
+        ≡ filter says_something (map entry_of functions.now)) }
 {
     let mut told = Vec::new(alloc);
     for function in functions {
-        if is_told(function) {
+        if says_something(function) {
             told.push(function)?;
         }
     }
@@ -37,8 +37,8 @@ fn told(alloc: Global, functions: &[Function]) -> Result<Vec<&Function>, AllocEr
 }
 
 /// The same, in the order of their names.
-fn told_in_order(alloc: Global, functions: &[Function]) -> Result<Vec<&Function>, AllocError>
-    ensures { IfOk result (λ told. IsOrdered by_bytes name_of (filter is_told (map entry_of functions.now))
+fn written_in_order(alloc: Global, functions: &[Function]) -> Result<Vec<&Function>, AllocError>
+    ensures { IfOk result (λ told. IsOrdered by_bytes name_of (filter says_something (map entry_of functions.now))
         (map (λ f. entry_of f.now) told.items)) }
 {
     let mut told = told(alloc, functions)?;
@@ -99,7 +99,7 @@ fn functions_written(alloc: Global, functions: &[&Function]) -> Result<Vec<Funct
 pub fn as_written(alloc: Global, table: &Table) -> Result<Table, AllocError>
     ensures { IfOk result (λ written. AreWritten (entries_of table.now) (entries_of written)) }
 {
-    let told = told_in_order(alloc, &table.functions)?;
+    let told = written_in_order(alloc, &table.functions)?;
     Ok(Table {
         functions: functions_written(alloc, &told)?,
     })

@@ -60,11 +60,11 @@ abbrev pub package_in : List PackageEntry → List ℕ → Option PackageEntry
 package_in [] path = None
 package_in (p ∷ ps) path = if bytes_eq p.path path then Some p else package_in ps path
 
-abbrev pub package_by : ByCertificates → List ℕ → Option PackageEntry
-package_by by path = option_map (λ p. package_of p.now) (value_of by.packages path)
+abbrev pub package_by_path : ByCertificates → List ℕ → Option PackageEntry
+package_by_path by path = option_map (λ p. package_of p.now) (value_of by.packages path)
 
 abbrev pub given_by : ByCertificates → GivenByPath
-given_by by path = given_of (package_by by path)
+given_by by path = given_of (package_by_path by path)
 
 -- What the program keeps of a package
 

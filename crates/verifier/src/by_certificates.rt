@@ -4,7 +4,7 @@ ghost use Rattle.std.specs.Prelude.{◌≡◌, ℕ, List, IfOk, OnOk, option_map
 ghost use Rattle.certificate_json.specs.Certificates.{package_of, packages_of};
 ghost use Rattle.first_values.specs.ValuesByName.{only_at};
 ghost use Rattle.meaning.specs.OuterBlocks.{or_else};
-ghost use Rattle.verifier.specs.GivenViews.{package_by, package_in};
+ghost use Rattle.verifier.specs.GivenViews.{package_by_path, package_in};
 
 use certificate_json::{Certificates, Package};
 use first_values::FirstValues;
@@ -24,7 +24,7 @@ impl<'c> ByCertificates<'c> {
     /// Memory was refused.
     pub fn new(alloc: Global, certificates: &'c Certificates) -> Result<Self, AllocError>
         ensures { IfOk result (λ by. (path : List ℕ)
-            → package_by by path ≡ package_in (packages_of certificates.now) path) }
+            → package_by_path by path ≡ package_in (packages_of certificates.now) path) }
     {
         let mut by = ByCertificates {
             packages: FirstValues::new(alloc),
@@ -36,7 +36,7 @@ impl<'c> ByCertificates<'c> {
     }
 
     fn insert(&mut self, found: &'c Package) -> Result<(), AllocError>
-        ensures { OnOk result ((path : List ℕ) → package_by self.new path ≡ or_else (package_by self.old path)
+        ensures { OnOk result ((path : List ℕ) → package_by_path self.new path ≡ or_else (package_by_path self.old path)
             (only_at (package_of found.now).path (package_of found.now) path)) }
     {
         self.packages.insert(found.path.as_str(), found)
@@ -44,7 +44,7 @@ impl<'c> ByCertificates<'c> {
 
     /// What is given for the package of that path.
     pub(crate) fn of(&self, path: &str) -> Option<&'c Package>
-        ensures { option_map (λ p. package_of p.now) result ≡ package_by self.now path.now }
+        ensures { option_map (λ p. package_of p.now) result ≡ package_by_path self.now path.now }
     {
         match self.packages.get(path) {
             Some(found) => Some(*found),

@@ -25,7 +25,7 @@ use bodies::Body;
 use calls_flags::{FileBodies, KnownCalls};
 use credits::{Credits, Reliance};
 use events::body_faults;
-use findings::{add_passes_by, add_use_faults};
+use findings::{add_passes_by_calls, add_use_faults};
 use mentions::BodyPlace as KeptPlace;
 use report::{Diagnostic, DiagnosticCode};
 use std::alloc::{AllocError, Global};
@@ -132,7 +132,7 @@ fn add_body<'a>(
         credits: &*credits,
         at: body.place.at,
     };
-    add_passes_by(alloc, grounds.told, &reliance, body, diagnostics)
+    add_passes_by_calls(alloc, grounds.told, &reliance, body, diagnostics)
 }
 
 /// Adds the use faults of bodies, and those of their passes.

@@ -6,7 +6,7 @@ use Rattle.gathering.proofs.Results.{have_results, what_follows_is_a_result_by}
 use Rattle.one_package.specs.Certified.{AreCertified, CertificatesFollow}
 use Rattle.all_packages.specs.Progress.{slots_in, slot_at, imports_at, IsNext}
 use Rattle.one_package.specs.Judgments.{said_view}
-use Rattle.one_package.specs.Results.{results_by, AreImported}
+use Rattle.one_package.specs.Results.{results_by_path, AreImported}
 use Rattle.all_packages.proofs.FoundPackages.{imports_so, list_so}
 use Rattle.all_packages.proofs.ImportedRows.{are_imported, results_so}
 use Rattle.all_packages.proofs.KeptPackages.{package_of}
@@ -47,12 +47,12 @@ returns g c = λ declared ps given distinct ready right.
     let names = list_so declared ps own given place it.meant it.is_there list is_list in
     let determined = c.are_determined.ensures.flags declared in
     let follows = subst (λ places. AreImported ps place (filter_map (slot_at slots) places)
-    → FollowsFrom rules ps place it.meant (results_by ps (filter_map (slot_at slots) places)) (said_view judged)) same
+    → FollowsFrom rules ps place it.meant (results_by_path ps (filter_map (slot_at slots) places)) (said_view judged)) same
     (c.in_ok-judged.ensures.follows declared ps place it.meant given it.is_there it.tells names) in
     let too = subst (λ places. AreImported ps place (filter_map (slot_at slots) places)
-    → CertificatesFollow rules rule ps place it.meant (results_by ps (filter_map (slot_at slots) places)) judged) same
+    → CertificatesFollow rules rule ps place it.meant (results_by_path ps (filter_map (slot_at slots) places)) judged) same
     (c.in_ok-judged.ensures.certified declared ps place it.meant given it.is_there it.tells names) in
-    let results = results_by ps (filter_map (slot_at slots) (imports_at ps place)) in
+    let results = results_by_path ps (filter_map (slot_at slots) (imports_at ps place)) in
     let are_results = results_so rules ps packages given.tell slots right place distinct in
     let imported = are_imported rules ps packages given.tell slots right place ready in
     let result = what_follows_is_a_result_by rules determined ps place it.meant results (said_view judged)

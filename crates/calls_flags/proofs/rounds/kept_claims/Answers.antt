@@ -7,9 +7,9 @@ use Rattle.calls_flags.proofs.rounds.kept_claims.Goals as goal
 
 pub returns-clause-sieves : goal.returns-clause-sieves
 returns-clause-sieves c =
-    IfOk-weaker c.sieved.result _ _
+    IfOk-weaker c.kept_by_paths.result _ _
     (λ kept sieves fs tell are. subst
     (λ flags. Sieves (KeepsClaim fs (calls_by flags (flags_by_path c.args.imported.now)))
     (map claim_view c.args.claims.now) (map claim_view kept.items))
     (λ i name k. c.in_ok-own.ensures name k i) (sieves fs tell are))
-    c.sieved.ensures.sieves
+    c.kept_by_paths.ensures.sieves

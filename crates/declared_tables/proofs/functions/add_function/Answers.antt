@@ -1,7 +1,7 @@
 use Rattle.std.proofs.Common.{sym, ◌∙◌}
 use Rattle.facts.proofs.FactParts.{on_ok}
 use Rattle.facts.specs.FactViews.{facts_view}
-use Rattle.outside_json.specs.Outside.{function_of}
+use Rattle.declared_json.specs.DeclaredPackages.{function_of}
 use Rattle.declared_tables.proofs.AddedCalls.{is_added, not_added}
 use Rattle.declared_tables.proofs.functions.add_function.Goals as goal
 

@@ -1,7 +1,7 @@
 use Rattle.std.proofs.Common.{bytes_eq, ap, map, sym, ◌∙◌}
 use Rattle.facts.proofs.FactMaps.{seen_as}
 use Rattle.first_values.specs.ValuesByName.{value_of}
-use Rattle.outside_json.specs.Outside.{function_of, package_of}
+use Rattle.declared_json.specs.DeclaredPackages.{function_of, package_of}
 use Rattle.declared_tables.specs.DeclaredTables.{table_of, table_view}
 use Rattle.declared_tables.proofs.Givers.{marked_next}
 use Rattle.declared_tables.proofs.tables.add_package.Goals as goal

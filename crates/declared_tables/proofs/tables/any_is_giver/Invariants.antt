@@ -1,6 +1,6 @@
 use Rattle.std.proofs.Common.{◌≡◌, drop, map}
 use Rattle.std.specs.List.{list_any}
-use Rattle.outside_json.specs.Outside.{function_of}
+use Rattle.declared_json.specs.DeclaredPackages.{function_of}
 use Rattle.declared_tables.specs.MarkedGivers.{is_giver}
 use Rattle.declared_tables.proofs.tables.any_is_giver.Given as goal
 

@@ -2,7 +2,7 @@ use Rattle.std.proofs.Common.{ap, drop, map, not, option_map, is_some}
 use Rattle.std.proofs.lemmas.List.{drop_all}
 use Rattle.called_parameters.specs.Called.{is_called}
 use Rattle.facts.specs.FactViews.{facts_by_name}
-use Rattle.outside_json.specs.Outside.{function_of}
+use Rattle.declared_json.specs.DeclaredPackages.{function_of}
 use Rattle.declared_tables.specs.DeclaredTables.{calls_in, facts_of, function_in}
 use Rattle.declared_tables.proofs.AddedCalls.{call_last, fact_first, fact_last, fact_next, flag_first, flag_next}
 use Rattle.declared_tables.proofs.Givers.{marked}

@@ -2,7 +2,7 @@ use Rattle.std.proofs.Common.{◌≡◌, ℕ, ◌&&◌, ◌||◌, not, List, dro
 use Rattle.facts.specs.FactViews.{facts_by_name}
 use Rattle.called_parameters.specs.Called.{is_called}
 use Rattle.meaning.specs.OuterBlocks.{or_else}
-use Rattle.outside_json.specs.Outside.{function_of}
+use Rattle.declared_json.specs.DeclaredPackages.{function_of}
 use Rattle.declared_tables.specs.DeclaredTables.{calls_in, facts_of, function_in}
 use Rattle.declared_tables.proofs.tables.table_of.Given as goal
 

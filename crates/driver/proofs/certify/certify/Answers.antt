@@ -2,7 +2,7 @@ use Rattle.std.proofs.Common.{◌≡◌, false, true≢false, IsErrAnd, refl, ru
 use Rattle.std.specs.Io.KnownBytes.{Appends}
 use Rattle.folders.specs.declared.fault.Fault.TheVariants.{CannotWrite}
 use Rattle.judge.specs.Certified.{IsCertifiedReport}
-use Rattle.outside_json.specs.Outside.{packages_of}
+use Rattle.declared_json.specs.DeclaredPackages.{packages_of}
 use Rattle.workers.specs.Counts.{count_of}
 use Rattle.driver.specs.Faults.{is_of_output, IsCertifyFault}
 use Rattle.driver.specs.Printing.{AppendsFront}

@@ -1,7 +1,7 @@
 use Rattle.std.proofs.Common.{subst}
 use Rattle.std.proofs.lemmas.Result.{IfOk-weaker}
 use Rattle.declared_tables.specs.DeclaredTables.{declared_tables}
-use Rattle.outside_json.specs.Outside.{packages_of}
+use Rattle.declared_json.specs.DeclaredPackages.{packages_of}
 use Rattle.inspect_packages.specs.FinalTables.{AreTablesFrom}
 use Rattle.inspect_packages.proofs.FinalTables.{plain_so}
 use Rattle.inspect_packages.proofs.final_tables.final_tables.Goals as goal

@@ -1,7 +1,7 @@
 use Rattle.std.proofs.Common.{IfOk, subst}
 use Rattle.all_packages.specs.Reports.{TellsReport}
 use Rattle.declared_tables.specs.DeclaredTables.{declared_tables}
-use Rattle.outside_json.specs.Outside.{packages_of}
+use Rattle.declared_json.specs.DeclaredPackages.{packages_of}
 use Rattle.judge.proofs.reports.report_loaded.Goals as goal
 
 pub returns : goal.returns

@@ -1,5 +1,5 @@
 use Rattle.judge.proofs.Loads.{is_report}
-use Rattle.outside_json.specs.Outside.{packages_of}
+use Rattle.declared_json.specs.DeclaredPackages.{packages_of}
 use Rattle.judge.proofs.reports.report_of.Goals as goal
 
 pub returns-clause-report : goal.returns-clause-report

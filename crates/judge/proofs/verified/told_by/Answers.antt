@@ -2,7 +2,7 @@ use Rattle.std.proofs.Common.{subst}
 use Rattle.std.proofs.lemmas.Result.{IfOk-weaker}
 use Rattle.all_packages.specs.Reports.{TellsReportBy}
 use Rattle.declared_tables.specs.DeclaredTables.{declared_tables}
-use Rattle.outside_json.specs.Outside.{packages_of}
+use Rattle.declared_json.specs.DeclaredPackages.{packages_of}
 use Rattle.verifier.specs.GivenViews.{given_of}
 use Rattle.verifier.specs.Rules.{GivenByPath, by_certificates}
 use Rattle.judge.proofs.verified.told_by.Goals as goal

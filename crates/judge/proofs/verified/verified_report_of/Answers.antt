@@ -1,6 +1,6 @@
 use Rattle.std.proofs.Common.{subst}
 use Rattle.declared_tables.specs.DeclaredTables.{declared_tables}
-use Rattle.outside_json.specs.Outside.{packages_of}
+use Rattle.declared_json.specs.DeclaredPackages.{packages_of}
 use Rattle.judge.specs.Verified.{TellsVerified}
 use Rattle.judge.proofs.VerifiedReports.{told_beside, is_verified, are_too_old}
 use Rattle.judge.proofs.verified.verified_report_of.Goals as goal

@@ -63,8 +63,8 @@ loop-rest-preserved c =
     record {
       utf8 = subst IsUtf8 (sym back) (IsUtf8-drop rest found.size old.utf8 boundary);
       size = omega (arith, old.size, ap length back, length-drop found.size rest);
-      read = subst (λ r. IsReadFrom start (drop start text) r end c.in-Ok.next c.add_piece.new.tokens.items) (sym back)
-          (subst (λ d. IsReadFrom start (drop start text) (drop found.size rest) end d c.add_piece.new.tokens.items) (sym due)
+      read = subst (λ r. IsReadFrom start (drop start text) r end c.in-Ok.next c.add_tokens_of.new.tokens.items) (sym back)
+          (subst (λ d. IsReadFrom start (drop start text) (drop found.size rest) end d c.add_tokens_of.new.tokens.items) (sym due)
           (subst (λ l. IsReadFrom start (drop start text) (drop found.size rest) end (due_after found.kind end c.loop-rest.due) l) (sym tokens) more));
     }
 

@@ -1,5 +1,5 @@
 use Rattle.std.proofs.Common.{◌≡◌, drop, map}
-use Rattle.outside_json.specs.Outside.{package_of}
+use Rattle.declared_json.specs.DeclaredPackages.{package_of}
 use Rattle.load.specs.LoadedBeside.{first_place, kept_path}
 use Rattle.load.proofs.loaded.first_given.Given as goal
 

@@ -1,4 +1,4 @@
-use Rattle.outside_json.specs.Outside.{packages_of}
+use Rattle.declared_json.specs.DeclaredPackages.{packages_of}
 use Rattle.load.proofs.FirstGiven.{is_beside, is_fault_beside}
 use Rattle.load.proofs.loaded.load_beside.Goals as goal
 

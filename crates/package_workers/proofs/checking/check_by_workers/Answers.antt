@@ -2,7 +2,7 @@ use Rattle.std.proofs.Common.{IfOk, List, subst}
 use Rattle.all_packages.specs.Reports.{AreAllCertified, AreReportsBy}
 use Rattle.declared_tables.specs.DeclaredTables.{declared_tables}
 use Rattle.meaning_reports.specs.Loaded.{LoadedPackage}
-use Rattle.outside_json.specs.Outside.{packages_of}
+use Rattle.declared_json.specs.DeclaredPackages.{packages_of}
 use Rattle.whole_packages.specs.LoadedViews.{HaveDistinctPaths, TellPackages}
 use Rattle.package_workers.proofs.checking.check_by_workers.Goals as goal
 

@@ -1,6 +1,6 @@
 use Rattle.declared_tables.specs.DeclaredTables.{declared_tables}
 use Rattle.imports.specs.Views.{packages_view, rank_of}
-use Rattle.outside_json.specs.Outside.{packages_of}
+use Rattle.declared_json.specs.DeclaredPackages.{packages_of}
 use Rattle.package_workers.specs.Results.{IsRight}
 use Rattle.package_workers.proofs.checking.check_by_workers.Given as goal
 

@@ -1,7 +1,7 @@
 use Rattle.std.proofs.Common.{◌∙◌}
 use Rattle.all_packages.specs.Progress.{slots_in}
 use Rattle.declared_tables.specs.DeclaredTables.{declared_tables}
-use Rattle.outside_json.specs.Outside.{packages_of}
+use Rattle.declared_json.specs.DeclaredPackages.{packages_of}
 use Rattle.package_workers.proofs.RightSlots.{named_right}
 use Rattle.package_workers.proofs.checking.gathered.Goals as goal
 

@@ -1,7 +1,7 @@
 use Rattle.std.proofs.Common.{ap, map, subst}
 use Rattle.declared_tables.specs.DeclaredTables.{declared_tables}
 use Rattle.imports.specs.Views.{text_views}
-use Rattle.outside_json.specs.Outside.{packages_of}
+use Rattle.declared_json.specs.DeclaredPackages.{packages_of}
 use Rattle.one_package.specs.Results.{KnowsImports}
 use Rattle.package_workers.specs.Results.{judged_of, place_of}
 use Rattle.package_workers.proofs.KnownResults.{AreTold}

@@ -16,7 +16,7 @@ use Rattle.verifier.proofs.said.add_body.Goals as goal
 
 pub returns : goal.returns
 returns c =
-    on_ok c.add_passes_by.result
+    on_ok c.add_passes_by_calls.result
     (λ passes number seen b told is_body.
     let calls = known_calls c.args.grounds.calls in
     let f = with_table seen (has c.args.credits.now) in
@@ -27,11 +27,11 @@ returns c =
     ∙ (is_body.are_variables ∙ ap (λ (p : BodyPlace). variables_of seen p.at) (sym place)) in
     let found = c.in_ok-faults.ensures seen told variables ∙ ap (λ (p : BodyPlace). body_faults seen p.at) place in
     let faults = use_entries number (body_faults seen b.at) in
-    adds_both before uses c.add_passes_by.new.diagnostics.items (Contains faults) (IsPassEntry calls number f b)
+    adds_both before uses c.add_passes_by_calls.new.diagnostics.items (Contains faults) (IsPassEntry calls number f b)
     (adds_list before uses faults (c.in_ok-add_use_faults.ensures
     ∙ (λ i. map entry_of before ++ use_entries (is_body.is_file i)
     ((ap (map fault_view) c.deref-2.ensures.value ∙ found) i))))
-    (subst (λ (p : BodyPlace). AddsEntries uses c.add_passes_by.new.diagnostics.items
+    (subst (λ (p : BodyPlace). AddsEntries uses c.add_passes_by_calls.new.diagnostics.items
     (IsEntryOf number (IsPassFault (paths_of seen (promises_in calls (has c.args.credits.now) p.at) b)))) place
     (passes number seen b told is_body)))
-    c.add_passes_by.ensures
+    c.add_passes_by_calls.ensures

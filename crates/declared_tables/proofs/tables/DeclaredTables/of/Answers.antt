@@ -1,7 +1,7 @@
 use Rattle.std.proofs.Common.{◌≡◌, ◌<◌, ◌≤◌, ap, drop, get_or, length, map, option_map, subst}
 use Rattle.std.proofs.lemmas.List.{drop_all}
 use Rattle.first_values.specs.ValuesByName.{value_of}
-use Rattle.outside_json.specs.Outside.{package_of, packages_of, table_at}
+use Rattle.declared_json.specs.DeclaredPackages.{package_of, packages_of, table_at}
 use Rattle.declared_tables.specs.DeclaredTables.{table_of, table_view}
 use Rattle.declared_tables.proofs.AddedTables.{table_last, table_next}
 use Rattle.declared_tables.proofs.tables.DeclaredTables.of.Goals as goal

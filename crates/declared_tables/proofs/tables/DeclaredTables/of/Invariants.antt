@@ -1,7 +1,7 @@
 use Rattle.std.proofs.Common.{◌≡◌, ℕ, List, drop, map, option_map}
 use Rattle.meaning.specs.OuterBlocks.{or_else}
 use Rattle.first_values.specs.ValuesByName.{value_of}
-use Rattle.outside_json.specs.Outside.{package_of, packages_of, table_at}
+use Rattle.declared_json.specs.DeclaredPackages.{package_of, packages_of, table_at}
 use Rattle.declared_tables.specs.DeclaredTables.{table_of, table_view}
 use Rattle.declared_tables.specs.MarkedGivers.{AreMarked}
 use Rattle.declared_tables.proofs.tables.DeclaredTables.of.Given as goal

@@ -1,5 +1,5 @@
 use Rattle.std.proofs.Common.{map, sym, ◌∙◌}
-use Rattle.outside_json.specs.Outside.{package_of, packages_of}
+use Rattle.declared_json.specs.DeclaredPackages.{package_of, packages_of}
 use Rattle.load.specs.LoadedBeside.{first_place, kept_path}
 use Rattle.load.proofs.FirstGiven.{none_there, path_there}
 use Rattle.load.proofs.loaded.Loaded.with_outside.Goals as goal

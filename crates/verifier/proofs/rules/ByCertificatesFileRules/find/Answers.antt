@@ -7,7 +7,7 @@ use Rattle.facts.specs.FactViews.{facts_by_name}
 use Rattle.meaning_reports.specs.Loaded.{seen_files}
 use Rattle.silent_files.proofs.WalkedFiles.{walks_are_enough}
 use Rattle.verifier.proofs.FoundPackages.{have_facts, are_flags, each}
-use Rattle.verifier.specs.GivenViews.{given_by, given_of, package_by, TellsGiven}
+use Rattle.verifier.specs.GivenViews.{given_by, given_of, package_by_path, TellsGiven}
 use Rattle.verifier.proofs.rules.ByCertificatesFileRules.find.Goals as goal
 
 pub returns-clause-files : goal.returns-clause-files
@@ -25,7 +25,7 @@ returns-clause-files c = λ declared ps tables i p is_p loaded around told none.
     let to_claim = subst (TellAll fs) (sym c.deref-2.ensures.value) told_all in
     let to_say = subst (TellAll fs) (sym c.deref-3.ensures.value) told_all in
     let given : TellsGiven (by p.path) c.in_ok-given.given =
-    subst (λ o. TellsGiven (given_of o) c.in_ok-given.given) (c.of.ensures ∙ ap (package_by c.args.self.now) (c.as_str.ensures.value ∙ sym loaded.is_path))
+    subst (λ o. TellsGiven (given_of o) c.in_ok-given.given) (c.of.ensures ∙ ap (package_by_path c.args.self.now) (c.as_str.ensures.value ∙ sym loaded.is_path))
     c.in_ok-given.ensures in
     let flags = is_called c.in_ok-called.called in
     let imported = flags_by_path c.args.around.calls.now in

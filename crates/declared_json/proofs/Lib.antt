@@ -1,0 +1,3 @@
+pub mod FunctionsRead
+pub mod DeclaredLaws
+pub mod PackagesRead

@@ -1,0 +1,24 @@
+use Rattle.std.proofs.Common.{map, string_bytes, refl}
+use Rattle.json_reading.proofs.ItemsMade.{item_read, no_item_read, none_yet}
+use Rattle.declared_json.specs.DeclaredPackages.{function_of}
+use Rattle.declared_json.proofs.PackagesRead.{no_package, package_read}
+use Rattle.declared_json.proofs.packages.PackagesReadItem.read_item.Goals as goal
+
+pub read_made-requires : goal.read_made-requires
+read_made-requires c = (refl, refl, none_yet _ _ _ _ _ refl (refl, refl, none_yet _ _ _ _ _ refl refl))
+
+pub returns-in-Some-clause-ok : goal.returns-in-Some-clause-ok
+returns-in-Some-clause-ok c =
+    let read = item_read _ _ _ _ c.in_ok-found.field-0 c.in_ok-found.ensures.ok _ c.in-Some.is in
+    record {
+      value = read.0;
+      stands = read.1;
+      judged =
+          package_read (λ fs. map function_of fs.items) string_bytes read.0 c.in-Some.found.0 c.in-Some.found.1.0
+          c.in-Some.found.1.1 read.2;
+    }
+
+pub returns-in-None-clause-ok : goal.returns-in-None-clause-ok
+returns-in-None-clause-ok c =
+    let none = no_item_read _ _ _ _ c.in_ok-found.field-0 c.in_ok-found.ensures.ok c.in-None.is in
+    record { value = none.0; stands = none.1; judged = no_package none.0 none.2 }

@@ -1,0 +1,16 @@
+//! Declared facts of outside packages, read from JSON: what is declared is in `specs/DeclaredPackages.antt`, which values are
+//! those of it in `specs/DeclaredValues.antt`, and which texts, and why a text is none, in `specs/DeclaredTexts.antt`.
+#![tactic(auto)]
+
+mod fault;
+mod functions;
+mod order;
+mod outside;
+mod packages;
+mod read;
+mod reserved;
+
+pub use fault::DeclaredFault;
+pub use outside::{DeclaredPackages, DeclaredFunction, DeclaredPackage};
+pub use read::from_json;
+pub use reserved::ReservedPath;

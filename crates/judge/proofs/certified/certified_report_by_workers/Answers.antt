@@ -1,0 +1,16 @@
+use Rattle.judge.proofs.CertifiedReports.{is_certified}
+use Rattle.judge.proofs.WorkersFaults.{is_of_workers}
+use Rattle.declared_json.specs.DeclaredPackages.{packages_of}
+use Rattle.workers.specs.Counts.{count_of}
+use Rattle.judge.proofs.certified.certified_report_by_workers.Goals as goal
+
+pub returns-in-Ok-certified_loaded-clause-report : goal.returns-in-Ok-certified_loaded-clause-report
+returns-in-Ok-certified_loaded-clause-report g c =
+    is_certified c.args.settings.format (packages_of c.args.outside) c.args.given.items c.in-Ok.loaded c.in-Ok-certified_loaded.told
+    c.in-Ok.ensures.loaded c.in-Ok-certified_loaded.ensures.certified
+
+pub returns-in-Err-certified_loaded-clause-fault : goal.returns-in-Err-certified_loaded-clause-fault
+returns-in-Err-certified_loaded-clause-fault g c =
+    is_of_workers (packages_of c.args.outside) c.args.given.items (count_of c.args.settings.workers) c.in-Ok.loaded
+    c.in-Ok.ensures.loaded c.in-Err-certified_loaded.fault c.of_workers.result c.of_workers.ensures
+    c.in-Err-certified_loaded.ensures.fault

@@ -1,0 +1,18 @@
+use Rattle.std.proofs.Common.{IfErr, IfOk, length, subst}
+use Rattle.all_packages.specs.Reports.{TellsReport}
+use Rattle.declared_tables.specs.DeclaredTables.{declared_tables}
+use Rattle.declared_json.specs.DeclaredPackages.{packages_of}
+use Rattle.package_workers.specs.Faults.{IsFaultOf}
+use Rattle.workers.specs.Counts.{count_of}
+use Rattle.judge.proofs.reports.report_loaded_by_workers.Goals as goal
+
+pub returns-clause-report : goal.returns-clause-report
+returns-clause-report g c =
+    let declared = declared_tables (packages_of c.args.loaded.outside) in
+    subst (λ kept. IfOk c.whole_report_by_workers-report.result (TellsReport c.args.settings.format declared kept))
+    c.deref.ensures.value c.whole_report_by_workers-report.ensures.report
+
+pub returns-clause-fault : goal.returns-clause-fault
+returns-clause-fault g c =
+    subst (λ kept. IfErr c.whole_report_by_workers-report.result (IsFaultOf (count_of c.args.settings.workers) (length kept)))
+    c.deref.ensures.value c.whole_report_by_workers-report.ensures.fault

@@ -1,3 +1,0 @@
-pub mod FunctionsRead
-pub mod OutsideLaws
-pub mod PackagesRead

@@ -1,7 +1,0 @@
--- For a reader of the contracts: what is declared, which values and texts are those of it, and why a text is not.
-pub mod Outside
-pub mod OutsideValues
-pub mod OutsideTexts
--- What serves the proofs.
-pub mod MembersRead
-pub mod Parts
