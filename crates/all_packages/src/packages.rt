@@ -20,12 +20,12 @@ ghost use Rattle.meaning_reports.specs.Loaded.{LoadedPackage as MeantPackage, Ta
 use crate::known_imports::known_imports;
 use crate::progress::Progress;
 use called_parameters::ImportedCalls;
+use declared_json::DeclaredPackages;
 use imports::ImportList;
 use one_package::{
     ByPaths, FileRules, Given, Judged, KnownImports, ToldPackage, around, given_packages,
     judge_package, tell_unless_faulty,
 };
-use declared_json::DeclaredPackages;
 use std::alloc::{AllocError, Global};
 use whole_packages::LoadedPackage;
 

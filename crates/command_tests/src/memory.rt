@@ -4,10 +4,10 @@
 use crate::together::{package, workers_report};
 use all_packages::{Report, check_by_rules, told};
 use certificate_json::{CertificateFault, Certificates, from_json};
+use declared_json::DeclaredPackages;
 use evidence_rows::memory::{CERTIFICATES, CHECKED, PACKAGES, VERIFIED};
 use load::{LoadFault, load, release};
 use one_package::ByPaths;
-use declared_json::DeclaredPackages;
 use package_workers::{CheckFault, Crew, Open};
 use report_formats::Format;
 use std::alloc::Global;

@@ -4,6 +4,7 @@ use crate::real_folders::folder_with;
 use crate::runs::{outcome, words_of};
 use all_packages::{Report, told};
 use calls_flags::KnownCalls;
+use declared_json::DeclaredPackages;
 use evidence_rows::together::{ENTRIES, MEETINGS, OPEN, PACKAGES, REPORT};
 use lexer::Source;
 use load::{GivenPackage, load, release};
@@ -11,7 +12,6 @@ use one_package::{
     Around, ByPaths, FileRules, FoundFiles, Given, KnownImports, ToldPackage, around,
     given_packages, told_of,
 };
-use declared_json::DeclaredPackages;
 use package_pieces::{PieceRules, build_all, find_called_with, solve_all};
 use package_workers::{CheckFault, Crew, Gate, Open, check_by_workers};
 use report_formats::Format;

@@ -10,8 +10,8 @@ ghost use Rattle.facts.specs.FactViews.{cancel_result_view, facts_view, paramete
 ghost use Rattle.declared_json.specs.DeclaredPackages.{function_of};
 
 use called_parameters::{Called, FunctionParameter};
-use facts::{CancelResult, CancelType, FunctionFacts, Table, TrackedParameter, TrackedType};
 use declared_json::DeclaredFunction;
+use facts::{CancelResult, CancelType, FunctionFacts, Table, TrackedParameter, TrackedType};
 use std::alloc::{AllocError, Global};
 use table_json::Parameter;
 

@@ -10,9 +10,9 @@ ghost use Rattle.declared_json.specs.DeclaredPackages.{function_of, package_of, 
 
 use crate::functions::add_function;
 use called_parameters::Called;
+use declared_json::{DeclaredFunction, DeclaredPackage, DeclaredPackages};
 use facts::Table;
 use first_values::FirstValues;
-use declared_json::{DeclaredPackages, DeclaredFunction, DeclaredPackage};
 use std::alloc::{AllocError, Global};
 
 /// What is known of the functions of a package.

@@ -6,8 +6,8 @@ ghost use Rattle.driver.specs.DeclaredFacts.{AreDeclaredBy, IsFactsFault, IsRead
 ghost use Rattle.declared_json.specs.DeclaredPackages.{packages_of};
 ghost use Rattle.declared_json.specs.DeclaredTexts.{IsDeclaredFault, IsDeclaredText};
 
+use declared_json::{DeclaredFault, DeclaredPackages, from_json};
 use folders::{Fault, ReadFile, read_file};
-use declared_json::{DeclaredPackages, DeclaredFault, from_json};
 use std::alloc::Global;
 use std::rt::Files;
 

@@ -11,9 +11,9 @@ use crate::list_input::read_packages_of_list;
 use crate::listed_packages::add_listed;
 use crate::packages::{FoldersAsked, NamedPackage, all_named, read_packages};
 use command_line::Sources;
+use declared_json::DeclaredPackages;
 use folders::{Fault, ReadFile, Surroundings};
 use load::GivenPackage;
-use declared_json::DeclaredPackages;
 use std::rt::Files;
 
 /// The files that were read for a report beside those of packages, where they are named: that of declared facts, and

@@ -10,10 +10,10 @@ ghost use Rattle.workers.specs.Counts.{count_of};
 
 use crate::facts_input::nothing_declared;
 use certificate_json::Certificates;
+use declared_json::DeclaredPackages;
 use folders::Fault;
 use judge::{CertifiedReport, CheckFault, Format, Report, Settings, VerifyFault};
 use load::{GivenPackage, Leave, LoadFault};
-use declared_json::DeclaredPackages;
 use std::alloc::Global;
 use std::sync::Wait;
 use std::thread::Threads;

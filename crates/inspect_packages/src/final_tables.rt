@@ -6,8 +6,8 @@ ghost use Rattle.inspect_packages.specs.FinalTables.{AreTablesFrom, IsTableAt, T
 ghost use Rattle.declared_json.specs.DeclaredPackages.{packages_of};
 
 use all_packages::check;
-use one_package::Judged;
 use declared_json::DeclaredPackages;
+use one_package::Judged;
 use plain_tables::package_table;
 use std::alloc::{AllocError, Global};
 use table_json::Table;

@@ -34,6 +34,7 @@ pub struct Lines {
 }
 
 impl Lines {
+    /// No line.
     pub fn new(alloc: Global) -> Lines {
         Lines {
             text: String::new(alloc),
@@ -67,26 +68,31 @@ impl Lines {
         }
     }
 
+    /// Adds the name of the operator to the line.
     pub fn binary_operator(&mut self, operator: BinaryOperator) {
         let written = write!(self.text, " {operator:?}");
         self.keep(&written);
     }
 
+    /// Adds the name of the operator to the line.
     pub fn unary_operator(&mut self, operator: UnaryOperator) {
         let written = write!(self.text, " {operator:?}");
         self.keep(&written);
     }
 
+    /// Adds the kind of a literal to the line.
     pub fn literal_kind(&mut self, kind: BasicLitKind) {
         let written = write!(self.text, " {kind:?}");
         self.keep(&written);
     }
 
+    /// Adds the direction of a channel to the line.
     pub fn direction(&mut self, direction: ChanDirection) {
         let written = write!(self.text, " {direction:?}");
         self.keep(&written);
     }
 
+    /// Adds the keyword of a declaration to the line.
     pub fn keyword(&mut self, keyword: DeclKeyword) {
         let written = write!(self.text, " {keyword:?}");
         self.keep(&written);

@@ -12,6 +12,7 @@ pub fn identifier(lines: &mut Lines, slot: Slot, name: &Identifier) {
     lines.word(name.text.as_str());
 }
 
+/// The line of a name, where there is one.
 pub fn optional_identifier(lines: &mut Lines, slot: Slot, name: &Option<Identifier>) {
     if let Some(name) = name {
         identifier(lines, slot, name);
@@ -171,6 +172,7 @@ pub fn signature(lines: &mut Lines, slot: Slot, part: &Signature) {
     params(lines, slot.below("result"), &part.results);
 }
 
+/// The lines of parameters, each in the same slot.
 #[cycle(nodes)]
 pub fn params(lines: &mut Lines, slot: Slot, list: &[Param]) {
     for item in list {

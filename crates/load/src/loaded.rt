@@ -7,7 +7,7 @@ ghost use Rattle.load.specs.LoadedBeside.{first_given, first_place, kept_path, I
 ghost use Rattle.declared_json.specs.DeclaredPackages.{package_of, packages_of};
 
 use crate::packages::{GivenPackage, LoadFault, load, load_by_workers, release};
-use declared_json::{DeclaredPackages, DeclaredPackage};
+use declared_json::{DeclaredPackage, DeclaredPackages};
 use std::alloc::Global;
 use std::mem;
 use std::thread::Threads;

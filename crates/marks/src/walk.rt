@@ -24,6 +24,11 @@ use tree::{
     Signature, Span, Spec, Stmt, StmtKind, UnaryOperator,
 };
 
+/// The marks of an expression at that spot.
+///
+/// # Errors
+///
+/// Memory was refused.
 #[cycle(marks)]
 pub fn expression<'m, 'a>(
     marks: &mut Marks<'m, 'a>,
@@ -246,6 +251,11 @@ fn callee_or<'m, 'a>(
     }
 }
 
+/// The marks of expressions, one after the other.
+///
+/// # Errors
+///
+/// Memory was refused.
 #[cycle(marks)]
 pub fn expressions<'m, 'a>(
     marks: &mut Marks<'m, 'a>,
@@ -261,6 +271,11 @@ pub fn expressions<'m, 'a>(
     Ok(())
 }
 
+/// The marks of an expression at that site, where there is one.
+///
+/// # Errors
+///
+/// Memory was refused.
 #[cycle(marks)]
 pub fn optional<'m, 'a>(
     marks: &mut Marks<'m, 'a>,
@@ -429,6 +444,11 @@ pub fn signature<'m, 'a>(
     parameters(marks, false, site, &signature.results)
 }
 
+/// The marks of parameters, or of results.
+///
+/// # Errors
+///
+/// Memory was refused.
 #[cycle(marks)]
 pub fn parameters<'m, 'a>(
     marks: &mut Marks<'m, 'a>,
@@ -659,6 +679,11 @@ fn statement_form<'m, 'a>(
     }
 }
 
+/// The marks of statements, one after the other.
+///
+/// # Errors
+///
+/// Memory was refused.
 #[cycle(marks)]
 pub fn statements<'m, 'a>(marks: &mut Marks<'m, 'a>, list: &'a [Stmt]) -> Result<(), AllocError>
     ensures { OnOk result (Adds marks.old.list.items marks.new.list.items

@@ -11,12 +11,12 @@ ghost use Rattle.meaning_reports.specs.Loaded.{LoadedPackage as MeantPackage};
 ghost use Rattle.declared_json.specs.DeclaredPackages.{packages_of};
 
 use crate::package_names::names_of_packages;
+use declared_json::DeclaredPackages;
 use declared_tables::DeclaredTables;
 use imports::given::given_imports;
 use imports::{ImportList, Order, first_places, order};
 use indexmap::IndexMap;
 use names::PackageNames;
-use declared_json::DeclaredPackages;
 use std::alloc::{AllocError, Global};
 use whole_packages::{LoadedPackage, import_lists, unranked};
 

@@ -27,8 +27,8 @@ use crate::threads::{ThreadWork, work_all};
 use crate::working::{Worker, until_over};
 use all_packages::{Progress, judge_left};
 use board::{Core, Outcome};
-use one_package::{FileRules, Judged, given_packages};
 use declared_json::DeclaredPackages;
+use one_package::{FileRules, Judged, given_packages};
 use package_pieces::PieceRules;
 use std::alloc::{AllocError, Global};
 use std::marker::Brand;
@@ -261,10 +261,10 @@ fn check_named<
 
 /// Judges packages of different paths, and their files by these rules, where this is declared of packages that are not
 /// given, by so many workers: what is to be said of each, in their order, what is known of its functions, and the
-/// certificates of its bodies, if the rules make some. It promises what `check_by_rules` does. A package is judged once all
-/// that it imports was judged. Where there are more workers than packages, those that are over help with the bodies of
-/// each package. One worker starts no thread. The gate is passed once before each package, and again where one has to
-/// be judged anew.
+/// certificates of its bodies, if the rules make some. It promises what `check_by_rules` does. A package is judged once
+/// all that it imports was judged. Where there are more workers than packages, those that are over help with the bodies
+/// of each package. One worker starts no thread. The gate is passed once before each package, and again where one has
+/// to be judged anew.
 ///
 /// # Errors
 ///

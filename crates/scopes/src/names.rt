@@ -15,6 +15,11 @@ use tree::{
     Spec, Stmt, StmtKind, TypeName,
 };
 
+/// The names of an expression.
+///
+/// # Errors
+///
+/// Memory was refused.
 #[cycle(names)]
 pub fn expression<'a>(namings: &mut Vec<Naming<'a>>, expression: &'a Expr) -> Result<(), AllocError>
     ensures { OnOk result (Adds namings.old.items namings.new.items (expression_names
@@ -105,6 +110,11 @@ fn element_key<'a>(namings: &mut Vec<Naming<'a>>, key: &'a Expr) -> Result<(), A
     expression(namings, key)
 }
 
+/// The names of expressions, one after the other.
+///
+/// # Errors
+///
+/// Memory was refused.
 #[cycle(names)]
 pub fn expressions<'a>(namings: &mut Vec<Naming<'a>>, list: &'a [Expr]) -> Result<(), AllocError>
     ensures { OnOk result (Adds namings.old.items namings.new.items (expressions_names (expressions_syntax list.now))) }
@@ -115,6 +125,11 @@ pub fn expressions<'a>(namings: &mut Vec<Naming<'a>>, list: &'a [Expr]) -> Resul
     Ok(())
 }
 
+/// The names of an expression, where there is one.
+///
+/// # Errors
+///
+/// Memory was refused.
 #[cycle(names)]
 pub fn optional<'a>(
     namings: &mut Vec<Naming<'a>>,
@@ -142,6 +157,11 @@ pub fn signature<'a>(
     parameters(namings, &signature.results)
 }
 
+/// The names of the types of parameters.
+///
+/// # Errors
+///
+/// Memory was refused.
 #[cycle(names)]
 pub fn parameters<'a>(namings: &mut Vec<Naming<'a>>, list: &'a [Param]) -> Result<(), AllocError>
     ensures { OnOk result (Adds namings.old.items namings.new.items (parameters_names (parameters_syntax list.now))) }
@@ -318,6 +338,11 @@ fn statement_form<'a>(
     }
 }
 
+/// The names of the statements of that block.
+///
+/// # Errors
+///
+/// Memory was refused.
 #[cycle(names)]
 pub fn statements<'a>(
     namings: &mut Vec<Naming<'a>>,

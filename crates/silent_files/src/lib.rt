@@ -1,5 +1,5 @@
-//! Files in which nothing is to be found: definitions and laws. And the words by which they are known: that the names of
-//! a file are words of its text, and whether a text has one of some words as a name.
+//! Files in which nothing is to be found: definitions and laws. And the words by which they are known: that the names
+//! of a file are words of its text, and whether a text has one of some words as a name.
 #![tactic(auto)]
 
 mod laws_of_words;

@@ -62,6 +62,7 @@ fn body_depth(body: &Option<Block>) -> u32
 }
 
 impl Stmt {
+    /// How deep the tree is; `u32::MAX` where it is deeper than that.
     pub fn depth(&self) -> u32
         ensures { result ≡ min u32.MAX (statement_depth (statement_syntax self.now)) }
     {
@@ -70,6 +71,7 @@ impl Stmt {
 }
 
 impl Expr {
+    /// How deep the tree is; `u32::MAX` where it is deeper than that.
     pub fn depth(&self) -> u32
         ensures { result ≡ min u32.MAX (expression_depth (expression_syntax self.now)) }
     {

@@ -1,5 +1,5 @@
-//! Work on many items that several threads share: files by a queue, and the pieces of one list by helpers. What comes of
-//! it is what one thread makes.
+//! Work on many items that several threads share: files by a queue, and the pieces of one list by helpers. What comes
+//! of it is what one thread makes.
 #![tactic(auto)]
 
 mod count;
