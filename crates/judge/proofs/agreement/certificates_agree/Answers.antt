@@ -1,5 +1,5 @@
 use Rattle.judge.proofs.CertificateAgreement.{certificates_agree as lemma}
-use Rattle.judge.proofs.certificates_agree.Goals as goal
+use Rattle.judge.proofs.agreement.certificates_agree.Goals as goal
 use Rattle.certificates.proofs.LeastCertificates.{least_holds, least_settles}
 use Rattle.checker.proofs.CheckedLists.{keeps_claims}
 

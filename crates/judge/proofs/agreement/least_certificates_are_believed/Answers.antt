@@ -1,5 +1,5 @@
 use Rattle.judge.proofs.Agreement.{least_certificates_are_believed as lemma}
-use Rattle.judge.proofs.least_certificates_are_believed.Goals as goal
+use Rattle.judge.proofs.agreement.least_certificates_are_believed.Goals as goal
 use Rattle.certificates.proofs.LeastCertificates.{least_holds, least_settles}
 use Rattle.checker.proofs.CheckedLists.{keeps_claims}
 

@@ -1,5 +1,5 @@
 use Rattle.judge.proofs.Agreement.{what_is_believed_has_no_finding as lemma}
-use Rattle.judge.proofs.what_is_believed_has_no_finding.Goals as goal
+use Rattle.judge.proofs.agreement.what_is_believed_has_no_finding.Goals as goal
 use Rattle.certificates.proofs.LeastCertificates.{least_holds, least_settles}
 use Rattle.checker.proofs.CheckedLists.{keeps_claims}
 
