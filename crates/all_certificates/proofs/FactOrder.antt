@@ -15,7 +15,7 @@ use Rattle.meaning.proofs.Membership.{contains_nil, contains_here, contains_ther
 use Rattle.meaning_reports.specs.Loaded.{LoadedPackage, PackageTable, Tables, means_in, trees_of}
 use Rattle.meaning_reports.specs.PackageTables.{IsTable, empty, full}
 use Rattle.table_json.specs.Tables.{Entry, Rise, HasOrder, IsInOrder, are_apart, by_bytes, itself, name_of, position_of}
-use Rattle.table_json.specs.WrittenTables.{is_told}
+use Rattle.table_json.specs.WrittenTables.{says_something}
 use Rattle.plain_tables.specs.Tables.{as_list, position_told, parameter_kept, parameter_told, result_told, entry_told, is_none_of, if_told, entries_with, entries_for, IsPlain}
 use Rattle.all_certificates.proofs.RisingLists.{is_less, IsThinned, rise_left}
 
@@ -245,7 +245,7 @@ has_order calls name facts h = record {
 -- nothing is told of the name, or something that is in order
 abbrev IsToldOf : List ℕ → List Entry → Type 0
 IsToldOf name es =
-    (es ≡ []) ⊎ ((e : Entry) × (es ≡ e ∷ []) × (e.name ≡ name) × HasOrder e × (is_told e ≡ true))
+    (es ≡ []) ⊎ ((e : Entry) × (es ≡ e ∷ []) × (e.name ≡ name) × HasOrder e × (says_something e ≡ true))
 
 none_or_some : {A : Type 0} (xs : List A) → (length xs == 0) ≡ is_none_of xs
 none_or_some [] = refl
@@ -261,7 +261,7 @@ grouped false b c = refl
 
 told_if : (e : Entry) (b : Bool) → (is_none_of e.gives && (is_none_of e.causes && is_none_of e.params)) ≡ b
     → b ≡ false
-    → is_told e ≡ true
+    → says_something e ≡ true
 told_if e b is not_none =
     ap not
     (grouped (length e.gives == 0) (length e.causes == 0) (length e.params == 0)
@@ -271,7 +271,7 @@ of_entry : (name : List ℕ) (e : Entry) → e.name ≡ name → HasOrder e → 
 of_entry name e same order =
     by (is_none_of e.gives && (is_none_of e.causes && is_none_of e.params)) (told_if e _ refl)
   where
-    by : (b : Bool) → (b ≡ false → is_told e ≡ true) → IsToldOf name (if b then [] else e ∷ [])
+    by : (b : Bool) → (b ≡ false → says_something e ≡ true) → IsToldOf name (if b then [] else e ∷ [])
     by true told = inl refl
     by false told = inr (e, refl, same, order, told refl)
 
@@ -291,7 +291,7 @@ module _ (table : PackageTable) (rising : (name : List ℕ) → AreRisingIf (tab
   told_left : (name : List ℕ) → IsThinned by_bytes same_name name_of name (entries_for table name)
   told_left name = elim (told_of name) [ inl none ↦ inl none | inr one ↦ inr (one.0, one.1, one.2) ]
 
-  each_told : (P : Entry → Type 0) → ((e : Entry) → HasOrder e → is_told e ≡ true → P e) → (names : List (List ℕ))
+  each_told : (P : Entry → Type 0) → ((e : Entry) → HasOrder e → says_something e ≡ true → P e) → (names : List (List ℕ))
       → AllByRecursion P (flat_map (entries_for table) names)
   each_told P holds [] = tt
   each_told P holds (name ∷ names) = by (entries_for table name) (told_of name) (each_told P holds names)
@@ -308,26 +308,26 @@ module _ (table : PackageTable) (rising : (name : List ℕ) → AreRisingIf (tab
   same_names [] = refl
   same_names (name ∷ names) = λ i. name ∷ same_names names i
 
-  all_told : (es : List Entry) → AllByRecursion (λ e. is_told e ≡ true) es → list_all is_told es ≡ true
+  all_told : (es : List Entry) → AllByRecursion (λ e. says_something e ≡ true) es → list_all says_something es ≡ true
   all_told [] h = refl
-  all_told (e ∷ es) h = and_from (is_told e) (list_all is_told es) h.0 (all_told es h.1)
+  all_told (e ∷ es) h = and_from (says_something e) (list_all says_something es) h.0 (all_told es h.1)
 
   pub plain_in_order : (entries : List Entry) → IsPlain table entries
-      → IsInOrder entries × (list_all is_told entries ≡ true)
+      → IsInOrder entries × (list_all says_something entries ≡ true)
   plain_in_order entries is =
-      subst (λ es. IsInOrder es × (list_all is_told es ≡ true)) (sym is.are_told) (
+      subst (λ es. IsInOrder es × (list_all says_something es ≡ true)) (sym is.are_told) (
         record {
           names_rise = rise_left by_bytes same_name name_of (entries_for table) told_left is.names
               (subst (IsStrictlySortedBy by_bytes) (sym (same_names is.names)) is.rise);
           each_in_order = each_told HasOrder (λ e order told. order) is.names;
         },
         all_told (flat_map (entries_for table) is.names)
-            (each_told (λ e. is_told e ≡ true) (λ e order told. told) is.names),
+            (each_told (λ e. says_something e ≡ true) (λ e order told. told) is.names),
       )
 
 pub facts_in_order : (ps : List LoadedPackage) (tables : Tables) (i : ℕ) (p : LoadedPackage) (table : PackageTable)
     (entries : List Entry) → IsTable ps tables i p table
     → IsPlain table entries
-    → IsInOrder entries × (list_all is_told entries ≡ true)
+    → IsInOrder entries × (list_all says_something entries ≡ true)
 facts_in_order ps tables i p table entries is plain_so =
     plain_in_order table (table_rises ps tables i p table is) entries plain_so

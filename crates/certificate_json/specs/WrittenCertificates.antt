@@ -4,7 +4,7 @@ use Rattle.std.specs.Prelude.{ℕ, ◌≡◌, true, List}
 use Rattle.std.specs.List.{AllByRecursion, AllZip, list_all}
 use Rattle.serde_json.specs.Written.{compact_text}
 use Rattle.table_json.specs.declared.table.Version.TheVariants.{Newer}
-use Rattle.table_json.specs.WrittenTables.{is_told, AreWritten, IsOrdered}
+use Rattle.table_json.specs.WrittenTables.{says_something, AreWritten, IsOrdered}
 use Rattle.certificate_json.specs.Certificates.{PackageEntry, by_place, place_of, AreInOrder}
 use Rattle.certificate_json.specs.CertificateTexts.{AreCertificatesOf}
 use Rattle.certificate_json.specs.CertificateValues.{certificates_value}
@@ -24,7 +24,7 @@ pub record IsWrittenText (packages : List PackageEntry) (text : List ℕ) : Type
 
 -- something is told of each function among the facts
 abbrev pub IsTold : PackageEntry → Type 0
-IsTold p = list_all is_told p.facts ≡ true
+IsTold p = list_all says_something p.facts ≡ true
 
 -- certificates that are in order, and tell something of each function, are written as they stand
 abbrev pub CertificatesInOrderAreWritten : Type 0

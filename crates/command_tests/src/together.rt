@@ -10,7 +10,7 @@ use lexer::Source;
 use load::{GivenPackage, load, release};
 use one_package::{
     Around, ByPaths, FileRules, FoundFiles, Given, KnownImports, ToldPackage, around,
-    given_packages, told_of,
+    given_packages, tell_unless_faulty,
 };
 use package_pieces::{PieceRules, build_all, find_called_with, solve_all};
 use package_workers::{CheckFault, Crew, Gate, Open, check_by_workers};
@@ -250,7 +250,7 @@ fn solved_alone<'a, R: Threads + Wait, G: BodyGate + Sync>(
     package: &'a LoadedPackage,
 ) -> Option<Vec<(usize, u32)>> {
     let imports = KnownImports::new(alloc);
-    let told = told_of(alloc, package, around(given, &imports)).ok()??;
+    let told = tell_unless_faulty(alloc, package, around(given, &imports)).ok()??;
     solved_in(alloc, hired, &told, &imports)
 }
 
