@@ -15,7 +15,7 @@ mod OwnGroups
 mod LowerLaws
 mod MoreKnown
 mod OneTable
-mod Agreement
+mod FileAgreement
 mod OuterBodies
 mod EvenMarks
 mod BlockRules

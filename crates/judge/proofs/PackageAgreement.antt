@@ -4,7 +4,7 @@
 use Rattle.std.proofs.Common.{◌≡◌, ℕ, zero, suc, ◌<◌, inl, inr, Bool, List, [], ◌∷◌, length, Some, Contains, refl, sym, ap, ◌∙◌, subst, arith}
 use Rattle.std.specs.Prelude.{◌↔◌, option_map, slice_get}
 use Rattle.std.proofs.lemmas.Option.{none-some, same_Some, slice_get-map, slice_get_within, slice_get_cases}
-use Rattle.judge.proofs.Agreement.{least_certificates_are_believed, what_is_believed_has_no_finding}
+use Rattle.judge.proofs.FileAgreement.{least_certificates_are_believed, what_is_believed_has_no_finding}
 use Rattle.judge.proofs.LowerLaws.{LowerLaws}
 use Rattle.judge.proofs.PackageFiles.{IsOfText, credited_seen, all_full, of_text, keeps_flags}
 use Rattle.judge.specs.AgreementLaws.{HasLeastCertificates, FindsNothing}

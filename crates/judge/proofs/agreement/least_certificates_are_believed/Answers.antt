@@ -1,4 +1,4 @@
-use Rattle.judge.proofs.Agreement.{least_certificates_are_believed as lemma}
+use Rattle.judge.proofs.FileAgreement.{least_certificates_are_believed as lemma}
 use Rattle.judge.proofs.agreement.least_certificates_are_believed.Goals as goal
 use Rattle.certificates.proofs.LeastCertificates.{least_holds, least_settles}
 use Rattle.checker.proofs.CheckedLists.{keeps_claims}

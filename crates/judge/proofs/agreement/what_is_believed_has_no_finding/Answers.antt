@@ -1,4 +1,4 @@
-use Rattle.judge.proofs.Agreement.{what_is_believed_has_no_finding as lemma}
+use Rattle.judge.proofs.FileAgreement.{what_is_believed_has_no_finding as lemma}
 use Rattle.judge.proofs.agreement.what_is_believed_has_no_finding.Goals as goal
 use Rattle.certificates.proofs.LeastCertificates.{least_holds, least_settles}
 use Rattle.checker.proofs.CheckedLists.{keeps_claims}
