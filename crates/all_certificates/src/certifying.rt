@@ -4,15 +4,11 @@ ghost use Rattle.std.specs.Prelude.{true};
 ghost use Rattle.all_certificates.specs.CertifiedPackages.{are_of_bodies};
 ghost use Rattle.meaning_reports.specs.PackageReports.{by_paths};
 
-use crate::files::{entries_of_files, entries_with};
+use crate::files::CertifyingBodies;
 use calls_flags::KnownCalls;
-use one_package::{Alone, Around, FileRules, FoundFiles, JudgedBodies, ToldPackage, judge_bodies};
-use package_pieces::{ByHelpers, PieceRules};
-use std::alloc::{AllocError, Global};
-use std::sync::Wait;
-use std::thread::Threads;
+use one_package::{Around, FileRules, FoundFiles, Hands, JudgedBodies, ToldPackage, judge_bodies};
+use std::alloc::Global;
 use whole_packages::LoadedPackage;
-use workers::{Free, Helpers, PieceFault};
 
 /// Files are judged by the paths of their bodies. Each body gets its least certificate while it is there, also where
 /// nothing is to be found in it: so all files have to be told of.
@@ -26,23 +22,28 @@ impl FileRules for Certifying {
 
     ghost tells_all = { λ all. true };
 
-    fn find<'a>(
+    fn find<'a, H: Hands>(
         &self,
         alloc: Global,
+        hands: &H,
         _loaded: &'a LoadedPackage,
         told: &ToldPackage<'a>,
         around: Around<'_, 'a>,
-    ) -> Result<FoundFiles<'a>, AllocError> {
+    ) -> Result<FoundFiles<'a>, H::Fault> {
         let JudgedBodies {
             files,
             diagnostics,
             called,
-        } = judge_bodies(alloc, &Alone, told, around)?;
+        } = judge_bodies(alloc, hands, told, around)?;
         let calls = KnownCalls {
             own: &called,
             imported: around.calls,
         };
-        let certificates = entries_of_files(alloc, calls, &files)?;
+        let certifying = CertifyingBodies {
+            files: &files,
+            calls,
+        };
+        let certificates = hands.work(alloc, &certifying)?;
         Ok(FoundFiles {
             diagnostics,
             called,
@@ -55,30 +56,4 @@ impl FileRules for Certifying {
     }
 
     fn are_determined(&self) {}
-}
-
-impl PieceRules for Certifying {
-    fn find_with<'a, R: Threads + Wait>(
-        &self,
-        alloc: Global,
-        helpers: &Helpers<'_, R, Free>,
-        told: &ToldPackage<'a>,
-        around: Around<'_, 'a>,
-    ) -> Result<FoundFiles<'a>, PieceFault> {
-        let JudgedBodies {
-            files,
-            diagnostics,
-            called,
-        } = judge_bodies(alloc, &ByHelpers { helpers }, told, around)?;
-        let calls = KnownCalls {
-            own: &called,
-            imported: around.calls,
-        };
-        let certificates = entries_with(alloc, helpers, calls, &files)?;
-        Ok(FoundFiles {
-            diagnostics,
-            called,
-            certificates,
-        })
-    }
 }

@@ -14,6 +14,7 @@ use crate::entries::{Grounds, add_entries, add_entry};
 use bodies::Body;
 use calls_flags::{FileBodies, KnownCalls};
 use certificate_json::Body as Entry;
+use one_package::HandWork;
 use package_pieces::{BodyNumber, have_several, numbers_kept};
 use std::alloc::{AllocError, Global};
 use std::sync::Wait;
@@ -40,11 +41,7 @@ fn add_file<'f, 'a>(
 }
 
 /// The least certificates of the bodies of these files, file by file.
-///
-/// # Errors
-///
-/// Memory was refused.
-pub fn entries_of_files<'a>(
+fn entries_of_files<'a>(
     alloc: Global,
     calls: KnownCalls<'_, 'a>,
     files: &[FileBodies<'_, 'a>],
@@ -82,9 +79,9 @@ fn add_body<'f, 'a>(
 
 /// By what the certificates of bodies are made, and the files of which they are.
 #[derive(Clone, Copy)]
-struct CertifyingBodies<'k, 'c, 'e, 'a> {
-    files: &'k [FileBodies<'e, 'a>],
-    calls: KnownCalls<'c, 'a>,
+pub struct CertifyingBodies<'k, 'c, 'e, 'a> {
+    pub files: &'k [FileBodies<'e, 'a>],
+    pub calls: KnownCalls<'c, 'a>,
 }
 
 impl<'k, 'c, 'e, 'a> Piece<BodyNumber, Vec<Entry>> for CertifyingBodies<'k, 'c, 'e, 'a> {
@@ -116,11 +113,7 @@ impl<'k, 'c, 'e, 'a> Piece<BodyNumber, Vec<Entry>> for CertifyingBodies<'k, 'c, 
 
 /// The least certificates of the bodies of these files, file by file, made by these helpers a body at a time, if there
 /// is more than one.
-///
-/// # Errors
-///
-/// Memory was refused, or else a thread could not be started.
-pub fn entries_with<'a, R: Threads + Wait>(
+fn entries_with<'a, R: Threads + Wait>(
     alloc: Global,
     helpers: &Helpers<'_, R, Free>,
     calls: KnownCalls<'_, 'a>,
@@ -135,4 +128,28 @@ pub fn entries_with<'a, R: Threads + Wait>(
     let numbers = numbers_kept(alloc, files)?;
     let lists = work_all(alloc, helpers, &numbers, &CertifyingBodies { files, calls })?;
     Ok(joined(alloc, lists)?)
+}
+
+impl<'k, 'c, 'e, 'a> HandWork<Vec<Entry>> for CertifyingBodies<'k, 'c, 'e, 'a> {
+    ghost use Rattle.std.specs.Prelude.{List, map};
+    ghost use Rattle.all_certificates.specs.CertifiedBodies.{AreOfFiles};
+    ghost use Rattle.calls_flags.specs.FilesBodies.{TellAll};
+    ghost use Rattle.calls_flags.specs.KnownCalls.{known_calls};
+    ghost use Rattle.certificate_json.specs.Certificates.{body_of};
+    ghost use Rattle.meaning_packages.specs.CallsFlags.{FileWithCredits};
+
+    ghost gives = { λ certifying entries. (fs : List FileWithCredits) → TellAll fs certifying.files.now
+        → AreOfFiles (known_calls certifying.calls) 0 fs (map body_of entries.items) };
+
+    fn alone(&self, alloc: Global) -> Result<Vec<Entry>, AllocError> {
+        entries_of_files(alloc, self.calls, self.files)
+    }
+
+    fn helped<R: Threads + Wait>(
+        &self,
+        alloc: Global,
+        helpers: &Helpers<'_, R, Free>,
+    ) -> Result<Vec<Entry>, PieceFault> {
+        entries_with(alloc, helpers, self.calls, self.files)
+    }
 }

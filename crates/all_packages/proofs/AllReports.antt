@@ -110,7 +110,7 @@ module _ (rules : Rules) {rule : CertificateRule} (ps : List LoadedPackage) (kep
         results_say_the_tables_by rules determined ps (results_of slots) tables distinct all.are_right.are_results of_all have_tables
 
 -- so what is declared of the packages that were given is in them
-pub tables_given : (rules : Rules) {rule : CertificateRule} (declared : Tables) (ps : List LoadedPackage) (given : Given)
+tables_given : (rules : Rules) {rule : CertificateRule} (declared : Tables) (ps : List LoadedPackage) (given : Given)
     (slots : Slots)
     → rules.declared ≡ declared
     → AreDetermined rules.are_flags

@@ -1,19 +1,16 @@
 -- A package that was given, and those that it imports.
-use Rattle.std.proofs.Common.{◌≡◌, ℕ, ◌≤◌, List, [], length, get_or, Some, None, option_map, is_some, sym, ap, ◌∙◌, arith}
+use Rattle.std.proofs.Common.{◌≡◌, ℕ, List, [], get_or, Some, option_map, sym, ap, ◌∙◌}
 use Rattle.std.specs.Prelude.{slice_get}
 use Rattle.std.specs.declared.alloc.Global.{Global}
 use Rattle.std.specs.declared.vec.Vec.{Vec}
-use Rattle.std.proofs.lemmas.Bool.{false≢true}
-use Rattle.std.proofs.lemmas.List.{length-map}
-use Rattle.std.proofs.lemmas.Option.{get_or_from_slice_get, same_Some, slice_get-map, slice_get_within}
+use Rattle.std.proofs.lemmas.Option.{get_or_from_slice_get, same_Some, slice_get-map}
 use Rattle.imports.specs.Ranks.{Package}
-use Rattle.imports.specs.Settling.{place_from, places_of}
 use Rattle.imports.specs.Views.{package_view, packages_view, rows_view}
 use Rattle.imports.specs.declared.import_list.ImportList.{ImportList}
 use Rattle.meaning_reports.proofs.ImportsOf.{list_item, in_lists}
-use Rattle.meaning_reports.specs.Loaded.{LoadedPackage, Tables, import_list, imported_paths}
+use Rattle.meaning_reports.specs.Loaded.{LoadedPackage, Tables, imported_paths}
 use Rattle.one_package.specs.declared.given.Given.{Given}
-use Rattle.all_packages.specs.Progress.{Slots, slot_at, imports_at, WasJudged}
+use Rattle.all_packages.specs.Progress.{imports_at}
 use Rattle.one_package.specs.Given.{TellsGiven}
 
 module _ (declared : Tables) (ps : List LoadedPackage) (given : Given) (tells : TellsGiven declared ps given) (i : ℕ) where
@@ -25,22 +22,6 @@ module _ (declared : Tables) (ps : List LoadedPackage) (given : Given) (tells : 
       sym (ap (λ rows. get_or rows i []) (sym tells.are_imports) ∙ get_or_from_slice_get (rows_view given.imports.items) i row.items [] here)
 
   module _ (p : LoadedPackage) (is_p : slice_get ps i ≡ Some p) where
-    -- it is kept
-    pub has_package : length given.packages.now ≤ i → ⊥
-    has_package past =
-        let l = slice_get_within ps i p is_p in
-        let same = tells.tell.are_as_many in
-        omega (arith, l, same, past)
-
-    -- and so is what it imports
-    pub has_list : length given.lists.items ≤ i → ⊥
-    has_list past =
-        let l = slice_get_within ps i p is_p in
-        let kept = length-map given.lists.items package_view in
-        let meant = length-map ps (list_item ps) in
-        let same = ap length tells.are_lists in
-        omega (arith, l, kept, meant, same, past)
-
     -- the paths that it imports
     pub list_so : (list : ImportList) → slice_get given.lists.items i ≡ Some list
         → (package_view list).imports ≡ imported_paths p
@@ -50,17 +31,3 @@ module _ (declared : Tables) (ps : List LoadedPackage) (given : Given) (tells : 
         let other : slice_get (packages_view given.lists.items) i ≡ Some (list_item ps p) =
         ap (λ ls. slice_get ls i) tells.are_lists ∙ in_lists ps i p is_p in
         ap (λ (l : Package). l.imports) (same_Some (package_view list) (list_item ps p) (sym one ∙ other))
-
-    -- the places are kept too
-    pub has_imports : length given.imports.items ≤ i → ⊥
-    has_imports past =
-        let l = slice_get_within ps i p is_p in
-        let kept = length-map given.imports.items (λ (r : Vec ℕ Global). r.items) in
-        let rows = length-map (import_list ps) (places_of (λ path. place_from path (import_list ps) 0)) in
-        let meant = length-map ps (list_item ps) in
-        let same = ap length tells.are_imports in
-        omega (arith, l, kept, rows, meant, same, past)
-
-    -- and what is said of it
-    pub has_judged : (slots : Slots) → ((n : ℕ) → WasJudged ps slots n) → slot_at slots i ≡ None → ⊥
-    has_judged slots were none = false≢true (sym (ap is_some none) ∙ were i p is_p)

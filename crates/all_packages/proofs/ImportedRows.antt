@@ -1,7 +1,6 @@
 -- What was judged of those that a package imports, by the places of these.
 use Rattle.std.proofs.Common.{◌≡◌, ℕ, true, List, Contains, Option, Some, None, filter_map, option_map, is_some, refl, sym, ap, ◌∙◌}
 use Rattle.std.specs.Prelude.{slice_get}
-use Rattle.std.proofs.lemmas.Bool.{false≢true}
 use Rattle.std.proofs.lemmas.Option.{none-some}
 use Rattle.imports.specs.Ranks.{Imports}
 use Rattle.imports.proofs.GivenImports.{table_imports, imports_table}
@@ -9,17 +8,14 @@ use Rattle.imports.proofs.Membership.{made_of, makes}
 use Rattle.whole_packages.specs.declared.loaded_package.LoadedPackage.{LoadedPackage as KeptPackage}
 use Rattle.whole_packages.specs.LoadedViews.{HaveDistinctPaths, TellPackages}
 use Rattle.meaning_reports.proofs.ImportsOf.{given_in_lists}
-use Rattle.meaning_reports.specs.Loaded.{LoadedPackage, Tables, import_list}
+use Rattle.meaning_reports.specs.Loaded.{LoadedPackage, import_list}
 use Rattle.meaning_reports.specs.PackageReports.{Rules}
-use Rattle.gathering.specs.Results.{IsResult, AreResults, AreTablesOf}
-use Rattle.one_package.specs.declared.given.Given.{Given}
+use Rattle.gathering.specs.Results.{IsResult, AreResults}
 use Rattle.one_package.specs.declared.judged.Judged.{Judged}
 use Rattle.one_package.specs.Certified.{CertificateRule}
-use Rattle.one_package.specs.Judgments.{table_view, said_view}
-use Rattle.all_packages.specs.Progress.{Slots, slot_at, results_of, imports_at, AreRight, WasJudged, IsReady}
-use Rattle.one_package.specs.Given.{TellsGiven}
-use Rattle.one_package.specs.Results.{judged_at, said_at, results_by_path, AllMarked, AreImported, HaveTheirTables}
-use Rattle.one_package.proofs.ImportedTables.{tables_so}
+use Rattle.one_package.specs.Judgments.{said_view}
+use Rattle.all_packages.specs.Progress.{Slots, slot_at, imports_at, AreRight, IsReady}
+use Rattle.one_package.specs.Results.{judged_at, said_at, results_by_path, AllMarked, AreImported}
 use Rattle.all_packages.proofs.KeptPackages.{kept_of}
 use Rattle.one_package.proofs.FirstJudged.{found_at, is_found, some_from}
 
@@ -93,23 +89,3 @@ module _ (rules : Rules) {rule : CertificateRule} (ps : List LoadedPackage) (kep
             let same : t.place ≡ k = distinct.same t.place k t.found q t.is_there is (sym t.is_path ∙ w.1) in
             let slot : slot_at slots k ≡ Some j = ap (slot_at slots) (sym same) ∙ t.is_slot in
             right.are_results k q said is (ap (option_map said_view) slot ∙ its)
-
-    -- where all were judged, what is imported has the tables of all packages
-    pub tables_of_all : (p : LoadedPackage) → slice_get ps i ≡ Some p
-        → ((n : ℕ) → WasJudged ps slots n)
-        → (given : Given) → TellsGiven rules.declared ps given
-        → (tables : Tables) → AreTablesOf rules ps (results_of slots) tables
-        → HaveTheirTables given p tables js
-    tables_of_all p is_p were given tells tables are =
-        tables_so ps i p is_p given rules.declared tells js tables
-        (λ j h.
-        let w = was_there j h in
-        record { place = w.place; imported = w.found; is_there = w.is_there; imports = w.imports; is_path = w.is_path })
-        (λ k q j im is e.
-        let w = found_at js q.path j e in
-        let t = was_there j w.0 in
-        let its : table_view j ≡ tables t.found.path =
-        (are.each t.place t.found (said_view j) t.is_there (ap (option_map said_view) t.is_slot)).0 in
-        ap tables (sym w.1 ∙ t.is_path) ∙ sym its)
-        (λ k q im is e. absurd (false≢true (sym (ap is_some e) ∙ in_row k q im is (were k q is))))
-        are.are_tables.of_others

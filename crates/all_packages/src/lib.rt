@@ -7,9 +7,6 @@ mod packages;
 mod progress;
 mod reports;
 
-pub use packages::{
-    JudgedBy, JudgedPackages, check, check_by_rules, judge_left, judge_packages,
-    judge_packages_by_rules,
-};
+pub use packages::{check_by_rules, judge_left};
 pub use progress::Progress;
 pub use reports::{Counts, Report, report_from, told};

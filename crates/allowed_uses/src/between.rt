@@ -2,7 +2,7 @@
 
 ghost use Rattle.std.specs.Prelude.{◌≡◌, map};
 ghost use Rattle.std.specs.List.{list_all};
-ghost use Rattle.meaning.specs.Uses.{literals_between, is_deferred, is_deferred_use, is_member_of, is_started_by_it};
+ghost use Rattle.meaning.specs.Uses.{literals_between, is_deferred, is_deferred_use, is_started_by_it, are_members};
 ghost use Rattle.mentions.specs.MarkViews.{body_view, use_view};
 ghost use Rattle.tracked.specs.LocalViews.{local_view};
 ghost use Rattle.tracked_rows.specs.RowViews.{known_view};
@@ -47,10 +47,10 @@ fn is_started_by(known: Known<'_, '_>, local: Local<'_>, literal: LiteralUse<'_>
     }
 }
 
-/// Whether each of the literals between is started by the variable.
+/// Whether the variable is declared in one of these bodies, the innermost of which is the first, and starts each of the
+/// literals between.
 pub fn are_all_members(known: Known<'_, '_>, local: Local<'_>, bodies: &[BodyPlace<'_>]) -> bool
-    ensures { result ≡ list_all (is_member_of (known_view known.entry) (local_view local.entry))
-        (literals_between local.entry.body (map body_view bodies.now)) }
+    ensures { result ≡ are_members (known_view known.entry) (local_view local.entry) (map body_view bodies.now) }
 {
     for literal in bodies {
         if literal.at == local.body {
@@ -60,5 +60,5 @@ pub fn are_all_members(known: Known<'_, '_>, local: Local<'_>, bodies: &[BodyPla
             return false;
         }
     }
-    true
+    false
 }

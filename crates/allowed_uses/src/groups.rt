@@ -1,8 +1,7 @@
 //! Uses of groups.
 
 ghost use Rattle.std.specs.Prelude.{◌≡◌, ◌&&◌, ◌∷◌, [], map, option_map};
-ghost use Rattle.std.specs.List.{list_all};
-ghost use Rattle.meaning.specs.Uses.{allowed_if, is_member_of, is_statement_place, is_statement_or_value, literals_between, start, try, only_argument, literal_at, started_literal, group_awaited, group_limited, group_lent};
+ghost use Rattle.meaning.specs.Uses.{allowed_if, are_members, is_statement_place, is_statement_or_value, start, try, only_argument, literal_at, started_literal, group_awaited, group_limited, group_lent};
 ghost use Rattle.allowed_uses.specs.UseViews.{use_view};
 ghost use Rattle.mentions.specs.MarkViews.{body_view, call_view, mention_view};
 ghost use Rattle.tracked.specs.LocalViews.{local_view};
@@ -52,7 +51,8 @@ fn started_literal(argument: Option<&Expr>) -> Option<u32>
     }
 }
 
-/// `g.Go(x)` as a statement; in literals where each one between is a member. Whether x is free is told.
+/// `g.Go(x)` as a statement; in literals of the body that declares g, where each one
+/// between is a member. Whether x is free is told.
 pub fn group_started<'a>(
     known: Known<'_, 'a>,
     here: LocalMention<'_, '_, 'a>,
@@ -60,8 +60,7 @@ pub fn group_started<'a>(
     is_free: bool,
 ) -> Use<'a>
     ensures { use_view result ≡ allowed_if (is_statement_place (call_view call.entry).place && (is_free
-        && list_all (is_member_of (known_view known.entry) (local_view here.entry.local))
-        (literals_between here.entry.local.body (map body_view here.entry.bodies.now))))
+        && are_members (known_view known.entry) (local_view here.entry.local) (map body_view here.entry.bodies.now)))
         (start here.entry.local.number (started_literal (only_argument (call_view call.entry))) ∷ []) }
 {
     let is_allowed = is_statement_place(call.place)
@@ -84,8 +83,7 @@ pub fn group_tried<'a>(
     is_free: bool,
 ) -> Use<'a>
     ensures { use_view result ≡ allowed_if (is_statement_or_value (call_view call.entry).place && (is_free
-        && list_all (is_member_of (known_view known.entry) (local_view here.entry.local))
-        (literals_between here.entry.local.body (map body_view here.entry.bodies.now))))
+        && are_members (known_view known.entry) (local_view here.entry.local) (map body_view here.entry.bodies.now)))
         (try here.entry.local.number (started_literal (only_argument (call_view call.entry))) ∷ []) }
 {
     let is_allowed = is_statement_or_value(call.place)

@@ -1,4 +1,5 @@
 pub mod BodiesTold
+pub mod FewVariables
 pub mod ChangedCode
 pub mod ChangedGraph
 pub mod ListsOfGraphs

@@ -4,4 +4,5 @@ pub mod NodeEvents
 pub mod BodySites
 pub mod Bodies
 pub mod MemoryLists
+pub mod OwnGroups
 pub mod Classified

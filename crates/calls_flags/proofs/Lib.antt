@@ -7,4 +7,4 @@ pub mod GreatestFlags
 pub mod KeptClaims
 pub mod KeptFiles
 pub mod MoreCalls
-mod ToldInOrder
+pub mod ToldInOrder

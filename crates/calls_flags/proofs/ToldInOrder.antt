@@ -15,10 +15,10 @@ use Rattle.silent_files.specs.WalkedFiles.{seen_if, seen_some}
 use Rattle.calls_flags.specs.declared.told_file.ToldFile.{ToldFile}
 use Rattle.calls_flags.specs.ToldFiles.{TellsSeen, TellAllSeen, ordered_if}
 
-none_told : TellAllSeen [] []
+pub none_told : TellAllSeen [] []
 none_told = record { are_as_many = refl; each = λ i seen k is is_kept. absurd (none-some seen is) }
 
-first_and : (seen : Seen) (k : ToldFile) (seens : List Seen) (ks : List ToldFile) → TellsSeen seen k → TellAllSeen seens ks
+pub first_and : (seen : Seen) (k : ToldFile) (seens : List Seen) (ks : List ToldFile) → TellsSeen seen k → TellAllSeen seens ks
     → TellAllSeen (seen ∷ seens) (k ∷ ks)
 first_and seen k seens ks first rest = record {
   are_as_many = let same = rest.are_as_many in omega (arith, same);
@@ -76,13 +76,10 @@ pub tells_next : (walked : ℕ → Bool) (known : ℕ → Known) (n : ℕ) (tree
     (so_far next : List ToldFile) (k : ToldFile)
     → left_before ≡ tree ∷ left
     → next ≡ so_far ++ k ∷ []
-    → (is : Bool)
-    → is ≡ walked n
-    → TellsSeen (seen_if is (known n) tree) k
+    → TellsSeen (seen_if (walked n) (known n) tree) k
     → TellsOn walked known n left_before all so_far
     → TellsOn walked known (n + 1) left all next
-tells_next walked known n tree left left_before all so_far next k is_left is_next is same tells on rest told =
-    let this = subst (λ w. TellsSeen (seen_if w (known n) tree) k) same tells in
+tells_next walked known n tree left left_before all so_far next k is_left is_next this on rest told =
     let here : TellAllSeen (seen_some walked known n left_before) (k ∷ rest) =
     subst (λ ts. TellAllSeen (seen_some walked known n ts) (k ∷ rest)) (sym is_left)
     (first_and (seen_if (walked n) (known n) tree) k (seen_some walked known (n + 1) left) rest this told) in

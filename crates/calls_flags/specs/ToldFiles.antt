@@ -1,11 +1,29 @@
 -- What the program keeps of what was told of the files of a package, and what it stands for.
-use Rattle.std.specs.Prelude.{ℕ, ◌≡◌, List, [], length, Option, None, Some, slice_get}
+use Rattle.std.specs.Prelude.{ℕ, ◌≡◌, List, [], length, map, Option, None, Some, slice_get}
 use Rattle.meaning.specs.BodyEvents.{Variable, bodies_of, variables_of}
+use Rattle.meaning.specs.Tracked.{Known}
 use Rattle.meaning.specs.Uses.{Seen}
 use Rattle.events.specs.ToldViews.{TellsFile}
 use Rattle.events.specs.VariableViews.{ordered_in}
 use Rattle.events.specs.declared.found.Variables.{Variables}
+use Rattle.facts.specs.FactViews.{facts_by_name, facts_by_path}
+use Rattle.names.specs.Answers.{declared_at}
+use Rattle.silent_files.specs.WalkedFiles.{is_walked, seen_some}
+use Rattle.tree.specs.View.{file_syntax}
+use Rattle.calls_flags.specs.declared.told_file.Telling.{Telling}
 use Rattle.calls_flags.specs.declared.told_file.ToldFile.{ToldFile}
+
+-- what is known in the file of that number: what its names mean, and the facts of functions
+abbrev pub known_for : Telling → ℕ → Known
+known_for telling number = record {
+  means = declared_at telling.names.now number;
+  functions = facts_by_name telling.table.now;
+  imported = facts_by_path telling.imported.now;
+}
+
+-- the files as they are seen by that, or as if they had no marks, where they aren't walked
+abbrev pub seen_by : Telling → List Seen
+seen_by telling = seen_some (is_walked telling.walked.now) (known_for telling) 0 (map file_syntax telling.files.now)
 
 -- the variables of the body at that place: none, where none were sought
 abbrev pub ordered_if : Option Variables → ℕ → List Variable

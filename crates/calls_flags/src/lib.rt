@@ -14,4 +14,4 @@ pub use file_bodies::{FileBodies, bodies_of_file, bodies_of_files, told_bodies};
 pub use keeping::keeps_claim;
 pub use known_calls::KnownCalls;
 pub use rounds::{called_by, find_called};
-pub use told_file::{ToldFile, tell_files};
+pub use told_file::{Telling, ToldFile, is_walked, tell_at, tell_files};

@@ -1,15 +1,13 @@
 //! What is told of each file of a package.
 
-ghost use Rattle.std.specs.Prelude.{◌≡◌, [], IfOk, map};
-ghost use Rattle.facts.specs.FactViews.{facts_by_name, facts_by_path};
-ghost use Rattle.calls_flags.specs.ToldFiles.{TellsSeen, TellAllSeen};
+ghost use Rattle.std.specs.Prelude.{◌≡◌, [], IfOk};
+ghost use Rattle.calls_flags.specs.ToldFiles.{known_for, seen_by, TellsSeen, TellAllSeen};
 ghost use Rattle.meaning.specs.BodyEvents.{seen_file};
 ghost use Rattle.meaning.specs.Tracked.{Known as MeantKnown};
 ghost use Rattle.meaning.specs.Uses.{seen_in};
-ghost use Rattle.names.specs.Answers.{declared_at};
 ghost use Rattle.tracked_rows.specs.RowViews.{known_view};
 ghost use Rattle.tree.specs.View.{file_syntax};
-ghost use Rattle.silent_files.specs.WalkedFiles.{is_walked, seen_if, seen_some};
+ghost use Rattle.silent_files.specs.WalkedFiles.{is_walked, seen_if};
 
 use bumpalo::Bump;
 use events::{Told, Variables, find_variables, tell};
@@ -26,6 +24,20 @@ pub struct ToldFile<'a> {
     pub told: Told<'a>,
     /// None, where the file was not walked: then it has no bodies.
     pub variables: Option<Variables<'a>>,
+}
+
+/// The files of a package that are to be told of, and by what.
+#[derive(Clone, Copy)]
+pub struct Telling<'k, 'a> {
+    pub files: &'a [File],
+    /// What the uses of names mean.
+    pub names: &'k Names<'a>,
+    /// The facts of the package's functions.
+    pub table: &'k Table<'a>,
+    /// Those of its imports' functions.
+    pub imported: &'k Imported<'a, 'k>,
+    /// Whether each file is walked, by its number. A file without a mark is.
+    pub walked: &'k [bool],
 }
 
 fn tell_file<'k, 'a>(
@@ -72,7 +84,7 @@ fn tell_if<'k, 'a>(
 }
 
 /// Whether the file of that number is walked: where it has no mark, it is.
-fn is_walked(walked: &[bool], number: usize) -> bool
+pub fn is_walked(walked: &[bool], number: usize) -> bool
     ensures { result ≡ is_walked walked.now number }
 {
     match walked.get(number) {
@@ -81,36 +93,45 @@ fn is_walked(walked: &[bool], number: usize) -> bool
     }
 }
 
-/// Tells of each file of a package, where the uses of names mean this, the functions of the package have these facts,
-/// and those of its imports these. Of a file whose mark says that it isn't walked nothing is told, as if it had no
-/// marks; a file without a mark is walked.
+/// Tells of the file of that number. Of one whose mark says that it isn't walked nothing is told, as if it had no
+/// marks.
 ///
 /// # Errors
 ///
 /// Memory was refused.
-pub fn tell_files<'k, 't, 'a>(
+pub fn tell_at<'a>(
     alloc: Global,
-    files: &'a [File],
-    names: &'k Names<'a>,
-    table: &'k Table<'a>,
-    imported: &'k Imported<'a, 't>,
-    walked: &[bool],
-) -> Result<Vec<ToldFile<'a>>, AllocError>
-    ensures { IfOk result (λ told. TellAllSeen (seen_some (is_walked walked.now) (λ number. record {
-      means = declared_at names.now number;
-      functions = facts_by_name table.now;
-      imported = facts_by_path imported.now;
-    }) 0 (map file_syntax files.now)) told.items) }
+    telling: Telling<'_, 'a>,
+    number: usize,
+    file: &'a File,
+) -> Result<ToldFile<'a>, AllocError>
+    ensures { IfOk result (TellsSeen (seen_if (is_walked telling.entry.walked.now number)
+        (known_for telling.entry number) (file_syntax file.now))) }
 {
+    let known = Known {
+        file: number,
+        names: telling.names,
+        table: telling.table,
+        imported: telling.imported,
+    };
+    tell_if(alloc, is_walked(telling.walked, number), known, file)
+}
+
+/// Tells of each file of a package, one after the other.
+///
+/// # Errors
+///
+/// Memory was refused.
+pub fn tell_files<'a>(
+    alloc: Global,
+    telling: Telling<'_, 'a>,
+) -> Result<Vec<ToldFile<'a>>, AllocError>
+    ensures { IfOk result (λ told. TellAllSeen (seen_by telling.entry) told.items) }
+{
+    let files = telling.files;
     let mut told = Vec::new(alloc);
     for (number, file) in files.iter().enumerate() {
-        let known = Known {
-            file: number,
-            names: &*names,
-            table: &*table,
-            imported: &*imported,
-        };
-        told.push(tell_if(alloc, is_walked(walked, number), known, file)?)?;
+        told.push(tell_at(alloc, telling, number, file)?)?;
     }
     Ok(told)
 }

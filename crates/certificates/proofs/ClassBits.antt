@@ -7,7 +7,7 @@ use Rattle.certificates.specs.Least.{HasJust}
 use Rattle.checker.proofs.SteppedClasses.{class_has}
 use Rattle.flow.specs.Walks.{Graph}
 use Rattle.maker.specs.Carried.{IsReached, starts, goes}
-use Rattle.maker.specs.Flags.{literal_group}
+use Rattle.bodies.specs.OwnGroups.{literal_group}
 use Rattle.meaning.specs.BodyEvents.{VariableRole, own_parameter, own_receiver, declared_in_body, captured}
 use Rattle.meaning.specs.Classes.{Promises, entry_cancel, change_cancel, entry_group, change_group}
 use Rattle.meaning.specs.Code.{Occurrence}

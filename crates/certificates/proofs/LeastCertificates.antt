@@ -9,13 +9,13 @@ use Rattle.certificates.proofs.NodesInRange.{contains_at, start_in_range, next_i
 use Rattle.certificates.specs.Least.{HasJust, HasReached, IsLeast, body_with}
 use Rattle.certificates.specs.LeastLaws.{StartsInOwnGroups, CanHaveCertificate, HasNoFault, KeepsEachClaim, LeastHolds, LeastSettles, LeastIsWithin, HasClassesOf}
 use Rattle.checker.proofs.FewVariables.{bits_fit}
-use Rattle.checker.specs.Certificates.{CheckedBody, groups_of, spare, groups_with_bits, class_of_bit, bit_of_class, StartsWithBits, mask_at, IsClosed, IsClosedFor, IsOwed, is_kept, has_claim, MayBeCancel, MayBeLive, MayBeUncalled, is_open, is_left, IsFault, loses_cancel, loses_group, returns_live, returns_uncalled, Holds, IsSettledBy, SettlesIn}
+use Rattle.checker.specs.Certificates.{CheckedBody, spare, groups_with_bits, class_of_bit, bit_of_class, StartsWithBits, mask_at, IsClosed, IsClosedFor, IsOwed, is_kept, has_claim, MayBeCancel, MayBeLive, MayBeUncalled, is_open, is_left, IsFault, loses_cancel, loses_group, returns_live, returns_uncalled, Holds, IsSettledBy, SettlesIn}
 use Rattle.flow.specs.GraphOfCode.{nodes}
 use Rattle.flow.specs.Walks.{Graph, graph_of}
 use Rattle.flow.specs.declared.order.NodePlace.{NodePlace}
 use Rattle.maker.specs.AtNodes.{IsCancelAt, IsGroupAt}
 use Rattle.maker.specs.Carried.{IsReached, starts, goes}
-use Rattle.maker.specs.Flags.{literal_group}
+use Rattle.bodies.specs.OwnGroups.{literal_group, groups_of}
 use Rattle.meaning.proofs.Membership.{contains_here}
 use Rattle.meaning.specs.BodyEvents.{Variable, too_many_faults}
 use Rattle.meaning.specs.Classes.{CancelClass, opened, pending, entry_cancel, change_cancel, GroupClass, in_state, entry_group, change_group}

@@ -3,9 +3,9 @@
 -- one has.
 use Rattle.std.specs.Prelude.{ℕ, ◌≡◌, ◌<◌, ◌↔◌, [], true, List, length, Some, slice_get, Contains}
 use Rattle.certificates.specs.Least.{IsLeast}
-use Rattle.checker.specs.Certificates.{CheckedBody, groups_of, class_of_bit, mask_at, is_claimed, Holds, SettlesIn}
+use Rattle.checker.specs.Certificates.{CheckedBody, class_of_bit, mask_at, is_claimed, Holds, SettlesIn}
 use Rattle.checker.specs.CheckerLaws.{IsOf}
-use Rattle.maker.specs.Flags.{literal_group}
+use Rattle.bodies.specs.OwnGroups.{literal_group, groups_of}
 use Rattle.meaning.specs.BodyEvents.{Variable, too_many_faults}
 use Rattle.meaning.specs.Classes.{CancelClass, GroupClass}
 use Rattle.meaning.specs.Code.{Occurrence}

@@ -2,7 +2,9 @@
 use Rattle.std.proofs.Common.{◌≡◌, ◌↔◌, ℕ, zero, suc, ◌+◌, ◌-◌, ◌≤◌, Bool, true, ◌&&◌, if◌then◌else◌, List, [], ◌∷◌, ◌++◌, length, filter, refl, ap, ◌∙◌, subst, arith, length-append}
 use Rattle.std.specs.Prelude.{not, Some, nat_le}
 use Rattle.std.proofs.lemmas.Bool.{and_parts, and_from, leb-true, le-leb}
-use Rattle.checker.specs.Certificates.{group_number, groups_of, spare, groups_with_bits}
+use Rattle.bodies.proofs.FewVariables.{none_at_first, none_at_end, few_if, is_group_variable}
+use Rattle.bodies.specs.OwnGroups.{group_number, groups_of}
+use Rattle.checker.specs.Certificates.{spare, groups_with_bits}
 use Rattle.checker.specs.CertificateTests.{have_places}
 use Rattle.checker.specs.Loaded.{number_if, numbers_of}
 use Rattle.meaning.specs.BodyEvents.{Variable, is_cancel_variable, fault_after, too_many_faults}
@@ -13,24 +15,8 @@ use Rattle.states.specs.Bits.{most}
 
 -- So many, or too many
 
-none_at_first : {A : Type 0} (xs ys : List A) → xs ++ ys ≡ [] → xs ≡ []
-none_at_first [] ys e = refl
-none_at_first (x ∷ xs) ys e = cc
-
-none_at_end : {A : Type 0} (xs ys : List A) → xs ++ ys ≡ [] → ys ≡ []
-none_at_end [] ys e = e
-none_at_end (x ∷ xs) ys e = cc
-
 none_of_both : {A : Type 0} (xs ys : List A) → xs ≡ [] → ys ≡ [] → xs ++ ys ≡ []
 none_of_both xs ys e f = ap (λ l. l ++ ys) e ∙ f
-
-few_after : (n : ℕ) (vs : List Variable) → length (fault_after n vs) ≤ 0 → length vs ≤ n
-few_after n [] l = omega arith
-few_after zero (v ∷ vs) l = absurd (omega (arith, l))
-few_after (suc n) (v ∷ vs) l = omega (arith, few_after n vs l)
-
-few_if : (n : ℕ) (vs : List Variable) → fault_after n vs ≡ [] → length vs ≤ n
-few_if n vs e = few_after n vs (let none = ap length e in omega (arith, none))
 
 none_after : (n : ℕ) (vs : List Variable) → length vs ≤ n → fault_after n vs ≡ []
 none_after n [] l = refl
@@ -38,9 +24,6 @@ none_after zero (v ∷ vs) l = absurd (omega (arith, l))
 none_after (suc n) (v ∷ vs) l = none_after n vs (omega (arith, l))
 
 -- Variables of a kind
-
-abbrev is_group_variable : Variable → Bool
-is_group_variable v = not (is_cancel_variable v)
 
 counted_cancels : (kind : VariableKind) (n : ℕ) (v : Variable) (ns : List ℕ) (vs : List Variable)
     → length ns ≡ length vs

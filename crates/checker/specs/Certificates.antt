@@ -11,6 +11,7 @@
 -- (This tool's rules.)
 use Rattle.std.specs.Prelude.{ℕ, zero, suc, ◌+◌, ◌-◌, ◌≡◌, ◌==◌, Bool, true, false, if◌then◌else◌, List, [], ◌∷◌, ◌++◌, length, Option, Some, None, slice_get, slice_index_or, Contains}
 use Rattle.std.specs.List.{AllZip, AllByRecursion}
+use Rattle.bodies.specs.OwnGroups.{groups_of}
 use Rattle.flow.specs.Walks.{Graph}
 use Rattle.flow.specs.declared.order.NodePlace.{NodePlace}
 use Rattle.meaning.specs.declared.TheConstants.{MOST_GROUPS}
@@ -35,15 +36,6 @@ pub record CheckedBody : Type 0 where
   pub is_claimed : ℕ → Bool
 
 -- Bits
-
-abbrev pub group_number : VariableKind → ℕ → List ℕ
-group_number cancel n = []
-group_number group n = n ∷ []
-
--- the numbers of the groups among these, in their order
-abbrev pub groups_of : List Variable → List ℕ
-groups_of [] = []
-groups_of (v ∷ vs) = group_number v.kind v.number ++ groups_of vs
 
 -- the greatest number of 32 bits; a variable's number is an offset in a file of at most 1 MiB
 abbrev pub greatest : ℕ

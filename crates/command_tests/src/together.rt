@@ -3,16 +3,17 @@
 use crate::real_folders::folder_with;
 use crate::runs::{outcome, words_of};
 use all_packages::{Report, told};
-use calls_flags::KnownCalls;
+use calls_flags::{KnownCalls, Telling};
 use declared_json::DeclaredPackages;
 use evidence_rows::together::{ENTRIES, MEETINGS, OPEN, PACKAGES, REPORT};
 use lexer::Source;
 use load::{GivenPackage, load, release};
+use names::names_of;
 use one_package::{
-    Around, ByPaths, FileRules, FoundFiles, Given, KnownImports, ToldPackage, around,
-    given_packages, tell_unless_faulty,
+    Around, ByPaths, FileRules, FoundFiles, Given, HandWork, Hands, KnownImports, ToldPackage,
+    around, given_packages, tell_unless_faulty,
 };
-use package_pieces::{PieceRules, build_all, find_called_with, solve_all};
+use package_pieces::{build_all, find_called_with, solve_all, tell_all};
 use package_workers::{CheckFault, Crew, Gate, Open, check_by_workers};
 use report_formats::Format;
 use std::alloc::{AllocError, Global};
@@ -82,6 +83,25 @@ impl<'r, R: Clock> BodyGate for Meeting<'r, R> {
     }
 }
 
+/// To say how many help each other, the one that asks among them.
+struct Counting;
+
+impl HandWork<usize> for Counting {
+    ghost gives = { λ counting count. Unit {0} };
+
+    fn alone(&self, _alloc: Global) -> Result<usize, AllocError> {
+        Ok(1)
+    }
+
+    fn helped<R: Threads + Wait>(
+        &self,
+        _alloc: Global,
+        helpers: &Helpers<'_, R, Free>,
+    ) -> Result<usize, PieceFault> {
+        Ok(helpers.count.count())
+    }
+}
+
 impl<'r, R: Clock> FileRules for Meeting<'r, R> {
     ghost use Rattle.one_package.specs.Certified.{no_certificates};
     ghost use Rattle.meaning_reports.specs.PackageReports.{by_paths};
@@ -93,15 +113,18 @@ impl<'r, R: Clock> FileRules for Meeting<'r, R> {
 
     ghost tells_all = { λ all. false };
 
-    fn find<'a>(
+    fn find<'a, H: Hands>(
         &self,
         alloc: Global,
+        hands: &H,
         loaded: &'a LoadedPackage,
         told: &ToldPackage<'a>,
         around: Around<'_, 'a>,
-    ) -> Result<FoundFiles<'a>, AllocError> {
+    ) -> Result<FoundFiles<'a>, H::Fault> {
         self.meet(&self.begun);
-        ByPaths.find(alloc, loaded, told, around)
+        let count = hands.work(alloc, &Counting)?;
+        self.helpers.fetch_add(count as u64, Ordering::SeqCst);
+        ByPaths.find(alloc, hands, loaded, told, around)
     }
 
     fn tells_all(&self) -> bool {
@@ -110,21 +133,6 @@ impl<'r, R: Clock> FileRules for Meeting<'r, R> {
 
     fn are_determined(&self) {
         ByPaths.are_determined()
-    }
-}
-
-impl<'r, R: Clock> PieceRules for Meeting<'r, R> {
-    fn find_with<'a, T: Threads + Wait>(
-        &self,
-        alloc: Global,
-        helpers: &Helpers<'_, T, Free>,
-        told: &ToldPackage<'a>,
-        around: Around<'_, 'a>,
-    ) -> Result<FoundFiles<'a>, PieceFault> {
-        self.meet(&self.begun);
-        let count = helpers.count.count() as u64;
-        self.helpers.fetch_add(count, Ordering::SeqCst);
-        ByPaths.find_with(alloc, helpers, told, around)
     }
 }
 
@@ -146,7 +154,7 @@ pub fn package(alloc: Global, path: &str, texts: &[&str]) -> Result<GivenPackage
 }
 
 /// The report of the packages, as these judge them.
-pub fn workers_report<R: PieceRules + Send + Sync, T: Threads + Wait + Sync, G: Gate + Sync>(
+pub fn workers_report<R: FileRules + Send + Sync, T: Threads + Wait + Sync, G: Gate + Sync>(
     alloc: Global,
     crew: Crew<'_, T, G>,
     packages: &[LoadedPackage],
@@ -158,7 +166,7 @@ pub fn workers_report<R: PieceRules + Send + Sync, T: Threads + Wait + Sync, G: 
 }
 
 /// What this crew says by these rules of two packages with these texts.
-fn report_of<T: AllocGlobal + Threads + Wait + Sync, R: PieceRules + Send + Sync, G: Gate + Sync>(
+fn report_of<T: AllocGlobal + Threads + Wait + Sync, R: FileRules + Send + Sync, G: Gate + Sync>(
     crew: Crew<'_, T, G>,
     texts: [&str; 2],
     rules: &R,
@@ -212,24 +220,27 @@ fn two_packages_meet(rt: HostRuntime) -> Result<(), Fail> {
     Ok(())
 }
 
-/// Who makes the bodies of a package, who looks which claims are kept, and who solves the bodies.
+/// Who tells of the files of a package, who makes its bodies, who looks which claims are kept, and who solves the
+/// bodies.
 #[derive(Drop)]
 struct Hired<'h, R, G> {
+    tellers: &'h Helpers<'h, R, G>,
     builders: &'h Helpers<'h, R, G>,
     sifters: &'h Helpers<'h, R, G>,
     solvers: &'h Helpers<'h, R, G>,
 }
 
-/// Where something is to be said of a package of which this was told: files, and offsets in them.
+/// Where something is to be said of a package of which this is to be told: files, and offsets in them.
 fn solved_in<'a, R: Threads + Wait, G: BodyGate + Sync>(
     alloc: Global,
     hired: &Hired<'_, R, G>,
-    told: &ToldPackage<'a>,
+    telling: Telling<'_, 'a>,
     imports: &KnownImports<'a, '_>,
 ) -> Option<Vec<(usize, u32)>> {
-    let (table, calls) = (&told.signatures, &imports.calls);
-    let made = build_all(alloc, hired.builders, &told.files).ok()?;
-    let called = find_called_with(alloc, hired.sifters, table, &made, calls).ok()?;
+    let calls = &imports.calls;
+    let files = tell_all(alloc, hired.tellers, telling).ok()?;
+    let made = build_all(alloc, hired.builders, &files).ok()?;
+    let called = find_called_with(alloc, hired.sifters, telling.table, &made, calls).ok()?;
     let known = KnownCalls {
         own: &called,
         imported: calls,
@@ -251,7 +262,15 @@ fn solved_alone<'a, R: Threads + Wait, G: BodyGate + Sync>(
 ) -> Option<Vec<(usize, u32)>> {
     let imports = KnownImports::new(alloc);
     let told = tell_unless_faulty(alloc, package, around(given, &imports)).ok()??;
-    solved_in(alloc, hired, &told, &imports)
+    let names = names_of(alloc, &package.trees, &given.names).ok()?;
+    let telling = Telling {
+        files: &package.trees,
+        names: &names,
+        table: &told.signatures,
+        imported: &imports.signatures,
+        walked: &[],
+    };
+    solved_in(alloc, hired, telling, &imports)
 }
 
 /// The same of the first of these packages.
@@ -293,6 +312,7 @@ fn solved_by_one<R: Threads + Wait>(
         gate: &Free,
     };
     let hired = Hired {
+        tellers: &alone,
         builders: &alone,
         sifters: &alone,
         solvers: &alone,
@@ -304,26 +324,32 @@ fn solved_by_one<R: Threads + Wait>(
 fn solved_by_two<R: Threads + Wait, G: BodyGate + Sync>(
     rt: &R,
     alloc: Global,
-    gates: (&G, &G, &G),
+    gates: (&G, &G, &G, &G),
     texts: &[&str],
 ) -> Option<Vec<(usize, u32)>> {
     let count = Workers::new(2)?;
-    let builders = Helpers {
+    let tellers = Helpers {
         rt,
         count,
         gate: gates.0,
     };
-    let sifters = Helpers {
+    let builders = Helpers {
         rt,
         count,
         gate: gates.1,
     };
-    let solvers = Helpers {
+    let sifters = Helpers {
         rt,
         count,
         gate: gates.2,
     };
+    let solvers = Helpers {
+        rt,
+        count,
+        gate: gates.3,
+    };
     let hired = Hired {
+        tellers: &tellers,
         builders: &builders,
         sifters: &sifters,
         solvers: &solvers,
@@ -334,9 +360,10 @@ fn solved_by_two<R: Threads + Wait, G: BodyGate + Sync>(
 #[test]
 fn helpers_of_one_package_meet(rt: HostRuntime) -> Result<(), Fail> {
     for (texts, claims, wanted) in OPEN {
-        let (builds, sifts) = (Meeting::new(&rt, 2), Meeting::new(&rt, 2));
-        let solves = Meeting::new(&rt, 2);
-        let gates = (&builds, &sifts, &solves);
+        let files = texts.len() as u64;
+        let (tells, builds) = (Meeting::new(&rt, files), Meeting::new(&rt, 2));
+        let (sifts, solves) = (Meeting::new(&rt, 2), Meeting::new(&rt, 2));
+        let gates = (&tells, &builds, &sifts, &solves);
         let by_two = solved_by_two(&rt, rt.alloc(), gates, texts);
         let by_one = solved_by_one(&rt, rt.alloc(), texts);
         let (Some(by_two), Some(by_one)) = (by_two, by_one) else {
@@ -344,7 +371,12 @@ fn helpers_of_one_package_meet(rt: HostRuntime) -> Result<(), Fail> {
         };
         assert_eq!(rt; by_two.as_slice(), wanted);
         assert_eq!(rt; by_one.as_slice(), wanted);
-        for (gate, pieces) in [(&builds, 2), (&sifts, claims), (&solves, 2)] {
+        for (gate, pieces) in [
+            (&tells, files),
+            (&builds, 2),
+            (&sifts, claims),
+            (&solves, 2),
+        ] {
             assert_eq!(rt; gate.passed.load(Ordering::SeqCst), pieces);
             assert_eq!(rt; gate.gave_up.load(Ordering::SeqCst), 0);
         }

@@ -3,4 +3,6 @@ pub mod BodiesByPlace
 mod FoundBackward
 pub mod PairedLists
 mod SearchedPaths
+mod BodyVariables
+pub mod OwnGroups
 pub mod SettledBodies

@@ -5,9 +5,9 @@ ghost use Rattle.declared_tables.specs.DeclaredTables.{declared_tables};
 ghost use Rattle.inspect_packages.specs.FinalTables.{AreTablesFrom, IsTableAt, TellsTables};
 ghost use Rattle.declared_json.specs.DeclaredPackages.{packages_of};
 
-use all_packages::check;
+use all_packages::check_by_rules;
 use declared_json::DeclaredPackages;
-use one_package::Judged;
+use one_package::{ByPaths, Judged};
 use plain_tables::package_table;
 use std::alloc::{AllocError, Global};
 use table_json::Table;
@@ -59,6 +59,6 @@ pub fn final_tables(
     ensures { IfOk result (λ tables. TellsTables (declared_tables (packages_of outside.now)) packages.now
         tables.items) }
 {
-    let judged = check(alloc, packages, outside)?;
+    let judged = check_by_rules(alloc, packages, outside, &ByPaths)?;
     tables_of(alloc, packages, &judged)
 }

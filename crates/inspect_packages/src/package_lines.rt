@@ -3,10 +3,13 @@
 use crate::body_lines::push_body;
 use crate::page::{Classes, FilePage, place_of};
 use crate::use_fault_lines::push_outer;
-use all_packages::{JudgedBy, judge_packages};
+use all_packages::check_by_rules;
 use calls_flags::{KnownCalls, bodies_of_files};
 use declared_json::DeclaredPackages;
-use one_package::ToldPackage;
+use one_package::{
+    Around, ByPaths, Given, Judged, KnownImports, ToldPackage, around, given_packages,
+    tell_unless_faulty,
+};
 use report::PackageReport;
 use std::alloc::{AllocError, Global};
 use whole_packages::LoadedPackage;
@@ -20,6 +23,33 @@ pub enum Nodes {
     Graphs,
     /// The same, with the names of these classes.
     Certificates,
+}
+
+/// A package that was judged, and what was known around it.
+#[derive(Clone, Copy)]
+struct JudgedPackage<'p, 'a> {
+    loaded: &'a LoadedPackage,
+    judged: &'p Judged<'a>,
+    around: Around<'p, 'a>,
+}
+
+/// What is known of the imports of the package of that place, where this was judged of all packages.
+fn known_at<'a, 'k>(
+    alloc: Global,
+    given: &'k Given<'a>,
+    all: &'k [Judged<'a>],
+    place: usize,
+) -> Result<KnownImports<'a, 'k>, AllocError> {
+    let mut known = KnownImports::new(alloc);
+    if let (Some(list), Some(places)) = (given.lists.get(place), given.imports.get(place)) {
+        for import in places {
+            if let Some(one) = all.get(*import) {
+                known.add(one)?;
+            }
+        }
+        known.add_outside(given, &list.imports)?;
+    }
+    Ok(known)
 }
 
 /// The lines of what the bodies of these packages do, in the order of packages, files and bodies: as they were judged,
@@ -36,30 +66,36 @@ pub fn text_of_bodies(
     let nothing = DeclaredPackages {
         packages: Vec::new(alloc),
     };
-    let all = judge_packages(alloc, packages, &nothing)?;
+    let given = given_packages(alloc, packages, &nothing)?;
+    let all = check_by_rules(alloc, packages, &nothing, &ByPaths)?;
     let mut text = String::new(alloc);
-    for place in 0..packages.len() {
-        if let Some(found) = all.judged_by(alloc, place)? {
-            write!(text, "package {}\n", found.judged.report.path)?;
-            push_package(alloc, &mut text, &found, nodes)?;
+    for (place, loaded) in packages.iter().enumerate() {
+        if let Some(judged) = all.get(place) {
+            let known = known_at(alloc, &given, &all, place)?;
+            let package = JudgedPackage {
+                loaded,
+                judged,
+                around: around(&given, &known),
+            };
+            push_package(alloc, &mut text, package, nodes)?;
         }
     }
     Ok(text)
 }
 
-/// The lines of a package: the faults of the whole package alone, if it has some.
-fn push_package(
+/// The lines of a package: the faults of the whole package alone, if it has some. It is told of once more, since what
+/// was told of it was let go when it was judged.
+fn push_package<'a>(
     alloc: Global,
     text: &mut String,
-    found: &JudgedBy<'_, '_>,
+    package: JudgedPackage<'_, 'a>,
     nodes: Nodes,
 ) -> Result<(), AllocError> {
-    match &found.told {
-        Some(told) => push_files(alloc, text, found, told, nodes),
-        None => {
-            let judged = found.judged;
-            push_report(text, &judged.report)
-        }
+    let judged = package.judged;
+    write!(text, "package {}\n", judged.report.path)?;
+    match tell_unless_faulty(alloc, package.loaded, package.around)? {
+        Some(told) => push_files(alloc, text, package, &told, nodes),
+        None => push_report(text, &judged.report),
     }
 }
 
@@ -87,15 +123,15 @@ fn push_report(text: &mut String, report: &PackageReport<'_>) -> Result<(), Allo
 fn push_files<'a>(
     alloc: Global,
     text: &mut String,
-    found: &JudgedBy<'a, '_>,
+    package: JudgedPackage<'_, 'a>,
     told: &ToldPackage<'a>,
     nodes: Nodes,
 ) -> Result<(), AllocError> {
-    let judged = found.judged;
+    let judged = package.judged;
     let files = bodies_of_files(alloc, &told.files)?;
     let known = KnownCalls {
         own: &judged.table.called,
-        imported: &found.calls,
+        imported: package.around.calls,
     };
     let (calls, classes) = match nodes {
         Nodes::Events => (None, Classes::Sums),

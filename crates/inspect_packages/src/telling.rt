@@ -1,6 +1,6 @@
 //! What the bodies of files do to their variables, found and let go: what the lines of events take without the lines.
 
-use calls_flags::tell_files;
+use calls_flags::{Telling, tell_files};
 use facts::{Imported, Table, signatures};
 use names::{NameFault, Names, PackageNames, resolve};
 use std::alloc::{AllocError, Global};
@@ -31,13 +31,20 @@ fn tell_resolved<'a>(
     tell_known(alloc, files, &*names, &own, &imported)
 }
 
-fn tell_known<'k, 't, 'a>(
+fn tell_known<'k, 't: 'k, 'a>(
     alloc: Global,
     files: &'a [File],
     names: &'k Names<'a>,
     own: &'k Table<'a>,
     imported: &'k Imported<'a, 't>,
 ) -> Result<(), AllocError> {
-    tell_files(alloc, files, names, own, imported, &[])?;
+    let telling = Telling {
+        files,
+        names,
+        table: own,
+        imported,
+        walked: &[],
+    };
+    tell_files(alloc, telling)?;
     Ok(())
 }

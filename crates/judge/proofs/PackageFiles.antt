@@ -7,7 +7,6 @@ use Rattle.std.proofs.lemmas.Bool.{and_from}
 use Rattle.std.proofs.lemmas.Slice.Eq.{bytes_eq-Decides}
 use Rattle.judge.proofs.OneParameter.{one_number}
 use Rattle.judge.proofs.OneTable.{credited_too}
-use Rattle.judge.proofs.OutermostStarts.{texts_start_no_outermost}
 use Rattle.judge.proofs.OwnGroups.{starts_have_own_groups}
 use Rattle.judge.specs.AgreementLaws.{KeepsItsFlags}
 use Rattle.judge.specs.OwnGroups.{HaveOwnGroups}
@@ -27,7 +26,7 @@ use Rattle.meaning_packages.specs.CallsFlags.{Flags, FileWithCredits, calls_by, 
 use Rattle.meaning_packages.specs.Credits.{promises_in, IsCredited, AreFullCredits}
 use Rattle.meaning_packages.specs.PathFaults.{Paths, paths_of, cancel_class, KeepsCall}
 use Rattle.meaning_reports.proofs.OneAnswer.{one_table_by}
-use Rattle.meaning_reports.specs.Loaded.{LoadedPackage, Tables, package_names, trees_of, imported_flags, known_in, seen_files}
+use Rattle.meaning_reports.specs.Loaded.{LoadedPackage, Tables, trees_of, imported_flags, known_in, seen_files}
 use Rattle.meaning_reports.specs.PackageTables.{AreCredited, no_file, file_and, IsJudged}
 use Rattle.meaning_runs.proofs.EntryPlaces.{seen_there, tree_seen}
 use Rattle.meaning_runs.proofs.KnownFlags.{no_second}
@@ -64,10 +63,7 @@ module _ (bodies : BodiesAreApart) (ps : List LoadedPackage) (tables : Tables) (
           let t = texts tree (contains_at (trees_of p) number tree is) in
           record {
             have_own_places = places_of_text t.0 tree (known_in ps tables p number) t.1;
-            have_own_groups =
-                starts_have_own_groups (seen_file (known_in ps tables p number) tree)
-                (texts_start_no_outermost t.0 tree (trees_of p) (package_names ps) number (known_in ps tables p number)
-                t.1 is refl);
+            have_own_groups = starts_have_own_groups (seen_file (known_in ps tables p number) tree);
             are_locals = refl;
             one_each = (bodies t.0 tree t.1).one_each;
           }

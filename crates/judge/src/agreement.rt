@@ -6,17 +6,11 @@ ghost use Rattle.judge.specs.PackageLaws.{ReportsAgree};
 ghost use Rattle.judge.specs.CertificateLaws.{CertificatesAgree};
 ghost use Rattle.judge.specs.FullCredits.{YesWithFullCreditsIsYes};
 ghost use Rattle.judge.specs.GivenPackages.{FullCreditsAreBelieved, WrittenCertificatesAreBelieved};
-ghost use Rattle.judge.specs.OwnGroups.{StartsHaveOwnGroups, TextsStartNoOutermost};
+ghost use Rattle.judge.specs.OwnGroups.{StartsHaveOwnGroups};
 
-/// Each group in which a node of a body starts a literal is one of the body's variables, in each file in which no local
-/// starts a literal that stands in no other body.
+/// Each group in which a node of a body starts a literal is one of the body's variables.
 pub fn starts_have_own_groups()
     ensures { StartsHaveOwnGroups }
-{}
-
-/// So it is in the tree of a text, whose names mean what they mean in its package.
-pub fn texts_start_no_outermost()
-    ensures { TextsStartNoOutermost }
 {}
 
 /// Where `check` finds nothing in a file, its least certificates are believed: `verify` relies on the same literals,

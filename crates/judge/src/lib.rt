@@ -13,8 +13,8 @@ mod verified;
 
 pub use agreement::{
     certificates_agree, full_credits_are_believed, least_certificates_are_believed, reports_agree,
-    starts_have_own_groups, texts_start_no_outermost, what_is_believed_has_no_finding,
-    written_certificates_are_believed, yes_with_full_credits_is_yes,
+    starts_have_own_groups, what_is_believed_has_no_finding, written_certificates_are_believed,
+    yes_with_full_credits_is_yes,
 };
 pub use all_certificates::Settings;
 pub use all_packages::{Counts, Report};

@@ -12,7 +12,7 @@ ghost use Rattle.workers.specs.Counts.{count_of};
 
 use crate::check_fault::{CheckFault, of_workers};
 use all_certificates::Settings;
-use all_packages::{Report, check, told};
+use all_packages::{Report, check_by_rules, told};
 use declared_json::DeclaredPackages;
 use load::{GivenPackage, Leave, LoadFault, Loaded, load_beside, load_beside_by_workers};
 use one_package::ByPaths;
@@ -32,7 +32,7 @@ fn whole_report(
 ) -> Result<Report, AllocError>
     ensures { IfOk result (TellsReport format (declared_tables (packages_of outside.now)) packages.now) }
 {
-    let judged = check(alloc, packages, outside)?;
+    let judged = check_by_rules(alloc, packages, outside, &ByPaths)?;
     told(alloc, format, judged)
 }
 

@@ -1,71 +1,42 @@
--- A search for each variable answers which of its classes arrive where, and at which nodes.
-use Rattle.std.proofs.Common.{◌≡◌, ℕ, ◌+◌, ◌<◌, ◌≤◌, Bool, List, [], ◌∷◌, length, Option, Some, None, refl, ap, ◌∙◌, subst}
-use Rattle.std.proofs.lemmas.Option.{slice_get_within}
+-- What was found of each variable answers which of its classes arrive where, and at which nodes.
+use Rattle.std.proofs.Common.{◌≡◌, ℕ, ◌+◌, ◌≤◌, Bool, List, [], ◌∷◌, length, Some, Contains, refl, subst}
 use Rattle.std.specs.Prelude.{slice_get}
 use Rattle.bodies.specs.Classified.{TellsClasses, Classifies, cancel_class_after, group_class_after}
-use Rattle.bodies.specs.NodeEvents.{events_graph, IsGraphOf}
+use Rattle.bodies.specs.OwnGroups.{literal_group}
+use Rattle.bodies.specs.NodeEvents.{IsGraphOf}
 use Rattle.bodies.specs.declared.node.NodeEvent.{NodeEvent}
 use Rattle.flow.specs.declared.graph.Graph.{Graph as KeptGraph}
 use Rattle.flow.specs.GraphOfCode.{nodes}
-use Rattle.flow.specs.Walks.{Graph, graph_of}
+use Rattle.flow.specs.Walks.{graph_of}
 use Rattle.maker.proofs.ClassesTold.{tells_classes, tells_at_nodes}
 use Rattle.maker.proofs.Numbers.{entry_has, cancels_numbered, groups_numbered}
 use Rattle.maker.specs.AtNodes.{IsCancelAt, IsGroupAt, TellsAtNodes, ClassifiesNodes}
-use Rattle.maker.specs.Flags.{with_groups, is_marked_flag, cancel_width, cancel_entry, group_width, group_entry}
-use Rattle.maker.specs.Solutions.{found_for, FindsCancel, FindsGroup, FindsKind, Finds, FindsEach}
+use Rattle.maker.specs.Flags.{is_marked_flag, cancel_width, cancel_entry, group_width, group_entry}
+use Rattle.maker.specs.Solutions.{FindsCancel, FindsGroup, FindsKind, FindsEach}
 use Rattle.meaning.specs.BodyEvents.{Variable}
 use Rattle.meaning.specs.Classes.{Promises, CancelClass, entry_cancel, change_cancel, cancel_after, GroupClass, entry_group, change_group, group_after}
-use Rattle.meaning.specs.Code.{Code}
+use Rattle.meaning.specs.Code.{Occurrence, Code}
 use Rattle.meaning.specs.FunctionFacts.{cancel, group}
 use Rattle.meaning.specs.Uses.{Event}
 use Rattle.maker.specs.Carried.{TellsReached}
-use Rattle.maker.specs.MarkViews.{has}
-use Rattle.maker.specs.declared.reached.Reached.{Reached}
 use Rattle.states.specs.BitSteps.{cancel_step, group_step}
 use Rattle.states.specs.Masks.{bit_of_group}
 use Rattle.states.specs.Bits.{most, cancel_bit, cancel_class, group_bit, group_class, AreInverseBits, AreInverseGroupBits}
 
--- What was found for the variable of a place, if there is one
-
-abbrev pub FindsAt : Promises → List ℕ → KeptGraph NodeEvent → Variable → Option Reached → Type 0
-FindsAt p groups g v None = ⊥
-FindsAt p groups g v (Some r) = Finds p groups g v r
-
--- something was found for each of the first variables
-pub record FindsFirst
-    (p : Promises) (groups : List ℕ) (g : KeptGraph NodeEvent) (vs : List Variable) (rs : List Reached) (count : ℕ)
-    : Type 0 where
-  pub counted : length rs ≡ count
-  pub each : (i : ℕ) (v : Variable) → i < count → slice_get vs i ≡ Some v → FindsAt p groups g v (slice_get rs i)
-
-found_if : (p : Promises) (groups : List ℕ) (g : KeptGraph NodeEvent) (v : Variable) (o : Option Reached)
-    → FindsAt p groups g v o
-    → FindsKind v.kind p groups g v (found_for o)
-found_if p groups g v None h = absurd h
-found_if p groups g v (Some r) h = h
-
--- all of them
-pub finds_all : (p : Promises) (groups : List ℕ) (g : KeptGraph NodeEvent) (vs : List Variable) (rs : List Reached)
-    → FindsFirst p groups g vs rs (length vs)
-    → FindsEach p groups g vs (λ i. found_for (slice_get rs i))
-finds_all p groups g vs rs all i v e =
-    found_if p groups g v (slice_get rs i) (all.each i v (slice_get_within vs i v e) e)
-
 -- What it says of classes
 
 module _ (p : Promises) (groups : List ℕ) (g : KeptGraph NodeEvent) (c : Code Event)
-    (is_graph : IsGraphOf c g) (first : List ℕ) (are_groups : groups ≡ with_groups first (events_graph g).nodes)
+    (is_graph : IsGraphOf c g)
+    (among : (n : ℕ) (o : Occurrence Event) (h : ℕ) → slice_get (nodes c) n ≡ Some o → literal_group o.event ≡ Some h
+    → Contains groups h)
     (fits : length groups + 3 ≤ most) (inverse : AreInverseBits groups) (group_inverse : AreInverseGroupBits) where
-  of_code : groups ≡ with_groups first (nodes c)
-  of_code = are_groups ∙ ap (λ (h : Graph Event). with_groups first h.nodes) is_graph
-
   cancel_reached : (v : Variable) (found : ℕ → ℕ → Bool)
       → FindsCancel p groups g v found
       → TellsReached (graph_of c) (cancel_step p v.number groups) (cancel_width groups)
-      (cancel_entry groups v.role ∷ []) found
+      (cancel_entry v.role ∷ []) found
   cancel_reached v found told =
       subst (λ h. TellsReached h (cancel_step p v.number groups) (cancel_width groups)
-      (cancel_entry groups v.role ∷ []) found) is_graph told
+      (cancel_entry v.role ∷ []) found) is_graph told
 
   group_reached : (v : Variable) (found : ℕ → ℕ → Bool)
       → FindsGroup p g v found
@@ -84,12 +55,12 @@ module _ (p : Promises) (groups : List ℕ) (g : KeptGraph NodeEvent) (c : Code 
       → CancelTold v (λ n k. is_marked_flag (found n) (cancel_bit groups k))
   cancel_told v found told = (
     tells_classes c (cancel_class groups) (cancel_bit groups) (change_cancel p v.number) (cancel_after p v.number)
-        (cancel_width groups) (cancels_numbered c p v.number groups first inverse of_code fits)
-        (entry_cancel v.role) (cancel_entry groups v.role) (entry_has groups v.role) found
+        (cancel_width groups) (cancels_numbered c p v.number groups inverse among fits)
+        (entry_cancel v.role) (cancel_entry v.role) (entry_has groups v.role) found
         (cancel_reached v found told),
     tells_at_nodes c (cancel_class groups) (cancel_bit groups) (change_cancel p v.number) (cancel_after p v.number)
-        (cancel_width groups) (cancels_numbered c p v.number groups first inverse of_code fits)
-        (entry_cancel v.role) (cancel_entry groups v.role) (entry_has groups v.role) found
+        (cancel_width groups) (cancels_numbered c p v.number groups inverse among fits)
+        (entry_cancel v.role) (cancel_entry v.role) (entry_has groups v.role) found
         (cancel_reached v found told),
   )
 

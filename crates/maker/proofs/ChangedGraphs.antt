@@ -1,12 +1,10 @@
 -- What is reached in a graph whose events were changed.
-use Rattle.std.proofs.Common.{◌≡◌, ℕ, ◌<◌, Bool, List, [], ◌∷◌, Option, Some, None, option_map, refl, sym, ap, ◌∙◌, subst}
+use Rattle.std.proofs.Common.{◌≡◌, ℕ, ◌<◌, Bool, List, Option, Some, None, option_map, refl, sym, ap, ◌∙◌, subst}
 use Rattle.std.proofs.lemmas.List.{length-map}
 use Rattle.std.proofs.lemmas.Option.{slice_get-map, same_Some, none-some}
-use Rattle.std.specs.Prelude.{slice_get, Result, Ok, Err, IfOk}
+use Rattle.std.specs.Prelude.{slice_get}
 use Rattle.flow.specs.Walks.{Graph}
 use Rattle.maker.specs.Carried.{IsReached, starts, goes, TellsReached}
-use Rattle.maker.specs.MarkViews.{has}
-use Rattle.maker.specs.declared.reached.Reached.{Reached}
 use Rattle.bodies.specs.NodeEvents.{changed, changed_graph}
 
 pub unmapped : {A B : Type 0} (f : A → B) (o : Option A) (y : B)
@@ -36,18 +34,3 @@ module _ {E F : Type 0} (f : E → F) (g : Graph E) (step : F → ℕ → ℕ) (
         let it = told.at n i (subst (λ k. n < k) (length-map g.nodes (changed f)) l) w in
         (λ e. there n i (it.0 e), λ r. it.1 (back n i r));
   }
-
--- What a search in such a graph found
-
-if_ok : {T A : Type 0} {P Q : T → Type 0} (r : Result T A) → ((t : T) → P t → Q t) → IfOk r P → IfOk r Q
-if_ok (Ok t) f h = f t h
-if_ok (Err e) f h = h
-
-pub found_by_events : {E F A : Type 0}
-    (f : E → F) (g : Graph E) (step : F → ℕ → ℕ) (width entry first : ℕ) (r : Result Reached A)
-    → first ≡ entry
-    → IfOk r (λ t. TellsReached g (λ e. step (f e)) width (first ∷ []) (has t))
-    → IfOk r (λ t. TellsReached (changed_graph f g) step width (entry ∷ []) (has t))
-found_by_events f g step width entry first r is =
-    if_ok r (λ t told. tells_changed f g step (entry ∷ []) width (has t)
-    (subst (λ i. TellsReached g (λ e. step (f e)) width (i ∷ []) (has t)) is told))

@@ -1,4 +1,4 @@
--- A search for numbers of classes tells which classes the lists of a code lead to, and which walks carry to each node.
+-- A table of numbers of classes tells which classes the lists of a code lead to, and which walks carry to each node.
 use Rattle.std.proofs.Common.{◌≡◌, ℕ, ◌<◌, Bool, true, List, [], ◌∷◌, ◌++◌, Option, Some, None, refl, sym, ap, ◌∙◌, subst, true≢false, inl, inr}
 use Rattle.std.proofs.lemmas.Option.{same_Some, slice_get_within}
 use Rattle.std.specs.Prelude.{slice_get, Contains, option_and_then, unwrap_or}

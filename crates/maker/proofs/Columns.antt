@@ -105,20 +105,20 @@ only_is P only h bit c =
 
 module _ (p : Promises) (vs : StateVariables) (fits : Fit vs) (entry : List ℕ) where
   module _ (v : Variable) (first : ℕ)
-      (h : IsPlaced 16 cancel_first vs.cancels.now entry v.number first (cancel_entry vs.pending.now v.role)) where
+      (h : IsPlaced 16 cancel_first vs.cancels.now entry v.number first (cancel_entry v.role)) where
     abbrev groups : List ℕ
     groups = vs.pending.now
 
     abbrev cancel_of_node : NodeEvent → ℕ → ℕ
     cancel_of_node e = cancel_step p v.number groups (node_event_view e)
 
-    entry_small : (role : VariableRole) → cancel_entry groups role < 16
+    entry_small : (role : VariableRole) → cancel_entry role < 16
     entry_small (own_parameter k) = omega arith
     entry_small own_receiver = omega arith
     entry_small declared_in_body = omega arith
     entry_small captured = omega arith
 
-    entry_usual : (role : VariableRole) → usual_bit (cancel_class groups) (cancel_bit groups) (cancel_entry groups role) ≡ true
+    entry_usual : (role : VariableRole) → usual_bit (cancel_class groups) (cancel_bit groups) (cancel_entry role) ≡ true
     entry_usual (own_parameter k) = refl
     entry_usual own_receiver = refl
     entry_usual declared_in_body = refl
@@ -140,13 +140,13 @@ module _ (p : Promises) (vs : StateVariables) (fits : Fit vs) (entry : List ℕ)
         subst (λ f. IsImage 16 (cancel_of_node (Does e)) (mask_from before f) (mask_from after f)) (sym h.is_first)
         (applies.cancels h.place v.number h.is_number)
 
-    pub cancel_column : IsColumn p vs entry first 16 cancel_of_node (cancel_entry groups v.role ∷ [])
+    pub cancel_column : IsColumn p vs entry first 16 cancel_of_node (cancel_entry v.role ∷ [])
         (usual_bit (cancel_class groups) (cancel_bit groups))
     cancel_column = record {
       stays = λ e. let most = fits.pending in cancel_stays p v.number groups (node_event_view e) 16 (omega (arith, most));
-      small = only_is (λ bit. bit < 16) (cancel_entry groups v.role) (entry_small v.role);
-      is_entry = only_entry 16 (cancel_entry groups v.role) first entry h.entry;
-      begins = only_is (λ bit. usual_bit (cancel_class groups) (cancel_bit groups) bit ≡ true) (cancel_entry groups v.role) (entry_usual v.role);
+      small = only_is (λ bit. bit < 16) (cancel_entry v.role) (entry_small v.role);
+      is_entry = only_entry 16 (cancel_entry v.role) first entry h.entry;
+      begins = only_is (λ bit. usual_bit (cancel_class groups) (cancel_bit groups) bit ≡ true) (cancel_entry v.role) (entry_usual v.role);
       keeps = λ e bit u. keeps_usual (cancel_class groups) (cancel_bit groups) (cancel_inverse groups).there (change_cancel p v.number (node_event_view e)) bit u;
       images = cancel_images;
     }
@@ -212,19 +212,19 @@ module _ (p : Promises) (g : KeptGraph NodeEvent) (vs : List Variable) (s : Plac
     (fits : Fit kept) (cancels : kept.cancels.now ≡ s.cancels.items) (groups : kept.groups.now ≡ s.groups.items)
     (states : List State) (told : TellsColumns p kept s.entry.words g states) where
   finds_as : (v : Variable) (first : ℕ) (kind : VariableKind)
-      → IsPlacedAs kept.pending.now s v first kind
+      → IsPlacedAs s v first kind
       → FindsKind kind p kept.pending.now g v (packed_for states (Some first))
   finds_as v first cancel h =
-      let at = subst (λ ns. IsPlaced 16 cancel_first ns s.entry.words v.number first (cancel_entry kept.pending.now v.role)) (sym cancels) h in
+      let at = subst (λ ns. IsPlaced 16 cancel_first ns s.entry.words v.number first (cancel_entry v.role)) (sym cancels) h in
       let most = fits.pending in
       let many = fits.cancels in
       let is = h.is_first in
       let within = slice_get_within kept.cancels.now at.place v.number at.is_number in
       told_by g (cancel_step p v.number kept.pending.now) 16 (cancel_width kept.pending.now)
-      (cancel_entry kept.pending.now v.role ∷ []) (λ n bit. mask_from (words_at states n) first bit) (packed_for states (Some first))
+      (cancel_entry v.role ∷ []) (λ n bit. mask_from (words_at states n) first bit) (packed_for states (Some first))
       (omega (arith, most))
       (λ n i l. found_there states first i n (omega (arith, is, within, many)) (omega (arith, l, most)))
-      (told first 16 (λ e. cancel_step p v.number kept.pending.now (node_event_view e)) (cancel_entry kept.pending.now v.role ∷ [])
+      (told first 16 (λ e. cancel_step p v.number kept.pending.now (node_event_view e)) (cancel_entry v.role ∷ [])
       (usual_bit (cancel_class kept.pending.now) (cancel_bit kept.pending.now))
       (cancel_column p kept fits s.entry.words v first at))
   finds_as v first group h =
@@ -239,12 +239,12 @@ module _ (p : Promises) (g : KeptGraph NodeEvent) (vs : List Variable) (s : Plac
       (usual_bit group_class bit_of_group) (group_column p kept fits s.entry.words v first at))
 
   finds_if : (v : Variable) (o : Option ℕ)
-      → IsPlacedIf kept.pending.now s v o
+      → IsPlacedIf s v o
       → FindsKind v.kind p kept.pending.now g v (packed_for states o)
   finds_if v None h = absurd h
   finds_if v (Some first) h = finds_as v first v.kind h
 
-  pub finds_each : ArePlaced kept.pending.now vs (length vs) s
+  pub finds_each : ArePlaced vs (length vs) s
       → (i : ℕ) (v : Variable)
       → slice_get vs i ≡ Some v
       → FindsKind v.kind p kept.pending.now g v (packed_for states (slice_get s.firsts.items i))

@@ -1,5 +1,5 @@
 -- What joining a state at nodes changes.
-use Rattle.std.proofs.Common.{◌≡◌, ◌≢◌, ℕ, ◌+◌, ◌*◌, ◌<◌, ◌≤◌, true, ◌||◌, inl, inr, List, [], ◌∷◌, length, map, get_or, set, max, Contains, refl, sym, ap, ◌∙◌, subst, arith}
+use Rattle.std.proofs.Common.{◌≡◌, ◌≢◌, ℕ, ◌+◌, ◌*◌, ◌<◌, ◌≤◌, true, ◌||◌, ◌⊎◌, inl, inr, List, [], ◌∷◌, length, map, get_or, set, max, Contains, refl, sym, ap, ◌∙◌, subst, arith}
 use Rattle.std.proofs.lemmas.Bool.{cases_eq, or_cases, or_left, or_right}
 use Rattle.std.proofs.lemmas.List.{length-set, length-map, map-set, get_or-set_same, get_or-set_other}
 use Rattle.std.proofs.lemmas.List.Sums.{sum_by-set}
@@ -9,8 +9,11 @@ use Rattle.states.specs.States.{has_bit}
 use Rattle.states.specs.StateWords.{room}
 use Rattle.maker.specs.JoinedStates.{words_at, has_at, room_of, work, Joins}
 use Rattle.maker.specs.declared.sweep.Sweep.{Sweep}
-use Rattle.maker.proofs.Visits.{either_way}
 use Rattle.meaning.proofs.Membership.{contains_nil, contains_here, contains_there, contains_cases}
+
+pub either_way : {A B C : Type 0} → (A → C) → (B → C) → A ⊎ B → C
+either_way f g (inl a) = f a
+either_way f g (inr b) = g b
 
 -- Put together
 

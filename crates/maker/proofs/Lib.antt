@@ -1,8 +1,4 @@
 pub mod CarriedFlags
-pub mod MarkedRows
-pub mod Memory
-pub mod Searches
-pub mod Visits
 pub mod Answered
 pub mod ChangedGraphs
 pub mod ClassesTold
@@ -12,3 +8,4 @@ pub mod Sweeps
 pub mod SweptColumns
 pub mod PlacedVariables
 pub mod Columns
+pub mod Solved

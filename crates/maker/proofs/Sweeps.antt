@@ -4,7 +4,7 @@ use Rattle.std.proofs.lemmas.Bool.{cases_eq}
 use Rattle.std.proofs.lemmas.Option.{slice_get_within, same_Some, none-some}
 use Rattle.std.specs.Prelude.{slice_get}
 use Rattle.flow.specs.Walks.{Graph}
-use Rattle.maker.proofs.Visits.{either_way}
+use Rattle.maker.proofs.JoinedStates.{either_way}
 use Rattle.maker.specs.Carried.{IsReached, starts, goes, TellsReached}
 use Rattle.maker.specs.JoinedStates.{words_at, has_at, Joins}
 use Rattle.maker.specs.declared.sweep.Sweep.{Sweep}

@@ -4,9 +4,7 @@ pub mod Carried
 pub mod AtNodes
 pub mod Flags
 pub mod Solutions
--- What the program keeps of a search, and what the traits ask of flags.
-pub mod Marks
-pub mod MarkViews
+-- What the program keeps of states, and what the trait asks of a solution.
 pub mod JoinedStates
 pub mod Places
 pub mod FlagLaws

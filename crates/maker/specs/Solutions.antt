@@ -5,24 +5,15 @@ use Rattle.bodies.specs.declared.node.NodeEvent.{NodeEvent}
 use Rattle.flow.specs.declared.graph.Graph.{Graph}
 use Rattle.maker.specs.Flags.{is_marked_flag, cancel_width, cancel_entry, group_width, group_entry}
 use Rattle.maker.specs.JoinedStates.{has_at}
-use Rattle.maker.specs.declared.solution.Found.{Found}
-use Rattle.maker.specs.declared.solution.Found.TheVariants.{Packed, Searched}
 use Rattle.maker.specs.declared.solution.Solution.{Solution}
 use Rattle.meaning.specs.BodyEvents.{Variable}
 use Rattle.meaning.specs.Classes.{Promises, CancelClass, GroupClass}
 use Rattle.meaning.specs.FunctionFacts.{VariableKind, cancel, group}
 use Rattle.maker.specs.Carried.{TellsReached}
-use Rattle.maker.specs.MarkViews.{has}
-use Rattle.maker.specs.declared.reached.Reached.{Reached}
 use Rattle.states.specs.Bits.{cancel_bit, group_bit}
 use Rattle.states.specs.BitSteps.{cancel_step, group_step}
 use Rattle.states.specs.declared.state.State.{State}
 use Rattle.states.specs.declared.state.TheConstants.{WORD_BITS, CANCEL_BITS, STATE_WORDS}
-
--- whether the flag was found at the node, for a variable that was searched for
-abbrev pub found_for : Option Reached → ℕ → ℕ → Bool
-found_for None n i = false
-found_for (Some r) n i = has r n i
 
 -- whether the bit of a mask is set at the node, for a variable whose mask begins with that bit
 abbrev pub packed_for : List State → Option ℕ → ℕ → ℕ → Bool
@@ -30,35 +21,31 @@ packed_for states None n i = false
 packed_for states (Some first) n i =
     nat_lt first (STATE_WORDS * WORD_BITS) && (nat_lt i CANCEL_BITS && has_at states n (first + i))
 
--- whether the flag was found at the node, for the variable of that place in the list
-abbrev pub found_in : Found → ℕ → ℕ → ℕ → Bool
-found_in (Packed s) place n i = packed_for s.states.items (slice_get s.firsts.items place) n i
-found_in (Searched reached) place n i = found_for (slice_get reached.items place) n i
+-- the same for the variable of that place in the list
+abbrev pub found_in : Solution → ℕ → ℕ → ℕ → Bool
+found_in s place n i = packed_for s.states.items (slice_get s.firsts.items place) n i
 
 -- whether the class arrives at the node n for the variable of that place in the list
 abbrev pub cancel_arrives : Solution → ℕ → ℕ → CancelClass → Bool
-cancel_arrives s place n k = is_marked_flag (found_in s.found place n) (cancel_bit s.groups.items k)
+cancel_arrives s place n k = is_marked_flag (found_in s place n) (cancel_bit s.groups.items k)
 
 abbrev pub group_arrives : Solution → ℕ → ℕ → GroupClass → Bool
-group_arrives s place n k = found_in s.found place n (group_bit k)
+group_arrives s place n k = found_in s place n (group_bit k)
 
 -- the table tells of a variable which flags its events carry to the nodes of the graph
 abbrev pub FindsCancel : Promises → List ℕ → Graph NodeEvent → Variable → (ℕ → ℕ → Bool) → Type 0
 FindsCancel p groups g v found =
     TellsReached (events_graph g) (cancel_step p v.number groups) (cancel_width groups)
-    (cancel_entry groups v.role ∷ []) found
+    (cancel_entry v.role ∷ []) found
 
 abbrev pub FindsGroup : Promises → Graph NodeEvent → Variable → (ℕ → ℕ → Bool) → Type 0
 FindsGroup p g v found =
     TellsReached (events_graph g) (group_step p v.number) group_width (group_entry v.role ∷ []) found
 
+-- the same by the variable's kind
 abbrev pub FindsKind : VariableKind → Promises → List ℕ → Graph NodeEvent → Variable → (ℕ → ℕ → Bool) → Type 0
 FindsKind cancel p groups g v found = FindsCancel p groups g v found
 FindsKind group p groups g v found = FindsGroup p g v found
-
--- the same by the variable's kind
-abbrev pub Finds : Promises → List ℕ → Graph NodeEvent → Variable → Reached → Type 0
-Finds p groups g v r = FindsKind v.kind p groups g v (has r)
 
 -- and for each of the variables
 abbrev pub FindsEach : Promises → List ℕ → Graph NodeEvent → List Variable → (ℕ → ℕ → ℕ → Bool) → Type 0

@@ -1,23 +1,14 @@
 //! The least solution of a body's graph: which classes of its variables arrive at each node. What a solution tells is
-//! said in `bodies/specs/Classified.antt`. It is found by a search for the flags that the walks of a graph carry to
-//! each node, as `specs/Carried.antt` defines them.
+//! said in `bodies/specs/Classified.antt`. It is read off packed states at the nodes, which have the flags that the
+//! walks of the graph carry there, as `specs/Carried.antt` defines them.
 #![tactic(auto)]
 
 ghost use Rattle.maker.specs.Carried.{ReachedByWalks, ReachedByLists};
 
-mod flag_search;
-pub mod flag_steps;
-mod groups;
-mod marked_rows;
 mod places;
-pub mod reached;
-mod search;
 mod solution;
-mod steps;
 mod sweep;
 
-pub use flag_steps::Steps;
-pub use reached::{Reached, reach};
 pub use solution::{Solution, solve};
 
 /// A flag is reached at a node exactly if a walk from where the graph starts carries it there.

@@ -1,19 +1,27 @@
 //! Where the masks of a body's variables stand in states.
 
-ghost use Rattle.std.specs.Prelude.{◌≡◌, true, map, length, IfOk, IfSome};
+ghost use Rattle.std.specs.Prelude.{◌≡◌, true, false, [], map, length, IfOk};
 ghost use Rattle.events.specs.VariableViews.{variable_role_view, variable_view};
 ghost use Rattle.facts.specs.FactViews.{kind_view};
 ghost use Rattle.maker.specs.Flags.{cancel_entry, group_entry};
-ghost use Rattle.maker.specs.Places.{AddsCancel, AddsGroup, Adds, ArePlaced};
+ghost use Rattle.maker.specs.Places.{AddsCancel, AddsGroup, Adds, ArePlaced, IsFull};
+ghost use Rattle.meaning.specs.BodyEvents.{too_many_faults};
+ghost use Rattle.meaning.specs.FunctionFacts.{cancel, group};
 
-use crate::search::cancel_entry;
-use events::Variable;
+use events::{Variable, VariableRole};
 use facts::VariableKind;
 use states::{
-    CANCEL_BITS, CANCELS_BEGIN, GROUP_CLASSES, GROUPS_BEGIN, State, entry_group, group_bit,
-    with_bit,
+    CANCEL_BITS, CANCELS_BEGIN, GROUP_CLASSES, GROUPS_BEGIN, State, cancel_bit, entry_cancel,
+    entry_group, group_bit, with_bit,
 };
 use std::alloc::{AllocError, Global};
+
+/// The bit of a cancel variable at the body's entry, where it is pending in no group.
+fn cancel_entry(role: VariableRole) -> usize
+    ensures { result ≡ cancel_entry (variable_role_view role) }
+{
+    cancel_bit(entry_cancel(role), &[]).unwrap_or(0)
+}
 
 /// The variables of a body with their places in states.
 #[derive(Drop)]
@@ -30,12 +38,14 @@ pub struct Places {
 
 impl Places {
     /// Gives the cancel variable a place, if one is left. Whether there was one.
-    fn add_cancel(&mut self, variable: Variable<'_>, pending: &[u32]) -> Result<bool, AllocError>
-        ensures { IfOk result (λ is_placed. is_placed ≡ true → AddsCancel variable.entry.number
-            (cancel_entry pending.now (variable_role_view variable.entry.role)) self.old self.new) }
+    fn add_cancel(&mut self, variable: Variable<'_>) -> Result<bool, AllocError>
+        ensures placed { IfOk result (λ is_placed. is_placed ≡ true → AddsCancel variable.entry.number
+            (cancel_entry (variable_role_view variable.entry.role)) self.old self.new) }
+        ensures full { IfOk result (λ is_placed. is_placed ≡ false → IsFull cancel self.old) }
+        ensures kept { IfOk result (λ is_placed. is_placed ≡ false → self.new ≡ self.old) }
     {
         let place = self.cancels.len();
-        let mask = with_bit(0, cancel_entry(pending, variable.role));
+        let mask = with_bit(0, cancel_entry(variable.role));
         if !self.entry.set_mask(VariableKind::Cancel, place, mask) {
             return Ok(false);
         }
@@ -46,8 +56,10 @@ impl Places {
 
     /// Gives the group a place, if one is left. Whether there was one.
     fn add_group(&mut self, variable: Variable<'_>) -> Result<bool, AllocError>
-        ensures { IfOk result (λ is_placed. is_placed ≡ true → AddsGroup variable.entry.number
+        ensures placed { IfOk result (λ is_placed. is_placed ≡ true → AddsGroup variable.entry.number
             (group_entry (variable_role_view variable.entry.role)) self.old self.new) }
+        ensures full { IfOk result (λ is_placed. is_placed ≡ false → IsFull group self.old) }
+        ensures kept { IfOk result (λ is_placed. is_placed ≡ false → self.new ≡ self.old) }
     {
         let place = self.groups.len();
         let mask = with_bit(0, group_bit(entry_group(variable.role)));
@@ -60,29 +72,28 @@ impl Places {
     }
 
     /// Gives the variable a place, if one is left. Whether there was one.
-    fn add(&mut self, variable: Variable<'_>, pending: &[u32]) -> Result<bool, AllocError>
-        ensures { IfOk result (λ is_placed. is_placed ≡ true → Adds pending.now (variable_view variable.entry)
+    fn add(&mut self, variable: Variable<'_>) -> Result<bool, AllocError>
+        ensures placed { IfOk result (λ is_placed. is_placed ≡ true → Adds (variable_view variable.entry)
             (kind_view variable.entry.kind) self.old self.new) }
+        ensures full { IfOk result (λ is_placed. is_placed ≡ false → IsFull (kind_view variable.entry.kind) self.old) }
+        ensures kept { IfOk result (λ is_placed. is_placed ≡ false → self.new ≡ self.old) }
     {
         match variable.kind {
-            VariableKind::Cancel => self.add_cancel(variable, pending),
+            VariableKind::Cancel => self.add_cancel(variable),
             VariableKind::Group => self.add_group(variable),
         }
     }
 }
 
-/// The places of the variables, where these groups have bits, if states have places for all of them.
+/// The places of the variables, up to the first one for which no place is left.
 ///
 /// # Errors
 ///
 /// Memory was refused.
-pub fn place_all(
-    alloc: Global,
-    variables: &[Variable<'_>],
-    pending: &[u32],
-) -> Result<Option<Places>, AllocError>
-    ensures { IfOk result (λ places. IfSome places (λ p. ArePlaced pending.now (map variable_view variables.now)
-        (length variables.now) p)) }
+pub fn place_all(alloc: Global, variables: &[Variable<'_>]) -> Result<Places, AllocError>
+    ensures placed { IfOk result (λ p. ArePlaced (map variable_view variables.now) (length p.firsts.items) p) }
+    ensures all { IfOk result (λ p. too_many_faults (map variable_view variables.now) ≡ []
+        → length p.firsts.items ≡ length (map variable_view variables.now)) }
 {
     let mut places = Places {
         cancels: Vec::new(alloc),
@@ -91,9 +102,9 @@ pub fn place_all(
         entry: State::empty(),
     };
     for variable in variables {
-        if !places.add(*variable, pending)? {
-            return Ok(None);
+        if !places.add(*variable)? {
+            return Ok(places);
         }
     }
-    Ok(Some(places))
+    Ok(places)
 }

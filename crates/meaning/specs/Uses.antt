@@ -301,6 +301,11 @@ is_started_by_it known l (started_by n) = is_of_local l (local_meant_or (known.m
 abbrev pub is_member_of : Known → Local → BodyPlace → Bool
 is_member_of known l b = is_started_by_it known l b.literal
 
+-- these bodies around a mention, the innermost first, are such literals up to the body that declares the variable
+abbrev pub are_members : Known → Local → List BodyPlace → Bool
+are_members known l [] = false
+are_members known l (b ∷ bs) = (b.at == l.body) || (is_member_of known l b && are_members known l bs)
+
 -- The results of a body that are cancel functions: what its returns may hand on. Methods, literals, and functions that
 -- are called `_` or `init` have none.
 abbrev pub named_gives : Known → Identifier → Signature → List CancelResult
@@ -482,17 +487,16 @@ abbrev pub started_literal : Option Expression → Option ℕ
 started_literal None = None
 started_literal (Some e) = literal_at e
 
--- `g.Go(x)` as a statement, and `g.TryGo(x)` as a statement or value; in literals where each one between is a member
+-- `g.Go(x)` as a statement, and `g.TryGo(x)` as a statement or value; in literals of the body that declares the group,
+-- where each one between is a member
 abbrev pub group_started : Seen → Local → List BodyPlace → Call → Option (List Event)
 group_started seen l bodies c = allowed_if
-    (is_statement_place c.place && (is_free seen (only_argument c)
-    && list_all (is_member_of seen.known l) (literals_between l.body bodies)))
+    (is_statement_place c.place && (is_free seen (only_argument c) && are_members seen.known l bodies))
     (start l.number (started_literal (only_argument c)) ∷ [])
 
 abbrev pub group_tried : Seen → Local → List BodyPlace → Call → Option (List Event)
 group_tried seen l bodies c = allowed_if
-    (is_statement_or_value c.place && (is_free seen (only_argument c)
-    && list_all (is_member_of seen.known l) (literals_between l.body bodies)))
+    (is_statement_or_value c.place && (is_free seen (only_argument c) && are_members seen.known l bodies))
     (try l.number (started_literal (only_argument c)) ∷ [])
 
 -- `g.Wait()` at a call place, and under `defer`; in literals where each one between is deferred, and not as an item

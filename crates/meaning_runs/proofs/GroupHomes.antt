@@ -11,7 +11,7 @@ use Rattle.std.proofs.lemmas.Option.{none-some, same_Some}
 use Rattle.meaning.specs.FunctionFacts.{group}
 use Rattle.meaning.specs.Mentions.{Named, starts_by, is_start, is_one, nowhere, Call, LiteralUse, other_use, deferred_call, started_by, argument_use, called, Mention, BodyPlace, mentions, opens, mention}
 use Rattle.meaning.specs.Tracked.{local_meant_or, variable_of, Placed, Local}
-use Rattle.meaning.specs.Uses.{Seen, found, tracked_kind, is_group, is_body, is_outside, is_of_local, is_deferred, is_started_by_it, is_member_of, literals_between, Event, start, try, UseFault, Outcome, allowed_if, is_free, only_argument, is_statement_place, is_statement_or_value, group_started, group_tried, group_awaited, group_limited, group_called, group_use, use_outcome, mention_outcome, role_outcome, local_outcome, variable_outcome}
+use Rattle.meaning.specs.Uses.{Seen, found, tracked_kind, is_group, is_body, is_outside, is_of_local, is_deferred, is_started_by_it, is_member_of, are_members, literals_between, Event, start, try, UseFault, Outcome, allowed_if, is_free, only_argument, is_statement_place, is_statement_or_value, group_started, group_tried, group_awaited, group_limited, group_called, group_use, use_outcome, mention_outcome, role_outcome, local_outcome, variable_outcome}
 use Rattle.meaning.specs.BodyEvents.{bodies_of, opened_in, mark_faults, outer_faults_of, outer_faults, faults_of, body_faults, variables_of, too_many_faults}
 use Rattle.meaning.proofs.Membership.{contains_here, contains_cases, contains_nil}
 use Rattle.meaning_packages.proofs.BodyPlaces.{placed_there}
@@ -19,7 +19,7 @@ use Rattle.meaning_runs.specs.Bodies.{Body}
 use Rattle.meaning_runs.specs.BodyOffsets.{AreApart}
 use Rattle.meaning_runs.proofs.BoundOnce.{IsWithout, of_its_mark}
 use Rattle.meaning_runs.proofs.Captured.{any_there}
-use Rattle.meaning_runs.proofs.GroupUses.{AreMembers, AreDeferred}
+use Rattle.meaning_runs.proofs.GroupUses.{AreMembers, AreDeferred, members_declared}
 use Rattle.meaning_runs.proofs.LeftSides.{Stands}
 use Rattle.meaning_runs.proofs.MarkForms.{is_started, literal_of}
 use Rattle.meaning_runs.proofs.MarksBeside.{EndsWith, all_of_them, one_more, AreInForm, opened_there}
@@ -135,7 +135,7 @@ module _ (seen : Seen) (bodies : List BodyPlace) (m : Mention) (l : Local) (c : 
   -- what is allowed at such a place
   abbrev allowed_at : Bool → Event → Option (List Event)
   allowed_at at_place event = allowed_if (at_place && (is_free seen (only_argument c)
-      && list_all (is_member_of seen.known l) (literals_between l.body bodies))) (event ∷ [])
+      && are_members seen.known l bodies)) (event ∷ [])
 
   -- there it starts what the event says
   started_so : (at_place : Bool) (event : Event)
@@ -145,7 +145,7 @@ module _ (seen : Seen) (bodies : List BodyPlace) (m : Mention) (l : Local) (c : 
       → IsWithout (outcome_so (allowed_at at_place event)).faults
       → IsAllowedStart seen bodies l c (outcome_so (allowed_at at_place event)).events
   started_so at_place event whole it none =
-      let members = list_all (is_member_of seen.known l) (literals_between l.body bodies) in
+      let members = are_members seen.known l bodies in
       let r = if_no_fault (at_place && (is_free seen (only_argument c) && members)) (event ∷ []) none in
       let parts = and_parts at_place (is_free seen (only_argument c) && members) r.0 in
       record {
@@ -358,11 +358,7 @@ module _ (seen : Seen) (well : IsWellUsed seen) where
         → tracked_kind seen (Some l) ≡ Some group
         → AreMembers seen p.bodies l
         → IsDeclaredIn l.body p.bodies
-    by_members is tracked members = elim (declared_or (is_member_of seen.known l) l.body p.bodies members) [
-      | inl h ↦ h
-      | inr all ↦ absurd (outermost_has_no_home outermost.0 l.number begins
-          (member_home seen l outermost.0 is tracked (all outermost.0 outermost.1)))
-    ]
+    by_members is tracked members = members_declared seen.known l p.bodies members
 
     pub by_deferrals : AreDeferred p.bodies l → IsDeclaredIn l.body p.bodies
     by_deferrals deferred = elim (declared_or is_deferred l.body p.bodies deferred) [

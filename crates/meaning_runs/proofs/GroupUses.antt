@@ -3,14 +3,14 @@
 -- literal between it and the body that declares the group is started by the group too. Where it waits, each of these is
 -- called under `defer`; and a group is lent in the body that declares it.
 use Rattle.std.proofs.Common.{◌≡◌, ℕ, Bool, true, false, inl, inr, List, [], ◌∷◌, Option, Some, None, Contains, refl, sym, ap, ◌∙◌, subst}
-use Rattle.std.specs.Prelude.{◌&&◌, ◌||◌, if◌then◌else◌, codes}
-use Rattle.std.specs.List.{list_all}
+use Rattle.std.specs.Prelude.{◌==◌, ◌&&◌, ◌||◌, if◌then◌else◌, codes}
+use Rattle.std.specs.List.{list_all, list_any}
 use Rattle.std.specs.Str.{bytes_eq}
-use Rattle.std.proofs.lemmas.Bool.{and_parts, or_left, or_right, false≢true}
+use Rattle.std.proofs.lemmas.Bool.{and_parts, and_from, or_left, or_right, false≢true}
 use Rattle.meaning.specs.FunctionFacts.{CancelType, cancel_type, group_type, VariableKind, cancel, group}
 use Rattle.meaning.specs.Mentions.{starts_by, is_start, BodyPlace, Row, Call, Role, elsewhere, called, called_in_brackets, argument, returned, left, names_type, new_literal, parameter_pointer, Mention, Mark, mentions, defers_literal, returns, opens, closes}
 use Rattle.meaning.specs.Tracked.{Known, variable_of, LocalRole, parameter, receiver, variadic, result, in_block, Local, Placed}
-use Rattle.meaning.specs.Uses.{Seen, found, kind_of, tracked_kind, VariableAt, Callee, Event, other, obtain, clear, call, defer_call, pass, defer_pass, lend, start, try, wait, defer_wait, make, defer_literal, return_event, Binding, obtained, cleared, made, binding_at, binding_event, allowed_if, either_use, variable_at, cancel_called, cancel_passed, cancel_use, group_started, group_tried, group_awaited, group_limited, group_called, group_lent, group_use, kind_use, use_outcome, mention_outcome, binding_outcome, row_outcome, role_outcome, local_outcome, is_own, is_body, has_no_argument, has_its_arguments, is_statement_place, is_deferred_place, takes, is_given_as, cancel_type_of, is_call_place, callee_of, body_gives, is_free, only_argument, is_member_of, literals_between, is_statement_or_value, is_item_place, is_deferred}
+use Rattle.meaning.specs.Uses.{Seen, found, kind_of, tracked_kind, VariableAt, Callee, Event, other, obtain, clear, call, defer_call, pass, defer_pass, lend, start, try, wait, defer_wait, make, defer_literal, return_event, Binding, obtained, cleared, made, binding_at, binding_event, allowed_if, either_use, variable_at, cancel_called, cancel_passed, cancel_use, group_started, group_tried, group_awaited, group_limited, group_called, group_lent, group_use, kind_use, use_outcome, mention_outcome, binding_outcome, row_outcome, role_outcome, local_outcome, is_own, is_body, has_no_argument, has_its_arguments, is_statement_place, is_deferred_place, takes, is_given_as, cancel_type_of, is_call_place, callee_of, body_gives, is_free, only_argument, is_member_of, are_members, literals_between, is_statement_or_value, is_item_place, is_deferred}
 use Rattle.meaning.specs.BodyEvents.{handed_on, mark_events}
 use Rattle.meaning.proofs.Membership.{contains_cases, contains_nil}
 use Rattle.meaning_runs.specs.Bodies.{Body}
@@ -35,9 +35,37 @@ is_about_group (make u state) = false
 is_about_group (defer_literal at) = false
 is_about_group (return_event handed) = false
 
--- each literal between the mention and the body that declares the local is started by it
+-- the mention stands in the body that declares the local, or in literals there that are started by it
 abbrev pub AreMembers : Seen → List BodyPlace → Local → Type 0
-AreMembers seen bodies l = list_all (is_member_of seen.known l) (literals_between l.body bodies) ≡ true
+AreMembers seen bodies l = are_members seen.known l bodies ≡ true
+
+-- so one of the bodies declares it
+pub members_declared : (known : Known) (l : Local) (bodies : List BodyPlace)
+    → are_members known l bodies ≡ true
+    → list_any (λ (b : BodyPlace). b.at == l.body) bodies ≡ true
+members_declared known l [] e = e
+members_declared known l (b ∷ bs) e = by (b.at == l.body) e (members_declared known l bs)
+  where
+    by : (t : Bool) → (t || (is_member_of known l b && are_members known l bs)) ≡ true
+        → (are_members known l bs ≡ true → list_any (λ (c : BodyPlace). c.at == l.body) bs ≡ true)
+        → (t || list_any (λ (c : BodyPlace). c.at == l.body) bs) ≡ true
+    by true h more = refl
+    by false h more = more (and_parts (is_member_of known l b) (are_members known l bs) h).1
+
+-- and each literal between is started by it
+pub members_between : (known : Known) (l : Local) (bodies : List BodyPlace)
+    → are_members known l bodies ≡ true
+    → list_all (is_member_of known l) (literals_between l.body bodies) ≡ true
+members_between known l [] e = refl
+members_between known l (b ∷ bs) e = by (b.at == l.body) e (members_between known l bs)
+  where
+    by : (t : Bool) → (t || (is_member_of known l b && are_members known l bs)) ≡ true
+        → (are_members known l bs ≡ true → list_all (is_member_of known l) (literals_between l.body bs) ≡ true)
+        → list_all (is_member_of known l) (if t then [] else b ∷ literals_between l.body bs) ≡ true
+    by true h more = refl
+    by false h more =
+        let parts = and_parts (is_member_of known l b) (are_members known l bs) h in
+        and_from (is_member_of known l b) (list_all (is_member_of known l) (literals_between l.body bs)) parts.0 (more parts.1)
 
 -- each of these is called under `defer`
 abbrev pub AreDeferred : List BodyPlace → Local → Type 0
@@ -155,7 +183,7 @@ module _ (P : Event → Type 0) where
         → AllUseIf (group_called seen l bodies selected c)
     group_called_use is None q c role = tt
     group_called_use is (Some n) q c role =
-        let members = list_all (is_member_of seen.known l) (literals_between l.body bodies) in
+        let members = are_members seen.known l bodies in
         let saved = list_all is_deferred (literals_between l.body bodies) in
         let own_item = is_statement_or_value c.place || (is_item_place c.place && is_own l bodies) in
         let limited = if bytes_eq n (codes "SetLimit") then group_limited l bodies c else None in

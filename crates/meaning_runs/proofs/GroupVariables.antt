@@ -26,7 +26,7 @@ use Rattle.meaning_runs.proofs.BodyOffsets.{opened_there as begun_there}
 use Rattle.meaning_runs.proofs.Captured.{any_true, own_role}
 use Rattle.meaning_runs.proofs.DeferredLiterals.{deferred_literal_there}
 use Rattle.meaning_runs.proofs.GroupHomes.{at_home, home_of, home_in, home_found, IsWellUsed, IsDeclaredIn, member_home, by_members, by_deferrals, outermost_has_no_home, home_is_around, started_by_mention}
-use Rattle.meaning_runs.proofs.GroupUses.{AreMembers, AreDeferred, UsesGroup, starts, tries, waits, waits_later, lends, HasGroupUse, is_about_group, group_use_there}
+use Rattle.meaning_runs.proofs.GroupUses.{members_between, AreMembers, AreDeferred, UsesGroup, starts, tries, waits, waits_later, lends, HasGroupUse, is_about_group, group_use_there}
 use Rattle.meaning_runs.proofs.MarkForms.{is_started, literal_of}
 use Rattle.meaning_runs.proofs.MarksBeside.{IsOpened, IsBeside, EndsWith, all_of_them, opened_there}
 use Rattle.meaning_runs.proofs.OwnNumbers.{declares_it, is_own}
@@ -222,7 +222,7 @@ module _ (b : Body) (well : IsWellUsed b.file) (its : Contains (bodies_of b.file
     unfolding has_group
     start_allowed v same members =
         as_number (λ n g. IsItsOwn g ⊎ (home_in b ≡ Some n)) v same (has_group (by_these members))
-        (elim (own_or (is_member_of b.file.known l) members) [
+        (elim (own_or (is_member_of b.file.known l) (members_between b.file.known l bodies members)) [
           | inl own ↦ inl own
           | inr member ↦ inr (member_home b.file l b.place is_found_so u.use_of.is_group member)
         ])

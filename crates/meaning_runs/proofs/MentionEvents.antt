@@ -8,7 +8,7 @@ use Rattle.std.specs.Str.{bytes_eq}
 use Rattle.meaning.specs.FunctionFacts.{CancelType, cancel_type, group_type, VariableKind, cancel, group}
 use Rattle.meaning.specs.Mentions.{BodyPlace, Row, Call, Role, elsewhere, called, called_in_brackets, argument, returned, left, names_type, new_literal, parameter_pointer, Mention}
 use Rattle.meaning.specs.Tracked.{Known, variable_of, LocalRole, parameter, receiver, variadic, result, in_block, Local}
-use Rattle.meaning.specs.Uses.{Seen, found, kind_of, tracked_kind, Event, other, obtain, clear, call, defer_call, pass, defer_pass, lend, start, try, wait, defer_wait, make, defer_literal, return_event, Binding, obtained, cleared, made, binding_at, binding_event, allowed_if, either_use, variable_at, cancel_called, cancel_passed, cancel_use, group_started, group_tried, group_awaited, group_limited, group_called, group_lent, group_use, kind_use, use_outcome, mention_outcome, binding_outcome, row_outcome, role_outcome, local_outcome, variable_outcome, is_own, has_no_argument, has_its_arguments, is_statement_place, is_deferred_place, takes, is_given_as, cancel_type_of, is_call_place, callee_of, body_gives, is_free, only_argument, started_literal, is_member_of, literals_between, is_statement_or_value, is_item_place, is_deferred}
+use Rattle.meaning.specs.Uses.{Seen, found, kind_of, tracked_kind, Event, other, obtain, clear, call, defer_call, pass, defer_pass, lend, start, try, wait, defer_wait, make, defer_literal, return_event, Binding, obtained, cleared, made, binding_at, binding_event, allowed_if, either_use, variable_at, cancel_called, cancel_passed, cancel_use, group_started, group_tried, group_awaited, group_limited, group_called, group_lent, group_use, kind_use, use_outcome, mention_outcome, binding_outcome, row_outcome, role_outcome, local_outcome, variable_outcome, is_own, has_no_argument, has_its_arguments, is_statement_place, is_deferred_place, takes, is_given_as, cancel_type_of, is_call_place, callee_of, body_gives, is_free, only_argument, started_literal, are_members, literals_between, is_statement_or_value, is_item_place, is_deferred}
 use Rattle.meaning.proofs.Membership.{contains_cases, contains_nil}
 use Rattle.meaning_runs.specs.RunLists.{is_return}
 
@@ -184,7 +184,7 @@ module _ (P : Event → Type 0) where
         → AllFitIf (group_called seen l bodies selected c)
     group_called_fits seen None c = tt
     group_called_fits seen (Some m) c =
-        let inside = list_all (is_member_of seen.known l) (literals_between l.body bodies) in
+        let inside = are_members seen.known l bodies in
         let saved = list_all is_deferred (literals_between l.body bodies) in
         let limited = if bytes_eq m (codes "SetLimit") then group_limited l bodies c else None in
         let awaited = if bytes_eq m (codes "Wait") then group_awaited l bodies c else limited in

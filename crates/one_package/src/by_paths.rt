@@ -9,13 +9,13 @@ ghost use Rattle.meaning_reports.specs.PackageReports.{by_paths};
 ghost use Rattle.meaning_reports.specs.WholeFaults.{HasNoWholeFault};
 
 use crate::file_rules::{FileRules, FoundFiles};
-use crate::hands::{Alone, Hands};
+use crate::hands::Hands;
 use crate::judged::Around;
 use crate::told_package::{PackageBodies, ToldPackage, package_bodies};
 use called_parameters::Called;
 use calls_flags::{FileBodies, KnownCalls};
 use report::Diagnostic;
-use std::alloc::{AllocError, Global};
+use std::alloc::Global;
 use whole_packages::LoadedPackage;
 
 /// The bodies of a package's files, what is to be said of the files by the paths of these, in no order, and which of
@@ -68,18 +68,19 @@ impl FileRules for ByPaths {
 
     ghost tells_all = { λ all. false };
 
-    fn find<'a>(
+    fn find<'a, H: Hands>(
         &self,
         alloc: Global,
+        hands: &H,
         _loaded: &'a LoadedPackage,
         told: &ToldPackage<'a>,
         around: Around<'_, 'a>,
-    ) -> Result<FoundFiles<'a>, AllocError> {
+    ) -> Result<FoundFiles<'a>, H::Fault> {
         let JudgedBodies {
             diagnostics,
             called,
             ..
-        } = judge_bodies(alloc, &Alone, told, around)?;
+        } = judge_bodies(alloc, hands, told, around)?;
         Ok(FoundFiles {
             diagnostics,
             called,

@@ -12,12 +12,13 @@ ghost use Rattle.meaning_reports.specs.OneReport.{AreDetermined};
 ghost use Rattle.meaning_reports.specs.PackageReports.{Rules};
 ghost use Rattle.meaning_reports.specs.WholeFaults.{HasNoWholeFault};
 
+use crate::hands::Hands;
 use crate::judged::Around;
 use crate::told_package::ToldPackage;
 use called_parameters::Called;
 use certificate_json::Body;
 use report::Diagnostic;
-use std::alloc::{AllocError, Global};
+use std::alloc::Global;
 use whole_packages::LoadedPackage;
 
 /// What is to be said of the files of a package, in no order, and which of their parameters its functions are known to
@@ -42,17 +43,19 @@ pub trait FileRules {
 
     /// Finds what is to be said of the files of such a package, which was told of, and which of their parameters its
     /// functions are known to call. Rules that make certificates of the bodies make them here, where the bodies are.
+    /// These hands do it.
     ///
     /// # Errors
     ///
-    /// Memory was refused.
-    fn find<'a>(
+    /// Memory was refused, or what else keeps these hands from it.
+    fn find<'a, H: Hands>(
         &self,
         alloc: Global,
+        hands: &H,
         loaded: &'a LoadedPackage,
         told: &ToldPackage<'a>,
         around: Around<'_, 'a>,
-    ) -> Result<FoundFiles<'a>, AllocError>
+    ) -> Result<FoundFiles<'a>, H::Fault>
         ensures files { IfOk result (λ found. (declared : Tables) (ps : List MeantPackage) (tables : Tables) (i : ℕ)
             (p : MeantPackage) → slice_get ps i ≡ Some p → TellsPackage p loaded.now
             → TellsAround ps tables p around.entry
@@ -75,4 +78,11 @@ pub trait FileRules {
     fn are_determined(&self)
         ensures flags { (declared : Tables) → AreDetermined (rules self.now declared).are_flags }
         ensures declared { (declared : Tables) → (rules self.now declared).declared ≡ declared };
+}
+
+/// Who judges packages, and by what rules.
+#[derive(Drop)]
+pub struct Judges<'j, R, H> {
+    pub rules: &'j R,
+    pub hands: &'j H,
 }

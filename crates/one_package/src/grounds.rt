@@ -8,8 +8,9 @@ ghost use Rattle.meaning_reports.specs.Loaded.{LoadedPackage as MeantPackage, Ta
 ghost use Rattle.whole_packages.specs.LoadedViews.{TellsPackage};
 ghost use Rattle.whole_packages.specs.WholeEntries.{second_view};
 
+use crate::hands::{Alone, Hands};
 use crate::judged::Around;
-use crate::told_package::{ToldPackage, tell_package};
+use crate::told_package::{Tellers, ToldPackage, tell_package};
 use names::{names_of, second_function};
 use report::Diagnostic;
 use std::alloc::{AllocError, Global};
@@ -26,16 +27,16 @@ pub enum Grounds<'a> {
 
 /// What a package is judged by in which no function has the name of another. What its names mean is asked only where it
 /// has no fault as a whole.
-fn named_grounds<'a>(
+fn named_grounds<'a, H: Hands>(
     alloc: Global,
     loaded: &'a LoadedPackage,
     around: Around<'_, 'a>,
-    tells_all: bool,
-) -> Result<Grounds<'a>, AllocError>
+    tellers: &Tellers<'_, H>,
+) -> Result<Grounds<'a>, H::Fault>
     ensures grounds { IfOk result (λ grounds. (ps : List MeantPackage) (tables : Tables) (i : ℕ) (p : MeantPackage)
         → slice_get ps i ≡ Some p → TellsPackage p loaded.now → TellsAround ps tables p around.entry
         → second_function (trees_of p) ≡ None
-        → AreGrounds ps tables i p tells_all grounds) }
+        → AreGrounds ps tables i p tellers.now.tells_all grounds) }
     ensures marked { IfOk result AreMarkedGrounds }
 {
     let faults = whole_faults(alloc, loaded, None, around.unranked)?;
@@ -43,7 +44,7 @@ fn named_grounds<'a>(
         return Ok(Grounds::WholeFaults(faults));
     }
     let names = names_of(alloc, &loaded.trees, around.names)?;
-    let told = tell_package(alloc, loaded, &names, around, tells_all)?;
+    let told = tell_package(alloc, loaded, &names, around, tellers)?;
     Ok(Grounds::Told(told))
 }
 
@@ -69,21 +70,24 @@ fn second_grounds<'a>(
 ///
 /// # Errors
 ///
-/// Memory was refused.
-pub fn find_grounds<'a>(
+/// Memory was refused, or what else keeps these hands from it.
+pub fn find_grounds<'a, H: Hands>(
     alloc: Global,
     loaded: &'a LoadedPackage,
     around: Around<'_, 'a>,
-    tells_all: bool,
-) -> Result<Grounds<'a>, AllocError>
+    tellers: &Tellers<'_, H>,
+) -> Result<Grounds<'a>, H::Fault>
     ensures grounds { IfOk result (λ grounds. (ps : List MeantPackage) (tables : Tables) (i : ℕ) (p : MeantPackage)
         → slice_get ps i ≡ Some p → TellsPackage p loaded.now → TellsAround ps tables p around.entry
-        → AreGrounds ps tables i p tells_all grounds) }
+        → AreGrounds ps tables i p tellers.now.tells_all grounds) }
     ensures marked { IfOk result AreMarkedGrounds }
 {
     match second_function(alloc, &loaded.trees)? {
-        Some((tree, name)) => second_grounds(alloc, loaded, Second { tree, name }, around),
-        None => named_grounds(alloc, loaded, around, tells_all),
+        Some((tree, name)) => {
+            let second = Second { tree, name };
+            Ok(second_grounds(alloc, loaded, second, around)?)
+        }
+        None => named_grounds(alloc, loaded, around, tellers),
     }
 }
 
@@ -102,7 +106,11 @@ pub fn tell_unless_faulty<'a>(
         → IsToldIf ps tables i p told) }
     ensures marked { IfOk result (λ told. IfSome told IsMarked) }
 {
-    match find_grounds(alloc, loaded, around, true)? {
+    let tellers = Tellers {
+        hands: &Alone,
+        tells_all: true,
+    };
+    match find_grounds(alloc, loaded, around, &tellers)? {
         Grounds::WholeFaults(_faults) => Ok(None),
         Grounds::Told(told) => Ok(Some(told)),
     }

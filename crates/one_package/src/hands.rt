@@ -1,11 +1,11 @@
-//! Who makes the bodies of a package, and judges them.
+//! Who tells of the files of a package, makes its bodies, and judges them.
 
 ghost use Rattle.std.specs.Prelude.{◌↔◌, List, IfOk, Contains, map};
 ghost use Rattle.calls_flags.specs.Claims.{HaveFacts};
 ghost use Rattle.calls_flags.specs.FilesBodies.{HaveBodies, TellAll};
 ghost use Rattle.called_parameters.specs.Called.{is_called, flags_by_path};
 ghost use Rattle.calls_flags.specs.KnownCalls.{known_calls};
-ghost use Rattle.calls_flags.specs.ToldFiles.{TellAllSeen};
+ghost use Rattle.calls_flags.specs.ToldFiles.{seen_by, TellAllSeen};
 ghost use Rattle.facts.specs.FactViews.{facts_by_name};
 ghost use Rattle.findings.specs.FoundEntries.{IsFoundIn};
 ghost use Rattle.meaning.specs.Uses.{Seen};
@@ -13,16 +13,60 @@ ghost use Rattle.meaning_packages.specs.CallsFlags.{AreMost, FileWithCredits};
 ghost use Rattle.report.specs.Entries.{Entry, entry_of};
 
 use called_parameters::{Called, ImportedCalls};
-use calls_flags::{FileBodies, KnownCalls, ToldFile, bodies_of_files, find_called};
+use calls_flags::{
+    FileBodies, KnownCalls, Telling, ToldFile, bodies_of_files, find_called, tell_files,
+};
 use facts::Table;
 use findings::find_faults;
 use report::Diagnostic;
 use std::alloc::{AllocError, Global};
+use std::sync::Wait;
+use std::thread::Threads;
+use workers::{Free, Helpers, PieceFault};
 
-/// Who makes the bodies of a package, and judges them: one thread, or several. What comes of it is the same.
+/// Work of any kind that one thread can do alone, and several that help each other. What comes of it is the same.
+pub trait HandWork<X> {
+    /// What comes of it.
+    ghost gives: { Self → X → Type 0 };
+
+    /// The thread that asks for it does all of it.
+    ///
+    /// # Errors
+    ///
+    /// Memory was refused.
+    fn alone(&self, alloc: Global) -> Result<X, AllocError>
+        ensures { IfOk result (gives self.now) };
+
+    /// These helpers do it.
+    ///
+    /// # Errors
+    ///
+    /// Memory was refused, or else a thread could not be started.
+    fn helped<R: Threads + Wait>(
+        &self,
+        alloc: Global,
+        helpers: &Helpers<'_, R, Free>,
+    ) -> Result<X, PieceFault>
+        ensures { IfOk result (gives self.now) };
+}
+
+/// Who tells of the files of a package, makes its bodies, and judges them: one thread, or several. What comes of it is
+/// the same.
 pub trait Hands {
     /// Why there may be no answer. Memory may be refused to each.
     type Fault: From<AllocError>;
+
+    /// Tells of each file of a package.
+    ///
+    /// # Errors
+    ///
+    /// Memory was refused, or what else keeps these hands from it.
+    fn tell<'a>(
+        &self,
+        alloc: Global,
+        telling: Telling<'_, 'a>,
+    ) -> Result<Vec<ToldFile<'a>>, Self::Fault>
+        ensures { IfOk result (λ told. TellAllSeen (seen_by telling.entry) told.items) };
 
     /// The bodies of each file of a package: each is made once, for all that asks for its paths.
     ///
@@ -68,6 +112,14 @@ pub trait Hands {
     ) -> Result<Vec<Diagnostic<'a>>, Self::Fault>
         ensures { IfOk result (λ found. (fs : List FileWithCredits) → TellAll fs files.now
             → (x : Entry) → Contains (map entry_of found.items) x ↔ IsFoundIn fs (known_calls calls.entry) x) };
+
+    /// Does work of this kind.
+    ///
+    /// # Errors
+    ///
+    /// Memory was refused, or what else keeps these hands from it.
+    fn work<X, J: HandWork<X>>(&self, alloc: Global, job: &J) -> Result<X, Self::Fault>
+        ensures { IfOk result (J.gives job.now) };
 }
 
 /// The thread that asks for it does all of it.
@@ -76,6 +128,14 @@ pub struct Alone;
 
 impl Hands for Alone {
     type Fault = AllocError;
+
+    fn tell<'a>(
+        &self,
+        alloc: Global,
+        telling: Telling<'_, 'a>,
+    ) -> Result<Vec<ToldFile<'a>>, AllocError> {
+        tell_files(alloc, telling)
+    }
 
     fn bodies<'e, 'a>(
         &self,
@@ -102,5 +162,9 @@ impl Hands for Alone {
         calls: KnownCalls<'_, 'a>,
     ) -> Result<Vec<Diagnostic<'a>>, AllocError> {
         find_faults(alloc, files, calls)
+    }
+
+    fn work<X, J: HandWork<X>>(&self, alloc: Global, job: &J) -> Result<X, AllocError> {
+        job.alone(alloc)
     }
 }

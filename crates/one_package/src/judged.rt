@@ -12,10 +12,11 @@ ghost use Rattle.report.specs.Entries.{Entry, Precedes, entry_of};
 ghost use Rattle.meaning_reports.specs.Loaded.{LoadedPackage as MeantPackage, Tables};
 ghost use Rattle.meaning_reports.specs.WholeFaults.{HasNoWholeFault};
 
-use crate::file_rules::{FileRules, FoundFiles};
+use crate::file_rules::{FileRules, FoundFiles, Judges};
 use crate::grounds::{Grounds, find_grounds};
+use crate::hands::Hands;
 use crate::known_imports::NotYes;
-use crate::told_package::ToldPackage;
+use crate::told_package::{Tellers, ToldPackage};
 use called_parameters::{Called, ImportedCalls};
 use certificate_json::Body;
 use declared_tables::PackageTable;
@@ -23,7 +24,7 @@ use facts::{Imported, Table};
 use files_to_walk::Givers;
 use names::PackageNames;
 use report::{Diagnostic, DiagnosticCode, PackageReport, in_order};
-use std::alloc::{AllocError, Global};
+use std::alloc::Global;
 use whole_packages::{LoadedPackage, Marked, add_imports, numbered_trees};
 
 /// What is known of the packages around the one that is judged.
@@ -98,30 +99,31 @@ fn whole_only<'a>(
 
 /// Finds what is to be said of a package that has no fault as a whole and was told of, and which of their parameters
 /// its functions are known to call.
-fn find_in_package<'a, R: FileRules>(
+fn find_in_package<'a, R: FileRules, H: Hands>(
     alloc: Global,
     loaded: &'a LoadedPackage,
     told: &ToldPackage<'a>,
     around: Around<'_, 'a>,
-    rules: &R,
-) -> Result<FoundPackage<'a>, AllocError>
+    by: &Judges<'_, R, H>,
+) -> Result<FoundPackage<'a>, H::Fault>
     ensures found { IfOk result (λ found. (declared : Tables) (ps : List MeantPackage) (tables : Tables) (i : ℕ)
         (p : MeantPackage) → slice_get ps i ≡ Some p → TellsPackage p loaded.now → TellsAround ps tables p around.entry
-        → PicksNotYes (R.rules rules.now declared) ps tables i around.entry
-        → IsToldPackage ps tables p (R.tells_all rules.now) told.now
+        → PicksNotYes (R.rules by.now.rules.now declared) ps tables i around.entry
+        → IsToldPackage ps tables p (R.tells_all by.now.rules.now) told.now
         → HasNoWholeFault ps i
-        → IsFoundPackage (R.rules rules.now declared) ps tables i p found) }
+        → IsFoundPackage (R.rules by.now.rules.now declared) ps tables i p found) }
     ensures certified { IfOk result (λ found. (ps : List MeantPackage) (tables : Tables) (i : ℕ) (p : MeantPackage)
         → slice_get ps i ≡ Some p → TellsPackage p loaded.now → TellsAround ps tables p around.entry
-        → IsToldPackage ps tables p (R.tells_all rules.now) told.now
+        → IsToldPackage ps tables p (R.tells_all by.now.rules.now) told.now
         → HasNoWholeFault ps i
-        → R.certificates rules.now ps tables p (is_called found.called) (map body_of found.certificates.items)) }
+        → R.certificates by.now.rules.now ps tables p (is_called found.called)
+        (map body_of found.certificates.items)) }
 {
     let FoundFiles {
         mut diagnostics,
         called,
         certificates,
-    } = rules.find(alloc, loaded, told, around)?;
+    } = by.rules.find(alloc, by.hands, loaded, told, around)?;
     let trees = numbered_trees(alloc, loaded)?;
     add_imports(
         around.not_yes,
@@ -137,30 +139,30 @@ fn find_in_package<'a, R: FileRules>(
 }
 
 /// Judges a package that has no fault as a whole and was told of.
-fn judge_told<'a, R: FileRules>(
+fn judge_told<'a, R: FileRules, H: Hands>(
     alloc: Global,
     loaded: &'a LoadedPackage,
     told: ToldPackage<'a>,
     around: Around<'_, 'a>,
-    rules: &R,
-) -> Result<Judged<'a>, AllocError>
+    by: &Judges<'_, R, H>,
+) -> Result<Judged<'a>, H::Fault>
     ensures told { IfOk result (λ judged. IsMarked told.entry → TellsSources loaded.now judged) }
     ensures judged { IfOk result (λ judged. (declared : Tables) (ps : List MeantPackage) (tables : Tables)
         (i : ℕ) (p : MeantPackage) → slice_get ps i ≡ Some p → TellsPackage p loaded.now
         → TellsAround ps tables p around.entry
-        → PicksNotYes (R.rules rules.now declared) ps tables i around.entry
-        → HasNoWholeFault ps i → IsToldPackage ps tables p (R.tells_all rules.now) told.entry
-        → IsJudgment (R.rules rules.now declared) ps tables i p judged) }
+        → PicksNotYes (R.rules by.now.rules.now declared) ps tables i around.entry
+        → HasNoWholeFault ps i → IsToldPackage ps tables p (R.tells_all by.now.rules.now) told.entry
+        → IsJudgment (R.rules by.now.rules.now declared) ps tables i p judged) }
     ensures certified { IfOk result (λ judged. (ps : List MeantPackage) (tables : Tables) (i : ℕ) (p : MeantPackage)
         → slice_get ps i ≡ Some p → TellsPackage p loaded.now → TellsAround ps tables p around.entry
-        → HasNoWholeFault ps i → IsToldPackage ps tables p (R.tells_all rules.now) told.entry
-        → HasCertificates (R.certificates rules.now) ps tables i p judged) }
+        → HasNoWholeFault ps i → IsToldPackage ps tables p (R.tells_all by.now.rules.now) told.entry
+        → HasCertificates (R.certificates by.now.rules.now) ps tables i p judged) }
 {
     let FoundPackage {
         diagnostics,
         called,
         certificates,
-    } = find_in_package(alloc, loaded, &told, around, rules)?;
+    } = find_in_package(alloc, loaded, &told, around, by)?;
     let ToldPackage {
         signatures,
         gives,
@@ -181,25 +183,29 @@ fn judge_told<'a, R: FileRules>(
 ///
 /// # Errors
 ///
-/// Memory was refused.
-pub fn judge<'a, R: FileRules>(
+/// Memory was refused, or what else keeps these hands from it.
+pub fn judge<'a, R: FileRules, H: Hands>(
     alloc: Global,
     loaded: &'a LoadedPackage,
     around: Around<'_, 'a>,
-    rules: &R,
-) -> Result<Judged<'a>, AllocError>
+    by: &Judges<'_, R, H>,
+) -> Result<Judged<'a>, H::Fault>
     ensures told { IfOk result (TellsSources loaded.now) }
     ensures judged { IfOk result (λ judged. (declared : Tables) (ps : List MeantPackage) (tables : Tables)
         (i : ℕ) (p : MeantPackage) → slice_get ps i ≡ Some p → TellsPackage p loaded.now
         → TellsAround ps tables p around.entry
-        → (HasNoWholeFault ps i → PicksNotYes (R.rules rules.now declared) ps tables i around.entry)
-        → IsJudgment (R.rules rules.now declared) ps tables i p judged) }
+        → (HasNoWholeFault ps i → PicksNotYes (R.rules by.now.rules.now declared) ps tables i around.entry)
+        → IsJudgment (R.rules by.now.rules.now declared) ps tables i p judged) }
     ensures certified { IfOk result (λ judged. (ps : List MeantPackage) (tables : Tables) (i : ℕ) (p : MeantPackage)
         → slice_get ps i ≡ Some p → TellsPackage p loaded.now → TellsAround ps tables p around.entry
-        → HasCertificates (R.certificates rules.now) ps tables i p judged) }
+        → HasCertificates (R.certificates by.now.rules.now) ps tables i p judged) }
 {
-    match find_grounds(alloc, loaded, around, rules.tells_all())? {
+    let tellers = Tellers {
+        hands: by.hands,
+        tells_all: by.rules.tells_all(),
+    };
+    match find_grounds(alloc, loaded, around, &tellers)? {
         Grounds::WholeFaults(faults) => Ok(whole_only(alloc, loaded, faults)),
-        Grounds::Told(told) => judge_told(alloc, loaded, told, around, rules),
+        Grounds::Told(told) => judge_told(alloc, loaded, told, around, by),
     }
 }

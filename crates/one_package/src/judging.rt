@@ -10,11 +10,12 @@ ghost use Rattle.one_package.specs.Results.{results_by_path, AllMarked, AreImpor
 ghost use Rattle.one_package.specs.declared.judged.Judged.{Judged};
 ghost use Rattle.whole_packages.specs.LoadedViews.{TellsPackage};
 
-use crate::file_rules::FileRules;
+use crate::file_rules::{FileRules, Judges};
 use crate::given::Given;
+use crate::hands::Hands;
 use crate::judged::{Around, Judged, judge};
 use crate::known_imports::KnownImports;
-use std::alloc::{AllocError, Global};
+use std::alloc::Global;
 use whole_packages::{LoadedPackage, Marked};
 
 /// What is known around a package of which this is known of its imports.
@@ -44,25 +45,25 @@ pub fn around<'k, 't, 'a>(given: &'k Given<'a>, imports: &'k KnownImports<'a, 't
 ///
 /// # Errors
 ///
-/// Memory was refused.
-pub fn judge_package<'a, R: FileRules>(
+/// Memory was refused, or what else keeps these hands from it.
+pub fn judge_package<'a, R: FileRules, H: Hands>(
     alloc: Global,
     given: &Given<'a>,
     loaded: &'a LoadedPackage,
     imports: &KnownImports<'a, '_>,
-    rules: &R,
-) -> Result<Judged<'a>, AllocError>
+    by: &Judges<'_, R, H>,
+) -> Result<Judged<'a>, H::Fault>
     ensures told { IfOk result (TellsSources loaded.now) }
     ensures follows { IfOk result (λ judged. (declared : Tables) (ps : List MeantPackage) (i : ℕ) (p : MeantPackage)
         (js : List Judged) → TellsGiven declared ps given.now → slice_get ps i ≡ Some p → TellsPackage p loaded.now
         → KnowsImports given.now (imported_paths p) js imports.now → AreImported ps i js
-        → FollowsFrom (R.rules rules.now declared) ps i p (results_by_path ps js) (said_view judged)) }
+        → FollowsFrom (R.rules by.now.rules.now declared) ps i p (results_by_path ps js) (said_view judged)) }
     ensures certified { IfOk result (λ judged. (declared : Tables) (ps : List MeantPackage) (i : ℕ) (p : MeantPackage)
         (js : List Judged) → TellsGiven declared ps given.now → slice_get ps i ≡ Some p → TellsPackage p loaded.now
         → KnowsImports given.now (imported_paths p) js imports.now → AreImported ps i js
-        → CertificatesFollow (R.rules rules.now declared) (R.certificates rules.now) ps i p (results_by_path ps js)
-        judged) }
+        → CertificatesFollow (R.rules by.now.rules.now declared) (R.certificates by.now.rules.now) ps i p
+        (results_by_path ps js) judged) }
 {
-    rules.are_determined();
-    judge(alloc, loaded, around(&*given, &*imports), rules)
+    by.rules.are_determined();
+    judge(alloc, loaded, around(&*given, &*imports), by)
 }

@@ -15,10 +15,10 @@ mod told_package;
 mod verdicts;
 
 pub use by_paths::{ByPaths, JudgedBodies, judge_bodies};
-pub use file_rules::{FileRules, FoundFiles};
+pub use file_rules::{FileRules, FoundFiles, Judges};
 pub use given::{Given, given_packages};
 pub use grounds::tell_unless_faulty;
-pub use hands::{Alone, Hands};
+pub use hands::{Alone, HandWork, Hands};
 pub use judged::{Around, Judged};
 pub use judging::{around, judge_package};
 pub use known_imports::{KnownImports, NotYes};

@@ -12,11 +12,11 @@ ghost use Rattle.meaning_reports.specs.Loaded.{LoadedPackage as MeantPackage, Ta
 use crate::hands::Hands;
 use crate::judged::Around;
 use called_parameters::{Called, ImportedCalls};
-use calls_flags::{FileBodies, ToldFile, tell_files};
+use calls_flags::{FileBodies, Telling, ToldFile};
 use facts::{Table, signatures};
 use files_to_walk::{gives_some, walked_files};
 use names::Names;
-use std::alloc::{AllocError, Global};
+use std::alloc::Global;
 use whole_packages::LoadedPackage;
 
 /// A package that was told of.
@@ -28,6 +28,13 @@ pub struct ToldPackage<'a> {
     pub gives: bool,
     /// What was told of its files. Of files without anything to find nothing need be.
     pub files: Vec<ToldFile<'a>>,
+}
+
+/// Who tells of a package, and whether of all its files, or of those alone in which something may be found.
+#[derive(Drop)]
+pub struct Tellers<'h, H> {
+    pub hands: &'h H,
+    pub tells_all: bool,
 }
 
 /// The bodies of a package's files, and which of their parameters its functions are known to call.
@@ -49,33 +56,33 @@ fn needs_all(tells_all: bool, gives: bool) -> bool
 ///
 /// # Errors
 ///
-/// Memory was refused.
-pub fn tell_package<'a>(
+/// Memory was refused, or what else keeps these hands from it.
+pub fn tell_package<'a, H: Hands>(
     alloc: Global,
     loaded: &'a LoadedPackage,
     names: &Names<'a>,
     around: Around<'_, 'a>,
-    tells_all: bool,
-) -> Result<ToldPackage<'a>, AllocError>
+    tellers: &Tellers<'_, H>,
+) -> Result<ToldPackage<'a>, H::Fault>
     ensures told { IfOk result (λ told. (ps : List MeantPackage) (tables : Tables) (i : ℕ) (p : MeantPackage)
         → slice_get ps i ≡ Some p → TellsPackage p loaded.now → TellsAround ps tables p around.entry
         → HasNoWholeFault ps i
         → ((file at : ℕ) → declared_at names.now file at ≡ means_in ps p file at)
-        → IsToldPackage ps tables p tells_all told) }
+        → IsToldPackage ps tables p tellers.now.tells_all told) }
     ensures marked { IfOk result IsMarked }
 {
     let table = signatures(alloc, &loaded.trees, names)?;
     let gives = gives_some(&table, &loaded.trees);
-    let all = needs_all(tells_all, gives);
+    let all = needs_all(tellers.tells_all, gives);
     let walked = walked_files(alloc, loaded, around.givers, all)?;
-    let files = tell_files(
-        alloc,
-        &loaded.trees,
-        names,
-        &table,
-        around.signatures,
-        &walked,
-    )?;
+    let telling = Telling {
+        files: &loaded.trees,
+        names: &*names,
+        table: &table,
+        imported: around.signatures,
+        walked: &walked,
+    };
+    let files = tellers.hands.tell(alloc, telling)?;
     Ok(ToldPackage {
         signatures: table,
         gives,

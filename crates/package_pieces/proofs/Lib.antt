@@ -5,3 +5,4 @@ pub mod Kept
 pub mod Built
 pub mod Marked
 pub mod Joined
+mod ToldFiles

@@ -11,16 +11,21 @@ use Rattle.std.proofs.vec.Vec.TheSendSync as vec
 use Rattle.bodies.proofs.graph.BodyGraph.TheSendSync as graph
 use Rattle.bodies.specs.contracts.body.Body as body
 use Rattle.calls_flags.specs.contracts.file_bodies.FileBodies as file_bodies
+use Rattle.calls_flags.specs.contracts.told_file.Telling as telling
 use Rattle.calls_flags.specs.contracts.told_file.ToldFile as told_file
 use Rattle.credits.proofs.table.Credits.TheSendSync as credits
 use Rattle.events.proofs.found.Variables.TheSendSync as variables
 use Rattle.events.proofs.told.SiteEvent.TheSendSync as event
 use Rattle.events.proofs.variable.Variable.TheSendSync as variable
 use Rattle.events.specs.contracts.told.Told as told
+use Rattle.facts.proofs.table.Imported.TheSendSync as imported
+use Rattle.facts.proofs.table.Table.TheSendSync as table
 use Rattle.lists.proofs.Lists.TheSendSync as lists
 use Rattle.mentions.proofs.mark.LiteralUse.TheSendSync as literal
 use Rattle.mentions.specs.contracts.mark.BodyPlace as place
+use Rattle.names.proofs.resolution.Names.TheSendSync as names
 use Rattle.tree.proofs.declaration.Spec.TheLaws.TheKnot as knot
+use Rattle.tree.proofs.file.ImportDecl.TheSendSync as import_declaration
 use Rattle.tree.proofs.name_text.NameText.TheSendSync as name
 use Rattle.tree.proofs.operator.BasicLitKind.TheSendSync as literal_kind
 use Rattle.tree.proofs.operator.BinaryOperator.TheSendSync as binary
@@ -32,6 +37,8 @@ use Rattle.tree.proofs.span.Span.TheSendSync as span
 use Rattle.tree.proofs.span.TypeName.TheSendSync as type_name
 use Rattle.tree.specs.contracts.expression.Param as parameter
 use Rattle.tree.specs.contracts.expression.Signature as signature
+use Rattle.tree.specs.contracts.file.File as tree
+use Rattle.tree.specs.contracts.file.TopLevelDecl as declaration
 use Rattle.tree.specs.contracts.statement.Stmt as statement
 use Rattle.uses.proofs.faults.UseFault.TheSendSync as fault
 
@@ -62,6 +69,30 @@ signature_sync = search trees depth 60 fits 20000
 
 statement_sync : IsSync statement.the_row
 statement_sync = search trees depth 60 fits 20000
+
+declaration_sync : IsSync declaration.the_row
+declaration_sync = search trees depth 60 fits 20000
+
+pub tree_sync : IsSync tree.the_row
+tree_sync =
+    declared_sync tree.the_type (
+      search (sendable, identifier.the_sync),
+      (
+        search (sendable, vec.the_sync, alloc.the_sync, import_declaration.the_sync),
+        (search (sendable, vec.the_sync, alloc.the_sync, declaration_sync), (search (sendable, span.the_sync), tt)),
+      ),
+    )
+
+-- by what files are told of
+pub telling_sync : (κ ι : NamedLft) → IsSync (telling.the_row κ ι)
+telling_sync κ ι =
+    declared_sync (telling.the_type κ ι) (
+      search (sendable, tree_sync),
+      (
+        search (sendable, names.the_sync),
+        (search (sendable, table.the_sync), (search (sendable, imported.the_sync), (search sendable, tt))),
+      ),
+    )
 
 place_sync : (κ : NamedLft) → IsSync (place.the_row κ)
 place_sync κ =
@@ -113,6 +144,23 @@ told_sync κ =
 pub file_sync : (κ : NamedLft) → IsSync (told_file.the_row κ)
 file_sync κ =
     declared_sync (told_file.the_type κ) (search (sendable, told_sync), (search (sendable, option.the_sync, variables.the_sync), tt))
+
+told_send : (κ : NamedLft) → IsSend (told.the_row κ)
+told_send κ =
+    declared_send (told.the_type κ) (
+      search (sendable, crosses, fault.the_send),
+      (
+        search (sendable, lists.the_send, fault.the_send),
+        (
+          search (sendable, lists.the_send, event.the_send),
+          (search (sendable, lists.the_send), (search (sendable, crosses, place_send), tt)),
+        ),
+      ),
+    )
+
+pub file_send : (κ : NamedLft) → IsSend (told_file.the_row κ)
+file_send κ =
+    declared_send (told_file.the_type κ) (search (sendable, told_send), (search (sendable, option.the_send, variables.the_send), tt))
 
 body_sync : (κ ι : NamedLft) → IsSync (body.the_row κ ι)
 body_sync κ ι =

@@ -1,6 +1,6 @@
 //! The most flags that are consistent, where several threads look which claims are kept.
 
-ghost use Rattle.std.specs.Prelude.{◌≡◌, ◌≤◌, ℕ, Bool, List, IfOk, length, map, slice_get, unwrap_or, false};
+ghost use Rattle.std.specs.Prelude.{◌≡◌, ◌≤◌, ℕ, Bool, List, IfOk, length, map, false};
 ghost use Rattle.calls_flags.specs.Claims.{claim_view, flags_claimed, AreClaims, HaveFacts, KeepsClaim, Sieves};
 ghost use Rattle.calls_flags.specs.FilesBodies.{TellAll};
 ghost use Rattle.called_parameters.specs.Called.{is_called, flags_by_path};

@@ -4,7 +4,7 @@ ghost use Rattle.std.specs.Prelude.{◌≡◌, ◌++◌, IfOk, OnOk};
 ghost use Rattle.package_pieces.specs.Numbers.{numbers_from, opened_count, opened_numbers, kept_numbers};
 ghost use Rattle.path_faults.specs.FoundFaults.{each_from};
 
-use calls_flags::{FileBodies, ToldFile};
+use calls_flags::{FileBodies, ToldFile, is_walked};
 use std::alloc::{AllocError, Global};
 
 /// A body of a package: the number of its file, and its place in the list of the file's bodies.
@@ -65,6 +65,20 @@ pub fn numbers_kept(
         add_numbers(number, file.bodies.len(), &mut numbers)?;
     }
     Ok(numbers)
+}
+
+/// Whether more than one of so many files is walked, by these marks: else there is nothing to share.
+pub fn walk_several(walked: &[bool], files: usize) -> bool {
+    let mut found = false;
+    for number in 0..files {
+        if is_walked(walked, number) {
+            if found {
+                return true;
+            }
+            found = true;
+        }
+    }
+    false
 }
 
 /// Whether these files open more than one body: else there is nothing to share.

@@ -28,8 +28,7 @@ use crate::working::{Worker, until_over};
 use all_packages::{Progress, judge_left};
 use board::{Core, Outcome};
 use declared_json::DeclaredPackages;
-use one_package::{FileRules, Judged, given_packages};
-use package_pieces::PieceRules;
+use one_package::{Alone, FileRules, Judged, Judges, given_packages};
 use std::alloc::{AllocError, Global};
 use std::marker::Brand;
 use std::sync::atomic::{AtomicBool, Ordering};
@@ -118,7 +117,11 @@ fn gathered<'a, B: Naming, R: FileRules, G: Gate>(
     fault_of(core.is_stopped(), ended)?;
     let progress = keep_all(alloc, core.into_outcomes())?;
     pass_left(gate, &progress);
-    let found = judge_left(alloc, judging.given, progress, judging.rules)?;
+    let by = Judges {
+        rules: &*judging.rules,
+        hands: &Alone,
+    };
+    let found = judge_left(alloc, judging.given, progress, &by)?;
     Ok(found)
 }
 
@@ -133,7 +136,7 @@ struct Shared<'w, 'k, 'a, B: Naming, R, G> {
     helpers: Workers,
 }
 
-impl<'w, 'k, 'a, B: Naming, R: PieceRules, G: Gate> ThreadWork for Shared<'w, 'k, 'a, B, R, G> {
+impl<'w, 'k, 'a, B: Naming, R: FileRules, G: Gate> ThreadWork for Shared<'w, 'k, 'a, B, R, G> {
     ghost ready = { λ shared. Names R.rules R.certificates shared.judging.now B.packages B.rank B.told };
 
     fn work<T: Threads + Wait>(&self, rt: &T, number: usize) {
@@ -171,7 +174,7 @@ fn helpers_of(workers: Workers, packages: usize) -> Workers
 fn all_work<
     'a,
     B: Naming + Send + Sync,
-    R: PieceRules + Send + Sync,
+    R: FileRules + Send + Sync,
     T: Threads + Wait + Sync,
     G: Gate + Sync,
 >(
@@ -218,7 +221,7 @@ fn all_work<
 fn check_named<
     'a,
     B: Naming + Send + Sync,
-    R: PieceRules + Send + Sync,
+    R: FileRules + Send + Sync,
     T: Threads + Wait + Sync,
     G: Gate + Sync,
 >(
@@ -270,7 +273,7 @@ fn check_named<
 ///
 /// Memory was refused; or else a thread could not be started, which one worker does not need. Then the packages were
 /// judged by the other threads, or given back, and what was found is let go.
-pub fn check_by_workers<'a, R: PieceRules + Send + Sync, T: Threads + Wait + Sync, G: Gate + Sync>(
+pub fn check_by_workers<'a, R: FileRules + Send + Sync, T: Threads + Wait + Sync, G: Gate + Sync>(
     alloc: Global,
     crew: Crew<'_, T, G>,
     packages: &'a [LoadedPackage],

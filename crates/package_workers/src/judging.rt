@@ -1,22 +1,20 @@
 //! One package, judged by results of those that it imports.
 
-ghost use Rattle.std.specs.Prelude.{◌≡◌, ℕ, IfOk, Contains, map};
+ghost use Rattle.std.specs.Prelude.{◌≡◌, IfOk, Contains, map};
 ghost use Rattle.imports.specs.Views.{text_views};
 ghost use Rattle.one_package.specs.Results.{KnowsImports};
 ghost use Rattle.package_workers.specs.Jobs.{IsJob};
 ghost use Rattle.package_workers.specs.Naming.{Names};
 ghost use Rattle.package_workers.specs.Results.{judged_of, Kept};
 
-use crate::helped::Helped;
 use crate::jobs::Job;
 use crate::naming::Naming;
 use crate::results::PackageResult;
 use declared_json::DeclaredPackages;
-use one_package::{Given, KnownImports, judge_package};
-use package_pieces::PieceRules;
+use one_package::{FileRules, Given, Judges, KnownImports, judge_package};
+use package_pieces::ByHelpers;
 use std::alloc::{AllocError, Global};
 use std::sync::Wait;
-use std::sync::atomic::AtomicBool;
 use std::thread::Threads;
 use workers::{Free, Helpers, PieceFault};
 
@@ -52,7 +50,7 @@ fn known_of<'a, 'k, B: Naming>(
 /// # Errors
 ///
 /// Memory was refused, or else a thread could not be started.
-pub fn judge<'a, R: PieceRules, B: Naming, T: Threads + Wait>(
+pub fn judge<'a, R: FileRules, B: Naming, T: Threads + Wait>(
     alloc: Global,
     helpers: &Helpers<'_, T, Free>,
     judging: &Judging<'_, 'a, R>,
@@ -64,13 +62,11 @@ pub fn judge<'a, R: PieceRules, B: Naming, T: Threads + Wait>(
 {
     judging.rules.are_determined();
     let imports = known_of(alloc, judging.given, &job.list.imports, &job.imported)?;
-    let helped = Helped {
+    let hands = ByHelpers { helpers };
+    let by = Judges {
         rules: &*judging.rules,
-        helpers: &*helpers,
-        lacks_thread: AtomicBool::new(false),
+        hands: &hands,
     };
-    match judge_package(alloc, judging.given, job.loaded, &imports, &helped) {
-        Ok(judged) => Ok(PackageResult::new(alloc, job.place, judged)?),
-        Err(_) => Err(helped.fault()),
-    }
+    let judged = judge_package(alloc, judging.given, job.loaded, &imports, &by)?;
+    Ok(PackageResult::new(alloc, job.place, judged)?)
 }

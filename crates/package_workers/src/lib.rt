@@ -4,7 +4,6 @@
 mod checking;
 mod faults;
 mod gates;
-mod helped;
 mod jobs;
 mod judging;
 mod naming;

@@ -16,8 +16,7 @@ use crate::naming::Naming;
 use crate::results::PackageResult;
 use crate::shared_board::Board;
 use board::{Core, Task};
-use one_package::Given;
-use package_pieces::PieceRules;
+use one_package::{FileRules, Given};
 use std::alloc::{AllocError, Global};
 use std::sync::{MutexGuard, Wait};
 use std::thread::Threads;
@@ -94,7 +93,7 @@ fn step<'g, 'a, B: Naming>(
 
 /// Judges a package, and delivers what is said of it, or gives it back for want of memory or of a thread. The worker
 /// has the board only once it has judged.
-fn finish<'a, B: Naming, R: PieceRules, T: Threads + Wait, G: Gate>(
+fn finish<'a, B: Naming, R: FileRules, T: Threads + Wait, G: Gate>(
     alloc: Global,
     worker: &Worker<'_, '_, 'a, B, T, G>,
     judging: &Judging<'_, 'a, R>,
@@ -119,7 +118,7 @@ fn finish<'a, B: Naming, R: PieceRules, T: Threads + Wait, G: Gate>(
 }
 
 /// Judges packages until there is nothing more to do, and has the board then.
-pub fn until_over<'w, 'k, 'a, B: Naming, R: PieceRules, T: Threads + Wait, G: Gate>(
+pub fn until_over<'w, 'k, 'a, B: Naming, R: FileRules, T: Threads + Wait, G: Gate>(
     alloc: Global,
     worker: &Worker<'w, 'k, 'a, B, T, G>,
     judging: &Judging<'_, 'a, R>,

@@ -11,8 +11,8 @@ use crate::claimed::find_claimed;
 use crate::given::given_package;
 use crate::said::find_said;
 use calls_flags::KnownCalls;
-use one_package::{Around, FileRules, FoundFiles, ToldPackage};
-use std::alloc::{AllocError, Global};
+use one_package::{Around, FileRules, FoundFiles, Hands, ToldPackage};
+use std::alloc::Global;
 use whole_packages::LoadedPackage;
 
 impl FileRules for ByCertificates<'_> {
@@ -22,13 +22,15 @@ impl FileRules for ByCertificates<'_> {
 
     ghost tells_all = { λ by. true };
 
-    fn find<'a>(
+    /// One thread looks at the certificates of a package: it has to search for nothing.
+    fn find<'a, H: Hands>(
         &self,
         alloc: Global,
+        _hands: &H,
         loaded: &'a LoadedPackage,
         told: &ToldPackage<'a>,
         around: Around<'_, 'a>,
-    ) -> Result<FoundFiles<'a>, AllocError> {
+    ) -> Result<FoundFiles<'a>, H::Fault> {
         let given = given_package(alloc, self.of(loaded.path.as_str()))?;
         let files = bare_files(alloc, &told.files)?;
         let called = find_claimed(alloc, &told.signatures, &given, &files)?;

@@ -7,8 +7,8 @@ use Rattle.all_packages.proofs.packages.judge_all.Goals as goal
 
 pub returns : goal.returns
 returns g c = λ declared ps given distinct right.
-    let rules = g.R.FileRules.rules c.args.rules.now declared in
-    let rule = g.R.FileRules.certificates c.args.rules.now in
+    let rules = g.R.FileRules.rules c.args.by.now.rules.now declared in
+    let rule = g.R.FileRules.certificates c.args.by.now.rules.now in
     let own = c.args.given.now in
     let packages = own.packages.now in
     let rank = rank_of own.order in

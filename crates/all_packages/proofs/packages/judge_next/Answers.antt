@@ -16,13 +16,13 @@ use Rattle.all_packages.proofs.packages.judge_next.Goals as goal
 pub returns-then-is_some : goal.returns-then-is_some
 returns-then-is_some g c = λ declared ps given distinct ready right.
     let slots = slots_in c.args.progress.now in
-    stays (g.R.FileRules.rules c.args.rules.now declared) ps c.args.given.now.packages.now slots c.args.place right
+    stays (g.R.FileRules.rules c.args.by.now.rules.now declared) ps c.args.given.now.packages.now slots c.args.place right
     (λ p is. sym (seen_some c.at.result (slot_at slots c.args.place) c.at.ensures) ∙ (sym c.is_some.ensures ∙ c.if-is_some.true))
 
 pub returns : goal.returns
 returns g c = λ declared ps given distinct ready right.
-    let rules = g.R.FileRules.rules c.args.rules.now declared in
-    let rule = g.R.FileRules.certificates c.args.rules.now in
+    let rules = g.R.FileRules.rules c.args.by.now.rules.now declared in
+    let rule = g.R.FileRules.certificates c.args.by.now.rules.now in
     let own = c.args.given.now in
     let packages = own.packages.now in
     let place = c.args.place in

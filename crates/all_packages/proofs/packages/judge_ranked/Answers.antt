@@ -6,11 +6,11 @@ use Rattle.all_packages.proofs.packages.judge_ranked.Goals as goal
 
 pub loop-place-init : goal.loop-place-init
 loop-place-init g c = λ declared ps given distinct rank order right.
-    begins (g.R.FileRules.rules c.args.rules.now declared) ps c.args.given.now.packages.now c.args.ranked.now (slots_in c.args.progress.now) right
+    begins (g.R.FileRules.rules c.args.by.now.rules.now declared) ps c.args.given.now.packages.now c.args.ranked.now (slots_in c.args.progress.now) right
 
 pub loop-place-preserved : goal.loop-place-preserved
 loop-place-preserved g c = λ declared ps given distinct rank order right.
-    let rules = g.R.FileRules.rules c.args.rules.now declared in
+    let rules = g.R.FileRules.rules c.args.by.now.rules.now declared in
     let kept = c.args.given.now.packages.now in
     let ranked = c.args.ranked.now in
     let at = c.loop-place.place-index in
@@ -26,7 +26,7 @@ loop-place-preserved g c = λ declared ps given distinct rank order right.
 
 pub returns : goal.returns
 returns g c = λ declared ps given distinct rank order right.
-    all_done (g.R.FileRules.rules c.args.rules.now declared) ps c.args.given.now.packages.now c.args.ranked.now (drop c.loop-place.place-index c.args.ranked.now)
+    all_done (g.R.FileRules.rules c.args.by.now.rules.now declared) ps c.args.given.now.packages.now c.args.ranked.now (drop c.loop-place.place-index c.args.ranked.now)
     (slots_in c.loop-place.progress)
     (drop_all c.loop-place.place-index c.args.ranked.now c.loop-place-test.false)
     (c.loop-place.invariant declared ps given distinct rank order right)

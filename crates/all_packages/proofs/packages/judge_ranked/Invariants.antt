@@ -12,7 +12,7 @@ abbrev pub invariant-loop-place : goal.invariant-loop-place
 invariant-loop-place g l =
     (declared : Tables) (ps : List LoadedPackage) → TellsGiven declared ps l.given → HaveDistinctPaths ps
     → (rank : ℕ → Option ℕ) → IsOrder (import_list ps) rank l.ranked
-    → AreRight (g.R.FileRules.rules l.rules declared) (g.R.FileRules.certificates l.rules) ps l.given.packages.now
+    → AreRight (g.R.FileRules.rules l.by.rules.now declared) (g.R.FileRules.certificates l.by.rules.now) ps l.given.packages.now
     (slots_in l.initial.progress)
-    → GoOn (g.R.FileRules.rules l.rules declared) (g.R.FileRules.certificates l.rules) ps l.given.packages.now l.ranked
+    → GoOn (g.R.FileRules.rules l.by.rules.now declared) (g.R.FileRules.certificates l.by.rules.now) ps l.given.packages.now l.ranked
     (drop l.place-index l.ranked) (slots_in l.progress)

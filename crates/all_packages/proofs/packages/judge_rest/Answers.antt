@@ -5,11 +5,11 @@ use Rattle.all_packages.proofs.packages.judge_rest.Goals as goal
 
 pub loop-place-init : goal.loop-place-init
 loop-place-init g c = λ declared ps given distinct rank ranked order are.
-    through_none (g.R.FileRules.rules c.args.rules.now declared) ps c.args.given.now.packages.now ranked (slots_in c.args.progress.now) are
+    through_none (g.R.FileRules.rules c.args.by.now.rules.now declared) ps c.args.given.now.packages.now ranked (slots_in c.args.progress.now) are
 
 pub loop-place-preserved : goal.loop-place-preserved
 loop-place-preserved g c = λ declared ps given distinct rank ranked order are.
-    let rules = g.R.FileRules.rules c.args.rules.now declared in
+    let rules = g.R.FileRules.rules c.args.by.now.rules.now declared in
     let kept = c.args.given.now.packages.now in
     let place = c.loop-place.place in
     let before = slots_in c.loop-place.progress in
@@ -22,5 +22,5 @@ pub returns : goal.returns
 returns g c = λ declared ps given distinct rank ranked order are.
     let past = c.loop-place-test.false in
     let same = given.tell.are_as_many in
-    through_all (g.R.FileRules.rules c.args.rules.now declared) ps c.args.given.now.packages.now ranked c.loop-place.place (slots_in c.loop-place.progress) (omega (arith, past, same))
+    through_all (g.R.FileRules.rules c.args.by.now.rules.now declared) ps c.args.given.now.packages.now ranked c.loop-place.place (slots_in c.loop-place.progress) (omega (arith, past, same))
     (c.loop-place.invariant declared ps given distinct rank ranked order are)

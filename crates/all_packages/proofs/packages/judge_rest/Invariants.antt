@@ -12,7 +12,7 @@ abbrev pub invariant-loop-place : goal.invariant-loop-place
 invariant-loop-place g l =
     (declared : Tables) (ps : List LoadedPackage) → TellsGiven declared ps l.given → HaveDistinctPaths ps
     → (rank : ℕ → Option ℕ) (ranked : List ℕ) → IsOrder (import_list ps) rank ranked
-    → AreRankedJudged (g.R.FileRules.rules l.rules declared) (g.R.FileRules.certificates l.rules) ps l.given.packages.now
+    → AreRankedJudged (g.R.FileRules.rules l.by.rules.now declared) (g.R.FileRules.certificates l.by.rules.now) ps l.given.packages.now
     ranked (slots_in l.initial.progress)
-    → GoThrough (g.R.FileRules.rules l.rules declared) (g.R.FileRules.certificates l.rules) ps l.given.packages.now ranked
+    → GoThrough (g.R.FileRules.rules l.by.rules.now declared) (g.R.FileRules.certificates l.by.rules.now) ps l.given.packages.now ranked
     l.place (slots_in l.progress)

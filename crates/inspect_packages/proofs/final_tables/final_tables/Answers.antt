@@ -11,6 +11,6 @@ returns c =
     IfOk-weaker c.tables_of.result _ _
     (λ tables told.
     plain_so (declared_tables (packages_of c.args.outside.now)) c.args.packages.now c.in_ok-judged.judged.items tables.items
-    c.in_ok-judged.ensures
+    c.in_ok-judged.ensures.reports
     (subst (λ js. AreTablesFrom c.args.packages.now 0 js tables.items) c.deref.ensures.value told))
     c.tables_of.ensures

@@ -6,7 +6,7 @@ returns c =
     IfOk-weaker c.told.result _ _
     (λ report told. record {
       said = c.in_ok-judged.judged.items;
-      are_reports = c.in_ok-judged.ensures;
+      are_reports = c.in_ok-judged.ensures.reports;
       told = told;
     })
     c.told.ensures

@@ -5,4 +5,4 @@ use Rattle.maker.proofs.places.place_all.Given as goal
 
 -- the variables so far have places
 abbrev pub invariant-loop-variable : goal.invariant-loop-variable
-invariant-loop-variable l = ArePlaced l.pending (map variable_view l.variables) l.variable-index l.places
+invariant-loop-variable l = ArePlaced (map variable_view l.variables) l.variable-index l.places

@@ -1,27 +1,34 @@
-use Rattle.std.proofs.Common.{◌+◌, ◌≤◌, length, map, subst, arith}
+use Rattle.std.proofs.Common.{◌≤◌, length, map, subst, sym}
 use Rattle.events.specs.VariableViews.{variable_view}
-use Rattle.maker.proofs.Answered.{classified, classified_nodes}
+use Rattle.maker.proofs.Solved.{classes, classes_at_nodes}
 use Rattle.maker.proofs.solution.solve.Goals as goal
-use Rattle.maker.specs.Flags.{group_numbers}
-use Rattle.maker.specs.Solutions.{found_in, FindsEach}
-use Rattle.states.proofs.ClassNumbers.{cancel_inverse, group_inverse}
-use Rattle.states.specs.Bits.{most}
+use Rattle.states.specs.States.{Fit}
+use Rattle.states.specs.declared.state.StateVariables.{StateVariables}
 
 pub returns : goal.returns
 returns g c =
-    let groups = c.in_ok-groups.groups.items in
     let promises = g.P.Promises.promises c.args.promises.now in
     let graph = c.args.graph.now in
     let views = map variable_view c.args.variables.now in
-    let found = found_in c.in_ok-found.found in
-    let fits : length c.in_ok-groups.groups.items + 3 ≤ most =
-    omega (arith, c.in_ok-groups.groups.ok.0, c.in_ok-groups.groups.ok.1, c.in_ok-groups.groups.small) in
-    let each = subst (λ gs. FindsEach promises gs graph views found) c.deref.ensures.value c.in_ok-found.ensures in
+    let places = c.in_ok-places.places in
+    let placed = c.in_ok-places.ensures.placed in
+    let kept : StateVariables = record {
+      cancels = c.deref.result;
+      groups = c.deref-2.result;
+      pending = c.deref-3.result;
+    } in
+    let fits : Fit kept = record {
+      cancels = subst (λ ns. length ns ≤ 48) (sym c.deref.ensures.value) placed.cancels_fit;
+      groups = subst (λ ns. length ns ≤ 12) (sym c.deref-2.ensures.value) placed.groups_fit;
+      pending = subst (λ ns. length ns ≤ 12) (sym c.deref-3.ensures.value) placed.groups_fit;
+    } in
     record {
-      classes = λ code is_graph.
-          classified promises groups graph code is_graph (group_numbers views) c.in_ok-groups.ensures fits
-          (cancel_inverse groups) group_inverse views found each;
-      nodes = λ code is_graph.
-          classified_nodes promises groups graph code is_graph (group_numbers views) c.in_ok-groups.ensures fits
-          (cancel_inverse groups) group_inverse views found each;
+      classes = λ code is_graph have.
+          classes promises graph views places kept fits c.deref.ensures.value c.deref-2.ensures.value
+          c.deref-3.ensures.value c.in_ok-states.states.items c.in_ok-states.ensures placed
+          c.in_ok-places.ensures.all code is_graph have;
+      nodes = λ code is_graph have.
+          classes_at_nodes promises graph views places kept fits c.deref.ensures.value c.deref-2.ensures.value
+          c.deref-3.ensures.value c.in_ok-states.states.items c.in_ok-states.ensures placed
+          c.in_ok-places.ensures.all code is_graph have;
     }

@@ -6,7 +6,7 @@ use Rattle.report.specs.Entries.{entry_of}
 use Rattle.one_package.proofs.grounds.named_grounds.Goals as goal
 
 pub returns-then-not-is_empty-clause-grounds : goal.returns-then-not-is_empty-clause-grounds
-returns-then-not-is_empty-clause-grounds c = λ ps tables i p is_p tells around none.
+returns-then-not-is_empty-clause-grounds g c = λ ps tables i p is_p tells around none.
     let are = c.in_ok-faults.ensures ps i p is_p tells (sym none) around.is_order in
     let size = c.in_ok-faults.faults.ok in
     let one = some_entry (map entry_of c.in_ok-faults.faults.items)
@@ -14,7 +14,7 @@ returns-then-not-is_empty-clause-grounds c = λ ps tables i p is_p tells around 
     record { each = are; one = (one.0, (are one.0).0 one.1) }
 
 pub returns-clause-grounds : goal.returns-clause-grounds
-returns-clause-grounds c = λ ps tables i p is_p tells around none.
+returns-clause-grounds g c = λ ps tables i p is_p tells around none.
     let size = c.in_ok-faults.faults.ok in
     let whole = none_whole ps i (map entry_of c.in_ok-faults.faults.items)
     (c.in_ok-faults.ensures ps i p is_p tells (sym none) around.is_order)

@@ -10,7 +10,7 @@ use Rattle.one_package.proofs.judged.find_in_package.Goals as goal
 
 pub returns-clause-found : goal.returns-clause-found
 returns-clause-found g c = λ declared ps tables i p is_p tells around not_yes told none.
-    let rules = g.R.FileRules.rules c.args.rules.now declared in
+    let rules = g.R.FileRules.rules c.args.by.now.rules.now declared in
     let files = c.in_ok-diagnostics.ensures.files declared ps tables i p is_p tells around told none in
     let picked = is_picked c.args.around.not_yes.now in
     let trees = ap (map numbered_view) c.deref.ensures.value ∙ c.in_ok-trees.ensures p tells in

@@ -9,7 +9,7 @@ pub returns-in-WholeFaults-clause-judged : goal.returns-in-WholeFaults-clause-ju
 returns-in-WholeFaults-clause-judged g c = λ declared ps tables i p is_p tells around not_yes.
     let are = subst (AreGrounds ps tables i p c.tells_all.result) c.in-WholeFaults.is
     (c.in_ok-faults.ensures.grounds ps tables i p is_p tells around) in
-    only_whole (g.R.FileRules.rules c.args.rules.now declared) ps tables i p c.whole_only.result
+    only_whole (g.R.FileRules.rules c.args.by.now.rules.now declared) ps tables i p c.whole_only.result
     (map entry_of c.in-WholeFaults.faults.items) c.whole_only.ensures.only are.each are.one.0 are.one.1
 
 pub returns-in-Told-clause-told : goal.returns-in-Told-clause-told
@@ -22,7 +22,7 @@ pub returns-in-Told-clause-judged : goal.returns-in-Told-clause-judged
 returns-in-Told-clause-judged g c =
     IfOk-weaker c.judge_told.result _ _
     (λ judged judgment declared ps tables i p is_p tells around not_yes.
-    let told = subst (AreGrounds ps tables i p (g.R.FileRules.tells_all c.args.rules.now)) c.in-Told.is
+    let told = subst (AreGrounds ps tables i p (g.R.FileRules.tells_all c.args.by.now.rules.now)) c.in-Told.is
     (subst (λ all. AreGrounds ps tables i p all c.in_ok-faults.field-0) c.tells_all.ensures
     (c.in_ok-faults.ensures.grounds ps tables i p is_p tells around)) in
     judgment declared ps tables i p is_p tells around (not_yes told.0) told.0 told.1)
@@ -41,7 +41,7 @@ pub returns-in-Told-clause-certified : goal.returns-in-Told-clause-certified
 returns-in-Told-clause-certified g c =
     IfOk-weaker c.judge_told.result _ _
     (λ judged certified ps tables i p is_p tells around.
-    let told = subst (AreGrounds ps tables i p (g.R.FileRules.tells_all c.args.rules.now)) c.in-Told.is
+    let told = subst (AreGrounds ps tables i p (g.R.FileRules.tells_all c.args.by.now.rules.now)) c.in-Told.is
     (subst (λ all. AreGrounds ps tables i p all c.in_ok-faults.field-0) c.tells_all.ensures
     (c.in_ok-faults.ensures.grounds ps tables i p is_p tells around)) in
     certified ps tables i p is_p tells around told.0 told.1)

@@ -12,7 +12,7 @@ returns-clause-follows g c =
     IfOk-weaker c.judge.result _ _
     (λ judged both declared ps i p js given is_p tells knows are tables have.
     let own = c.args.given.now in
-    let rules = g.R.FileRules.rules c.args.rules.now declared in
+    let rules = g.R.FileRules.rules c.args.by.now.rules.now declared in
     let same = c.are_determined.ensures.declared declared in
     said_so rules ps tables i p c.args.loaded.now judged tells both.0
     (both.1 declared ps tables i p is_p tells
@@ -30,5 +30,5 @@ returns-clause-certified g c =
     certified ps tables i p is_p tells
     (c.around.ensures.known declared ps tables p js given knows
     (tables_by_results ps i p is_p c.args.given.now declared given js tables
-    (g.R.FileRules.rules c.args.rules.now declared) (c.are_determined.ensures.declared declared) are have) are.are_marked))
+    (g.R.FileRules.rules c.args.by.now.rules.now declared) (c.are_determined.ensures.declared declared) are have) are.are_marked))
     c.judge.ensures.certified

@@ -15,7 +15,7 @@ use Rattle.files_to_walk.proofs.OwnGivers.{none_gives}
 use Rattle.one_package.proofs.told_package.tell_package.Goals as goal
 
 pub returns-clause-told : goal.returns-clause-told
-returns-clause-told c = λ ps tables i p is_p tells around whole means.
+returns-clause-told g c = λ ps tables i p is_p tells around whole means.
     let facts = facts_by_name c.in_ok-table.table in
     let names = declared_at c.args.names.now in
     let are_trees = ap (map file_syntax) c.deref.ensures.value ∙ sym tells.are_trees in
@@ -35,13 +35,13 @@ returns-clause-told c = λ ps tables i p is_p tells around whole means.
           (ap (map file_syntax) c.deref-3.ensures.value ∙ sym tells.are_trees) c.in_ok-files.ensures;
       skip_silent = subst (λ ms. SkipsSilent ps tables p (is_walked ms)) (sym c.deref-4.ensures.value)
           (c.in_ok-walked.ensures.skip ps tables i p is_p tells whole
-          (λ off. own (neither_second c.args.tells_all c.gives_some-gives.result (sym c.needs_all-all.ensures ∙ off))) around.are_givers);
+          (λ off. own (neither_second c.args.tellers.now.tells_all c.gives_some-gives.result (sym c.needs_all-all.ensures ∙ off))) around.are_givers);
       all = λ is n. ap (λ ms. is_walked ms n) c.deref-4.ensures.value
           ∙ c.in_ok-walked.ensures.all (c.needs_all-all.ensures ∙ ap (λ b. b || c.gives_some-gives.result) is) n;
     }
 
 pub returns-clause-marked : goal.returns-clause-marked
-returns-clause-marked c = λ off.
+returns-clause-marked g c = λ off.
     let facts = facts_by_name c.in_ok-table.table in
     let names = declared_at c.args.names.now in
     none_gives facts names (map file_syntax c.args.loaded.now.trees.items)

@@ -8,8 +8,8 @@ use Rattle.package_workers.proofs.KnownResults.{AreTold}
 use Rattle.package_workers.proofs.RightResults.{judged_told}
 use Rattle.package_workers.proofs.judging.judge.Goals as goal
 
-pub new-requires-in-Ok : goal.new-requires-in-Ok
-new-requires-in-Ok g c =
+pub new-requires : goal.new-requires
+new-requires g c =
     let given = c.args.judging.now.given.now in
     let declared = declared_tables (packages_of c.args.judging.now.outside.now) in
     let rules = g.R.FileRules.rules c.args.judging.now.rules.now declared in
@@ -25,8 +25,8 @@ new-requires-in-Ok g c =
     c.in_ok-imports.ensures.known) in
     judged_told declared rules rule (c.are_determined.ensures.flags declared) given g.B.Naming.packages g.B.Naming.rank told
     c.requires.named job.place job.loaded.now job.list.now job.imported.items c.requires.job.is_package c.requires.job.is_list
-    c.requires.job.are_imports each imports knows c.in-Ok.judged c.in-Ok.ensures.told (c.in-Ok.ensures.follows declared)
-    (c.in-Ok.ensures.certified declared)
+    c.requires.job.are_imports each imports knows c.in_ok-judged.judged c.in_ok-judged.ensures.told (c.in_ok-judged.ensures.follows declared)
+    (c.in_ok-judged.ensures.certified declared)
 
-pub returns-in-Ok : goal.returns-in-Ok
-returns-in-Ok g c = ap place_of c.in_ok-new-in-Ok.ensures
+pub returns : goal.returns
+returns g c = ap place_of c.in_ok-new.ensures

@@ -11,7 +11,7 @@ use Rattle.verifier.specs.GivenViews.{given_by, given_of, package_by_path, Tells
 use Rattle.verifier.proofs.rules.ByCertificatesFileRules.find.Goals as goal
 
 pub returns-clause-files : goal.returns-clause-files
-returns-clause-files c = λ declared ps tables i p is_p loaded around told none.
+returns-clause-files g c = λ declared ps tables i p is_p loaded around told none.
     let by = given_by c.args.self.now in
     let seens = seen_files ps tables p in
     let walked = walks_are_enough.all ps tables p told.walked (told.all refl) in

@@ -1,7 +1,0 @@
-use Rattle.std.proofs.Common.{false}
-use Rattle.package_pieces.proofs.rules.ByPathsPieceRules.find_with.Goals as goal
-
-pub returns-clause-files : goal.returns-clause-files
-returns-clause-files g c = λ declared ps tables i p is_p around told none.
-    let found = c.in_ok-diagnostics.ensures ps tables i p false told is_p around none in
-    record { are_flags = found.are_flags; each = found.each }
