@@ -8,7 +8,7 @@ use declared_json::DeclaredPackages;
 use evidence_rows::together::{ENTRIES, MEETINGS, OPEN, PACKAGES, REPORT};
 use lexer::Source;
 use load::{GivenPackage, load, release};
-use names::names_of;
+use names::{Names, names_of};
 use one_package::{
     Around, ByPaths, FileRules, FoundFiles, Given, HandWork, Hands, KnownImports, ToldPackage,
     around, given_packages, tell_unless_faulty,
@@ -230,17 +230,33 @@ struct Hired<'h, R, G> {
     solvers: &'h Helpers<'h, R, G>,
 }
 
-/// Where something is to be said of a package of which this is to be told: files, and offsets in them.
-fn solved_in<'a, R: Threads + Wait, G: BodyGate + Sync>(
+/// What is known of a package before its files are told of.
+#[derive(Clone, Copy)]
+struct Named<'k, 'a> {
+    package: &'a LoadedPackage,
+    names: &'k Names<'a>,
+    /// Of its files this says nothing that is used here.
+    told: &'k ToldPackage<'a>,
+}
+
+/// Where something is to be said of this package: files, and offsets in them.
+fn solved_in<'k, 't: 'k, 'a, R: Threads + Wait, G: BodyGate + Sync>(
     alloc: Global,
     hired: &Hired<'_, R, G>,
-    telling: Telling<'_, 'a>,
-    imports: &KnownImports<'a, '_>,
+    named: Named<'k, 'a>,
+    imports: &'k KnownImports<'a, 't>,
 ) -> Option<Vec<(usize, u32)>> {
-    let calls = &imports.calls;
+    let (table, calls) = (&named.told.signatures, &imports.calls);
+    let telling = Telling {
+        files: &named.package.trees,
+        names: named.names,
+        table,
+        imported: &imports.signatures,
+        walked: &[],
+    };
     let files = tell_all(alloc, hired.tellers, telling).ok()?;
     let made = build_all(alloc, hired.builders, &files).ok()?;
-    let called = find_called_with(alloc, hired.sifters, telling.table, &made, calls).ok()?;
+    let called = find_called_with(alloc, hired.sifters, table, &made, calls).ok()?;
     let known = KnownCalls {
         own: &called,
         imported: calls,
@@ -263,14 +279,12 @@ fn solved_alone<'a, R: Threads + Wait, G: BodyGate + Sync>(
     let imports = KnownImports::new(alloc);
     let told = tell_unless_faulty(alloc, package, around(given, &imports)).ok()??;
     let names = names_of(alloc, &package.trees, &given.names).ok()?;
-    let telling = Telling {
-        files: &package.trees,
+    let named = Named {
+        package,
         names: &names,
-        table: &told.signatures,
-        imported: &imports.signatures,
-        walked: &[],
+        told: &told,
     };
-    solved_in(alloc, hired, telling, &imports)
+    solved_in(alloc, hired, named, &imports)
 }
 
 /// The same of the first of these packages.
