@@ -7,8 +7,9 @@ use Rattle.std.specs.Ordering.{nat_cmp, ordering_then}
 use Rattle.std.proofs.lemmas.Bool.{leb-true, leb-false}
 use Rattle.std.proofs.lemmas.List.Elements.{Contains-append_cases}
 use Rattle.std.proofs.lemmas.List.{map-append}
+use Rattle.tree.specs.declared.edition.Edition.{Edition}
 use Rattle.tree.specs.Syntax.{SourceFile}
-use Rattle.meaning.specs.Mentions.{BodyPlace, file_marks}
+use Rattle.meaning.specs.Mentions.{BodyPlace, marks_by, file_marks}
 use Rattle.meaning.specs.Tracked.{Known, placed}
 use Rattle.meaning.specs.Uses.{Callee, Seen}
 use Rattle.meaning.specs.BodyEvents.{put_body, by_place as in_place, bodies_of, opened_in, seen_file}
@@ -78,20 +79,23 @@ in_place_climb [] h = tt
 in_place_climb (b ∷ bs) h =
     put_climbs b (in_place bs) (λ c there. h.0 c (placed_only bs c there)) (in_place_climb bs h.1)
 
-tree_climbs : (known : Known) (tree : SourceFile) → BeginOnce (opened_in (placed [] (file_marks tree)))
-    → Climb (bodies_of (seen_file known tree))
-tree_climbs known tree once = in_place_climb (opened_in (placed [] (file_marks tree))) once
+-- the bodies of the tree begin at different places, by the marks of that edition
+abbrev BeginsOnce : Edition → SourceFile → Type 0
+BeginsOnce edition tree = BeginOnce (opened_in (placed [] (marks_by edition (file_marks tree))))
+
+tree_climbs : (known : Known) (tree : SourceFile) → BeginsOnce known.edition tree → Climb (bodies_of (seen_file known tree))
+tree_climbs known tree once = in_place_climb (opened_in (placed [] (marks_by known.edition (file_marks tree)))) once
 
 all_climb : (known : ℕ → Known) (n : ℕ) (trees : List SourceFile)
-    → ((tree : SourceFile) → Contains trees tree → BeginOnce (opened_in (placed [] (file_marks tree))))
+    → ((number : ℕ) (tree : SourceFile) → Contains trees tree → BeginsOnce (known number).edition tree)
     → (s : Seen)
     → Contains (seen_from known n trees) s
     → Climb (bodies_of s)
 all_climb known n [] once s h = absurd (contains_nil s h)
 all_climb known n (tree ∷ trees) once s h =
     elim (contains_cases (seen_file (known n) tree) s (seen_from known (n + 1) trees) h) [
-      | inl same ↦ subst (λ x. Climb (bodies_of x)) same (tree_climbs (known n) tree (once tree (contains_here tree trees)))
-      | inr later ↦ all_climb known (n + 1) trees (λ t there. once t (contains_there tree t trees there)) s later
+      | inl same ↦ subst (λ x. Climb (bodies_of x)) same (tree_climbs (known n) tree (once n tree (contains_here tree trees)))
+      | inr later ↦ all_climb known (n + 1) trees (λ m t there. once m t (contains_there tree t trees there)) s later
     ]
 
 abbrev ClimbAll : List FileWithCredits → Type 0
@@ -214,12 +218,12 @@ pub bodies_in_order : (ps : List LoadedPackage) (tables : Tables) (i : ℕ) (p :
     → Rise by_place place_of entries
 bodies_in_order ps tables i p entries is texts are = by is
   where
-    once : (tree : SourceFile) → Contains (trees_of p) tree → BeginOnce (opened_in (placed [] (file_marks tree)))
-    once tree there = let text = texts tree there in bodies_begin_once text.0 tree text.1
+    once : (number : ℕ) (tree : SourceFile) → Contains (trees_of p) tree → BeginsOnce p.edition tree
+    once number tree there = let text = texts tree there in bodies_begin_once p.edition text.0 tree text.1
 
     by : IsTable ps tables i p (tables p.path) → Rise by_place place_of entries
     by (empty x whole none) = none_rise entries (are.are_none x whole)
-    by (full flags none its same calls) =
+    by (full flags none its same calls told) =
         let of = are.of_bodies none in
         (stand_from (calls_by (tables p.path).calls (imported_flags p tables)) of.are_of
         (credited_climb of.are_files (all_climb (known_in ps tables p) 0 (trees_of p) once))).rise

@@ -8,9 +8,11 @@ use Rattle.std.specs.declared.cmp.Ordering.TheVariants.{Less}
 use Rattle.std.specs.Ordering.{nat_cmp}
 use Rattle.std.proofs.lemmas.Bool.{and_from, eqb-true}
 use Rattle.std.proofs.lemmas.List.Elements.{Contains-append_cases}
-use Rattle.tree.specs.Syntax.{Signature, signature_of, TopLevelDeclaration, function_declaration, general_declaration, SourceFile}
+use Rattle.tree.specs.declared.edition.Edition.{Edition}
+use Rattle.tree.specs.declared.edition.Edition.TheVariants.{First, Second}
+use Rattle.tree.specs.Syntax.{Signature, signature_of, Function, TopLevelDeclaration, function_declaration, general_declaration, SourceFile}
 use Rattle.meaning.specs.OuterBlocks.{can_be_meant, or_else}
-use Rattle.meaning.specs.FunctionFacts.{Meanings, CancelType, plain, with_cause, is_same_type, TrackedType, cancel_type, group_type, Item, item_type, items_of, TrackedParameter, CancelResult, FunctionFacts, parameter_at, tracked_parameters, given_at, cancel_results, signature_facts, facts_in, facts_from}
+use Rattle.meaning.specs.FunctionFacts.{Meanings, CancelType, plain, with_cause, is_same_type, TrackedType, cancel_type, group_type, Item, item_type, items_of, TrackedParameter, CancelResult, FunctionFacts, parameter_at, tracked_parameters, given_at, cancel_results, signature_facts, function_facts, facts_in, facts_from}
 use Rattle.meaning.proofs.Membership.{contains_nil, contains_here, contains_there, contains_cases}
 use Rattle.meaning_reports.specs.Loaded.{LoadedPackage, PackageTable, Tables, means_in, trees_of}
 use Rattle.meaning_reports.specs.PackageTables.{IsTable, empty, full}
@@ -85,32 +87,39 @@ module _ (means : Meanings) where
   signature_rises (signature_of ps rs brackets) =
       record { of_parameters = parameters_rise 0 (items_of ps); of_results = results_rise 0 (items_of rs) }
 
+-- with what its returns say, too
+function_rises : (edition : Edition) (means : Meanings) (f : Function) → AreRising (function_facts edition means f)
+function_rises First means f = signature_rises means f.signature
+function_rises Second means f =
+    let of_signature = signature_rises means f.signature in
+    record { of_parameters = of_signature.of_parameters; of_results = of_signature.of_results }
+
 abbrev pub AreRisingIf : Option FunctionFacts → Type 0
 AreRisingIf None = Unit {0}
 AreRisingIf (Some facts) = AreRising facts
 
-in_declarations : (means : Meanings) (name : List ℕ) (ds : List TopLevelDeclaration)
-    → AreRisingIf (facts_in means name ds)
-in_declarations means name [] = tt
-in_declarations means name (general_declaration d ∷ ds) = in_declarations means name ds
-in_declarations means name (function_declaration f ∷ ds) =
-    by (can_be_meant f && bytes_eq f.name.text name) (in_declarations means name ds)
+in_declarations : (edition : Edition) (means : Meanings) (name : List ℕ) (ds : List TopLevelDeclaration)
+    → AreRisingIf (facts_in edition means name ds)
+in_declarations edition means name [] = tt
+in_declarations edition means name (general_declaration d ∷ ds) = in_declarations edition means name ds
+in_declarations edition means name (function_declaration f ∷ ds) =
+    by (can_be_meant f && bytes_eq f.name.text name) (in_declarations edition means name ds)
   where
-    by : (b : Bool) → AreRisingIf (facts_in means name ds)
-        → AreRisingIf (if b then Some (signature_facts means f.signature) else facts_in means name ds)
-    by true rest = signature_rises means f.signature
+    by : (b : Bool) → AreRisingIf (facts_in edition means name ds)
+        → AreRisingIf (if b then Some (function_facts edition means f) else facts_in edition means name ds)
+    by true rest = function_rises edition means f
     by false rest = rest
 
 either_rises : (a b : Option FunctionFacts) → AreRisingIf a → AreRisingIf b → AreRisingIf (or_else a b)
 either_rises (Some x) b h k = h
 either_rises None b h k = k
 
-in_files : (means : ℕ → Meanings) (name : List ℕ) (n : ℕ) (fs : List SourceFile)
-    → AreRisingIf (facts_from means name n fs)
-in_files means name n [] = tt
-in_files means name n (f ∷ fs) =
-    either_rises (facts_in (means n) name f.declarations) (facts_from means name (n + 1) fs)
-    (in_declarations (means n) name f.declarations) (in_files means name (n + 1) fs)
+in_files : (edition : Edition) (means : ℕ → Meanings) (name : List ℕ) (n : ℕ) (fs : List SourceFile)
+    → AreRisingIf (facts_from edition means name n fs)
+in_files edition means name n [] = tt
+in_files edition means name n (f ∷ fs) =
+    either_rises (facts_in edition (means n) name f.declarations) (facts_from edition means name (n + 1) fs)
+    (in_declarations edition (means n) name f.declarations) (in_files edition means name (n + 1) fs)
 
 -- so it is of each function of a table
 pub table_rises : (ps : List LoadedPackage) (tables : Tables) (i : ℕ) (p : LoadedPackage) (table : PackageTable)
@@ -118,8 +127,8 @@ pub table_rises : (ps : List LoadedPackage) (tables : Tables) (i : ℕ) (p : Loa
     → (name : List ℕ)
     → AreRisingIf (table.signatures name)
 table_rises ps tables i p table (empty x whole none) name = subst AreRisingIf (sym (none.no_signature name)) tt
-table_rises ps tables i p table (full flags none its same calls) name =
-    subst AreRisingIf (sym (same name)) (in_files (means_in ps p) name 0 (trees_of p))
+table_rises ps tables i p table (full flags none its same calls told) name =
+    subst AreRisingIf (sym (same name)) (in_files p.edition (means_in ps p) name 0 (trees_of p))
 
 -- What is told of a function
 

@@ -8,3 +8,4 @@ mod RisingLists
 mod FactOrder
 mod BodyOrder
 pub mod InOrder
+mod EntryOfBody

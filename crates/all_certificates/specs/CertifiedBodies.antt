@@ -1,9 +1,10 @@
--- The certificates of the bodies of files: of each body that has not too many variables the least one, by what is known
--- of functions, and by what may be relied on of the literals of its file.
+-- The certificates of the bodies of files: of each body whose paths are followed the least one, by what is known of
+-- functions, and by what may be relied on of the literals of its file. A body without variables has one, with a `goto`
+-- too: it has an empty row for each node.
 use Rattle.std.specs.Prelude.{ℕ, ◌+◌, ◌≡◌, ◌⊎◌, Bool, List, [], ◌∷◌, ◌++◌, None}
 use Rattle.certificate_json.specs.Certificates.{BodyEntry}
 use Rattle.certificates.specs.Least.{IsLeastOf}
-use Rattle.meaning.specs.BodyEvents.{bodies_of, variables_of, too_many_faults}
+use Rattle.meaning.specs.BodyEvents.{bodies_of, unfollowed_faults}
 use Rattle.meaning.specs.Mentions.{BodyPlace}
 use Rattle.meaning.specs.Uses.{Callee, Seen}
 use Rattle.meaning_packages.specs.CallsFlags.{FileWithCredits}
@@ -18,12 +19,12 @@ module _ (calls : Callee → ℕ → Bool) (credits : Credits) (number : ℕ) (s
   pub record IsEntry (entry : BodyEntry) : Type 0 where
     pub is_file : entry.file ≡ number
     pub is_place : entry.at ≡ b.at
-    pub are_few : too_many_faults (variables_of seen b.at) ≡ []
+    pub is_followed : unfollowed_faults seen b ≡ []
     pub is_least : IsLeastOf (paths_of seen (promises_in calls credits b.at) b) entry.states
 
-  -- it has too many variables, or no certificate can have the number of its file
+  -- its paths are not followed, or no certificate can have the number of its file
   abbrev pub HasNoEntry : Type 0
-  HasNoEntry = (too_many_faults (variables_of seen b.at) ≡ [] → ⊥) ⊎ (if_fits number ≡ None)
+  HasNoEntry = (unfollowed_faults seen b ≡ [] → ⊥) ⊎ (if_fits number ≡ None)
 
   abbrev pub AreOfBody : List BodyEntry → Type 0
   AreOfBody [] = HasNoEntry

@@ -32,7 +32,7 @@ pub struct Grounds<'g, 'a> {
     pub credits: &'g Credits,
 }
 
-/// The least certificate of a body; none where it has too many variables, or where a certificate can't have the number
+/// The least certificate of a body; none where its paths are not followed, or where a certificate can't have the number
 /// of its file.
 fn entry_of<'a>(
     alloc: Global,

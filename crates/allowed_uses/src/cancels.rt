@@ -1,7 +1,8 @@
-//! Calls, passes and returns of cancel functions.
+//! Calls, passes and returns of cancel functions, and where they are nil.
 
-ghost use Rattle.std.specs.Prelude.{◌≡◌, ◌&&◌, [], false, IfOk, map, option_map};
-ghost use Rattle.meaning.specs.Uses.{allowed_if, body_gives, cancel_called, cancel_passed, cancel_use, has_its_arguments, is_given_as, is_own, variable_at};
+ghost use Rattle.std.specs.Prelude.{◌≡◌, ◌&&◌, ◌∷◌, [], false, if◌then◌else◌, IfOk, Some, map, option_map};
+ghost use Rattle.meaning.specs.Tracked.{is_universe};
+ghost use Rattle.meaning.specs.Uses.{allowed_if, body_gives, call, cancel_called, cancel_passed, cancel_use, has_its_arguments, is_given_as, is_own, variable_at};
 ghost use Rattle.allowed_uses.specs.UseViews.{use_view};
 ghost use Rattle.facts.specs.FactViews.{type_view};
 ghost use Rattle.mentions.specs.MarkViews.{body_view, call_view, mention_view, role_view};
@@ -13,13 +14,14 @@ use crate::gives::{body_gives, is_given_as};
 use crate::groups::only_argument;
 use crate::local_mention::{LocalMention, variable_at};
 use crate::places::{has_no_argument, is_call_place, is_deferred_place, is_statement_place, takes};
+use crate::universe::means_universe;
 use facts::{CancelType, TrackedType};
 use mentions::{Call, Role, is_body};
 use std::alloc::{AllocError, Global};
 use tracked_rows::{Event, Known, callee_of};
 
 /// `()`, or `(e)` where the function takes a cause.
-fn has_its_arguments(cancel_type: CancelType, call: Call<'_, '_>) -> bool
+pub fn has_its_arguments(cancel_type: CancelType, call: Call<'_, '_>) -> bool
     ensures { result ≡ has_its_arguments (type_view cancel_type) (call_view call.entry) }
 {
     match cancel_type {
@@ -110,7 +112,19 @@ fn cancel_returned<'a>(
     }
 }
 
-/// What a mention of a cancel variable of that type does, if it is allowed.
+/// Where the variable is nil, it is as good as called, if that `nil` is the universe's.
+fn cancel_nil<'a>(known: Known<'_, 'a>, number: u32, nil: u32) -> Use<'a>
+    ensures { use_view result ≡ Some (if is_universe ((known_view known.entry).means nil)
+        then call number ∷ [] else []) }
+{
+    if means_universe(known, nil) {
+        Use::Does(Event::Call { variable: number })
+    } else {
+        Use::Silent
+    }
+}
+
+/// What a mention of a cancel variable of that type does, if it is allowed; reads aside.
 ///
 /// # Errors
 ///
@@ -141,6 +155,8 @@ pub fn cancel_use<'a>(
             }
         }
         Role::Returned(item) => cancel_returned(alloc, known, cancel_type, here, item),
+        Role::FoundNil(nil) => Ok(cancel_nil(known, local.number, nil)),
+        Role::FoundError(_, _) => Ok(Use::Silent),
         Role::Elsewhere => Ok(Use::NotAllowed),
         Role::CalledInBrackets => Ok(Use::NotAllowed),
         _ => Ok(Use::NotAllowed),

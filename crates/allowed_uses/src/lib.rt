@@ -9,10 +9,11 @@ mod gives;
 mod groups;
 pub mod local_mention;
 mod places;
+mod reads;
+mod universe;
 
 pub use allowed_use::{Use, allowed_if};
 pub use between::{are_all_deferred, are_all_members};
-pub use cancels::cancel_use;
 pub use gives::{body_gives, hands_on, is_given_as};
 pub use groups::{
     group_awaited, group_lent, group_limited, group_started, group_tried, literal_at, only_argument,
@@ -22,3 +23,5 @@ pub use places::{
     has_no_argument, is_call_place, is_deferred_place, is_item_place, is_statement_or_value,
     is_statement_place, is_value_place, takes,
 };
+pub use reads::cancel_use_by;
+pub use universe::means_universe;

@@ -1,14 +1,16 @@
 -- The bodies of a file that was told of, each with its variables and its graph.
-use Rattle.std.proofs.Common.{◌≡◌, ℕ, Bool, List, map, ap, ◌∙◌, subst}
+use Rattle.std.proofs.Common.{◌≡◌, ℕ, Bool, true, false, ◌&&◌, List, length, map, refl, sym, ap, ◌∙◌, subst}
+use Rattle.std.specs.Prelude.{◌==◌, not}
+use Rattle.std.proofs.lemmas.List.{length-map}
 use Rattle.std.specs.List.{AllZip}
 use Rattle.bodies.specs.declared.body.Body.{Body as KeptBody}
-use Rattle.bodies.specs.Bodies.{has_too_many, has_paths, IsGraphIf, TellsBody, TellsPlace, TellBodies}
+use Rattle.bodies.specs.Bodies.{is_unfollowed, IsGraphIf, TellsBody, TellsPlace, TellBodies}
 use Rattle.bodies.proofs.ZippedLists.{zipped_views, zipped_at}
 use Rattle.events.specs.declared.found.Variables.{Variables}
 use Rattle.events.specs.declared.told.Told.{Told}
 use Rattle.events.specs.ToldViews.{TellsFile}
 use Rattle.events.specs.VariableViews.{variable_view, ordered_in}
-use Rattle.meaning.specs.BodyEvents.{variables_of}
+use Rattle.meaning.specs.BodyEvents.{variables_of, unfollowed_faults}
 use Rattle.meaning.specs.Uses.{Seen}
 use Rattle.mentions.specs.declared.mark.BodyPlace.{BodyPlace as KeptPlace}
 use Rattle.mentions.specs.MarkViews.{body_view}
@@ -18,20 +20,31 @@ pub tells_place : (file : ℕ) (told : Told) (variables : Variables) (place : Ke
     → kept.file ≡ file
     → kept.place ≡ place
     → map variable_view kept.variables.items ≡ ordered_in variables place.at
-    → kept.has_too_many ≡ has_too_many (map variable_view kept.variables.items)
-    → are_judged ≡ has_paths (map variable_view kept.variables.items)
+    → ((seen : Seen) → map variable_view kept.variables.items ≡ variables_of seen place.at
+    → kept.is_unfollowed ≡ is_unfollowed seen (body_view place))
+    → are_judged ≡ (not (length kept.variables.items == 0) && not kept.is_unfollowed)
     → IsGraphIf are_judged told (body_view place) kept.graph
     → TellsPlace file told variables (body_view place) kept
-tells_place file told variables place kept are_judged is_file is_place are too_many judged graph seen of_file of_all =
+tells_place file told variables place kept are_judged is_file is_place are unfollowed judged graph seen of_file of_all =
     let are_variables = are ∙ of_all place.at in
+    let size : length kept.variables.items ≡ length (variables_of seen place.at) =
+    sym (length-map kept.variables.items variable_view) ∙ ap length are_variables in
     record {
       is_file = is_file;
       is_place = ap body_view is_place;
       are_variables = are_variables;
-      too_many = too_many ∙ ap has_too_many are_variables;
-      has_graph = graph.has_graph ∙ judged ∙ ap has_paths are_variables;
+      unfollowed = unfollowed seen are_variables;
+      has_graph =
+          graph.has_graph
+          ∙ (judged
+          ∙ λ i. not (size i == 0)
+          && (ap not (unfollowed seen are_variables) ∙ not_twice (length (unfollowed_faults seen (body_view place)) == 0)) i);
       is_graph = graph.is_graph seen of_file;
     }
+  where
+    not_twice : (t : Bool) → not (not t) ≡ t
+    not_twice true = refl
+    not_twice false = refl
 
 -- what is kept of the body at a place that was told of
 abbrev pub TellsAt : ℕ → Told → Variables → KeptPlace → KeptBody → Type 0

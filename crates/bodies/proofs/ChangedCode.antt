@@ -1,10 +1,11 @@
 -- Codes whose events are other ones: the code of sites with other events is the same code with those events.
 use Rattle.std.proofs.Common.{◌≡◌, ℕ, ◌+◌, Bool, true, false, List, [], ◌∷◌, ◌++◌, map, refl, sym, ap, ◌∙◌}
-use Rattle.std.specs.Prelude.{if◌then◌else◌, Option, Some, None}
+use Rattle.std.specs.Prelude.{if◌then◌else◌, Option, Some, None, ◌-◌}
 use Rattle.std.proofs.lemmas.List.{map-append}
-use Rattle.tree.specs.Syntax.{Statement, statement_node, StatementForm, empty_statement, declaration_statement, labeled_statement, expression_statement, send_statement, increment_statement, decrement_statement, assignment, operator_assignment, define_statement, go_statement, defer_statement, return_statement, break_statement, continue_statement, block_statement, if_statement, for_statement, range_assignment, range_definition, switch_statement, type_switch_statement, select_statement, Statements, no_statement, statement_and, OptionalStatement, missing_statement, present_statement, CaseClauses, no_case, case_and, CommunicationClauses, no_communication, communication_and, Declaration, declaration_of, Specs, no_spec, value_and, type_and, Block}
-use Rattle.meaning.specs.Code.{Way, returning, breaking, continuing, Code, skip, does, leave, then_code, either, repeats, up_to}
-use Rattle.meaning.specs.StatementCode.{Sites, stuck, up_to_labels, breaks_end, turns_end, loop, is_present, has_default, or_case, or_communication, or_past, or_other, in_order, site, spec_events, declaration_code, statement_code, form_code, optional_code, statements_code, cases_code, communications_code, entry, last_return, body_code, label_of}
+use Rattle.tree.specs.Syntax.{Statement, statement_node, StatementForm, empty_statement, declaration_statement, labeled_statement, expression_statement, send_statement, increment_statement, decrement_statement, assignment, operator_assignment, define_statement, go_statement, defer_statement, return_statement, break_statement, continue_statement, goto_statement, fallthrough_statement, block_statement, if_statement, for_statement, range_assignment, range_definition, switch_statement, type_switch_statement, select_statement, Statements, no_statement, statement_and, OptionalStatement, missing_statement, present_statement, CaseClauses, no_case, case_and, CommunicationClauses, no_communication, communication_and, Declaration, declaration_of, Specs, no_spec, value_and, type_and, Block}
+use Rattle.meaning.specs.Code.{Way, returning, breaking, continuing, falling, Code, skip, does, leave, then_code, either, repeats, up_to}
+use Rattle.meaning.specs.Jumps.{Part, declaration_part, return_part, goto_part, plain_part, parts_of, jumps_in}
+use Rattle.meaning.specs.StatementCode.{Sites, part_code, one_of, jumping_or, jumping_code, block_code, clauses_fall, up_to_falls, switch_code, stuck, up_to_labels, breaks_end, turns_end, loop, is_present, has_default, or_case, or_communication, or_past, or_other, in_order, site, behind_events, branch, spec_events, declaration_code, statement_code, form_code, optional_code, statements_code, cases_code, communications_code, entry, last_return, body_code, label_of}
 use Rattle.bodies.specs.NodeEvents.{changed}
 
 module _ {E F : Type 0} (f : E → F) where
@@ -52,6 +53,23 @@ module _ {E F : Type 0} (f : E → F) where
       ap (λ z. breaks_end ls (repeats (then_code (changed_code h) (then_code z (changed_code p))))) (turned ls b)
       ∙ broken ls (repeats (then_code h (then_code (turns_end ls b) p)))
 
+  fallen : (ats : List ℕ) (c : Code E) → up_to_falls ats (changed_code c) ≡ changed_code (up_to_falls ats c)
+  fallen [] c = refl
+  fallen (at ∷ ats) c = ap (up_to (falling at)) (fallen ats c)
+
+  switched : (ls : List (List ℕ)) (ats : List ℕ) (h c : Code E)
+      → switch_code ls ats (changed_code h) (changed_code c) ≡ changed_code (switch_code ls ats h c)
+  switched ls [] h c = ap (then_code (changed_code h)) (broken ls c)
+  switched ls (at ∷ ats) h c =
+      let turn = then_code h (then_code c (leave (breaking None))) in
+      ap (λ z. breaks_end ls (repeats z)) (fallen (at ∷ ats) turn)
+      ∙ broken ls (repeats (up_to_falls (at ∷ ats) turn))
+
+  or_jumped : (js : List ℕ) (c d : Code E)
+      → jumping_or js (changed_code c) (changed_code d) ≡ changed_code (jumping_or js c d)
+  or_jumped [] c d = refl
+  or_jumped (j ∷ js) c d = refl
+
   or_next_case : (c : Code E) (cs : CaseClauses) (d : Code E)
       → or_case (changed_code c) cs (changed_code d) ≡ changed_code (or_case c cs d)
   or_next_case c no_case d = refl
@@ -90,12 +108,21 @@ module _ {E F : Type 0} (f : E → F) where
     of_site at =
         ap (in_order others at 0) (at_least_one (sites.events at)) ∙ ordered at 0 (or_other sites (sites.events at))
 
+    -- what a branch begins with at its brace, if the brace has events
+    behind : (at : ℕ) (es : List E) (c : Code E)
+        → behind_events others at (map f es) (changed_code c) ≡ changed_code (behind_events sites at es c)
+    behind at [] c = refl
+    behind at (e ∷ es) c = ap (λ d. then_code d (changed_code c)) (ordered at 0 (e ∷ es))
+
+    branched : (brace : ℕ) (c : Code E) → branch others brace (changed_code c) ≡ changed_code (branch sites brace c)
+    branched brace c = behind brace (sites.events brace) c
+
     of_specs : (specs : Specs) → spec_events others specs ≡ map f (spec_events sites specs)
     of_specs no_spec = refl
     of_specs (value_and ns t es span specs) =
         (λ i. at_least_one (sites.events span.start) i ++ of_specs specs i)
         ∙ sym (map-append f (or_other sites (sites.events span.start)) (spec_events sites specs))
-    of_specs (type_and n is_alias t span specs) =
+    of_specs (type_and n ps is_alias t span specs) =
         (λ i. at_least_one (sites.events span.start) i ++ of_specs specs i)
         ∙ sym (map-append f (or_other sites (sites.events span.start)) (spec_events sites specs))
 
@@ -129,10 +156,17 @@ module _ {E F : Type 0} (f : E → F) where
       of_form ls at (return_statement es) = ap (λ c. then_code c (leave returning)) (of_site at)
       of_form ls at (break_statement n) = ap (λ c. then_code c (leave (breaking (label_of n)))) (of_site at)
       of_form ls at (continue_statement n) = ap (λ c. then_code c (leave (continuing (label_of n)))) (of_site at)
+      of_form ls at (goto_statement n) = ap (λ c. then_code c stuck) (of_site at)
+      of_form ls at fallthrough_statement = ap (λ c. then_code c (leave (falling at))) (of_site at)
       of_form ls at (block_statement ss braces) = of_statements ss
       of_form ls at (if_statement init has_semicolon c ss braces otherwise) =
-          λ i. then_code (of_optional init i)
-          (then_code (of_site at i) (either (of_statements ss i) (of_optional otherwise i)))
+          let last = braces.end - 1 in
+          (λ i. then_code (of_optional init i) (then_code (of_site at i) (either
+          (branch others braces.start (of_statements ss i))
+          (branch others last (of_optional otherwise i)))))
+          ∙ (λ i. then_code (changed_code (optional_code sites init)) (then_code (changed_code (site sites at)) (either
+          (branched braces.start (statements_code sites ss) i)
+          (branched last (optional_code sites otherwise) i))))
       of_form ls at (for_statement init c post has_semicolons ss braces) =
           (λ i. then_code (of_optional init i)
           (loop ls (of_site at i) (is_present c) (of_statements ss i) (of_optional post i)))
@@ -145,10 +179,12 @@ module _ {E F : Type 0} (f : E → F) where
           (λ i. loop ls (of_site at i) true (of_statements ss i) skip)
           ∙ looped ls (site sites at) true (statements_code sites ss) skip
       of_form ls at (switch_statement init has_semicolon tag cs) =
-          (λ i. then_code (of_optional init i)
-          (then_code (of_site at i) (breaks_end ls (or_past cs (of_cases cs i)))))
-          ∙ ap (λ c. then_code (changed_code (optional_code sites init)) (then_code (changed_code (site sites at)) c))
-          (passed_or_broken ls cs (cases_code sites cs))
+          (λ i. then_code (of_optional init i) (switch_code ls (clauses_fall cs) (of_site at i) (or_past cs (of_cases cs i))))
+          ∙ ap (λ c. then_code (changed_code (optional_code sites init))
+          (switch_code ls (clauses_fall cs) (changed_code (site sites at)) c))
+          (passed cs (cases_code sites cs))
+          ∙ ap (then_code (changed_code (optional_code sites init)))
+          (switched ls (clauses_fall cs) (site sites at) (or_past cs (cases_code sites cs)))
       of_form ls at (type_switch_statement init has_semicolon n e cs) =
           (λ i. then_code (of_optional init i)
           (then_code (of_site at i) (breaks_end ls (or_past cs (of_cases cs i)))))
@@ -180,7 +216,25 @@ module _ {E F : Type 0} (f : E → F) where
           ∙ or_next_communication (then_code (site sites span.start) (statements_code sites ss)) cs
           (communications_code sites cs)
 
+    of_part : (p : Part) → part_code others p ≡ changed_code (part_code sites p)
+    of_part (declaration_part d) = of_declaration d
+    of_part (return_part at) = ap (λ c. then_code c (leave returning)) (of_site at)
+    of_part (goto_part at) = of_site at
+    of_part (plain_part at) = of_site at
+
+    of_parts : (ps : List Part) → one_of others ps ≡ changed_code (one_of sites ps)
+    of_parts [] = refl
+    of_parts (p ∷ ps) = λ i. either (of_part p i) (of_parts ps i)
+
+    of_jumping : (ps : List Part) → jumping_code others ps ≡ changed_code (jumping_code sites ps)
+    of_jumping ps = ap (λ c. loop [] skip true c skip) (of_parts ps) ∙ looped [] skip true (one_of sites ps) skip
+
+    of_block : (ss : Statements) → block_code others ss ≡ changed_code (block_code sites ss)
+    of_block ss =
+        (λ i. jumping_or (jumps_in ss) (of_jumping (parts_of ss) i) (of_statements ss i))
+        ∙ or_jumped (jumps_in ss) (jumping_code sites (parts_of ss)) (statements_code sites ss)
+
     pub of_body : (b : Block) → body_code others b ≡ changed_code (body_code sites b)
     of_body b =
         ap (λ c. then_code (does (entry others b)) (then_code c (does (last_return others b))))
-        (of_statements b.statements)
+        (of_block b.statements)

@@ -12,20 +12,20 @@ use Rattle.events.specs.ToldViews.{TellsFile}
 use Rattle.events.specs.VariableViews.{variable_view, ordered_in}
 use Rattle.flow.specs.GraphViews.{occurrences_of}
 use Rattle.flow.specs.NodeOrder.{places, AreInOrder}
-use Rattle.meaning.specs.BodyEvents.{Variable, bodies_of, sites_of, variables_of, too_many_faults}
+use Rattle.meaning.specs.BodyEvents.{bodies_of, sites_of, variables_of, unfollowed_faults}
 use Rattle.meaning.specs.Code.{Code}
 use Rattle.meaning.specs.Mentions.{BodyPlace}
 use Rattle.meaning.specs.StatementCode.{body_code}
 use Rattle.meaning.specs.Uses.{Seen, Event}
 use Rattle.mentions.specs.MarkViews.{body_view}
 
--- there are more cancel functions or groups among them than a body may have
-abbrev pub has_too_many : List Variable → Bool
-has_too_many vs = not (length (too_many_faults vs) == 0)
+-- the paths of the body are not followed
+abbrev pub is_unfollowed : Seen → BodyPlace → Bool
+is_unfollowed seen b = not (length (unfollowed_faults seen b) == 0)
 
--- the paths of a body with these variables are judged: it has some, and not too many
-abbrev pub has_paths : List Variable → Bool
-has_paths vs = not (length vs == 0) && (length (too_many_faults vs) == 0)
+-- the paths of the body are judged: it has variables, and its paths are followed
+abbrev pub has_paths : Seen → BodyPlace → Bool
+has_paths seen b = not (length (variables_of seen b.at) == 0) && (length (unfollowed_faults seen b) == 0)
 
 -- the graph is that of the code, and each of its nodes stands once in the order, which is that of the text
 pub record IsOrderedGraph (c : Code Event) (kept : KeptGraph) : Type 0 where
@@ -42,8 +42,8 @@ pub record TellsBody (file : ℕ) (seen : Seen) (b : BodyPlace) (kept : KeptBody
   pub is_file : kept.file ≡ file
   pub is_place : body_view kept.place ≡ b
   pub are_variables : map variable_view kept.variables.items ≡ variables_of seen b.at
-  pub too_many : kept.has_too_many ≡ has_too_many (variables_of seen b.at)
-  pub has_graph : is_some kept.graph ≡ has_paths (variables_of seen b.at)
+  pub unfollowed : kept.is_unfollowed ≡ is_unfollowed seen b
+  pub has_graph : is_some kept.graph ≡ has_paths seen b
   pub is_graph : (g : KeptGraph) → kept.graph ≡ Some g → IsOrderedGraph (code_in seen b) g
 
 -- one for each body of the file, in their order

@@ -1,7 +1,7 @@
 //! The bodies of a file.
 
-ghost use Rattle.std.specs.Prelude.{◌≡◌, ℕ, IfOk, map};
-ghost use Rattle.bodies.specs.Bodies.{has_too_many, has_paths, IsGraphIf, TellsPlace, TellBodies};
+ghost use Rattle.std.specs.Prelude.{◌≡◌, ◌&&◌, ◌==◌, ℕ, IfOk, length, map, not};
+ghost use Rattle.bodies.specs.Bodies.{is_unfollowed, IsGraphIf, TellsPlace, TellBodies};
 ghost use Rattle.events.specs.ToldViews.{TellsFile};
 ghost use Rattle.events.specs.VariableViews.{variable_view, ordered_in};
 ghost use Rattle.meaning.specs.BodyEvents.{variables_of};
@@ -9,7 +9,7 @@ ghost use Rattle.meaning.specs.Uses.{Seen};
 ghost use Rattle.mentions.specs.MarkViews.{body_view};
 
 use crate::graph::{BodyGraph, ordered_graph};
-use events::{Told, Variable, Variables, too_many};
+use events::{Told, Variable, Variables, unfollowed};
 use mentions::BodyPlace;
 use std::alloc::{AllocError, Global};
 
@@ -22,26 +22,32 @@ pub struct Body<'e, 'a> {
     pub place: BodyPlace<'a>,
     /// Its variables in their order, each with how it is declared.
     pub variables: Vec<Variable<'a>>,
-    /// It has more cancel functions or groups than a body may have: nothing is said of its paths.
-    pub has_too_many: bool,
-    /// The graph of its code, where it has a variable, and not too many.
+    /// Its paths are not followed, and nothing is said of them: it has more cancel functions or groups than a body may
+    /// have, or a `goto` beside one.
+    pub is_unfollowed: bool,
+    /// The graph of its code, where it has a variable, and its paths are followed.
     pub graph: Option<BodyGraph<'e, 'a>>,
 }
 
-/// Whether there are more cancel functions or groups than a body may have.
-fn has_too_many(alloc: Global, variables: &[Variable<'_>]) -> Result<bool, AllocError>
-    ensures { IfOk result (λ has. has ≡ has_too_many (map variable_view variables.now)) }
+/// Whether the paths of the body at that place, with these variables, are not followed.
+fn is_unfollowed<'a>(
+    alloc: Global,
+    variables: &[Variable<'a>],
+    place: BodyPlace<'a>,
+) -> Result<bool, AllocError>
+    ensures { IfOk result (λ is. (seen : Seen)
+        → map variable_view variables.now ≡ variables_of seen place.entry.at
+        → is ≡ is_unfollowed seen (body_view place.entry)) }
 {
-    let faults = too_many(alloc, variables)?;
+    let faults = unfollowed(alloc, variables, place)?;
     Ok(!faults.is_empty())
 }
 
-/// Whether the paths of a body with these variables are judged: it has some, and not too many.
-fn has_paths(variables: &[Variable<'_>], has_too_many: bool) -> bool
-    ensures { has_too_many ≡ Rattle.bodies.specs.Bodies.has_too_many (map variable_view variables.now)
-        → result ≡ has_paths (map variable_view variables.now) }
+/// Whether the paths of a body with these variables are judged: it has some, and its paths are followed.
+fn has_paths(variables: &[Variable<'_>], is_unfollowed: bool) -> bool
+    ensures { result ≡ (not (length variables.now == 0) && not is_unfollowed) }
 {
-    !variables.is_empty() && !has_too_many
+    !variables.is_empty() && !is_unfollowed
 }
 
 /// The graph of the body at that place, if its paths are judged.
@@ -76,14 +82,14 @@ pub fn body_at<'e, 'a>(
     ensures { IfOk result (λ body. TellsPlace file told.now variables.now (body_view place.entry) body) }
 {
     let variables = variables.of(alloc, place.at)?;
-    let has_too_many = has_too_many(alloc, &variables)?;
-    let are_judged = has_paths(&variables, has_too_many);
+    let is_unfollowed = is_unfollowed(alloc, &variables, place)?;
+    let are_judged = has_paths(&variables, is_unfollowed);
     let graph = graph_if(alloc, are_judged, told, place)?;
     Ok(Body {
         file,
         place,
         variables,
-        has_too_many,
+        is_unfollowed,
         graph,
     })
 }

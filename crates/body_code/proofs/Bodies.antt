@@ -8,7 +8,7 @@ use Rattle.tree.specs.Syntax.{Statements, no_case, no_communication}
 use Rattle.tree.specs.View.{statement_syntax, statements_syntax, cases_syntax, communications_syntax}
 use Rattle.tree.proofs.Views.{case_clause_and-out, communication_clause_and-out}
 use Rattle.meaning.specs.Code.{Code, does, then_code, either}
-use Rattle.meaning.specs.StatementCode.{Sites, loop, or_case, or_communication, site, statement_code, statements_code, cases_code, communications_code, body_code}
+use Rattle.meaning.specs.StatementCode.{Sites, loop, or_case, or_communication, site, statement_code, statements_code, cases_code, communications_code, block_code, body_code}
 use Rattle.code.specs.declared.code.Code.{Code as KeptCode}
 use Rattle.code.specs.CodeViews.{sequence, choice, block_of, IsCode}
 use Rattle.code.proofs.Codes.{same_code}
@@ -63,15 +63,15 @@ module _ {E : Type 0} (sites : Sites E) where
   pub whole_body : (braces : Span) (last : ℕ) (silent at_end : E) (ss : Statements)
       → last ≡ braces.end - 1 → silent ≡ sites.other → at_end ≡ sites.returns
       → then_code (does record { at = braces.start; order = 0; event = silent })
-      (then_code (statements_code sites ss) (does record { at = last; order = 0; event = at_end }))
+      (then_code (block_code sites ss) (does record { at = last; order = 0; event = at_end }))
       ≡ body_code sites (block_of ss braces)
   whole_body braces last silent at_end ss is_last is_silent is_at_end =
       ap (λ e. then_code (does record { at = braces.start; order = 0; event = e })
-      (then_code (statements_code sites ss) (does record { at = last; order = 0; event = at_end }))) is_silent
+      (then_code (block_code sites ss) (does record { at = last; order = 0; event = at_end }))) is_silent
       ∙ ap (λ n. then_code (does record { at = braces.start; order = 0; event = sites.other })
-      (then_code (statements_code sites ss) (does record { at = n; order = 0; event = at_end }))) is_last
+      (then_code (block_code sites ss) (does record { at = n; order = 0; event = at_end }))) is_last
       ∙ ap (λ e. then_code (does record { at = braces.start; order = 0; event = sites.other })
-      (then_code (statements_code sites ss) (does record { at = braces.end - 1; order = 0; event = e }))) is_at_end
+      (then_code (block_code sites ss) (does record { at = braces.end - 1; order = 0; event = e }))) is_at_end
 
 module _ {E F : Type 0} where
   -- whether the header may end the loop, in other words

@@ -6,6 +6,7 @@ use Rattle.std.specs.declared.boxed.Box.{Box}
 use Rattle.std.specs.declared.vec.Vec.{Vec}
 use Rattle.tree.specs.declared.declaration.Spec.{Spec, Value, «Type», Value', Type'}
 use Rattle.tree.specs.declared.expression.Expr.{Expr}
+use Rattle.tree.specs.declared.expression.Param.{Param}
 use Rattle.tree.specs.declared.span.Identifier.{Identifier as KeptIdentifier}
 use Rattle.tree.specs.declared.span.Span.{Span}
 use Rattle.tree.specs.Syntax.{Specs, no_spec}
@@ -21,11 +22,11 @@ module _ {E : Type 0} (sites : Sites E) where
       ∙ ap (spec_events sites) (spec_and-Value ns t es span no_spec)
       ∙ append-nil (or_other sites (sites.events span.start)))
 
-  pub events_of-Type : (s : Spec) (n : KeptIdentifier) (alias : _) (t : Box Expr Global) (span : Span)
-      → s ≡ «Type» n alias t span → or_other sites (sites.events span.start) ≡ spec_events sites (spec_and s no_spec)
-  events_of-Type s n alias t span e =
+  pub events_of-Type : (s : Spec) (n : KeptIdentifier) (ps : Vec Param Global) (alias : _) (t : Box Expr Global) (span : Span)
+      → s ≡ «Type» n ps alias t span → or_other sites (sites.events span.start) ≡ spec_events sites (spec_and s no_spec)
+  events_of-Type s n ps alias t span e =
       sym (ap (λ x. spec_events sites (spec_and x no_spec)) e
-      ∙ ap (spec_events sites) (spec_and-Type n alias t span no_spec)
+      ∙ ap (spec_events sites) (spec_and-Type n ps alias t span no_spec)
       ∙ append-nil (or_other sites (sites.events span.start)))
 
   pub specs_more : (s : Spec) (rest : Specs)
@@ -33,7 +34,7 @@ module _ {E : Type 0} (sites : Sites E) where
   unfolding spec_and
   specs_more (Value' ns t shape es span) rest =
       ap (λ l. l ++ spec_events sites rest) (sym (append-nil (or_other sites (sites.events span.start))))
-  specs_more (Type' n alias p t t_span span) rest =
+  specs_more (Type' n shape ps alias p t t_span span) rest =
       ap (λ l. l ++ spec_events sites rest) (sym (append-nil (or_other sites (sites.events span.start))))
 
   pub more_events : (before after adds all rest whole : List E) → after ≡ before ++ adds → all ≡ adds ++ rest

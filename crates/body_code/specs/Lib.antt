@@ -1,2 +1,3 @@
--- What the contracts of this crate name: what is kept of the sites of a body.
+-- What the contracts of this crate name: what is kept of the sites of a body, and an offset that was found.
 pub mod SiteViews
+pub mod FallViews

@@ -4,14 +4,16 @@ ghost use Rattle.std.specs.Prelude.{◌≡◌, ◌-◌, [], ◌∷◌, IfOk, map
 ghost use Rattle.code.specs.CodeViews.{text_now, way_view, block_of, IsCode};
 ghost use Rattle.body_code.specs.SiteViews.{sites_view};
 ghost use Rattle.meaning.specs.Code.{then_code, leave};
-ghost use Rattle.meaning.specs.StatementCode.{stuck, is_present, site, statement_code, form_code, optional_code, statements_code, cases_code, communications_code, body_code};
+ghost use Rattle.meaning.specs.StatementCode.{stuck, is_present, site, statement_code, form_code, optional_code, statements_code, cases_code, communications_code, block_code, body_code};
 ghost use Rattle.tree.specs.declared.statement.CaseClause.{out-CaseClause};
 ghost use Rattle.tree.specs.declared.statement.CommClause.{out-CommClause};
 ghost use Rattle.tree.specs.View.{identifier_syntax, statement_form, statement_syntax, statements_syntax, optional_statement_syntax, optional_expression_syntax, cases_syntax, communications_syntax};
 
-use crate::clauses::{one_clause, one_communication};
-use crate::site::{declaration, site};
+use crate::clauses::{one_clause, one_communication, switch};
+use crate::jumping::jumping;
+use crate::site::{branch_at, declaration, ending, leaving, site};
 use crate::sites::Sites;
+use body_parts::jumps_in;
 use code::parts::{
     Jump, Made, in_sequence, label_of, one_of, one_turn, then, turns, two_ways, way_to,
 };
@@ -39,19 +41,11 @@ fn expression_statement<'a, E: Copy>(alloc: Global, sites: &Sites<E>, at: u32) -
     ensures { IsCode result (if (sites_view sites.now).panics at
         then then_code (site (sites_view sites.now) at) stuck else site (sites_view sites.now) at) }
 {
-    let events = site(alloc, sites, at);
     if sites.panics_at(at) {
-        then(alloc, events, Ok(Code::Choice(Vec::new(alloc))))
+        ending(alloc, sites, at)
     } else {
-        events
+        site(alloc, sites, at)
     }
-}
-
-/// The code of a statement that leaves.
-fn leaving<'a, E: Copy>(alloc: Global, sites: &Sites<E>, at: u32, way: Way<'a>) -> Made<'a, E>
-    ensures { IsCode result (then_code (site (sites_view sites.now) at) (leave (way_view way.entry))) }
-{
-    then(alloc, site(alloc, sites, at), Ok(Code::Leave(way)))
 }
 
 /// Whether the header of a `for` has a condition.
@@ -110,6 +104,8 @@ fn form<'a, E: Copy>(
         StmtKind::Continue(label) => {
             leaving(alloc, sites, at, way_to(Jump::Continue, label_of(label)))
         }
+        StmtKind::Goto(_) => ending(alloc, sites, at),
+        StmtKind::Fallthrough => leaving(alloc, sites, at, Way::Falling(at)),
         StmtKind::Block(inner) => statements(alloc, sites, &inner.statements),
         StmtKind::If {
             init,
@@ -120,8 +116,18 @@ fn form<'a, E: Copy>(
             alloc,
             optional(alloc, sites, init),
             site(alloc, sites, at),
-            statements(alloc, sites, &body.statements),
-            optional(alloc, sites, otherwise),
+            branch_at(
+                alloc,
+                sites,
+                body.span.start,
+                statements(alloc, sites, &body.statements),
+            ),
+            branch_at(
+                alloc,
+                sites,
+                last_brace(body.span),
+                optional(alloc, sites, otherwise),
+            ),
         ),
         StmtKind::For {
             init,
@@ -174,7 +180,7 @@ fn form<'a, E: Copy>(
             then(
                 alloc,
                 optional(alloc, sites, init),
-                one_clause(
+                switch(
                     alloc,
                     labels,
                     site(alloc, sites, at),
@@ -297,7 +303,19 @@ fn communications<'a, E: Copy>(
     Ok(one_of(codes))
 }
 
-/// The offset of the last brace of a body.
+/// The code of the statements of a body: of its parts alone, where a `goto` is among them.
+fn block<'a, E: Copy>(alloc: Global, sites: &Sites<E>, list: &'a [Stmt]) -> Made<'a, E>
+    ensures { IsCode result (block_code (sites_view sites.now) (statements_syntax list.now)) }
+{
+    let jumps = jumps_in(alloc, list)?;
+    if jumps.is_empty() {
+        statements(alloc, sites, list)
+    } else {
+        jumping(alloc, sites, list)
+    }
+}
+
+/// The offset of the last brace of a block.
 fn last_brace(braces: Span) -> u32
     ensures { result ≡ braces.end - 1 }
 {
@@ -328,7 +346,7 @@ pub fn body_code<'a, E: Copy>(
         order: 0,
         event: sites.returns(),
     };
-    let inner = statements(alloc, sites, list);
+    let inner = block(alloc, sites, list);
     then(
         alloc,
         Ok(Code::Does(entry)),

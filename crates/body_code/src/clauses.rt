@@ -3,12 +3,13 @@
 ghost use Rattle.std.specs.Prelude.{◌≡◌, map};
 ghost use Rattle.code.specs.CodeViews.{text_now, Changes, Joins};
 ghost use Rattle.meaning.specs.Code.{then_code};
-ghost use Rattle.meaning.specs.StatementCode.{is_default, has_default, or_past, breaks_end};
+ghost use Rattle.meaning.specs.StatementCode.{is_default, has_default, or_past, breaks_end, clauses_fall, switch_code};
 ghost use Rattle.tree.specs.declared.statement.CaseClause.{out-CaseClause};
 ghost use Rattle.tree.specs.View.{expressions_syntax, cases_syntax};
 
+use crate::falls::clauses_fall;
 use code::Code;
-use code::parts::{Made, breaks_end, either, then};
+use code::parts::{Made, breaks_end, either, falling_over, then};
 use std::alloc::Global;
 use tree::CaseClause;
 
@@ -44,7 +45,7 @@ fn or_past<'a, E: Copy>(alloc: Global, clauses: &[CaseClause], code: Made<'a, E>
     }
 }
 
-/// The code of a `switch`, but for the statement before it: the header, and then one of the clauses, or past them.
+/// The code of a type switch, but for the statement before it: the header, and then one of the clauses, or past them.
 pub fn one_clause<'a, E: Copy>(
     alloc: Global,
     labels: &[&'a str],
@@ -57,6 +58,31 @@ pub fn one_clause<'a, E: Copy>(
 {
     let whole = breaks_end(alloc, labels, or_past(alloc, clauses, entered));
     then(alloc, header, whole)
+}
+
+/// The code of a `switch`, but for the statement before it: the header, and then one of the clauses, or past them; and
+/// where clauses fall through, the header again.
+pub fn switch<'a, E: Copy>(
+    alloc: Global,
+    labels: &[&'a str],
+    header: Made<'a, E>,
+    clauses: &[CaseClause],
+    entered: Made<'a, E>,
+) -> Made<'a, E>
+    ensures { Joins (λ h e. switch_code (map text_now labels.now) (clauses_fall (cases_syntax clauses.now)) h
+        (or_past (cases_syntax clauses.now) e)) header.entry entered.entry result }
+{
+    let falls = clauses_fall(alloc, clauses)?;
+    if falls.is_empty() {
+        return one_clause(alloc, labels, header, clauses, entered);
+    }
+    falling_over(
+        alloc,
+        labels,
+        falls,
+        header,
+        or_past(alloc, clauses, entered),
+    )
 }
 
 /// The code of a `select`: the header, and then one of the clauses.

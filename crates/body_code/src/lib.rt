@@ -5,6 +5,8 @@
 
 mod body;
 mod clauses;
+mod falls;
+mod jumping;
 mod site;
 pub mod sites;
 

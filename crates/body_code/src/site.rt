@@ -1,15 +1,16 @@
 //! The code of a site: its events, one after the other.
 
 ghost use Rattle.std.specs.Prelude.{◌≡◌, ◌++◌, [], ◌∷◌, IfOk, OnOk};
-ghost use Rattle.code.specs.CodeViews.{sequence, event_codes, IsCode};
+ghost use Rattle.code.specs.CodeViews.{sequence, event_codes, way_view, Changes, IsCode};
 ghost use Rattle.body_code.specs.SiteViews.{sites_view};
-ghost use Rattle.meaning.specs.StatementCode.{or_other, in_order, site, spec_events, declaration_code};
+ghost use Rattle.meaning.specs.Code.{then_code, leave};
+ghost use Rattle.meaning.specs.StatementCode.{stuck, or_other, in_order, site, branch, spec_events, declaration_code};
 ghost use Rattle.tree.specs.Syntax.{no_spec};
 ghost use Rattle.tree.specs.View.{specs_syntax, spec_and, declaration_syntax};
 
 use crate::sites::Sites;
-use code::parts::{Made, in_sequence};
-use code::{Code, Occurrence};
+use code::parts::{Made, in_sequence, then};
+use code::{Code, Occurrence, Way};
 use std::alloc::{AllocError, Global};
 use tree::{Decl, Spec};
 
@@ -53,6 +54,38 @@ pub fn site<'a, E: Copy>(alloc: Global, sites: &Sites<E>, at: u32) -> Made<'a, E
     }
 }
 
+/// The code of a branch that begins at the brace at that offset: the brace's events, if there are any, and then what is
+/// behind it. Without events the brace is no site.
+pub fn branch_at<'a, E: Copy>(
+    alloc: Global,
+    sites: &Sites<E>,
+    brace: u32,
+    code: Made<'a, E>,
+) -> Made<'a, E>
+    ensures { Changes (branch (sites_view sites.now) brace) code.entry result }
+{
+    let events = sites.events_at(brace);
+    if events.is_empty() {
+        return code;
+    }
+    then(alloc, in_order(alloc, sites, brace, events), code)
+}
+
+/// The code of a statement after which nothing comes.
+pub fn ending<'a, E: Copy>(alloc: Global, sites: &Sites<E>, at: u32) -> Made<'a, E>
+    ensures { IsCode result (then_code (site (sites_view sites.now) at) stuck) }
+{
+    let events = site(alloc, sites, at);
+    then(alloc, events, Ok(Code::Choice(Vec::new(alloc))))
+}
+
+/// The code of a statement that leaves.
+pub fn leaving<'a, E: Copy>(alloc: Global, sites: &Sites<E>, at: u32, way: Way<'a>) -> Made<'a, E>
+    ensures { IsCode result (then_code (site (sites_view sites.now) at) (leave (way_view way.entry))) }
+{
+    then(alloc, site(alloc, sites, at), Ok(Code::Leave(way)))
+}
+
 /// Adds the events of a site, or the one that says nothing.
 fn add_site<E: Copy>(events: &mut Vec<E>, sites: &Sites<E>, at: u32) -> Result<(), AllocError>
     ensures { OnOk result (events.new.items ≡ events.old.items ++ or_other (sites_view sites.now)
@@ -74,7 +107,7 @@ fn add_spec<E: Copy>(events: &mut Vec<E>, sites: &Sites<E>, spec: &Spec) -> Resu
 {
     match spec {
         Spec::Value(_, _, _, span) => add_site(events, sites, span.start),
-        Spec::Type(_, _, _, span) => add_site(events, sites, span.start),
+        Spec::Type(_, _, _, _, span) => add_site(events, sites, span.start),
     }
 }
 

@@ -10,7 +10,7 @@ use Rattle.bodies.specs.declared.body.Body.{Body as KeptBody}
 use Rattle.credits.proofs.PairedLists.{pair_at}
 use Rattle.credits.proofs.SettledBodies.{paths_there}
 use Rattle.credits.specs.CreditViews.{has}
-use Rattle.meaning.specs.BodyEvents.{Variable, bodies_of, variables_of, too_many_faults}
+use Rattle.meaning.specs.BodyEvents.{Variable, bodies_of, variables_of, unfollowed_faults}
 use Rattle.meaning.specs.FunctionFacts.{cancel}
 use Rattle.meaning.specs.Mentions.{BodyPlace}
 use Rattle.meaning.specs.Uses.{Callee, Seen}
@@ -21,27 +21,27 @@ use Rattle.path_faults.proofs.Places.{contains_at}
 use Rattle.calls_flags.specs.FilesBodies.{TellsWithCredits}
 use Rattle.calls_flags.specs.declared.file_bodies.FileBodies.{FileBodies}
 
--- a body with a variable, and with not too many, has a graph
+-- a body with a variable whose paths are followed has a graph
 pub no_graph : (file : ℕ) (seen : Seen) (b : BodyPlace) (body : KeptBody) → TellsBody file seen b body
     → body.graph ≡ None
-    → too_many_faults (variables_of seen b.at) ≡ []
+    → unfollowed_faults seen b ≡ []
     → (place : ℕ) (v : Variable) → slice_get (variables_of seen b.at) place ≡ Some v → ⊥
 no_graph file seen b body tells none few place v is_there =
     false≢true
     (ap is_some (sym none) ∙ tells.has_graph
-    ∙ paths_there (variables_of seen b.at) v (contains_at (variables_of seen b.at) place v is_there) few)
+    ∙ paths_there seen b v (contains_at (variables_of seen b.at) place v is_there) few)
 
 module _ (kept : FileBodies) (calls : Callee → ℕ → Bool) (at place : ℕ) (bodies : List KeptBody)
     (same : bodies ≡ kept.bodies.items) where
   pub kept_by : (body : KeptBody) → at < length bodies → body ≡ get_or bodies at body
       → (is : Bool)
       → ((file : ℕ) (seen : Seen) (b : BodyPlace) → TellsBody file seen b body
-      → too_many_faults (variables_of seen b.at) ≡ []
+      → unfollowed_faults seen b ≡ []
       → (v : Variable) → slice_get (variables_of seen b.at) place ≡ Some v → v.kind ≡ cancel
       → IsTrue is ↔ KeepsCall (paths_of seen (promises_in calls (has kept.credits) b.at) b) v)
       → (number : ℕ) (f : FileWithCredits) → TellsWithCredits number f kept
       → (b : BodyPlace) → slice_get (bodies_of f.seen) at ≡ Some b
-      → too_many_faults (variables_of f.seen b.at) ≡ []
+      → unfollowed_faults f.seen b ≡ []
       → (v : Variable) → slice_get (variables_of f.seen b.at) place ≡ Some v → v.kind ≡ cancel
       → IsTrue is ↔ KeepsCall (paths_of f.seen (promises_in calls f.credits b.at) b) v
   kept_by body within there is by_body number f tells b is_b few v is_v is_cancel =
@@ -54,7 +54,7 @@ module _ (kept : FileBodies) (calls : Callee → ℕ → Bool) (at place : ℕ) 
   pub no_body : length bodies ≤ at
       → (number : ℕ) (f : FileWithCredits) → TellsWithCredits number f kept
       → (b : BodyPlace) → slice_get (bodies_of f.seen) at ≡ Some b
-      → too_many_faults (variables_of f.seen b.at) ≡ []
+      → unfollowed_faults f.seen b ≡ []
       → (v : Variable) → slice_get (variables_of f.seen b.at) place ≡ Some v → v.kind ≡ cancel
       → IsTrue false ↔ KeepsCall (paths_of f.seen (promises_in calls f.credits b.at) b) v
   no_body past number f tells b is_b few v is_v is_cancel =

@@ -2,11 +2,11 @@
 use Rattle.std.proofs.Common.{◌≡◌, ℕ, ◌+◌, Bool, true, false, if◌then◌else◌, List, [], ◌∷◌, ◌++◌, length, Option, Some, None, refl, sym, ap, ◌∙◌}
 use Rattle.std.specs.Prelude.{◌==◌, not}
 use Rattle.std.proofs.lemmas.Bool.{false≢true}
-use Rattle.bodies.specs.Bodies.{has_too_many}
 use Rattle.std.proofs.lemmas.List.{append-nil, append_assoc}
-use Rattle.meaning.specs.BodyEvents.{Variable, too_many_faults}
+use Rattle.meaning.specs.BodyEvents.{Variable}
 use Rattle.meaning.specs.FunctionFacts.{FunctionFacts}
 use Rattle.meaning.specs.Mentions.{BodyPlace}
+use Rattle.meaning.specs.Uses.{UseFault}
 use Rattle.path_faults.specs.FoundFaults.{each_from}
 use Rattle.calls_flags.specs.Claims.{Claim, claimed_as, claim_at, variable_claims, claims_with, claims_named, function_name}
 
@@ -24,61 +24,65 @@ none_of file b name n (v ∷ vs) =
     (no_claim_at file b name n (claimed_as v.kind v.role))
     ∙ none_of file b name (n + 1) vs
 
-no_claims : (file b : ℕ) (name : List ℕ) (vs : List Variable) → claims_with None file b name vs ≡ []
-no_claims file b name vs = by (length (too_many_faults vs) == 0)
+no_claims : (file b : ℕ) (name : List ℕ) (faults : List UseFault) (vs : List Variable)
+    → claims_with None file b name faults vs ≡ []
+no_claims file b name faults vs = by (length faults == 0)
   where
     by : (t : Bool) → (if t then each_from (variable_claims None file b name) 0 vs else []) ≡ []
     by true = none_of file b name 0 vs
     by false = refl
 
-pub none_added : (facts : List ℕ → Option FunctionFacts) (file place : ℕ) (b : BodyPlace) (vs : List Variable) (name : List ℕ)
+pub none_added : (facts : List ℕ → Option FunctionFacts) (file place : ℕ) (b : BodyPlace) (faults : List UseFault)
+    (vs : List Variable) (name : List ℕ)
     → function_name b ≡ Some name
     → facts name ≡ None
-    → (cs : List Claim) → cs ≡ cs ++ claims_named facts file place vs (function_name b)
-none_added facts file place b vs name named none cs =
+    → (cs : List Claim) → cs ≡ cs ++ claims_named facts file place faults vs (function_name b)
+none_added facts file place b faults vs name named none cs =
     sym (append-nil cs)
-    ∙ ap (λ ds. cs ++ ds) (sym (ap (claims_named facts file place vs) named
-    ∙ (ap (λ o. claims_with o file place name vs) none ∙ no_claims file place name vs)))
+    ∙ ap (λ ds. cs ++ ds) (sym (ap (claims_named facts file place faults vs) named
+    ∙ (ap (λ o. claims_with o file place name faults vs) none ∙ no_claims file place name faults vs)))
 
 -- nor has a body without a name
-pub none_named : (facts : List ℕ → Option FunctionFacts) (file place : ℕ) (b : BodyPlace) (vs : List Variable)
+pub none_named : (facts : List ℕ → Option FunctionFacts) (file place : ℕ) (b : BodyPlace) (faults : List UseFault)
+    (vs : List Variable)
     → function_name b ≡ None
-    → (cs : List Claim) → cs ≡ cs ++ claims_named facts file place vs (function_name b)
-none_named facts file place b vs none cs =
-    sym (append-nil cs) ∙ ap (λ ds. cs ++ ds) (sym (ap (claims_named facts file place vs) none))
+    → (cs : List Claim) → cs ≡ cs ++ claims_named facts file place faults vs (function_name b)
+none_named facts file place b faults vs none cs =
+    sym (append-nil cs) ∙ ap (λ ds. cs ++ ds) (sym (ap (claims_named facts file place faults vs) none))
 
 -- those of a function with a name and facts
-pub some_added : (facts : List ℕ → Option FunctionFacts) (file place : ℕ) (b : BodyPlace) (vs : List Variable)
-    (name : List ℕ) (known : FunctionFacts)
+pub some_added : (facts : List ℕ → Option FunctionFacts) (file place : ℕ) (b : BodyPlace) (faults : List UseFault)
+    (vs : List Variable) (name : List ℕ) (known : FunctionFacts)
     → function_name b ≡ Some name
     → facts name ≡ Some known
-    → (cs ds : List Claim) → ds ≡ cs ++ claims_with (Some known) file place name vs
-    → ds ≡ cs ++ claims_named facts file place vs (function_name b)
-some_added facts file place b vs name known named are cs ds adds =
+    → (cs ds : List Claim) → ds ≡ cs ++ claims_with (Some known) file place name faults vs
+    → ds ≡ cs ++ claims_named facts file place faults vs (function_name b)
+some_added facts file place b faults vs name known named are cs ds adds =
     adds
     ∙ ap (λ es. cs ++ es)
-    (sym (ap (claims_named facts file place vs) named ∙ ap (λ o. claims_with o file place name vs) are))
+    (sym (ap (claims_named facts file place faults vs) named ∙ ap (λ o. claims_with o file place name faults vs) are))
 
-module _ (facts : Option FunctionFacts) (file place : ℕ) (name : List ℕ) (vs : List Variable) where
-  -- a function with too many variables has no claims
-  pub none_of_many : (t : Bool) → t ≡ has_too_many vs → t ≡ true → (cs : List Claim)
-      → cs ≡ cs ++ claims_with facts file place name vs
-  none_of_many t is many cs = by (length (too_many_faults vs) == 0) (sym is ∙ many)
-    where
-      by : (few : Bool) → not few ≡ true
-          → cs ≡ cs ++ (if few then each_from (variable_claims facts file place name) 0 vs else [])
-      by true bad = absurd (false≢true bad)
-      by false e = sym (append-nil cs)
+module _ (facts : Option FunctionFacts) (file place : ℕ) (name : List ℕ) (faults : List UseFault) (vs : List Variable)
+  where
+    -- a function whose paths are not followed has no claims
+    pub none_unfollowed : (t : Bool) → t ≡ not (length faults == 0) → t ≡ true → (cs : List Claim)
+        → cs ≡ cs ++ claims_with facts file place name faults vs
+    none_unfollowed t is many cs = by (length faults == 0) (sym is ∙ many)
+      where
+        by : (few : Bool) → not few ≡ true
+            → cs ≡ cs ++ (if few then each_from (variable_claims facts file place name) 0 vs else [])
+        by true bad = absurd (false≢true bad)
+        by false e = sym (append-nil cs)
 
-  pub all_of_few : (t : Bool) → t ≡ has_too_many vs → t ≡ false → (cs ds : List Claim)
-      → ds ≡ cs ++ each_from (variable_claims facts file place name) 0 vs
-      → ds ≡ cs ++ claims_with facts file place name vs
-  all_of_few t is few cs ds adds = by (length (too_many_faults vs) == 0) (sym is ∙ few)
-    where
-      by : (is_few : Bool) → not is_few ≡ false
-          → ds ≡ cs ++ (if is_few then each_from (variable_claims facts file place name) 0 vs else [])
-      by true e = adds
-      by false bad = absurd (false≢true (sym bad))
+    pub all_followed : (t : Bool) → t ≡ not (length faults == 0) → t ≡ false → (cs ds : List Claim)
+        → ds ≡ cs ++ each_from (variable_claims facts file place name) 0 vs
+        → ds ≡ cs ++ claims_with facts file place name faults vs
+    all_followed t is few cs ds adds = by (length faults == 0) (sym is ∙ few)
+      where
+        by : (is_few : Bool) → not is_few ≡ false
+            → ds ≡ cs ++ (if is_few then each_from (variable_claims facts file place name) 0 vs else [])
+        by true e = adds
+        by false bad = absurd (false≢true (sym bad))
 
 -- what was added, with what is left
 

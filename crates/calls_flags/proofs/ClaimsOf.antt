@@ -14,7 +14,7 @@ use Rattle.meaning.specs.OuterBlocks.{is_init}
 use Rattle.meaning.specs.FunctionFacts.{FunctionFacts, VariableKind, cancel, group}
 use Rattle.meaning.specs.Mentions.{BodyPlace}
 use Rattle.meaning.specs.Uses.{facts_take}
-use Rattle.meaning.specs.BodyEvents.{Variable, VariableRole, own_parameter, own_receiver, declared_in_body, captured, variables_of, too_many_faults}
+use Rattle.meaning.specs.BodyEvents.{Variable, VariableRole, own_parameter, own_receiver, declared_in_body, captured, variables_of, unfollowed_faults}
 use Rattle.meaning.specs.BodyEvents.{bodies_of}
 use Rattle.meaning_packages.specs.CallsFlags.{FileWithCredits, has_name, is_function}
 use Rattle.path_faults.proofs.Places.{contains_at, given_at, gives_at}
@@ -115,7 +115,7 @@ module _ (facts : List ℕ → Option FunctionFacts) (fs : List FileWithCredits)
   named_claim : (number : ℕ) (file : FileWithCredits) → slice_get fs number ≡ Some file
       → (place : ℕ) (b : BodyPlace) → slice_get (bodies_of file.seen) place ≡ Some b
       → (name : List ℕ) → function_name b ≡ Some name
-      → (t : Bool) → (length (too_many_faults (variables_of file.seen b.at)) == 0) ≡ t
+      → (t : Bool) → (length (unfollowed_faults file.seen b) == 0) ≡ t
       → (c : Claim)
       → Contains (if t then each_from (variable_claims (facts name) number place name) 0 (variables_of file.seen b.at) else []) c
       → IsOneOf fs c
@@ -137,7 +137,7 @@ module _ (facts : List ℕ → Option FunctionFacts) (fs : List FileWithCredits)
             is_cancel_parameter =
                 ap (facts_take cancel g.position) (have.each file (contains_at fs number file is_file) name)
                 ∙ g.is_taken;
-            are_few = no_items (too_many_faults (variables_of file.seen b.at)) few;
+            is_followed = no_items (unfollowed_faults file.seen b) few;
             is_of_body = contains_at (variables_of file.seen b.at) w.place w.element w.is_there;
             is_parameter = g.is_claimed.is_parameter;
             is_cancel_variable = g.is_claimed.is_cancel_variable;
@@ -148,18 +148,18 @@ module _ (facts : List ℕ → Option FunctionFacts) (fs : List FileWithCredits)
   pub claim_of : (c : Claim) → Contains (all_claims facts fs) c → IsOneOf fs c
   claim_of c h =
       let w = given_at (file_claims facts) fs c h in
-      let g = given_at (body_claims facts (variables_of w.element.seen) w.place) (bodies_of w.element.seen) c w.gives in
+      let g = given_at (body_claims facts w.element.seen w.place) (bodies_of w.element.seen) c w.gives in
       by w.place w.element w.is_there g.place g.element g.is_there (function_name g.element) refl g.gives
     where
       by : (number : ℕ) (file : FileWithCredits) → slice_get fs number ≡ Some file
           → (place : ℕ) (b : BodyPlace) → slice_get (bodies_of file.seen) place ≡ Some b
           → (o : Option (List ℕ)) → function_name b ≡ o
-          → Contains (claims_named facts number place (variables_of file.seen b.at) o) c
+          → Contains (claims_named facts number place (unfollowed_faults file.seen b) (variables_of file.seen b.at) o) c
           → IsOneOf fs c
       by number file is_file place b is_body None e g = absurd (contains_nil c g)
       by number file is_file place b is_body (Some name) e g =
           named_claim number file is_file place b is_body name e
-          (length (too_many_faults (variables_of file.seen b.at)) == 0) refl c g
+          (length (unfollowed_faults file.seen b) == 0) refl c g
 
   -- and each claim is among those
 
@@ -178,13 +178,13 @@ module _ (facts : List ℕ → Option FunctionFacts) (fs : List FileWithCredits)
       → Contains (all_claims facts fs) c
   claim_among c file b v h =
       gives_at (file_claims facts) fs c c.file file h.is_file
-      (gives_at (body_claims facts (variables_of file.seen) c.file) (bodies_of file.seen) c c.body b h.is_body
-      (subst (λ o. Contains (claims_named facts c.file c.body (variables_of file.seen b.at) o) c)
+      (gives_at (body_claims facts file.seen c.file) (bodies_of file.seen) c c.body b h.is_body
+      (subst (λ o. Contains (claims_named facts c.file c.body (unfollowed_faults file.seen b) (variables_of file.seen b.at) o) c)
       (sym (so_function b c.name h.is_claim.is_of_function))
       (subst (λ t. Contains (if t then each_from (variable_claims (facts c.name) c.file c.body c.name) 0 (variables_of file.seen b.at) else []) c)
       (sym few)
       (gives_at (variable_claims (facts c.name) c.file c.body c.name) (variables_of file.seen b.at) c c.place v
       h.is_variable (claim_there c file b v h)))))
     where
-      few : (length (too_many_faults (variables_of file.seen b.at)) == 0) ≡ true
-      few = ap (λ fs. length fs == 0) h.is_claim.are_few
+      few : (length (unfollowed_faults file.seen b) == 0) ≡ true
+      few = ap (λ fs. length fs == 0) h.is_claim.is_followed

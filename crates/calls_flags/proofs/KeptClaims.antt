@@ -3,7 +3,7 @@ use Rattle.std.proofs.Common.{◌≡◌, ℕ, ◌+◌, ◌<◌, ◌≤◌, Bool,
 use Rattle.std.specs.Prelude.{◌↔◌, slice_get}
 use Rattle.std.proofs.lemmas.List.{append-nil, append_assoc, drop_more, length-append, map-append}
 use Rattle.std.proofs.lemmas.Option.{slice_get_within, slice_get_read}
-use Rattle.meaning.specs.BodyEvents.{Variable, bodies_of, variables_of, too_many_faults}
+use Rattle.meaning.specs.BodyEvents.{Variable, bodies_of, variables_of, unfollowed_faults}
 use Rattle.meaning.specs.Mentions.{BodyPlace}
 use Rattle.meaning.specs.FunctionFacts.{cancel}
 use Rattle.meaning.specs.Uses.{Callee}
@@ -21,7 +21,7 @@ module _ (files : List FileBodies) (calls : Callee → ℕ → Bool) (c : Claim)
       → (is : Bool)
       → ((number : ℕ) (f : FileWithCredits) → TellsWithCredits number f file
       → (b : BodyPlace) → slice_get (bodies_of f.seen) c.body ≡ Some b
-      → too_many_faults (variables_of f.seen b.at) ≡ []
+      → unfollowed_faults f.seen b ≡ []
       → (v : Variable) → slice_get (variables_of f.seen b.at) c.place ≡ Some v → v.kind ≡ cancel
       → IsTrue is ↔ KeepsCall (paths_of f.seen (promises_in calls f.credits b.at) b) v)
       → (fs : List FileWithCredits) → TellAll fs files
@@ -35,12 +35,12 @@ module _ (files : List FileBodies) (calls : Callee → ℕ → Bool) (c : Claim)
           variable = v;
           is_claim = claim;
           keeps =
-              (by_body c.file f (tell.each c.file f file claim.is_file at) b claim.is_body claim.is_claim.are_few v
+              (by_body c.file f (tell.each c.file f file claim.is_file at) b claim.is_body claim.is_claim.is_followed v
               claim.is_variable claim.is_claim.is_cancel_variable).0 t;
         },
         λ k.
             let one = k.is_claim in
-            (by_body c.file k.file (tell.each c.file k.file file one.is_file at) k.body one.is_body one.is_claim.are_few
+            (by_body c.file k.file (tell.each c.file k.file file one.is_file at) k.body one.is_body one.is_claim.is_followed
             k.variable one.is_variable one.is_claim.is_cancel_variable).1 k.keeps,
       )
 

@@ -40,7 +40,7 @@ pub told_so : (s meant : Seen) → s ≡ meant → (kept : ToldFile)
 told_so s meant same kept tells variables none =
     subst (λ x. TellsSeen x kept) same (record { tells = tells; are_variables = variables; no_body = none })
 
-nothing_told : (known : Known) (told : Told) → TellsNothing told → TellsFile (seen_in known []) told
+nothing_told : (known : Known) (told : Told) → TellsNothing known.edition told → TellsFile (seen_in known []) told
 unfolding placed
 nothing_told known told none = record {
   outer = ap (map _) none.outer;
@@ -48,6 +48,7 @@ nothing_told known told none = record {
   events = λ body at. ap (events_of_site at) (none.events body);
   panics = λ body at. ap (list_any (λ site. site == at)) (none.panics body);
   opened = ap (map body_view) none.opened;
+  edition = none.edition;
 }
 
 bare_variables : (known : Known) (body : ℕ) → [] ≡ variables_of (seen_in known []) body
@@ -59,7 +60,7 @@ unfolding placed
 bare_bodies known = refl
 
 -- a file of which nothing was told is one without marks
-pub silent_so : (known : Known) (kept : ToldFile) → kept.variables ≡ None → TellsNothing kept.told
+pub silent_so : (known : Known) (kept : ToldFile) → kept.variables ≡ None → TellsNothing known.edition kept.told
     → TellsSeen (seen_in known []) kept
 silent_so known kept none nothing = record {
   tells = nothing_told known kept.told nothing;

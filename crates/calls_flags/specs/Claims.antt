@@ -8,8 +8,8 @@ use Rattle.meaning.specs.Scopes.{is_blank}
 use Rattle.meaning.specs.OuterBlocks.{is_init}
 use Rattle.meaning.specs.FunctionFacts.{FunctionFacts, VariableKind, cancel, group}
 use Rattle.meaning.specs.Mentions.{BodyPlace}
-use Rattle.meaning.specs.Uses.{Callee, Seen, facts_take}
-use Rattle.meaning.specs.BodyEvents.{Variable, VariableRole, own_parameter, own_receiver, declared_in_body, captured, variables_of, too_many_faults}
+use Rattle.meaning.specs.Uses.{Callee, Seen, UseFault, facts_take}
+use Rattle.meaning.specs.BodyEvents.{Variable, VariableRole, own_parameter, own_receiver, declared_in_body, captured, variables_of, unfollowed_faults}
 use Rattle.meaning_packages.specs.PathFaults.{paths_of, KeepsCall}
 use Rattle.meaning_packages.specs.Credits.{promises_in}
 use Rattle.meaning.specs.BodyEvents.{bodies_of}
@@ -64,21 +64,22 @@ claim_at facts file b name place (Some k) =
 abbrev pub variable_claims : Option FunctionFacts → ℕ → ℕ → List ℕ → ℕ → Variable → List Claim
 variable_claims facts file b name place v = claim_at facts file b name place (claimed_as v.kind v.role)
 
--- those of a body with these variables
-abbrev pub claims_with : Option FunctionFacts → ℕ → ℕ → List ℕ → List Variable → List Claim
-claims_with facts file b name vs =
-    if length (too_many_faults vs) == 0 then each_from (variable_claims facts file b name) 0 vs else []
+-- those of a body with these variables, whose paths are not followed for these faults
+abbrev pub claims_with : Option FunctionFacts → ℕ → ℕ → List ℕ → List UseFault → List Variable → List Claim
+claims_with facts file b name faults vs =
+    if length faults == 0 then each_from (variable_claims facts file b name) 0 vs else []
 
-abbrev pub claims_named : (List ℕ → Option FunctionFacts) → ℕ → ℕ → List Variable → Option (List ℕ) → List Claim
-claims_named facts file b vs None = []
-claims_named facts file b vs (Some name) = claims_with (facts name) file b name vs
+abbrev pub claims_named
+    : (List ℕ → Option FunctionFacts) → ℕ → ℕ → List UseFault → List Variable → Option (List ℕ) → List Claim
+claims_named facts file b faults vs None = []
+claims_named facts file b faults vs (Some name) = claims_with (facts name) file b name faults vs
 
-abbrev pub body_claims
-    : (List ℕ → Option FunctionFacts) → (ℕ → List Variable) → ℕ → ℕ → BodyPlace → List Claim
-body_claims facts variables file place b = claims_named facts file place (variables b.at) (function_name b)
+abbrev pub body_claims : (List ℕ → Option FunctionFacts) → Seen → ℕ → ℕ → BodyPlace → List Claim
+body_claims facts seen file place b =
+    claims_named facts file place (unfollowed_faults seen b) (variables_of seen b.at) (function_name b)
 
 abbrev pub bodies_claims : (List ℕ → Option FunctionFacts) → ℕ → Seen → List Claim
-bodies_claims facts file seen = each_from (body_claims facts (variables_of seen) file) 0 (bodies_of seen)
+bodies_claims facts file seen = each_from (body_claims facts seen file) 0 (bodies_of seen)
 
 abbrev pub file_claims : (List ℕ → Option FunctionFacts) → ℕ → FileWithCredits → List Claim
 file_claims facts number file = bodies_claims facts number file.seen

@@ -13,9 +13,10 @@ use Rattle.tree.specs.View.{file_syntax}
 use Rattle.calls_flags.specs.declared.told_file.Telling.{Telling}
 use Rattle.calls_flags.specs.declared.told_file.ToldFile.{ToldFile}
 
--- what is known in the file of that number: what its names mean, and the facts of functions
+-- what is known in the file of that number: the edition, what its names mean, and the facts of functions
 abbrev pub known_for : Telling → ℕ → Known
 known_for telling number = record {
+  edition = telling.edition;
   means = declared_at telling.names.now number;
   functions = facts_by_name telling.table.now;
   imported = facts_by_path telling.imported.now;

@@ -5,7 +5,7 @@ ghost use Rattle.facts.specs.FactViews.{facts_view, facts_by_name};
 ghost use Rattle.bodies.specs.Bodies.{TellsBody, TellBodies};
 ghost use Rattle.calls_flags.specs.Claims.{claim_view, claimed_as, variable_claims, claims_with, body_claims, bodies_claims, all_claims, function_name};
 ghost use Rattle.calls_flags.specs.FilesBodies.{TellAll};
-ghost use Rattle.meaning.specs.BodyEvents.{variables_of};
+ghost use Rattle.meaning.specs.BodyEvents.{unfollowed_faults, variables_of};
 ghost use Rattle.meaning.specs.Mentions.{BodyPlace as MeantBody};
 ghost use Rattle.meaning.specs.Uses.{Seen};
 ghost use Rattle.mentions.specs.MarkViews.{body_view};
@@ -117,7 +117,7 @@ fn add_variables<'a>(
     Ok(())
 }
 
-/// Adds the claims of a function with that body, unless it has too many variables.
+/// Adds the claims of a function with that body, unless its paths are not followed.
 fn add_function<'a>(
     function: &Claimant<'_, 'a>,
     body: &Body<'_, 'a>,
@@ -126,9 +126,9 @@ fn add_function<'a>(
     ensures { OnOk result ((file : ℕ) (seen : Seen) (b : MeantBody) → TellsBody file seen b body.now
         → map claim_view claims.new.items ≡ map claim_view claims.old.items ++ claims_with
         (Some (facts_view function.now.facts.now)) function.now.file function.now.body function.now.name.now
-        (variables_of seen b.at)) }
+        (unfollowed_faults seen b) (variables_of seen b.at)) }
 {
-    if body.has_too_many {
+    if body.is_unfollowed {
         return Ok(());
     }
     add_variables(function, &body.variables, claims)
@@ -143,7 +143,7 @@ fn add_body<'a>(
 ) -> Result<(), AllocError>
     ensures { OnOk result ((file : ℕ) (seen : Seen) (b : MeantBody) → TellsBody file seen b body.now
         → map claim_view claims.new.items ≡ map claim_view claims.old.items ++ body_claims
-        (facts_by_name table.now) (variables_of seen) file place b) }
+        (facts_by_name table.now) seen file place b) }
 {
     let Some(name) = function_name(body.place) else {
         return Ok(());

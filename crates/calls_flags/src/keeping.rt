@@ -6,7 +6,7 @@ ghost use Rattle.calls_flags.specs.Claims.{claim_view, IsClaimOf, KeepsClaim};
 ghost use Rattle.calls_flags.specs.FilesBodies.{TellAll, TellsWithCredits};
 ghost use Rattle.calls_flags.specs.KnownCalls.{known_calls};
 ghost use Rattle.credits.specs.CreditViews.{has};
-ghost use Rattle.meaning.specs.BodyEvents.{Variable as MeantVariable, bodies_of, variables_of, too_many_faults};
+ghost use Rattle.meaning.specs.BodyEvents.{Variable as MeantVariable, bodies_of, variables_of, unfollowed_faults};
 ghost use Rattle.meaning.specs.FunctionFacts.{cancel};
 ghost use Rattle.meaning.specs.Mentions.{BodyPlace as MeantBody};
 ghost use Rattle.meaning.specs.Uses.{Seen};
@@ -22,8 +22,7 @@ use credits::{Credits, search_body};
 use path_faults::keeps_call;
 use std::alloc::{AllocError, Global};
 
-/// Whether the body's paths keep the cancel variable at that place in the list of its variables, if it has not too
-/// many.
+/// Whether the body's paths keep the cancel variable at that place in the list of its variables, if they are followed.
 fn body_keeps<'a>(
     alloc: Global,
     body: &Body<'_, 'a>,
@@ -32,7 +31,7 @@ fn body_keeps<'a>(
     place: usize,
 ) -> Result<bool, AllocError>
     ensures { IfOk result (λ keeps. (file : ℕ) (seen : Seen) (b : MeantBody) → TellsBody file seen b body.now
-        → too_many_faults (variables_of seen b.at) ≡ []
+        → unfollowed_faults seen b ≡ []
         → (v : MeantVariable) → slice_get (variables_of seen b.at) place ≡ Some v → v.kind ≡ cancel
         → IsTrue keeps ↔ KeepsCall (paths_of seen (promises_in (known_calls calls.entry) (has credits.now) b.at) b)
         v) }
@@ -53,7 +52,7 @@ fn file_keeps<'a>(
 ) -> Result<bool, AllocError>
     ensures { IfOk result (λ keeps. (number : ℕ) (f : FileWithCredits) → TellsWithCredits number f file.now
         → (b : MeantBody) → slice_get (bodies_of f.seen) claim.entry.body ≡ Some b
-        → too_many_faults (variables_of f.seen b.at) ≡ []
+        → unfollowed_faults f.seen b ≡ []
         → (v : MeantVariable) → slice_get (variables_of f.seen b.at) claim.entry.place ≡ Some v → v.kind ≡ cancel
         → IsTrue keeps ↔ KeepsCall (paths_of f.seen (promises_in (known_calls calls.entry) f.credits b.at) b) v) }
 {

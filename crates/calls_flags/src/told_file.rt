@@ -16,7 +16,7 @@ use names::Names;
 use std::alloc::{AllocError, Global};
 use tracked::see;
 use tracked_rows::Known;
-use tree::File;
+use tree::{Edition, File};
 
 /// A file that was told of: its events and use faults, and the variables of its bodies.
 #[derive(Drop)]
@@ -29,6 +29,8 @@ pub struct ToldFile<'a> {
 /// The files of a package that are to be told of, and by what.
 #[derive(Clone, Copy)]
 pub struct Telling<'k, 'a> {
+    /// By which rules.
+    pub edition: Edition,
     pub files: &'a [File],
     /// What the uses of names mean.
     pub names: &'k Names<'a>,
@@ -49,20 +51,20 @@ fn tell_file<'k, 'a>(
 {
     let arena = Bump::new(alloc);
     let seen = see(alloc, &arena, known, file)?;
-    let told = tell(alloc, &seen)?;
     let variables = find_variables(alloc, &seen)?;
+    let told = tell(alloc, &seen, &variables)?;
     Ok(ToldFile {
         told,
         variables: Some(variables),
     })
 }
 
-/// A file that is not walked, as if it had no marks. It takes no memory.
-fn silent<'a>(alloc: Global) -> ToldFile<'a>
-    ensures { (known : MeantKnown) → TellsSeen (seen_in known []) result }
+/// A file that is not walked, as if it had no marks, by that edition. It takes no memory.
+fn silent<'a>(alloc: Global, edition: Edition) -> ToldFile<'a>
+    ensures { (known : MeantKnown) → edition ≡ known.edition → TellsSeen (seen_in known []) result }
 {
     ToldFile {
-        told: Told::new(alloc),
+        told: Told::new(alloc, edition),
         variables: None,
     }
 }
@@ -79,7 +81,7 @@ fn tell_if<'k, 'a>(
     if walked {
         tell_file(alloc, known, file)
     } else {
-        Ok(silent(alloc))
+        Ok(silent(alloc, known.edition))
     }
 }
 
@@ -109,6 +111,7 @@ pub fn tell_at<'a>(
         (known_for telling.entry number) (file_syntax file.now))) }
 {
     let known = Known {
+        edition: telling.edition,
         file: number,
         names: telling.names,
         table: telling.table,

@@ -3,14 +3,15 @@ use Rattle.std.proofs.Common.{◌≡◌, ℕ, ◌+◌, Bool, true, false, List, 
 use Rattle.std.proofs.lemmas.Bool.{and_parts, eqb-true}
 use Rattle.std.proofs.lemmas.Option.{none-some}
 use Rattle.std.specs.Prelude.{◌==◌, not, ◌&&◌, is_some, slice_get}
+use Rattle.bodies.proofs.FewVariables.{none_at_first}
 use Rattle.bodies.specs.Bodies.{has_paths, IsOrderedGraph, TellsBody}
 use Rattle.bodies.specs.NodeEvents.{node_event_view, changed}
 use Rattle.bodies.specs.declared.body.Body.{Body as KeptBody}
 use Rattle.bodies.specs.declared.graph.BodyGraph.{BodyGraph as KeptGraph}
 use Rattle.bodies.specs.declared.node.NodeEvent.{NodeEvent}
 use Rattle.certificates.proofs.MadeRows.{made_least}
-use Rattle.certificates.specs.BodyRows.{AreLeastRows}
-use Rattle.certificates.specs.Rows.{Vec, arriving, TellRows}
+use Rattle.certificates.specs.Least.{IsLeastOf}
+use Rattle.certificates.specs.Rows.{Vec, arriving, rows_view, TellRows}
 use Rattle.checker.specs.Certificates.{groups_with_bits}
 use Rattle.checker.specs.LaidOutViews.{HasWholeOrder}
 use Rattle.flow.specs.GraphOfCode.{nodes}
@@ -18,7 +19,7 @@ use Rattle.flow.specs.GraphViews.{occurrences_of}
 use Rattle.flow.specs.NodeOrder.{places}
 use Rattle.flow.specs.Walks.{Graph}
 use Rattle.maker.specs.AtNodes.{ClassifiesNodes}
-use Rattle.meaning.specs.BodyEvents.{Variable, variables_of, too_many_faults}
+use Rattle.meaning.specs.BodyEvents.{Variable, variables_of, too_many_faults, jump_faults, unfollowed_faults}
 use Rattle.meaning.specs.Classes.{CancelClass, GroupClass}
 use Rattle.meaning.specs.Code.{Occurrence}
 use Rattle.meaning.specs.Mentions.{BodyPlace}
@@ -52,18 +53,15 @@ module _ (paths : Paths) (kept : KeptGraph) (ordered : IsOrderedGraph paths.code
   pub made_rows : (rows : List (Vec ℕ)) (vs : List Variable)
       → vs ≡ paths.variables
       → (HasWholeOrder kept → TellRows (arriving cancels groups (groups_with_bits vs)) vs kept.order.items rows)
-      → AreLeastRows paths rows
+      → IsLeastOf paths (rows_view rows)
   made_rows rows vs same told = record {
-    are_few = few;
-    is_least = record {
-      order = kept.order.items;
-      has_each = has_each;
-      ordered = ordered.ordered;
-      is_least = λ claims.
-          made_least paths kept.order.items claims cancels groups rows few has_each classifies
-          (subst (λ vs. TellRows (arriving cancels groups (groups_with_bits vs)) vs kept.order.items rows) same
-          (told ordered.same));
-    };
+    order = kept.order.items;
+    has_each = has_each;
+    ordered = ordered.ordered;
+    is_least = λ claims.
+        made_least paths kept.order.items claims cancels groups rows few has_each classifies
+        (subst (λ vs. TellRows (arriving cancels groups (groups_with_bits vs)) vs kept.order.items rows) same
+        (told ordered.same));
   }
     where
       has_each : IsPermutation (places 0 (nodes paths.code)) kept.order.items
@@ -72,30 +70,33 @@ module _ (paths : Paths) (kept : KeptGraph) (ordered : IsOrderedGraph paths.code
 -- A body of a file
 
 module _ (file : ℕ) (seen : Seen) (b : BodyPlace) (body : KeptBody) (tells : TellsBody file seen b body) where
-  -- a body with a graph has not too many variables
-  pub few_with : (kept : KeptGraph) → body.graph ≡ Some kept → too_many_faults (variables_of seen b.at) ≡ []
-  few_with kept is =
-      let has : has_paths (variables_of seen b.at) ≡ true = sym tells.has_graph ∙ ap is_some is in
-      none_of (too_many_faults (variables_of seen b.at))
-      (and_parts (not (length (variables_of seen b.at) == 0))
-      (length (too_many_faults (variables_of seen b.at)) == 0) has).1
+  -- the paths of a body with a graph are followed
+  pub followed_with : (kept : KeptGraph) → body.graph ≡ Some kept → unfollowed_faults seen b ≡ []
+  followed_with kept is =
+      let has : has_paths seen b ≡ true = sym tells.has_graph ∙ ap is_some is in
+      none_of (unfollowed_faults seen b)
+      (and_parts (not (length (variables_of seen b.at) == 0)) (length (unfollowed_faults seen b) == 0) has).1
 
-  pub few_unless : body.has_too_many ≡ false → too_many_faults (variables_of seen b.at) ≡ []
-  few_unless unset =
-      none_of (too_many_faults (variables_of seen b.at))
-      (not_so (length (too_many_faults (variables_of seen b.at)) == 0) (sym tells.too_many ∙ unset))
+  pub followed_unless : body.is_unfollowed ≡ false → unfollowed_faults seen b ≡ []
+  followed_unless unset =
+      none_of (unfollowed_faults seen b)
+      (not_so (length (unfollowed_faults seen b) == 0) (sym tells.unfollowed ∙ unset))
 
-  pub too_many : body.has_too_many ≡ true → too_many_faults (variables_of seen b.at) ≡ [] → ⊥
-  too_many set few =
-      true≢false (sym set ∙ tells.too_many ∙ ap (λ (fs : List UseFault). not (length fs == 0)) few)
+  pub not_followed : body.is_unfollowed ≡ true → unfollowed_faults seen b ≡ [] → ⊥
+  not_followed set none =
+      true≢false (sym set ∙ tells.unfollowed ∙ ap (λ (fs : List UseFault). not (length fs == 0)) none)
 
-  -- one without a graph, and with not too many variables, has none
-  pub none_without : body.graph ≡ None → body.has_too_many ≡ false → variables_of seen b.at ≡ []
+  -- one whose paths are followed has not too many variables
+  pub few_where : unfollowed_faults seen b ≡ [] → too_many_faults (variables_of seen b.at) ≡ []
+  few_where none = none_at_first (too_many_faults (variables_of seen b.at)) (jump_faults seen b) none
+
+  -- one without a graph, whose paths are followed, has no variables
+  pub none_without : body.graph ≡ None → body.is_unfollowed ≡ false → variables_of seen b.at ≡ []
   none_without is unset =
       none_of (variables_of seen b.at)
       (not_so (length (variables_of seen b.at) == 0)
       (and_false_by (not (length (variables_of seen b.at) == 0))
-      (length (too_many_faults (variables_of seen b.at)) == 0) (ap (λ (fs : List UseFault). length fs == 0) (few_unless unset))
+      (length (unfollowed_faults seen b) == 0) (ap (λ (fs : List UseFault). length fs == 0) (followed_unless unset))
       (sym tells.has_graph ∙ ap is_some is)))
     where
       and_false_by : (x y : Bool) → y ≡ true → (x && y) ≡ false → x ≡ false

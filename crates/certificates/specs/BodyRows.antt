@@ -3,18 +3,21 @@ use Rattle.std.specs.Prelude.{ℕ, ◌≡◌, true, false, [], Contains, List, O
 use Rattle.std.proofs.Common.{sym, true≢false}
 use Rattle.certificates.specs.Least.{IsLeastOf}
 use Rattle.certificates.specs.Rows.{Vec, rows_view}
-use Rattle.meaning.specs.BodyEvents.{too_many_faults}
-use Rattle.meaning_packages.specs.PathFaults.{Paths}
+use Rattle.meaning.specs.BodyEvents.{unfollowed_faults}
+use Rattle.meaning.specs.Classes.{Promises}
+use Rattle.meaning.specs.Mentions.{BodyPlace}
+use Rattle.meaning.specs.Uses.{Seen}
+use Rattle.meaning_packages.specs.PathFaults.{paths_of}
 
--- the body has not too many variables, and these are the rows of its least certificate
-pub record AreLeastRows (paths : Paths) (rows : List (Vec ℕ)) : Type 0 where
-  pub are_few : too_many_faults paths.variables ≡ []
-  pub is_least : IsLeastOf paths (rows_view rows)
+-- the body's paths are followed, and these are the rows of its least certificate
+pub record AreLeastRows (seen : Seen) (b : BodyPlace) (promises : Promises) (rows : List (Vec ℕ)) : Type 0 where
+  pub is_followed : unfollowed_faults seen b ≡ []
+  pub is_least : IsLeastOf (paths_of seen promises b) (rows_view rows)
 
--- the same; none where it has too many
-abbrev pub AreLeastIf : Paths → Option (Vec (Vec ℕ)) → Type 0
-AreLeastIf paths None = too_many_faults paths.variables ≡ [] → ⊥
-AreLeastIf paths (Some rows) = AreLeastRows paths rows.items
+-- the same; none where they are not followed
+abbrev pub AreLeastIf : Seen → BodyPlace → Promises → Option (Vec (Vec ℕ)) → Type 0
+AreLeastIf seen b promises None = unfollowed_faults seen b ≡ [] → ⊥
+AreLeastIf seen b promises (Some rows) = AreLeastRows seen b promises rows.items
 
 -- Where no class arrives, none is pending
 

@@ -9,7 +9,6 @@ ghost use Rattle.meaning.specs.Classes.{Promises};
 ghost use Rattle.meaning.specs.Mentions.{BodyPlace};
 ghost use Rattle.meaning.specs.Uses.{Seen};
 ghost use Rattle.meaning_packages.specs.Credits.{promises_in};
-ghost use Rattle.meaning_packages.specs.PathFaults.{paths_of};
 
 use crate::rows::rows_of;
 use bodies::{Body, BodyGraph, ordered_graph};
@@ -43,7 +42,7 @@ impl Arrivals for NoArrivals {
     ghost no_others = { none_pending };
 }
 
-/// The rows of a body with variables, and not too many, of which this is the graph.
+/// The rows of a body with variables, whose paths are followed, of which this is the graph.
 fn searched_rows<'a, C: Calls>(
     alloc: Global,
     body: &Body<'_, 'a>,
@@ -53,7 +52,7 @@ fn searched_rows<'a, C: Calls>(
 ) -> Result<Vec<Vec<u16>>, AllocError>
     ensures { IfOk result (λ rows. (file : ℕ) (seen : Seen) (b : BodyPlace) → TellsBody file seen b body.now
         → body.now.graph ≡ Some kept.now
-        → AreLeastRows (paths_of seen (promises_in (C.are_called calls.now) (has credits.now) b.at) b) rows.items) }
+        → AreLeastRows seen b (promises_in (C.are_called calls.now) (has credits.now) b.at) rows.items) }
 {
     let solution = search_body(alloc, body, kept, calls, credits)?;
     rows_of(alloc, &body.variables, kept, &solution)
@@ -66,15 +65,15 @@ fn empty_rows<'a>(
     body: &Body<'_, 'a>,
 ) -> Result<Vec<Vec<u16>>, AllocError>
     ensures { IfOk result (λ rows. (file : ℕ) (seen : Seen) (b : BodyPlace) → TellsFile seen told.now
-        → TellsBody file seen b body.now → body.now.graph ≡ None → body.now.has_too_many ≡ false
-        → (promises : Promises) → AreLeastRows (paths_of seen promises b) rows.items) }
+        → TellsBody file seen b body.now → body.now.graph ≡ None → body.now.is_unfollowed ≡ false
+        → (promises : Promises) → AreLeastRows seen b promises rows.items) }
 {
     let kept = ordered_graph(alloc, told, body.place)?;
     rows_of(alloc, &body.variables, &kept, &NoArrivals)
 }
 
 /// The rows of the least certificate of a body of a file that was told of, where the body relies on what is known of
-/// functions, and on these credits of the file's literals; none where it has too many variables.
+/// functions, and on these credits of the file's literals; none where its paths are not followed.
 ///
 /// # Errors
 ///
@@ -88,9 +87,9 @@ pub fn least_rows<'a, C: Calls>(
 ) -> Result<Option<Vec<Vec<u16>>>, AllocError>
     ensures { IfOk result (λ rows. (file : ℕ) (seen : Seen) (b : BodyPlace) → TellsFile seen told.now
         → TellsBody file seen b body.now
-        → AreLeastIf (paths_of seen (promises_in (C.are_called calls.now) (has credits.now) b.at) b) rows) }
+        → AreLeastIf seen b (promises_in (C.are_called calls.now) (has credits.now) b.at) rows) }
 {
-    if body.has_too_many {
+    if body.is_unfollowed {
         return Ok(None);
     }
     match &body.graph {

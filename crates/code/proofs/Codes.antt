@@ -1,5 +1,5 @@
 -- Which code each value in memory stands for: one law a variant.
-use Rattle.std.proofs.Common.{◌≡◌, List, [], ◌∷◌, ◌++◌, subst, reverse, map, Option, Some, None, Result, Ok, Err, IfOk, OnOk, refl, sym, ap, ◌∙◌}
+use Rattle.std.proofs.Common.{◌≡◌, ℕ, List, [], ◌∷◌, ◌++◌, subst, reverse, map, Option, Some, None, Result, Ok, Err, IfOk, OnOk, refl, sym, ap, ◌∙◌}
 use Rattle.std.proofs.lemmas.List.{map-append, reverse-reverse}
 use mathlib.Core.List.{reverse-cons}
 use Rattle.std.specs.declared.alloc.Global.{Global}
@@ -7,9 +7,10 @@ use Rattle.std.specs.declared.boxed.Box.{Box}
 use Rattle.std.specs.declared.vec.Vec.{Vec}
 use Rattle.code.specs.declared.code.Way.{Way as KeptWay}
 use Rattle.code.specs.declared.code.Occurrence.{Occurrence as KeptOccurrence}
-use Rattle.code.specs.declared.code.Code.{Code as KeptCode, Skip, Does, Leave, Then, Sequence, Choice, Repeats, UpTo, Row_of-Code, end_of-Code, more_of-Code, items-the_row-Code, items_hidden-the_row-Code-0}
+use Rattle.code.specs.declared.code.Code.{Code as KeptCode, Skip, Does, Leave, Then, Sequence, Choice, Repeats, UpTo, UpToFalls, Row_of-Code, end_of-Code, more_of-Code, items-the_row-Code, items_hidden-the_row-Code-0}
 use Rattle.code.specs.declared.code.Code.TheBlock.{hidden-the_row-Code-0}
 use Rattle.meaning.specs.Code.{Code, skip, does, leave, then_code, either, repeats, up_to}
+use Rattle.meaning.specs.StatementCode.{up_to_falls}
 use Rattle.code.specs.CodeViews.{occurrence_view, way_view, sequence, choice, backward, or_another, one_of, code_view, row_codes, codes_view, IsCode}
 
 module _ {E : Type 0} where
@@ -53,6 +54,10 @@ module _ {E : Type 0} where
   unfolding code_view
   code_view-UpTo way c = refl
 
+  pub code_view-UpToFalls : (falls : Vec ℕ Global) (c : Box (KeptCode E) Global) → code_view (UpToFalls falls c) ≡ up_to_falls falls.items (code_view c.value)
+  unfolding code_view
+  code_view-UpToFalls falls c = refl
+
   -- a result with an equal code
   pub same_code : {F : Type 0} (r : Result (KeptCode E) F) (x y : Code E) → x ≡ y
       → IfOk r (λ c. code_view c ≡ x) → IfOk r (λ c. code_view c ≡ y)
@@ -90,6 +95,11 @@ module _ {E : Type 0} where
         → r ≡ Ok x → c.value ≡ x → IsCode r a → code_view (UpTo way c) ≡ up_to (way_view way) a
     made_up_to way r x c a is held ha =
         code_view-UpTo way c ∙ ap (up_to (way_view way)) (ap code_view held ∙ code_of r x a is ha)
+
+    pub made_up_to_falls : (falls : Vec ℕ Global) (r : Result (KeptCode E) F) (x : KeptCode E) (c : Box (KeptCode E) Global) (a : Code E)
+        → r ≡ Ok x → c.value ≡ x → IsCode r a → code_view (UpToFalls falls c) ≡ up_to_falls falls.items a
+    made_up_to_falls falls r x c a is held ha =
+        code_view-UpToFalls falls c ∙ ap (up_to_falls falls.items) (ap code_view held ∙ code_of r x a is ha)
 
   pub alone_in : (codes : List (KeptCode E)) (o : KeptOccurrence E) (none : List (KeptCode E))
       → none ≡ [] → codes ≡ none ++ Does o ∷ []

@@ -2,13 +2,13 @@
 use Rattle.std.specs.Prelude.{ℕ, ◌+◌, Bool, if◌then◌else◌, List, [], ◌∷◌, map, Option, Some, None, option_map, Result, IfOk, ◌≡◌}
 use Rattle.std.specs.Borrow.{Bor}
 use Rattle.code.specs.declared.code.Way.{Way as KeptWay}
-use Rattle.code.specs.declared.code.Way.TheVariants.{Returning, Breaking, Continuing}
+use Rattle.code.specs.declared.code.Way.TheVariants.{Returning, Breaking, Continuing, Falling}
 use Rattle.code.specs.declared.code.Occurrence.{Occurrence as KeptOccurrence}
-use Rattle.code.specs.declared.code.Code.{Code as KeptCode, Skip, Does, Leave, Then', Sequence', Choice', Repeats', UpTo', Row_of-Code, end_of-Code, more_of-Code}
+use Rattle.code.specs.declared.code.Code.{Code as KeptCode, Skip, Does, Leave, Then', Sequence', Choice', Repeats', UpTo', UpToFalls', Row_of-Code, end_of-Code, more_of-Code}
 use Rattle.code.specs.declared.parts.Jump.{Jump}
 use Rattle.code.specs.declared.parts.Jump.TheVariants.{Break, Continue}
-use Rattle.meaning.specs.Code.{Occurrence, Way, returning, breaking, continuing, Code, skip, does, leave, then_code, either, repeats, up_to}
-use Rattle.meaning.specs.StatementCode.{stuck, up_to_labels}
+use Rattle.meaning.specs.Code.{Occurrence, Way, returning, breaking, continuing, falling, Code, skip, does, leave, then_code, either, repeats, up_to}
+use Rattle.meaning.specs.StatementCode.{stuck, up_to_labels, up_to_falls}
 use Rattle.tree.specs.Syntax.{Statements, Block}
 use Rattle.tree.specs.declared.span.Span.{Span}
 
@@ -23,6 +23,7 @@ abbrev pub way_view : KeptWay → Way
 way_view Returning = returning
 way_view (Breaking label) = breaking (option_map text_now label)
 way_view (Continuing label) = continuing (option_map text_now label)
+way_view (Falling at) = falling at
 
 -- the way out to the label
 abbrev pub way_to : Jump → Option (List ℕ) → Way
@@ -82,6 +83,7 @@ module _ {E : Type 0} where
     code_view (Choice' shape cs) = one_of (row_codes cs) None
     code_view (Repeats' p c) = repeats (code_view c)
     code_view (UpTo' way p c) = up_to (way_view way) (code_view c)
+    code_view (UpToFalls' falls p c) = up_to_falls falls.items (code_view c)
 
     pub row_codes : {m : _} → Row_of-Code E m → List (Code E)
     row_codes end_of-Code = []

@@ -8,6 +8,8 @@ pub enum Way<'a> {
     Breaking(Option<&'a str>),
     /// `continue`, perhaps to a label.
     Continuing(Option<&'a str>),
+    /// The `fallthrough` at this byte offset.
+    Falling(u32),
 }
 
 /// An event at its place.
@@ -38,4 +40,7 @@ pub enum Code<'a, E> {
     Repeats(Box<Code<'a, E>>),
     /// What leaves that way arrives at the end of the code.
     UpTo(Way<'a>, Box<Code<'a, E>>),
+    /// What falls through at one of these byte offsets arrives at the end of the code. There may be many, so they are a
+    /// list.
+    UpToFalls(Vec<u32>, Box<Code<'a, E>>),
 }

@@ -1,10 +1,10 @@
 //! The parts of codes. Each function here takes what was made as a result, and gives one: so no function that goes
 //! through the tree holds a code while it may fail, and none there lets go of one.
 
-ghost use Rattle.std.specs.Prelude.{◌≡◌, map, option_map};
+ghost use Rattle.std.specs.Prelude.{◌≡◌, map, option_map, None};
 ghost use Rattle.code.specs.CodeViews.{text_now, way_view, way_to, turn_or_end, ends_at, sequence, choice, code_view, codes_view, Changes, Joins, JoinsFour};
-ghost use Rattle.meaning.specs.Code.{then_code, either, repeats, up_to};
-ghost use Rattle.meaning.specs.StatementCode.{label_of, up_to_labels, breaks_end, turns_end};
+ghost use Rattle.meaning.specs.Code.{breaking, leave, then_code, either, repeats, up_to};
+ghost use Rattle.meaning.specs.StatementCode.{label_of, up_to_labels, breaks_end, turns_end, up_to_falls};
 ghost use Rattle.tree.specs.View.{identifier_syntax};
 
 use crate::code::{Code, Way};
@@ -138,6 +138,14 @@ fn turns_end<'a, E: Copy>(alloc: Global, labels: &[&'a str], code: Made<'a, E>) 
     ends_at(alloc, Jump::Continue, labels, code)
 }
 
+/// What falls through at one of these offsets arrives at the end of the code.
+fn up_to_falls<'a, E: Copy>(alloc: Global, falls: Vec<u32>, code: Made<'a, E>) -> Made<'a, E>
+    ensures { Changes (up_to_falls falls.items) code.entry result }
+{
+    let code = Box::new(alloc, code?)?;
+    Ok(Code::UpToFalls(falls, code))
+}
+
 /// What follows the header of a loop: a turn, or the end of the loop where the header may end it.
 fn turn_or_end<'a, E: Copy>(alloc: Global, may_end: bool, turn: Made<'a, E>) -> Made<'a, E>
     ensures { Changes (turn_or_end may_end) turn.entry result }
@@ -176,6 +184,23 @@ pub fn turns<'a, E: Copy>(
         result }
 {
     let round = then(alloc, header, turn);
+    breaks_end(alloc, labels, repeats(alloc, round))
+}
+
+/// A switch where clauses fall through at these offsets: its header, and then what it leads to, over and over until
+/// another way leads out of that.
+pub fn falling_over<'a, E: Copy>(
+    alloc: Global,
+    labels: &[&'a str],
+    falls: Vec<u32>,
+    header: Made<'a, E>,
+    clauses: Made<'a, E>,
+) -> Made<'a, E>
+    ensures { Joins (λ h c. breaks_end (map text_now labels.now) (repeats (up_to_falls falls.items
+        (then_code h (then_code c (leave (breaking None))))))) header.entry clauses.entry result }
+{
+    let end = then(alloc, clauses, Ok(Code::Leave(Way::Breaking(None))));
+    let round = up_to_falls(alloc, falls, then(alloc, header, end));
     breaks_end(alloc, labels, repeats(alloc, round))
 }
 

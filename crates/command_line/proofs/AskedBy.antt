@@ -10,7 +10,7 @@ module _ (words rest : List (List ℕ)) (command : List ℕ) (kept : Kept) (is :
     (are : AreKept rest kept) where
   -- what is kept is what the words behind the command name
   are_named : named_of kept ≡ named_by rest
-  are_named = rw (are.files, are.facts, are.lists, are.formats, are.numbers, are.packages) refl
+  are_named = rw (are.files, are.facts, are.lists, are.formats, are.editions, are.numbers, are.packages) refl
 
   is_command : (meant : List ℕ) → command ≡ meant → IsCommand meant words (named_of kept)
   is_command meant is_meant = record {

@@ -15,6 +15,7 @@ named_of kept = record {
   facts = texts_of kept.facts.items;
   lists = texts_of kept.lists.items;
   formats = texts_of kept.formats.items;
+  editions = texts_of kept.editions.items;
   numbers = texts_of kept.numbers.items;
   packages = texts_of kept.packages.items;
 }
@@ -25,6 +26,7 @@ pub record AreKept (words : List (List ℕ)) (kept : Kept) : Type 0 where
   pub facts : texts_of kept.facts.items ≡ (named_by words).facts
   pub lists : texts_of kept.lists.items ≡ (named_by words).lists
   pub formats : texts_of kept.formats.items ≡ (named_by words).formats
+  pub editions : texts_of kept.editions.items ≡ (named_by words).editions
   pub numbers : texts_of kept.numbers.items ≡ (named_by words).numbers
   pub packages : texts_of kept.packages.items ≡ (named_by words).packages
 
@@ -39,6 +41,7 @@ pub record IsKeptSo (kept : Kept) (left all : Named) : Type 0 where
   pub facts : texts_of kept.facts.items ++ left.facts ≡ all.facts
   pub lists : texts_of kept.lists.items ++ left.lists ≡ all.lists
   pub formats : texts_of kept.formats.items ++ left.formats ≡ all.formats
+  pub editions : texts_of kept.editions.items ++ left.editions ≡ all.editions
   pub numbers : texts_of kept.numbers.items ++ left.numbers ≡ all.numbers
   pub packages : texts_of kept.packages.items ++ left.packages ≡ all.packages
 

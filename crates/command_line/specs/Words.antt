@@ -8,9 +8,11 @@ use Rattle.std.specs.Str.{bytes_eq}
 use Rattle.std.specs.Str.Parse.{digits_value, without_leading_plus, IsNumeral}
 use Rattle.report_formats.specs.declared.formats.Format.{Format}
 use Rattle.report_formats.specs.declared.formats.Format.TheVariants.{Text, Json, Sarif}
+use Rattle.tree.specs.declared.edition.Edition.{Edition}
+use Rattle.tree.specs.declared.edition.Edition.TheVariants.{First, Second}
 use Rattle.workers.specs.Counts.{count_of}
 use Rattle.command_line.specs.declared.options.ValueOption.{ValueOption}
-use Rattle.command_line.specs.declared.options.ValueOption.TheVariants.{Certificates, Facts, PackageList, ReportFormat, WorkerCount}
+use Rattle.command_line.specs.declared.options.ValueOption.TheVariants.{Certificates, Facts, PackageList, ReportFormat, EditionNumber, WorkerCount}
 use Rattle.command_line.specs.declared.words.Asked.{Asked}
 use Rattle.command_line.specs.declared.words.Asked.TheVariants.{Check, Certify, Verify, Help, Wrong}
 use Rattle.command_line.specs.declared.words.CheckWords.{CheckWords}
@@ -30,6 +32,7 @@ option_of word =
     else if bytes_eq word (codes "--facts") then Some Facts
     else if bytes_eq word (codes "--packages") then Some PackageList
     else if bytes_eq word (codes "--format") then Some ReportFormat
+    else if bytes_eq word (codes "--edition") then Some EditionNumber
     else if bytes_eq word (codes "-j") then Some WorkerCount
     else None
 
@@ -44,12 +47,18 @@ number_in word =
     else if starts_with nat_eq word (codes "-j") then Some (behind (codes "-j") word)
     else None
 
+-- the number of an edition or of workers that stands in a word with its option
+abbrev pub number_option_in : List ℕ → Option (ValueOption × List ℕ)
+number_option_in word =
+    if starts_with nat_eq word (codes "--edition=") then Some (EditionNumber, behind (codes "--edition=") word)
+    else option_map (λ number. (WorkerCount, number)) (number_in word)
+
 -- a list of packages, a format or a number that stands in a word with its option
 abbrev pub run_option_in : List ℕ → Option (ValueOption × List ℕ)
 run_option_in word =
     if starts_with nat_eq word (codes "--packages=") then Some (PackageList, behind (codes "--packages=") word)
     else if starts_with nat_eq word (codes "--format=") then Some (ReportFormat, behind (codes "--format=") word)
-    else option_map (λ number. (WorkerCount, number)) (number_in word)
+    else number_option_in word
 
 -- the option that this word has with its value in itself, and that value
 abbrev pub option_in : List ℕ → Option (ValueOption × List ℕ)
@@ -59,17 +68,26 @@ option_in word =
     else run_option_in word
 
 -- what words behind a command name: files of certificates by `--cert`, files of declared facts by `--facts`, lists of
--- packages by `--packages`, formats by `--format`, numbers by `-j`, and packages
+-- packages by `--packages`, formats by `--format`, editions by `--edition`, numbers by `-j`, and packages
 pub record Named : Type 0 where
   pub files : List (List ℕ)
   pub facts : List (List ℕ)
   pub lists : List (List ℕ)
   pub formats : List (List ℕ)
+  pub editions : List (List ℕ)
   pub numbers : List (List ℕ)
   pub packages : List (List ℕ)
 
 abbrev pub only_packages : List (List ℕ) → Named
-only_packages words = record { files = []; facts = []; lists = []; formats = []; numbers = []; packages = words }
+only_packages words = record {
+  files = [];
+  facts = [];
+  lists = [];
+  formats = [];
+  editions = [];
+  numbers = [];
+  packages = words;
+}
 
 -- and this value of the option, before the others
 abbrev pub with_value : ValueOption → List ℕ → Named → Named
@@ -77,6 +95,7 @@ with_value Certificates file named = record named { files = file ∷ named.files
 with_value Facts file named = record named { facts = file ∷ named.facts }
 with_value PackageList file named = record named { lists = file ∷ named.lists }
 with_value ReportFormat format named = record named { formats = format ∷ named.formats }
+with_value EditionNumber number named = record named { editions = number ∷ named.editions }
 with_value WorkerCount number named = record named { numbers = number ∷ named.numbers }
 
 abbrev pub with_package : List ℕ → Named → Named
@@ -127,6 +146,18 @@ AreFormat [] format = format ≡ Text
 AreFormat (word ∷ []) format = word ≡ format_text format
 AreFormat (word ∷ another ∷ more) format = ⊥
 
+abbrev pub edition_number : Edition → ℕ
+edition_number First = 1
+edition_number Second = 2
+
+-- this edition is asked for by these numbers: none where there is none, and two numbers ask for nothing
+abbrev pub AreEdition : List (List ℕ) → Option Edition → Type 0
+AreEdition [] None = ⊤
+AreEdition [] (Some edition) = ⊥
+AreEdition (number ∷ []) None = ⊥
+AreEdition (number ∷ []) (Some edition) = IsNumber number (edition_number edition)
+AreEdition (number ∷ another ∷ more) edition = ⊥
+
 abbrev pub texts_of : List (Bor (List ℕ)) → List (List ℕ)
 texts_of = map (λ t. t.now)
 
@@ -135,10 +166,12 @@ abbrev pub option_texts : Option (Bor (List ℕ)) → List (List ℕ)
 option_texts None = []
 option_texts (Some t) = t.now ∷ []
 
--- what is read for a report is what is named: at most one file of declared facts, at most one list, and the packages
+-- what is read for a report is what is named: at most one file of declared facts, at most one list, the packages, and
+-- at most one edition, by which all of these are judged
 pub record AreSources (named : Named) (sources : Sources) : Type 0 where
   pub are_facts : named.facts ≡ option_texts sources.facts
   pub is_list : named.lists ≡ option_texts sources.list
+  pub is_edition : AreEdition named.editions sources.edition
   pub are_packages : named.packages ≡ texts_of sources.packages.items
 
 -- `check` without a file of certificates

@@ -60,6 +60,15 @@ const FORMAT: &str = "The form of the report: text, json or sarif [default: text
 
 const FORMATS: &[&str] = &[TEXT_WORD, JSON_WORD, SARIF_WORD];
 
+const EDITION: &str =
+    "The edition of the rules, 1 or 2; the second one knows type parameters, `fallthrough`, `goto` and imports with \
+a dot [default: 1 for words, 2 for a list]";
+
+/// The numbers of the editions.
+const FIRST_EDITION: u64 = 1;
+
+const LAST_EDITION: u64 = 2;
+
 const PACKAGE: &str = "A package's import path, `=`, and the folder of its files: \
 each file there is read that ends in .go and not in _test.go";
 
@@ -78,6 +87,7 @@ fn command<'a>(alloc: Global) -> Result<Command<'a>, AllocError> {
         .arg(facts_option(alloc))?
         .arg(list_option(alloc))?
         .arg(format_option(alloc))?
+        .arg(edition_option(alloc))?
         .arg(package(alloc)?)?;
     let verify = Command::new(alloc, VERIFY_WORD)
         .about(VERIFY)
@@ -86,6 +96,7 @@ fn command<'a>(alloc: Global) -> Result<Command<'a>, AllocError> {
         .arg(facts_option(alloc))?
         .arg(list_option(alloc))?
         .arg(format_option(alloc))?
+        .arg(edition_option(alloc))?
         .arg(package(alloc)?)?;
     Command::new(alloc, "ctxvet")
         .about(ABOUT)
@@ -140,6 +151,16 @@ fn format_option<'a>(alloc: Global) -> Arg<'a> {
         .help(FORMAT)
         .value_parser(ValueParser::Names(FORMATS))
         .hide_possible_values(true)
+        .action(ArgAction::Set)
+}
+
+/// The option that says by which edition of the rules packages are judged.
+fn edition_option<'a>(alloc: Global) -> Arg<'a> {
+    Arg::new(alloc, "edition")
+        .long("edition")
+        .value_name("N")
+        .help(EDITION)
+        .value_parser(ValueParser::unsigned(FIRST_EDITION, LAST_EDITION))
         .action(ArgAction::Set)
 }
 

@@ -19,6 +19,7 @@ pub struct Kept<'a> {
     pub facts: Vec<&'a str>,
     pub lists: Vec<&'a str>,
     pub formats: Vec<&'a str>,
+    pub editions: Vec<&'a str>,
     pub numbers: Vec<&'a str>,
     pub packages: Vec<&'a str>,
 }
@@ -36,6 +37,7 @@ pub fn kept_words<'a, S: AsStr>(alloc: Global, words: &'a [S]) -> Result<Kept<'a
         facts: Vec::new(alloc),
         lists: Vec::new(alloc),
         formats: Vec::new(alloc),
+        editions: Vec::new(alloc),
         numbers: Vec::new(alloc),
         packages: Vec::new(alloc),
     };
@@ -114,6 +116,7 @@ fn keep_value<'a>(
         ValueOption::Facts => Ok(kept.facts.push(value)?),
         ValueOption::PackageList => Ok(kept.lists.push(value)?),
         ValueOption::ReportFormat => Ok(kept.formats.push(value)?),
+        ValueOption::EditionNumber => Ok(kept.editions.push(value)?),
         ValueOption::WorkerCount => Ok(kept.numbers.push(value)?),
     }
 }

@@ -1,7 +1,7 @@
 //! The options of a command, and the words that have them.
 
 ghost use Rattle.std.specs.Prelude.{◌≡◌, option_map};
-ghost use Rattle.command_line.specs.Words.{number_in, option_in, run_option_in, option_of};
+ghost use Rattle.command_line.specs.Words.{number_in, number_option_in, option_in, run_option_in, option_of};
 
 /// An option. Each has a value: the word behind it, or what stands behind `=` in its own word.
 #[derive(Clone, Copy, Debug)]
@@ -14,6 +14,8 @@ pub enum ValueOption {
     PackageList,
     /// `--format`: in which form the report is written.
     ReportFormat,
+    /// `--edition`: by which edition of the rules the packages are judged.
+    EditionNumber,
     /// `-j`: how many workers there are. Its value may also stand straight behind it.
     WorkerCount,
 }
@@ -30,6 +32,8 @@ pub fn option_of(word: &str) -> Option<ValueOption>
         Some(ValueOption::PackageList)
     } else if word == "--format" {
         Some(ValueOption::ReportFormat)
+    } else if word == "--edition" {
+        Some(ValueOption::EditionNumber)
     } else if word == "-j" {
         Some(ValueOption::WorkerCount)
     } else {
@@ -58,6 +62,17 @@ fn run_option_in(word: &str) -> Option<(ValueOption, &str)>
         Some((ValueOption::PackageList, file))
     } else if let Some(format) = word.strip_prefix("--format=") {
         Some((ValueOption::ReportFormat, format))
+    } else {
+        number_option_in(word)
+    }
+}
+
+/// The same of the number of an edition or of workers.
+fn number_option_in(word: &str) -> Option<(ValueOption, &str)>
+    ensures { option_map (λ held. (held.0, held.1.now)) result ≡ number_option_in word.now }
+{
+    if let Some(number) = word.strip_prefix("--edition=") {
+        Some((ValueOption::EditionNumber, number))
     } else {
         Some((ValueOption::WorkerCount, number_in(word)?))
     }

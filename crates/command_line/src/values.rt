@@ -1,10 +1,11 @@
 //! What the values of options ask for.
 
 ghost use Rattle.std.specs.Prelude.{◌≡◌, IfSome};
-ghost use Rattle.command_line.specs.Words.{format_text, option_texts, texts_of, AreFormat, AreWorkers, IsNumber};
+ghost use Rattle.command_line.specs.Words.{edition_number, format_text, option_texts, texts_of, AreEdition, AreFormat, AreWorkers, IsNumber};
 ghost use Rattle.workers.specs.Counts.{count_of};
 
 use report_formats::Format;
+use tree::Edition;
 use workers::Workers;
 
 /// The words of the formats.
@@ -30,6 +31,28 @@ fn workers_of(number: &str) -> Option<Workers>
 {
     match number.parse::<usize>() {
         Ok(count) => Workers::new(count),
+        Err(_) => None,
+    }
+}
+
+/// The edition of this number, or none where there is no number.
+pub fn edition_by(number: Option<&str>) -> Option<Option<Edition>>
+    ensures { IfSome result (AreEdition (option_texts number.entry)) }
+{
+    match number {
+        Some(number) => Some(Some(edition_of(number)?)),
+        None => Some(None),
+    }
+}
+
+/// The edition whose number the word says.
+fn edition_of(number: &str) -> Option<Edition>
+    ensures { IfSome result (λ edition. IsNumber number.now (edition_number edition)) }
+{
+    match number.parse::<usize>() {
+        Ok(1) => Some(Edition::First),
+        Ok(2) => Some(Edition::Second),
+        Ok(_) => None,
         Err(_) => None,
     }
 }

@@ -6,12 +6,13 @@ ghost use Rattle.command_line.specs.KeptWords.{named_of, IsAskedBy};
 
 use crate::command::understood;
 use crate::kept::{Kept, kept_words};
-use crate::values::{at_most_one, format_by, workers_by};
+use crate::values::{at_most_one, edition_by, format_by, workers_by};
 use clap::Error;
 use clap::error::ErrorKind;
 use report_formats::Format;
 use std::alloc::{AllocError, Global};
 use std::convert::AsStr;
+use tree::Edition;
 use workers::Workers;
 
 /// The commands of the program.
@@ -20,11 +21,12 @@ pub const CHECK_WORD: &str = "check";
 pub const VERIFY_WORD: &str = "verify";
 
 /// What is read for a report: the file of declared facts, if one is named, the list of packages, if one is named, and
-/// the words of packages, `PATH=DIR` each.
+/// the words of packages, `PATH=DIR` each. All packages are judged by this edition of the rules, if one is named.
 #[derive(Debug, Drop)]
 pub struct Sources<'a> {
     pub facts: Option<&'a str>,
     pub list: Option<&'a str>,
+    pub edition: Option<Edition>,
     pub packages: Vec<&'a str>,
 }
 
@@ -114,6 +116,7 @@ fn understood_command<'a>(command: &str, kept: Kept<'a>) -> Option<Asked<'a>>
         facts,
         lists,
         formats,
+        editions,
         numbers,
         packages,
     } = kept;
@@ -123,6 +126,7 @@ fn understood_command<'a>(command: &str, kept: Kept<'a>) -> Option<Asked<'a>>
     let sources = Sources {
         facts: at_most_one(&facts)?,
         list: at_most_one(&lists)?,
+        edition: edition_by(at_most_one(&editions)?)?,
         packages,
     };
     if command == CHECK_WORD {

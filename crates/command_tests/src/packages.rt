@@ -6,6 +6,7 @@ use driver::{Fault, GivenPackage, report_of};
 use std::alloc::{AllocError, Global};
 use std::fs;
 use std::test::Fail;
+use tree::Edition;
 
 /// So many composite literals in each other, with a number in the last, are a tree as deep as a file may have.
 const MOST_LITERALS: usize = 199;
@@ -45,6 +46,7 @@ fn too_many_packages_are_refused(rt: HostRuntime) -> Result<(), Fail> {
     for _ in 0..TOO_MANY {
         given.push(GivenPackage {
             path: String::from_str(rt.alloc(), "a")?,
+            edition: Edition::First,
             sources: Vec::new(rt.alloc()),
         })?;
     }

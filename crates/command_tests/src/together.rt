@@ -23,6 +23,7 @@ use std::test::Fail;
 use std::thread::Threads;
 use std::time::{Clock, Duration};
 use std::{fs, thread};
+use tree::Edition;
 use whole_packages::LoadedPackage;
 use workers::{BodyGate, Free, Helpers, PieceFault, Workers};
 
@@ -149,6 +150,7 @@ pub fn package(alloc: Global, path: &str, texts: &[&str]) -> Result<GivenPackage
     }
     Ok(GivenPackage {
         path: String::from_str(alloc, path)?,
+        edition: Edition::First,
         sources,
     })
 }
@@ -248,6 +250,7 @@ fn solved_in<'k, 't: 'k, 'a, R: Threads + Wait, G: BodyGate + Sync>(
 ) -> Option<Vec<(usize, u32)>> {
     let (table, calls) = (&named.told.signatures, &imports.calls);
     let telling = Telling {
+        edition: named.package.edition,
         files: &named.package.trees,
         names: named.names,
         table,

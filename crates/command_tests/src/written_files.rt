@@ -1,7 +1,7 @@
 //! Files that are written whole: in real folders, and on a disk that fails.
 
 use crate::real_folders::folder_with;
-use evidence_rows::FolderEntry;
+use evidence_rows::written_files::{DISKS, FOLDERS};
 use folders::{UnwrittenFile, write_file};
 use std::alloc::{Allocator, Global};
 use std::cell::Cell;
@@ -22,48 +22,6 @@ fn written<R: Files + AllocGlobal>(rt: &R, name: &str) -> Result<Option<String>,
     }
 }
 
-/// What stands in a folder, the name of the file that is written, the file that then has the text (none, where it can't
-/// be written), and how many entries the folder has then.
-type Case = (
-    &'static [(&'static str, FolderEntry)],
-    &'static str,
-    Option<&'static str>,
-    usize,
-);
-
-const LONGER: FolderEntry = FolderEntry::Text(
-    "a text that is longer than the one that is written there",
-);
-
-const ROWS: &[Case] = &[
-    (&[], "c", Some("c"), 1),
-    (&[("c", LONGER)], "c", Some("c"), 1),
-    (
-        &[("line\nbreak", LONGER)],
-        "line\nbreak",
-        Some("line\nbreak"),
-        1,
-    ),
-    // A name that is taken is not written beside.
-    (&[("ctxvet-0.tmp", LONGER)], "c", Some("c"), 2),
-    // Of a link that leads to a file, the file is written, and the link stays.
-    (
-        &[
-            ("inner", FolderEntry::Text("")),
-            ("c", FolderEntry::Link("inner")),
-        ],
-        "c",
-        Some("inner"),
-        2,
-    ),
-    (&[("c", FolderEntry::Link("none"))], "c", Some("c"), 1),
-    // Devices are written as they stand.
-    (&[("c", FolderEntry::Link("/dev/null"))], "c", None, 1),
-    (&[("c", FolderEntry::Folder)], "c", None, 1),
-    (&[], "none/c", None, 0),
-    (&[], "", None, 0),
-];
-
 /// How many entries the folder has.
 fn entry_count(rt: &HostRuntime, folder: &str) -> Result<usize, Fail> {
     let mut count: usize = 0;
@@ -76,7 +34,7 @@ fn entry_count(rt: &HostRuntime, folder: &str) -> Result<usize, Fail> {
 
 #[test]
 fn files_are_written_whole(rt: HostRuntime) -> Result<(), Fail> {
-    for (entries, name, holder, count) in ROWS {
+    for (entries, name, holder, count) in FOLDERS {
         let folder = folder_with(&rt, "written", *entries)?;
         let path = format!(in rt.alloc(); "{folder}/{name}")?;
         let told = written(&rt, path.as_str())?;
@@ -257,20 +215,9 @@ impl<R> Files for Disk<R> {
     }
 }
 
-/// How many bytes fit, whether they come to the disk, whether a file can be renamed, and whether the file is written.
-type DiskCase = (usize, bool, bool, bool);
-
-const DISK_ROWS: &[DiskCase] = &[
-    (9999, true, true, true),
-    (0, true, true, false),
-    (9, true, true, false),
-    (9999, false, true, false),
-    (9999, true, false, false),
-];
-
 #[test]
 fn a_failed_write_leaves_what_stood_there(rt: HostRuntime) -> Result<(), Fail> {
-    for (room, syncs, renames, succeeds) in DISK_ROWS {
+    for (room, syncs, renames, succeeds) in DISKS {
         for stands in [false, true] {
             let failing = Failing {
                 stands,

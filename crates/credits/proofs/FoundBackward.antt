@@ -8,7 +8,7 @@ use Rattle.std.proofs.lemmas.List.{take_all, take_more}
 use Rattle.std.proofs.lemmas.Option.{none-some, same_Some, get_or_from_slice_get, slice_get_within}
 use Rattle.meaning.specs.Mentions.{BodyPlace}
 use Rattle.meaning.specs.Uses.{Seen}
-use Rattle.meaning.specs.BodyEvents.{bodies_of}
+use Rattle.meaning.specs.BodyEvents.{bodies_of, unfollowed_faults}
 use Rattle.meaning_packages.specs.PathFaults.{paths_of}
 use Rattle.meaning_packages.specs.Credits.{body_at, Credits, begun_after, no_calls, promises_in, Settles, IsCredited}
 use Rattle.credits.specs.FoundCredits.{IsSettledBy, SettlesBody, AreFoundBut}
@@ -23,7 +23,7 @@ module _ (seen : Seen) where
     body = h.body;
     variable = h.variable;
     is_there = h.is_there;
-    are_few = h.are_few;
+    is_followed = h.is_followed;
     is_of_body = h.is_of_body;
     is_captured = h.is_captured;
     is_it = h.is_it;
@@ -48,14 +48,14 @@ module _ (seen : Seen) where
       body = b;
       variable = h.settles.variable;
       is_there = is_there;
-      are_few = h.are_few;
+      is_followed = h.is_followed;
       is_of_body = h.settles.is_of_body;
       is_captured = h.settles.is_captured;
       is_it = h.settles.is_it;
       settles = h.settles.settles;
     },
     λ h. record {
-      are_few = h.are_few;
+      is_followed = subst (λ x. unfollowed_faults seen x ≡ []) (same_Some h.body b (sym h.is_there ∙ is_there)) h.is_followed;
       settles = record {
         variable = h.variable;
         is_of_body = h.is_of_body;

@@ -7,7 +7,7 @@ use Rattle.bodies.specs.NodeEvents.{IsGraphOf}
 use Rattle.bodies.specs.declared.body.Body.{Body as KeptBody}
 use Rattle.bodies.specs.declared.graph.BodyGraph.{BodyGraph as KeptGraph}
 use Rattle.credits.proofs.OwnGroups.{starts_in_own_groups}
-use Rattle.credits.proofs.SettledBodies.{few_there}
+use Rattle.credits.proofs.SettledBodies.{few_followed, followed_there}
 use Rattle.credits.specs.PathNodes.{TellsNodes}
 use Rattle.credits.specs.BodyPaths.{TellsPaths}
 use Rattle.events.specs.VariableViews.{variable_view}
@@ -28,7 +28,7 @@ module _ (file : ℕ) (seen : Seen) (b : BodyPlace) (body : KeptBody) (tells : T
     (cancels : ℕ → ℕ → CancelClass → Bool) (groups : ℕ → ℕ → GroupClass → Bool) where
   have_places : HavePlaces (code_in seen b) (variables_of seen b.at)
   have_places = record {
-    are_few = few_there (variables_of seen b.at) (sym tells.has_graph ∙ ap is_some is_kept);
+    are_few = few_followed seen b (followed_there seen b (sym tells.has_graph ∙ ap is_some is_kept));
     own_groups = starts_in_own_groups seen b;
   }
 

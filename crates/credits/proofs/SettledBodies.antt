@@ -1,14 +1,15 @@
 -- What a body settles.
-use Rattle.std.proofs.Common.{◌≡◌, inl, inr, ℕ, true, false, List, [], ◌∷◌, Some, None, length, map, Contains, sym, ap, ◌∙◌, subst, arith}
+use Rattle.std.proofs.Common.{◌≡◌, inl, inr, ℕ, true, false, ◌&&◌, List, [], ◌∷◌, Some, None, length, map, Contains, sym, ap, ◌∙◌, subst, arith}
 use Rattle.std.specs.Prelude.{◌↔◌, ◌==◌, not, is_some}
 use Rattle.std.proofs.lemmas.Bool.{false≢true, and_parts, and_from, ne_eqb, or_left, or_right}
 use Rattle.std.proofs.lemmas.Bool.Decides.{Decides-eqb}
 use Rattle.std.proofs.lemmas.List.{nil_from_length}
 use Rattle.meaning.proofs.Membership.{contains_nil, contains_cases}
-use Rattle.meaning.specs.BodyEvents.{Variable, captured, variables_of, too_many_faults}
+use Rattle.meaning.specs.BodyEvents.{Variable, captured, variables_of, jump_faults, too_many_faults, unfollowed_faults}
 use Rattle.meaning.specs.Mentions.{BodyPlace}
 use Rattle.meaning.specs.Uses.{Seen}
 use Rattle.meaning_packages.specs.Credits.{Credits}
+use Rattle.bodies.proofs.FewVariables.{none_at_first}
 use Rattle.bodies.specs.Bodies.{has_paths, TellsBody}
 use Rattle.bodies.specs.declared.body.Body.{Body as KeptBody}
 use Rattle.bodies.specs.declared.graph.BodyGraph.{BodyGraph as KeptGraph}
@@ -26,17 +27,28 @@ captures (w ∷ vs) v h e =
       | inr later ↦ or_right (is_captured w.role) (captures_any vs) (captures vs v later e)
     ]
 
--- a body with a variable, and with not too many, has paths
-pub paths_there : (vs : List Variable) (v : Variable) → Contains vs v → too_many_faults vs ≡ [] → has_paths vs ≡ true
-paths_there [] v h few = absurd (contains_nil v h)
-paths_there (w ∷ vs) v h few =
-    and_from (not (length (w ∷ vs) == 0)) (length (too_many_faults (w ∷ vs)) == 0)
-    (ap not (ne_eqb (length (w ∷ vs)) 0 (λ e. omega (arith, e)))) (ap (λ fs. length fs == 0) few)
+-- a body with a variable whose paths are followed has paths
+pub paths_there : (seen : Seen) (b : BodyPlace) (v : Variable) → Contains (variables_of seen b.at) v
+    → unfollowed_faults seen b ≡ []
+    → has_paths seen b ≡ true
+paths_there seen b v h followed = by (variables_of seen b.at) h
+  where
+    by : (vs : List Variable) → Contains vs v
+        → (not (length vs == 0) && (length (unfollowed_faults seen b) == 0)) ≡ true
+    by [] h = absurd (contains_nil v h)
+    by (w ∷ vs) h =
+        and_from (not (length (w ∷ vs) == 0)) (length (unfollowed_faults seen b) == 0)
+        (ap not (ne_eqb (length (w ∷ vs)) 0 (λ e. omega (arith, e)))) (ap (λ fs. length fs == 0) followed)
 
-pub few_there : (vs : List Variable) → has_paths vs ≡ true → too_many_faults vs ≡ []
-few_there vs e =
-    let both = and_parts (not (length vs == 0)) (length (too_many_faults vs) == 0) e in
-    nil_from_length (too_many_faults vs) ((Decides-eqb (length (too_many_faults vs)) 0).0 both.1)
+pub followed_there : (seen : Seen) (b : BodyPlace) → has_paths seen b ≡ true → unfollowed_faults seen b ≡ []
+followed_there seen b e =
+    let both = and_parts (not (length (variables_of seen b.at) == 0)) (length (unfollowed_faults seen b) == 0) e in
+    nil_from_length (unfollowed_faults seen b) ((Decides-eqb (length (unfollowed_faults seen b)) 0).0 both.1)
+
+-- and then it has not too many variables
+pub few_followed : (seen : Seen) (b : BodyPlace) → unfollowed_faults seen b ≡ []
+    → too_many_faults (variables_of seen b.at) ≡ []
+few_followed seen b followed = none_at_first (too_many_faults (variables_of seen b.at)) (jump_faults seen b) followed
 
 module _ (file : ℕ) (seen : Seen) (b : BodyPlace) (body : KeptBody) (tells : TellsBody file seen b body)
     (credits : Credits) (number : ℕ) where
@@ -54,7 +66,7 @@ module _ (file : ℕ) (seen : Seen) (b : BodyPlace) (body : KeptBody) (tells : T
     λ bad. absurd (false≢true bad),
     λ h. absurd (false≢true
         (ap is_some (sym none) ∙ tells.has_graph
-        ∙ paths_there (variables_of seen b.at) h.settles.variable h.settles.is_of_body h.are_few)),
+        ∙ paths_there seen b h.settles.variable h.settles.is_of_body h.is_followed)),
   )
 
   pub of_graph : (kept : KeptGraph) → body.graph ≡ Some kept → (is_it : Type 0)
@@ -62,7 +74,7 @@ module _ (file : ℕ) (seen : Seen) (b : BodyPlace) (body : KeptBody) (tells : T
       → is_it ↔ IsSettledBy seen credits b number
   of_graph kept is is_it settled = (
     λ e. record {
-      are_few = few_there (variables_of seen b.at) (sym tells.has_graph ∙ ap is_some is);
+      is_followed = followed_there seen b (sym tells.has_graph ∙ ap is_some is);
       settles = settled.0 e;
     },
     λ h. settled.1 h.settles,

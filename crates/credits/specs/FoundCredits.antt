@@ -2,7 +2,7 @@
 use Rattle.std.specs.Prelude.{ℕ, ◌≡◌, ◌↔◌, true, false, List, [], None, nat_eq}
 use Rattle.meaning.specs.Mentions.{BodyPlace}
 use Rattle.meaning.specs.Uses.{Seen}
-use Rattle.meaning.specs.BodyEvents.{variables_of, too_many_faults}
+use Rattle.meaning.specs.BodyEvents.{unfollowed_faults}
 use Rattle.meaning_packages.specs.PathFaults.{Paths, paths_of}
 use Rattle.meaning_packages.specs.Credits.{Credits, body_at, promises_in, no_calls, IsCredited}
 use Rattle.credits.specs.SettledVariables.{SettlesCaptured}
@@ -11,9 +11,9 @@ use Rattle.credits.specs.SettledVariables.{SettlesCaptured}
 abbrev pub body_paths : Seen → Credits → BodyPlace → Paths
 body_paths seen credits b = paths_of seen (promises_in no_calls credits b.at) b
 
--- the body captures a variable of that number, settles it under these credits, and has not too many variables
+-- the body captures a variable of that number, settles it under these credits, and its paths are followed
 pub record IsSettledBy (seen : Seen) (credits : Credits) (b : BodyPlace) (number : ℕ) : Type 0 where
-  pub are_few : too_many_faults (variables_of seen b.at) ≡ []
+  pub is_followed : unfollowed_faults seen b ≡ []
   pub settles : SettlesCaptured (body_paths seen credits b) number
 
 -- what the body settles is told of its offset, and nothing changes elsewhere

@@ -1,6 +1,6 @@
 -- What is declared of packages that are not given, as the tables by which their callers know them: what is declared of
 -- a function is taken for what its signature says, and for what it is known to call.
-use Rattle.std.specs.Prelude.{ℕ, ◌==◌, ◌&&◌, Bool, false, if◌then◌else◌, List, [], ◌∷◌, ◌++◌, map, Option, Some, None, option_map}
+use Rattle.std.specs.Prelude.{ℕ, ◌==◌, ◌&&◌, Bool, true, false, if◌then◌else◌, List, [], ◌∷◌, ◌++◌, map, Option, Some, None, option_map}
 use Rattle.std.specs.List.{list_any}
 use Rattle.std.specs.Str.{bytes_eq}
 use Rattle.table_json.specs.declared.table.Parameter.{Parameter}
@@ -30,6 +30,7 @@ facts_of f = record {
   parameters = map parameter_of f.facts.params;
   gives = results_of plain f.facts.gives ++ results_of with_cause f.facts.causes;
   results = f.results;
+  unless = [];
 }
 
 -- the parameter has that position, and is declared to be called before its function returns
@@ -53,6 +54,7 @@ abbrev pub table_of : List FunctionEntry → PackageTable
 table_of fs = record {
   signatures = λ name. option_map facts_of (function_in fs name);
   calls = λ name k. calls_in (function_in fs name) k;
+  is_told = true;
 }
 
 abbrev pub table_declared : Option (List FunctionEntry) → PackageTable
@@ -66,7 +68,7 @@ declared_tables packages path = table_declared (table_at path packages)
 -- What the program keeps
 
 abbrev pub table_view : KeptTable → PackageTable
-table_view t = record { signatures = facts_by_name t.signatures; calls = is_called t.called }
+table_view t = record { signatures = facts_by_name t.signatures; calls = is_called t.called; is_told = t.is_told }
 
 abbrev pub table_if_any : Option KeptTable → PackageTable
 table_if_any None = no_table

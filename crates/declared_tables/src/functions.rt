@@ -74,6 +74,7 @@ fn facts_of(alloc: Global, function: &DeclaredFunction) -> Result<FunctionFacts,
         parameters,
         gives,
         results: function.results as usize,
+        unless: Vec::new(alloc),
     })
 }
 

@@ -24,6 +24,8 @@ pub struct PackageTable<'a> {
     pub called: Called<'a>,
     /// Whether one of them may give a cancel function: false only where none does.
     pub gives: bool,
+    /// Whether one of them has a parameter or a result that is tracked, or anything is declared of the package.
+    pub is_told: bool,
 }
 
 /// Whether the function is declared to give a cancel function, of whatever type.
@@ -61,6 +63,7 @@ fn table_of<'a>(
         signatures,
         called,
         gives: any_is_giver(functions),
+        is_told: true,
     })
 }
 

@@ -13,7 +13,7 @@ use Rattle.driver.specs.declared.input.FilesRead.{FilesRead}
 use Rattle.driver.specs.declared.packages.NamedPackage.{NamedPackage}
 use Rattle.driver.specs.DeclaredFacts.{AreDeclaredBy}
 use Rattle.driver.specs.PackageLists.{IsReadSourcesFault}
-use Rattle.driver.specs.Packages.{AddListed, AreListedBy, AreNamed, AreRead, AreReadFor}
+use Rattle.driver.specs.Packages.{edition_of_lists, edition_of_words, AddListed, AreListedBy, AreNamed, AreRead, AreReadFor}
 use Rattle.driver.specs.Faults.{HasBadSource, HasBadWord, IsCheckFault, IsGivenFault, IsSharedReportFault, IsWordsFault}
 
 -- a fault that `?` hands on as it is
@@ -59,9 +59,9 @@ module _ (sources : Sources) where
   pub read_for : (files : FilesRead) (outside : DeclaredPackages) (packages : List NamedPackage) (of_words given : List GivenPackage)
       (entries : List PackageEntry)
       → AreDeclaredBy (option_texts sources.facts) files.facts outside
-      → AreRead packages of_words
+      → AreRead (edition_of_words sources) packages of_words
       → AreListedBy (option_texts sources.list) files.list entries
-      → AddListed entries of_words given
+      → AddListed (edition_of_lists sources) entries of_words given
       → AreNamed (texts_of sources.packages.items) packages
       → AreReadFor sources files outside given
   read_for files outside packages of_words given entries declared read listed added named = record {

@@ -5,6 +5,8 @@ use Rattle.std.specs.Prelude.{◌≡◌, ℕ, Bool, List, [], ◌∷◌, ◌++�
 use Rattle.std.specs.List.{AllByRecursion, AllZip}
 use Rattle.command_line.specs.Words.{option_texts, texts_of}
 use Rattle.command_line.specs.declared.words.Sources.{Sources}
+use Rattle.tree.specs.declared.edition.Edition.{Edition}
+use Rattle.tree.specs.declared.edition.Edition.TheVariants.{First, Second}
 use Rattle.load.specs.declared.packages.GivenPackage.{GivenPackage}
 use Rattle.folders.specs.GoFiles.{AreSourcesOf}
 use Rattle.folders.specs.ListedFiles.{shown_name, AreFilesOf}
@@ -19,6 +21,20 @@ use Rattle.driver.specs.DeclaredFacts.{AreDeclaredBy}
 use Rattle.driver.specs.declared.input.FilesRead.{FilesRead}
 use Rattle.driver.specs.declared.packages.NamedPackage.{NamedPackage}
 
+-- Editions
+
+-- by this edition packages are judged: the one that words ask for, or else this one
+abbrev pub edition_or : Edition → Option Edition → Edition
+edition_or usual None = usual
+edition_or usual (Some asked) = asked
+
+-- packages of words by the first edition, and those of a list by the second, unless one is asked for
+abbrev pub edition_of_words : Sources → Edition
+edition_of_words sources = edition_or First sources.edition
+
+abbrev pub edition_of_lists : Sources → Edition
+edition_of_lists sources = edition_or Second sources.edition
+
 -- Packages of words
 
 -- the word names the package
@@ -28,13 +44,14 @@ IsNamed word named = IsPackageWord word named.path.now named.folder.now
 abbrev pub AreNamed : List (List ℕ) → List NamedPackage → Type 0
 AreNamed = AllZip IsNamed
 
--- the package has that path, and its sources are Go files of that folder
-pub record IsRead (named : NamedPackage) (given : GivenPackage) : Type 0 where
+-- the package has that path and that edition, and its sources are Go files of that folder
+pub record IsRead (edition : Edition) (named : NamedPackage) (given : GivenPackage) : Type 0 where
   pub is_path : string_bytes given.path ≡ named.path.now
+  pub is_edition : given.edition ≡ edition
   pub are_sources : AreSourcesOf named.folder.now given.sources.items
 
-abbrev pub AreRead : List NamedPackage → List GivenPackage → Type 0
-AreRead = AllZip IsRead
+abbrev pub AreRead : Edition → List NamedPackage → List GivenPackage → Type 0
+AreRead edition = AllZip (IsRead edition)
 
 -- Packages of a list
 
@@ -63,19 +80,22 @@ has_files entry = nat_lt 0 (length entry.files)
 abbrev pub shown_files : Option (List ℕ) → PackageEntry → List (List ℕ)
 shown_files here entry = map (shown_name here entry.folder) entry.files
 
--- the package has that path, and its sources are the files of the entry, all of them, each once
-pub record IsListed (here : Option (List ℕ)) (entry : PackageEntry) (given : GivenPackage) : Type 0 where
+-- the package has that path and that edition, and its sources are the files of the entry, all of them, each once
+pub record IsListed (edition : Edition) (here : Option (List ℕ)) (entry : PackageEntry) (given : GivenPackage)
+    : Type 0 where
   pub is_path : string_bytes given.path ≡ entry.path
+  pub is_edition : given.edition ≡ edition
   pub are_files : AreFilesOf (shown_files here entry) given.sources.items
 
-abbrev pub AreListed : Option (List ℕ) → List PackageEntry → List GivenPackage → Type 0
-AreListed here entries = AllZip (IsListed here) (filter has_files entries)
+abbrev pub AreListed : Edition → Option (List ℕ) → List PackageEntry → List GivenPackage → Type 0
+AreListed edition here entries = AllZip (IsListed edition here) (filter has_files entries)
 
 -- to the packages that were given those of these entries were added, as some folder is the current one
-pub record AddListed (entries : List PackageEntry) (before after : List GivenPackage) : Type 0 where
+pub record AddListed (edition : Edition) (entries : List PackageEntry) (before after : List GivenPackage)
+    : Type 0 where
   pub here : Option (List ℕ)
   pub added : List GivenPackage
-  pub are_listed : AreListed here entries added
+  pub are_listed : AreListed edition here entries added
   pub together : after ≡ before ++ added
 
 -- All of them
@@ -85,10 +105,10 @@ pub record AreGiven (sources : Sources) (list : Option ReadFile) (given : List G
   pub packages : List NamedPackage
   pub are_named : AreNamed (texts_of sources.packages.items) packages
   pub of_words : List GivenPackage
-  pub are_read : AreRead packages of_words
+  pub are_read : AreRead (edition_of_words sources) packages of_words
   pub entries : List PackageEntry
   pub are_listed : AreListedBy (option_texts sources.list) list entries
-  pub of_list : AddListed entries of_words given
+  pub of_list : AddListed (edition_of_lists sources) entries of_words given
 
 -- What was read: the files that the words name beside those of packages, what these declare, and the packages.
 pub record AreReadFor (sources : Sources) (files : FilesRead) (outside : DeclaredPackages) (given : List GivenPackage)

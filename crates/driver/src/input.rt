@@ -3,7 +3,7 @@
 ghost use Rattle.std.specs.Prelude.{◌≡◌, ℕ, false, true, IfErr, IfOk};
 ghost use Rattle.command_line.specs.Words.{option_texts, texts_of};
 ghost use Rattle.driver.specs.Faults.{is_of_bytes, is_of_output, IsCheckFault};
-ghost use Rattle.driver.specs.Packages.{AreNamed, AreReadFor};
+ghost use Rattle.driver.specs.Packages.{edition_or, AreNamed, AreReadFor};
 ghost use Rattle.driver.specs.PackageLists.{IsReadSourcesFault};
 
 use crate::facts_input::read_facts;
@@ -15,6 +15,7 @@ use declared_json::DeclaredPackages;
 use folders::{Fault, ReadFile, Surroundings};
 use load::GivenPackage;
 use std::rt::Files;
+use tree::Edition;
 
 /// The files that were read for a report beside those of packages, where they are named: that of declared facts, and
 /// the list of packages.
@@ -33,8 +34,19 @@ pub struct Input<'a> {
     pub empty: Vec<String>,
 }
 
+/// The edition by which packages are judged: the one that is asked for, or else this one.
+fn edition_or(usual: Edition, asked: Option<Edition>) -> Edition
+    ensures { result ≡ edition_or usual asked }
+{
+    match asked {
+        Some(asked) => asked,
+        None => usual,
+    }
+}
+
 /// Reads the file of declared facts, if one is named, after it the list of packages, if one is named, and then the
-/// folders of the packages that words name, which are these, and the files of the listed ones.
+/// folders of the packages that words name, which are these, and the files of the listed ones. Unless an edition is
+/// asked for, those of words are judged by the first one, and the listed ones by the second.
 ///
 /// # Errors
 ///
@@ -54,8 +66,10 @@ pub fn read_input<'a, R: Files + AllocGlobal + Surroundings>(
     let declared = read_facts(rt, sources.facts)?;
     let listed = read_packages_of_list(rt, sources.list)?;
     let mut empty = Vec::new(rt.alloc());
-    let mut given = read_packages(rt, packages, &mut empty, folders)?;
-    add_listed(rt, &listed.packages, &mut given, &mut empty)?;
+    let of_words = edition_or(Edition::First, sources.edition);
+    let of_lists = edition_or(Edition::Second, sources.edition);
+    let mut given = read_packages(rt, of_words, packages, &mut empty, folders)?;
+    add_listed(rt, of_lists, &listed.packages, &mut given, &mut empty)?;
     Ok(Input {
         files: FilesRead {
             facts: declared.file,

@@ -11,6 +11,7 @@ use load::GivenPackage;
 use package_list::ListedPackage;
 use std::alloc::{AllocError, Global};
 use std::rt::Files;
+use tree::Edition;
 
 /// Whether the entry of the package names some file.
 fn has_files(listed: &ListedPackage) -> bool
@@ -35,36 +36,39 @@ fn shown_files(
     Ok(names)
 }
 
-/// The package with its files.
+/// The package with its files, to be judged by this edition.
 fn read_listed<R: Files + AllocGlobal>(
     rt: &R,
+    edition: Edition,
     here: Option<&str>,
     listed: &ListedPackage,
 ) -> Result<GivenPackage, Fault>
-    ensures read { IfOk result (IsListed (option_map (λ h. h.now) here.entry) (package_of listed.now)) }
+    ensures read { IfOk result (IsListed edition (option_map (λ h. h.now) here.entry) (package_of listed.now)) }
     ensures fault { IfErr result IsReadFault }
 {
     let names = shown_files(rt.alloc(), here, listed)?;
     let sources = read_files(rt, names)?;
     Ok(GivenPackage {
         path: String::from_str(rt.alloc(), listed.path.as_str())?,
+        edition,
         sources,
     })
 }
 
-/// Adds the packages of a list with their files, in their order, to those that are given already. One without files is
-/// no package; its folder is kept.
+/// Adds the packages of a list with their files, in their order, to those that are given already. They are to be judged
+/// by this edition. One without files is no package; its folder is kept.
 ///
 /// # Errors
 ///
 /// The first file that can't be read, or memory was refused.
 pub fn add_listed<R: Files + AllocGlobal + Surroundings>(
     rt: &R,
+    edition: Edition,
     packages: &[ListedPackage],
     given: &mut Vec<GivenPackage>,
     empty: &mut Vec<String>,
 ) -> Result<(), Fault>
-    ensures added { OnOk result (AddListed (map package_of packages.now) given.old.items given.new.items) }
+    ensures added { OnOk result (AddListed edition (map package_of packages.now) given.old.items given.new.items) }
     ensures fault { IfErr result IsReadFault }
 {
     if packages.is_empty() {
@@ -75,7 +79,7 @@ pub fn add_listed<R: Files + AllocGlobal + Surroundings>(
     let here = here.as_deref();
     for listed in packages {
         if has_files(listed) {
-            given.push(read_listed(rt, here, listed)?)?;
+            given.push(read_listed(rt, edition, here, listed)?)?;
         } else {
             empty.push(escaped(rt.alloc(), listed.folder.as_str())?)?;
         }

@@ -10,6 +10,7 @@ use folders::{Fault, escaped, read_folder, split_word};
 use load::GivenPackage;
 use std::alloc::Global;
 use std::rt::Files;
+use tree::Edition;
 
 /// The package that a word `PATH=DIR` names: its import path, and the folder of its files.
 #[derive(Clone, Copy, Debug)]
@@ -45,13 +46,14 @@ pub fn all_named<'a>(alloc: Global, words: &[&'a str]) -> Result<Vec<NamedPackag
     Ok(packages)
 }
 
-/// The package with the Go files of its folder. The folder is kept where it has none.
+/// The package with the Go files of its folder, to be judged by this edition. The folder is kept where it has none.
 fn read_package<R: Files + AllocGlobal>(
     rt: &R,
+    edition: Edition,
     one: NamedPackage<'_>,
     empty: &mut Vec<String>,
 ) -> Result<GivenPackage, Fault>
-    ensures read { IfOk result (IsRead one.entry) }
+    ensures read { IfOk result (IsRead edition one.entry) }
     ensures fault { IfErr result IsReadFault }
 {
     let sources = read_folder(rt, one.folder)?;
@@ -60,6 +62,7 @@ fn read_package<R: Files + AllocGlobal>(
     }
     Ok(GivenPackage {
         path: String::from_str(rt.alloc(), one.path)?,
+        edition,
         sources,
     })
 }
@@ -79,25 +82,27 @@ impl FoldersAsked {
     }
 }
 
-/// The packages with the Go files of their folders, in their order. Folders that have no Go file are kept.
+/// The packages with the Go files of their folders, in their order, to be judged by this edition. Folders that have no
+/// Go file are kept.
 ///
 /// # Errors
 ///
 /// The first folder that can't be listed or file that can't be read, or memory was refused.
 pub fn read_packages<R: Files + AllocGlobal>(
     rt: &R,
+    edition: Edition,
     packages: &[NamedPackage<'_>],
     empty: &mut Vec<String>,
     folders: &mut FoldersAsked,
 ) -> Result<Vec<GivenPackage>, Fault>
-    ensures read { IfOk result (λ given. AreRead packages.now given.items) }
+    ensures read { IfOk result (λ given. AreRead edition packages.now given.items) }
     ensures fault { IfErr result IsReadFault }
     ensures asked { folders.new.any ≡ true }
 {
     folders.any = true;
     let mut given = Vec::new(rt.alloc());
     for one in packages {
-        given.push(read_package(rt, *one, empty)?)?;
+        given.push(read_package(rt, edition, *one, empty)?)?;
     }
     Ok(given)
 }

@@ -1,7 +1,9 @@
+pub mod MarkEvents
 pub mod MarksTold
 pub mod Grown
 pub mod Joined
 pub mod Ordered
 pub mod PlaceOrder
 pub mod Sighted
+pub mod VariableFaults
 pub mod VariablesFound

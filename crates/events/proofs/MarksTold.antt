@@ -22,6 +22,7 @@ pub record TellsSoFar (s : Seen) (left all : List Placed) (told : Told) : Type 0
   pub events : (body at : ℕ) → events_in told.events body at ++ events_at s body left at ≡ events_at s body all at
   pub panics : (body at : ℕ) → (has_panic told.panics body at || panics_in s.known body at left) ≡ panics_in s.known body at all
   pub opened : map body_view told.opened.items ++ opened_in left ≡ opened_in all
+  pub edition : told.edition ≡ s.known.edition
 
 module _ (s : Seen) (bs : List BodyPlace) where
   outer-mark : (m : Mark) (ms : List Mark)
@@ -84,20 +85,23 @@ module _ (s : Seen) (bs : List BodyPlace) where
     events = λ body at. grows _ _ _ _ _ _ (adds.events body at) (events-mark body at m ms) (so_far.events body at);
     panics = λ body at. holds_on _ _ _ _ _ _ (adds.panics body at) (panics-mark body at m ms) (so_far.panics body at);
     opened = grows _ _ _ _ _ _ adds.opened (opened-mark m ms) so_far.opened;
+    edition = adds.edition ∙ so_far.edition;
   }
 
-pub tells_first : (s : Seen) (all : List Placed) (told : Told) → TellsNothing told → TellsSoFar s all all told
+pub tells_first : (s : Seen) (all : List Placed) (told : Told) → TellsNothing s.known.edition told → TellsSoFar s all all told
 tells_first s all told nothing = record {
   outer = ap (λ fs. map fault_view fs ++ outer_faults_of s all) nothing.outer;
   faults = λ body. ap (λ fs. map fault_view fs ++ faults_of s body all) (nothing.faults body);
   events = λ body at. ap (λ es. Rattle.events.specs.ToldViews.events_of_site at es ++ events_at s body all at) (nothing.events body);
   panics = λ body at. ap (λ ps. Rattle.std.specs.List.list_any (λ site. Rattle.std.specs.Prelude.nat_eq site at) ps || panics_in s.known body at all) (nothing.panics body);
   opened = ap (λ bs. map body_view bs ++ opened_in all) nothing.opened;
+  edition = nothing.edition;
 }
 
 -- the same, with these bodies in place of those
 abbrev with_opened : Told → Vec KeptBody Global → Told
 with_opened told opened = record {
+  edition = told.edition;
   outer = told.outer;
   faults = told.faults;
   events = told.events;
@@ -115,6 +119,7 @@ tells_all s all same left none told so_far opened ordered = record {
   events = λ body at. grown _ _ _ (ap (λ ps. events_at s body ps at) none) (so_far.events body at) ∙ ap (λ ps. events_at s body ps at) same;
   panics = λ body at. holds_at_end _ _ _ (ap (panics_in s.known body at) none) (so_far.panics body at) ∙ ap (panics_in s.known body at) same;
   opened = ordered ∙ ap by_place (grown _ _ _ (ap opened_in none) so_far.opened ∙ ap opened_in same);
+  edition = so_far.edition;
 }
 
 -- a loop over the marks

@@ -1,18 +1,19 @@
 -- What the program keeps of the events of a file, and what it stands for.
-use Rattle.std.specs.Prelude.{ℕ, ◌≡◌, ◌==◌, ◌&&◌, ◌||◌, Bool, false, if◌then◌else◌, List, [], ◌∷◌, ◌++◌, Option, Some, None, map, nat_eq}
+use Rattle.std.specs.Prelude.{ℕ, ◌≡◌, ◌==◌, ◌&&◌, ◌||◌, Bool, false, if◌then◌else◌, List, [], ◌∷◌, ◌++◌, Option, Some, None, map, flat_map, codes, nat_eq}
 use Rattle.std.specs.List.{list_any}
 use Rattle.lists.specs.declared.Lists.{Lists}
 use Rattle.lists.specs.ListViews.{items_at}
+use Rattle.tree.specs.declared.edition.Edition.{Edition}
 use Rattle.events.specs.declared.told.SiteEvent.{SiteEvent}
 use Rattle.events.specs.declared.told.Told.{Told}
 use Rattle.tracked_rows.specs.EventViews.{event_view}
 use Rattle.mentions.specs.MarkViews.{body_view}
 use Rattle.uses.specs.declared.faults.UseFault.{UseFault as KeptFault}
 use Rattle.uses.specs.OutcomeViews.{fault_view}
-use Rattle.meaning.specs.Mentions.{BodyPlace, Mark}
+use Rattle.meaning.specs.Mentions.{BodyPlace, Mention, Mark, mentions, defers_literal, returns, opens, closes}
 use Rattle.meaning.specs.Tracked.{Known, Placed}
-use Rattle.meaning.specs.Uses.{Seen, Event, UseFault, is_body, is_outside}
-use Rattle.meaning.specs.BodyEvents.{opened_by, bodies_of, mark_faults, outer_faults_of, faults_of, mark_events, events_at, is_site, panics_there}
+use Rattle.meaning.specs.Uses.{Seen, Event, UseFault, fault_at, goto_used, recover_faults, is_body, is_outside}
+use Rattle.meaning.specs.BodyEvents.{opened_by, bodies_of, forbids_recover, jump_faults, mark_faults, outer_faults_of, faults_of, mark_events, events_at, is_site, panics_there}
 
 abbrev pub faults_at : Lists KeptFault → ℕ → List UseFault
 faults_at lists body = map fault_view (items_at lists body)
@@ -33,13 +34,31 @@ has_panic lists body at = list_any (λ site. site == at) (items_at lists body)
 abbrev pub if_there : {A : Type 0} → Bool → List A → List A
 if_there b xs = if b then xs else []
 
--- nothing is told of any body
-pub record TellsNothing (told : Told) : Type 0 where
+-- the fault of a mention of `recover`, where it is forbidden
+abbrev pub recover_there : Seen → List BodyPlace → Mention → List UseFault
+recover_there seen bodies m =
+    if forbids_recover seen.known.edition seen bodies then recover_faults seen.known m else []
+
+-- the faults of `goto`s at these offsets
+abbrev pub faults_of_jumps : List ℕ → List UseFault
+faults_of_jumps = flat_map (λ at. fault_at at goto_used (codes "-"))
+
+-- the faults of a mark that go by the variables of bodies
+abbrev pub faults_by_variables : Seen → List BodyPlace → Mark → List UseFault
+faults_by_variables seen bodies (mentions m) = recover_there seen bodies m
+faults_by_variables seen bodies (defers_literal site at) = []
+faults_by_variables seen bodies (returns at es) = []
+faults_by_variables seen bodies (opens b) = jump_faults seen b
+faults_by_variables seen bodies closes = []
+
+-- nothing is told of any body of a file that is judged by that edition
+pub record TellsNothing (judging : Edition) (told : Told) : Type 0 where
   pub outer : told.outer.items ≡ []
   pub faults : (body : ℕ) → items_at told.faults body ≡ []
   pub events : (body : ℕ) → items_at told.events body ≡ []
   pub panics : (body : ℕ) → items_at told.panics body ≡ []
   pub opened : told.opened.items ≡ []
+  pub edition : told.edition ≡ judging
 
 abbrev pub AddsInner : ℕ → List UseFault → Lists KeptFault → Lists KeptFault → Type 0
 AddsInner number faults before after =
@@ -80,6 +99,7 @@ pub record AddsMark (seen : Seen) (bodies : List BodyPlace) (mark : Mark) (befor
   pub events : AddsEvent bodies mark (mark_events seen bodies mark) before.events after.events
   pub panics : AddsPanic seen.known bodies mark before.panics after.panics
   pub opened : map body_view after.opened.items ≡ map body_view before.opened.items ++ opened_by mark
+  pub edition : after.edition ≡ before.edition
 
 -- What is told of a file
 
@@ -92,3 +112,4 @@ pub record TellsFile (seen : Seen) (told : Told) : Type 0 where
   pub events : (body at : ℕ) → events_in told.events body at ≡ events_at seen body seen.marks at
   pub panics : (body at : ℕ) → has_panic told.panics body at ≡ panics_in seen.known body at seen.marks
   pub opened : map body_view told.opened.items ≡ bodies_of seen
+  pub edition : told.edition ≡ seen.known.edition

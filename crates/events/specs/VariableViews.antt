@@ -13,11 +13,13 @@ use Rattle.events.specs.declared.variable.VariableRole.{VariableRole as KeptRole
 use Rattle.events.specs.declared.variable.VariableRole.TheVariants.{OwnParameter, OwnReceiver, DeclaredInBody, Captured}
 use Rattle.events.specs.declared.variable.Variable.{Variable as KeptVariable}
 use Rattle.events.specs.declared.found.Variables.{Variables}
+use Rattle.tracked.specs.declared.seen.Seen.{Seen as KeptSeen}
+use Rattle.tracked.specs.LocalViews.{seen_view, Sees}
 use Rattle.meaning.specs.FunctionFacts.{VariableKind}
 use Rattle.meaning.specs.Mentions.{BodyPlace, Mark, mentions, defers_literal, returns, opens, closes}
 use Rattle.meaning.specs.Tracked.{variable_of, is_variable, Placed, Local}
 use Rattle.meaning.specs.Uses.{Seen, found, is_tracked, UseFault}
-use Rattle.meaning.specs.BodyEvents.{lesser, VariableRole, own_parameter, own_receiver, declared_in_body, captured, Variable, role_in_own, first_in, in_their_order, is_cancel_variable}
+use Rattle.meaning.specs.BodyEvents.{lesser, VariableRole, own_parameter, own_receiver, declared_in_body, captured, Variable, role_in_own, first_in, in_their_order, variables_of, is_cancel_variable}
 
 abbrev pub variable_role_view : KeptRole → VariableRole
 variable_role_view (OwnParameter k) = own_parameter k
@@ -160,6 +162,11 @@ AddsLocal l kind ss before after =
 
 abbrev pub ordered_in : Variables → ℕ → List Variable
 ordered_in found body = in_their_order (variables_in found.lists body)
+
+-- the file was looked at, and these are the variables of its bodies
+pub record SeesBodies (seen : KeptSeen) (variables : Variables) : Type 0 where
+  pub sees : Sees seen
+  pub are_variables : (body : ℕ) → ordered_in variables body ≡ variables_of (seen_view seen) body
 
 -- Faults
 

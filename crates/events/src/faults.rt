@@ -1,16 +1,20 @@
-//! Faults of bodies: those of what stands in them, and those of too many variables.
+//! Faults of bodies: those of what stands in them, those of too many variables, and those for which no path is
+//! followed.
 
 ghost use Rattle.std.specs.Prelude.{◌≡◌, IfOk, OnOk, map, true, false};
 ghost use Rattle.std.specs.List.{filter};
 ghost use Rattle.events.specs.ToldViews.{TellsFile};
-ghost use Rattle.meaning.specs.BodyEvents.{fault_after, too_many_faults, variables_of, body_faults};
+ghost use Rattle.meaning.specs.BodyEvents.{fault_after, too_many_faults, unfollowed_faults, variables_of, body_faults};
+ghost use Rattle.mentions.specs.MarkViews.{body_view};
 ghost use Rattle.meaning.specs.Uses.{Seen};
 ghost use Rattle.uses.specs.OutcomeViews.{fault_view, AddsFaults};
 ghost use Rattle.events.specs.VariableViews.{variable_view, is_of_kind, faults_view};
 
 use crate::Told;
+use crate::by_variables::add_jumps;
 use crate::variable::Variable;
 use meaning::{MOST_CANCELS, MOST_GROUPS};
+use mentions::BodyPlace;
 use std::alloc::{AllocError, Global};
 use uses::{UseCode, UseFault};
 
@@ -74,20 +78,24 @@ fn add_too_many<'a>(
     add_fault(fault_after(MOST_GROUPS, false, variables), faults)
 }
 
-/// The faults of a body with these variables, where it has too many.
+/// The faults for which the paths of a body with these variables are not followed: that it has too many, and each
+/// `goto` beside variables.
 ///
 /// # Errors
 ///
 /// Memory was refused.
-pub fn too_many<'a>(
+pub fn unfollowed<'a>(
     alloc: Global,
     variables: &[Variable<'a>],
+    body: BodyPlace<'a>,
 ) -> Result<Vec<UseFault<'a>>, AllocError>
-    ensures { IfOk result (λ faults. map fault_view faults.items ≡ too_many_faults
-        (map variable_view variables.now)) }
+    ensures { IfOk result (λ faults. (seen : Seen)
+        → map variable_view variables.now ≡ variables_of seen body.entry.at
+        → map fault_view faults.items ≡ unfollowed_faults seen (body_view body.entry)) }
 {
     let mut faults: Vec<UseFault<'a>> = Vec::new(alloc);
     add_too_many(variables, &mut faults)?;
+    add_jumps(alloc, !variables.is_empty(), body, &mut faults)?;
     Ok(faults)
 }
 

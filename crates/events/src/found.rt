@@ -5,6 +5,7 @@ ghost use Rattle.facts.specs.FactViews.{kind_view};
 ghost use Rattle.indexmap.specs.IndexMap.{get};
 ghost use Rattle.tracked.specs.LocalViews.{seen_view, local_view, Sees};
 ghost use Rattle.meaning.specs.BodyEvents.{variables_of, variable_found};
+ghost use Rattle.meaning.specs.OuterBlocks.{has_any};
 ghost use Rattle.meaning.specs.Uses.{found};
 ghost use Rattle.events.specs.VariableViews.{variable_view, ordered_in, AddsVariables, AddsOwn, AddsCaptured, AddsLocal, captured_entry, sightings_of, AddsAsCaptured};
 
@@ -168,5 +169,12 @@ impl<'a> Variables<'a> {
         ensures { IfOk result (λ sorted. map variable_view sorted.items ≡ ordered_in self.now body) }
     {
         in_their_order(alloc, self.lists.at(body))
+    }
+
+    /// Whether the body at that offset has any.
+    pub fn has_any(&self, body: u32) -> bool
+        ensures { result ≡ has_any (ordered_in self.now body) }
+    {
+        !self.lists.at(body).is_empty()
     }
 }

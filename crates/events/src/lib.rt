@@ -2,6 +2,7 @@
 //! order. The definitions are those of `meaning/specs/BodyEvents.antt`.
 #![tactic(auto)]
 
+mod by_variables;
 mod faults;
 mod file;
 mod found;
@@ -11,7 +12,7 @@ mod sightings;
 mod told;
 mod variable;
 
-pub use faults::{body_faults, too_many};
+pub use faults::{body_faults, unfollowed};
 pub use file::tell;
 pub use found::{Variables, find_variables};
 pub use told::{SiteEvent, Told};

@@ -4,19 +4,22 @@ ghost use Rattle.std.specs.Prelude.{◌≡◌, ◌++◌, ℕ, OnOk, map};
 ghost use Rattle.tracked_rows.specs.EventViews.{event_view};
 ghost use Rattle.events.specs.ToldViews.{AddsMark, AddsFaultsOf, AddsInner, AddsSiteEvent, AddsEvent, AddsSite, AddsPanic, TellsNothing, is_at};
 ghost use Rattle.meaning.specs.BodyEvents.{opened_by};
+ghost use Rattle.events.specs.VariableViews.{SeesBodies};
 ghost use Rattle.tracked.specs.LocalViews.{seen_view, Sees};
 ghost use Rattle.meaning.specs.BodyEvents.{is_panic, is_site};
-ghost use Rattle.meaning.specs.Uses.{is_body};
+ghost use Rattle.meaning.specs.Uses.{call, is_body};
 ghost use Rattle.mentions.specs.MarkViews.{body_view, mark_view, mention_view, role_view};
 ghost use Rattle.tracked_rows.specs.RowViews.{known_view};
-ghost use Rattle.uses.specs.OutcomeViews.{fault_view, AddsFaults, events_view};
+ghost use Rattle.uses.specs.OutcomeViews.{fault_view, AddsFaults, error_calls, events_view};
 
+use crate::by_variables::{SeenBodies, add_by_variables};
 use lists::Lists;
 use mentions::{BodyPlace, CallPlace, Mark, Mention, Role};
 use std::alloc::{AllocError, Global};
 use tracked::Seen;
 use tracked_rows::{Event, Known, is_of_universe};
-use uses::{UseFault, mark_outcome};
+use tree::Edition;
+use uses::{UseFault, lost_at, mark_outcome};
 
 /// An event, and the offset of its statement, spec, header or clause.
 #[derive(Drop)]
@@ -28,6 +31,8 @@ pub struct SiteEvent<'a> {
 /// What is told of the bodies of a file.
 #[derive(Drop)]
 pub struct Told<'a> {
+    /// The edition by which its file is judged.
+    pub edition: Edition,
     /// The use faults of what stands in no body.
     pub outer: Vec<UseFault<'a>>,
     /// Those of what stands in the body at an offset, and in no literal in it.
@@ -40,11 +45,12 @@ pub struct Told<'a> {
 }
 
 impl<'a> Told<'a> {
-    /// Nothing yet.
-    pub fn new(alloc: Global) -> Self
-        ensures { TellsNothing result }
+    /// Nothing yet of a file that is judged by that edition.
+    pub fn new(alloc: Global, edition: Edition) -> Self
+        ensures { TellsNothing edition result }
     {
         Told {
+            edition,
             outer: Vec::new(alloc),
             faults: Lists::new(alloc),
             events: Lists::new(alloc),
@@ -150,6 +156,42 @@ fn add_event<'a>(
     }
 }
 
+/// Adds calls of these variables, at the site of a mark, to the events of the innermost body.
+fn add_calls<'a>(
+    alloc: Global,
+    bodies: &[BodyPlace<'a>],
+    mark: Mark<'_, 'a>,
+    variables: &[u32],
+    events: &mut Lists<SiteEvent<'a>>,
+) -> Result<(), AllocError>
+    ensures { OnOk result (AddsEvent (map body_view bodies.now) (mark_view mark.entry) (map call variables.now)
+        events.old events.new) }
+{
+    for variable in variables {
+        let event = Event::Call {
+            variable: *variable,
+        };
+        add_event(alloc, bodies, mark, Some(event), events)?;
+    }
+    Ok(())
+}
+
+/// Adds the calls that a mark gives behind a row with an error.
+fn add_error_calls<'m, 'a>(
+    alloc: Global,
+    seen: &Seen<'_, 'm, 'a>,
+    bodies: &[BodyPlace<'a>],
+    mark: Mark<'m, 'a>,
+    events: &mut Lists<SiteEvent<'a>>,
+) -> Result<(), AllocError>
+    requires { Sees seen.now }
+    ensures { OnOk result (AddsEvent (map body_view bodies.now) (mark_view mark.entry) (error_calls
+        (seen_view seen.now) (mark_view mark.entry)) events.old events.new) }
+{
+    let variables = lost_at(alloc, seen, mark)?;
+    add_calls(alloc, bodies, mark, &variables, events)
+}
+
 /// Whether it is a call of the universe's `panic` as a statement.
 fn is_panic(known: Known<'_, '_>, mention: Mention<'_, '_>) -> bool
     ensures { result ≡ is_panic (known_view known.entry) (mention_view mention.entry)
@@ -217,19 +259,21 @@ fn add_opened<'a>(mark: Mark<'_, 'a>, opened: &mut Vec<BodyPlace<'a>>) -> Result
 /// Memory was refused.
 pub fn add_mark<'m, 'a>(
     alloc: Global,
-    seen: &Seen<'_, 'm, 'a>,
+    file: SeenBodies<'_, 'm, 'a>,
     bodies: &[BodyPlace<'a>],
     mark: Mark<'m, 'a>,
     told: &mut Told<'a>,
 ) -> Result<(), AllocError>
-    requires { Sees seen.now }
-    ensures { OnOk result (AddsMark (seen_view seen.now) (map body_view bodies.now) (mark_view mark.entry)
+    requires { SeesBodies file.seen.now file.variables.now }
+    ensures { OnOk result (AddsMark (seen_view file.entry.seen.now) (map body_view bodies.now) (mark_view mark.entry)
         told.old told.new) }
 {
     let mut fresh: Vec<UseFault<'a>> = Vec::new(alloc);
-    let event = mark_outcome(alloc, seen, bodies, mark, &mut fresh)?;
+    let event = mark_outcome(alloc, file.seen, bodies, mark, &mut fresh)?;
+    add_by_variables(alloc, file, bodies, mark, &mut fresh)?;
     add_faults(alloc, bodies, &fresh, &mut told.outer, &mut told.faults)?;
     add_event(alloc, bodies, mark, event, &mut told.events)?;
-    add_panic(alloc, seen.known, bodies, mark, &mut told.panics)?;
+    add_error_calls(alloc, file.seen, bodies, mark, &mut told.events)?;
+    add_panic(alloc, file.seen.known, bodies, mark, &mut told.panics)?;
     add_opened(mark, &mut told.opened)
 }

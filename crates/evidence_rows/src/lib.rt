@@ -11,5 +11,6 @@ pub mod named_folders;
 pub mod packages;
 pub mod together;
 pub mod words;
+pub mod written_files;
 
 pub use folder_entry::FolderEntry;

@@ -20,6 +20,8 @@ pub const LINES: &[Line] = &[
     ("check --help", 0, "--format <FORMAT>", ""),
     ("verify --help", 0, "--packages <FILE>", ""),
     ("verify --help", 0, "--format <FORMAT>", ""),
+    ("check --help", 0, "--edition <N>", ""),
+    ("verify --help", 0, "--edition <N>", ""),
     (
         "--help",
         0,
@@ -87,6 +89,19 @@ pub const LINES: &[Line] = &[
         "",
         "--facts <FILE>",
     ),
+    // `--edition` names one edition, 1 or 2, for both commands.
+    ("check --edition", 2, "", "--edition <N>"),
+    ("check a=. --edition", 2, "", "--edition <N>"),
+    ("check --edition 2", 2, "", "<PATH=DIR>..."),
+    ("check --edition 0 a=.", 2, "", "--edition <N>"),
+    ("check --edition 3 a=.", 2, "", "--edition <N>"),
+    ("check --edition=3 a=.", 2, "", "--edition <N>"),
+    ("check --edition two a=.", 2, "", "--edition <N>"),
+    ("check --edition -1 a=.", 2, "", "Usage: ctxvet "),
+    ("check --edition 1 --edition 1 a=.", 2, "", "--edition <N>"),
+    ("check --editio 2 a=.", 2, "", "Usage: ctxvet "),
+    ("--edition 2 check a=.", 2, "", "Usage: ctxvet "),
+    ("verify --edition 2 a=.", 2, "", "--cert <IN>"),
     // `--packages` names one list, for both commands. With it there need be no word of a package.
     ("check --packages", 2, "", "--packages <FILE>"),
     ("check a=. --packages", 2, "", "--packages <FILE>"),

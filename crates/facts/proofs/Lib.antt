@@ -1,4 +1,6 @@
+pub mod BorneOut
 pub mod Counted
 pub mod FactMaps
 pub mod FactParts
 pub mod Gathered
+pub mod ListedItems

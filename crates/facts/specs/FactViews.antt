@@ -10,11 +10,14 @@ use Rattle.facts.specs.declared.kinds.TrackedType.TheVariants.{Cancel as CancelT
 use Rattle.facts.specs.declared.items.Item.{Item as KeptItem}
 use Rattle.facts.specs.declared.facts.TrackedParameter.{TrackedParameter as KeptParameter}
 use Rattle.facts.specs.declared.facts.CancelResult.{CancelResult as KeptResult}
+use Rattle.facts.specs.declared.facts.Unless.{Unless as KeptUnless}
 use Rattle.facts.specs.declared.facts.FunctionFacts.{FunctionFacts as KeptFacts}
+use Rattle.facts.specs.declared.in_file.InFile.{InFile}
 use Rattle.facts.specs.declared.table.Table.{Table}
 use Rattle.facts.specs.declared.table.Imported.{Imported}
 use Rattle.tree.specs.View.{identifier_syntax, expression_syntax, optional_expression_of}
-use Rattle.meaning.specs.FunctionFacts.{CancelType, plain, with_cause, TrackedType, cancel_type, group_type, VariableKind, cancel, group, Item, TrackedParameter, CancelResult, FunctionFacts}
+use Rattle.names.specs.Answers.{declared_at}
+use Rattle.meaning.specs.FunctionFacts.{Meanings, CancelType, plain, with_cause, TrackedType, cancel_type, group_type, VariableKind, cancel, group, Item, TrackedParameter, CancelResult, Unless, FunctionFacts}
 
 abbrev pub kind_view : KeptKind → VariableKind
 kind_view Cancel = cancel
@@ -41,12 +44,20 @@ parameter_view p = record { position = p.position; typed = tracked_type_view p.t
 abbrev pub cancel_result_view : KeptResult → CancelResult
 cancel_result_view g = record { position = g.position; type = type_view g.cancel_type }
 
+abbrev pub unless_view : KeptUnless → Unless
+unless_view u = record { given = u.given; error = u.error }
+
 abbrev pub facts_view : KeptFacts → FunctionFacts
 facts_view f = record {
   parameters = map parameter_view f.parameters.items;
   gives = map cancel_result_view f.gives.items;
   results = f.results;
+  unless = map unless_view f.unless.items;
 }
+
+-- what the uses of the file mean
+abbrev pub meanings_of : InFile → Meanings
+meanings_of f = declared_at f.names.now f.file
 
 -- the facts of the function of that name
 abbrev pub facts_by_name : Table → List ℕ → Option FunctionFacts

@@ -1,20 +1,22 @@
 //! What signatures say.
 
 ghost use Rattle.std.specs.Prelude.{◌≡◌, ℕ, List, [], ◌∷◌, ◌++◌, IfOk, OnOk, map, option_map};
-ghost use Rattle.meaning.specs.FunctionFacts.{given_at, cancel_results, parameter_at, tracked_parameters, signature_facts, facts_in, package_facts};
+ghost use Rattle.meaning.specs.FunctionFacts.{given_at, cancel_results, parameter_at, tracked_parameters, signature_facts, function_facts, facts_in, package_facts};
 ghost use Rattle.meaning.specs.OuterBlocks.{or_else};
 ghost use Rattle.names.specs.Answers.{declared_at};
-ghost use Rattle.facts.specs.FactViews.{tracked_type_view, item_view, parameter_view, cancel_result_view, facts_view, facts_by_name};
+ghost use Rattle.facts.specs.FactViews.{tracked_type_view, item_view, parameter_view, cancel_result_view, facts_view, facts_by_name, meanings_of};
 ghost use Rattle.tree.specs.Syntax.{function_declaration};
 ghost use Rattle.tree.specs.View.{signature_syntax, function_syntax, file_syntax, top_level_syntax};
 
 use crate::facts::{CancelResult, FunctionFacts, TrackedParameter};
+use crate::in_file::InFile;
 use crate::items::{Item, parameter_items};
 use crate::kinds::{TrackedType, item_type};
 use crate::table::Table;
+use crate::unless::unless_by;
 use names::{Names, can_be_meant};
 use std::alloc::{AllocError, Global};
-use tree::{File, Func, Signature, TopLevelDecl};
+use tree::{Edition, File, Func, Param, Signature, TopLevelDecl};
 
 /// Adds a result of that type, if it is a cancel function.
 fn add_given(
@@ -101,77 +103,105 @@ fn signature_facts(
         parameters: tracked_parameters(alloc, names, file, &params)?,
         gives: cancel_results(alloc, names, file, &results)?,
         results: results.len(),
+        unless: Vec::new(alloc),
     })
 }
 
-/// Adds what the signature of a function says, if the function can be meant.
+/// What the signature of a function says, and in the second edition what its returns say.
+fn function_facts(
+    alloc: Global,
+    told: InFile<'_, '_>,
+    function: &Func,
+) -> Result<FunctionFacts, AllocError>
+    ensures { IfOk result (λ facts. facts_view facts ≡ function_facts told.entry.edition (meanings_of told.entry)
+        (function_syntax function.now)) }
+{
+    let mut facts = signature_facts(alloc, told.names, told.file, &function.signature)?;
+    match told.edition {
+        Edition::First => Ok(facts),
+        Edition::Second => match &function.body {
+            Some(body) => {
+                let results: &[Param] = &function.signature.results;
+                facts.unless = unless_by(alloc, told, &facts.gives, results, body)?;
+                Ok(facts)
+            }
+            None => Ok(facts),
+        },
+    }
+}
+
+/// Adds the facts of a function, if the function can be meant.
 fn add_function<'a>(
     alloc: Global,
-    names: &Names<'a>,
-    file: usize,
+    told: InFile<'_, 'a>,
     function: &'a Func,
     table: &mut Table<'a>,
 ) -> Result<(), AllocError>
     ensures { OnOk result ((name : List ℕ) → facts_by_name table.new name ≡ or_else (facts_by_name table.old name)
-        (facts_in (declared_at names.now file) name (function_declaration (function_syntax function.now) ∷ []))) }
+        (facts_in told.entry.edition (meanings_of told.entry) name
+        (function_declaration (function_syntax function.now) ∷ []))) }
 {
     if !can_be_meant(function) {
         return Ok(());
     }
-    let facts = signature_facts(alloc, names, file, &function.signature)?;
+    let facts = function_facts(alloc, told, function)?;
     table.insert(function.name.text.as_str(), facts)
 }
 
-/// Adds what the signature of a declaration says, if it is a function that can be meant.
+/// Adds the facts of a declaration, if it is a function that can be meant.
 fn add_declaration<'a>(
     alloc: Global,
-    names: &Names<'a>,
-    file: usize,
+    told: InFile<'_, 'a>,
     declaration: &'a TopLevelDecl,
     table: &mut Table<'a>,
 ) -> Result<(), AllocError>
     ensures { OnOk result ((name : List ℕ) → facts_by_name table.new name ≡ or_else (facts_by_name table.old name)
-        (facts_in (declared_at names.now file) name (top_level_syntax declaration.now ∷ []))) }
+        (facts_in told.entry.edition (meanings_of told.entry) name (top_level_syntax declaration.now ∷ []))) }
 {
     match declaration {
-        TopLevelDecl::Func(function) => add_function(alloc, names, file, function, table),
+        TopLevelDecl::Func(function) => add_function(alloc, told, function, table),
         TopLevelDecl::Decl(_) => Ok(()),
     }
 }
 
-/// Adds what the signatures of a file's functions say.
+/// Adds the facts of a file's functions.
 fn file_signatures<'a>(
     alloc: Global,
-    names: &Names<'a>,
-    file: usize,
+    told: InFile<'_, 'a>,
     declarations: &'a [TopLevelDecl],
     table: &mut Table<'a>,
 ) -> Result<(), AllocError>
     ensures { OnOk result ((name : List ℕ) → facts_by_name table.new name ≡ or_else (facts_by_name table.old name)
-        (facts_in (declared_at names.now file) name (map top_level_syntax declarations.now))) }
+        (facts_in told.entry.edition (meanings_of told.entry) name (map top_level_syntax declarations.now))) }
 {
     for declaration in declarations {
-        add_declaration(alloc, names, file, declaration, table)?;
+        add_declaration(alloc, told, declaration, table)?;
     }
     Ok(())
 }
 
-/// What the signatures of a package's functions say.
+/// The facts of a package's functions.
 ///
 /// # Errors
 ///
 /// Memory was refused.
 pub fn signatures<'a>(
     alloc: Global,
+    edition: Edition,
     files: &'a [File],
     names: &Names<'a>,
 ) -> Result<Table<'a>, AllocError>
-    ensures { IfOk result (λ table. (name : List ℕ) → facts_by_name table name ≡ package_facts
+    ensures { IfOk result (λ table. (name : List ℕ) → facts_by_name table name ≡ package_facts edition
         (λ file. declared_at names.now file) (map file_syntax files.now) name) }
 {
     let mut table = Table::new(alloc);
     for (number, file) in files.iter().enumerate() {
-        file_signatures(alloc, names, number, &file.declarations, &mut table)?;
+        let told = InFile {
+            edition,
+            names,
+            file: number,
+        };
+        file_signatures(alloc, told, &file.declarations, &mut table)?;
     }
     Ok(table)
 }

@@ -36,6 +36,13 @@ impl TrackedParameter {
     }
 }
 
+/// The function gives the result at the first position, unless the one at the other, an `error`, is not nil.
+#[derive(Clone, Copy)]
+pub struct Unless {
+    pub given: usize,
+    pub error: usize,
+}
+
 /// What is known of a function.
 #[derive(Drop)]
 pub struct FunctionFacts {
@@ -44,6 +51,8 @@ pub struct FunctionFacts {
     pub gives: Vec<CancelResult>,
     /// The number of results.
     pub results: usize,
+    /// None of a declared function, and none in the first edition.
+    pub unless: Vec<Unless>,
 }
 
 impl FunctionFacts {

@@ -57,12 +57,12 @@ module _ (ps : List LoadedPackage) (tables : Tables) (p : LoadedPackage) (givers
   }
 
   quiet_so : (number : ℕ) (tree : SourceFile) (text : List ℕ) → slice_get (trees_of p) number ≡ Some tree
-      → IsTreeOf text tree
+      → IsTreeOf p.edition text tree
       → IsQuiet givers tree text
       → MayBeSkipped ps tables p number tree
   quiet_so number tree text is spelled quiet =
       let names = names_none number tree text is quiet in
-      let no_recover = words_tell.no_recover text tree spelled quiet.no_recover in
+      let no_recover = words_tell.no_recover p.edition text tree spelled quiet.no_recover in
       elim quiet.no_maker [
         | inl neither ↦ imports_tell ps tables p number tree names neither no_recover
         | inr lacks ↦ record {

@@ -1,4 +1,6 @@
--- For a reader of the contracts: which packages may have givers, as the program keeps it.
-pub mod Givers
--- What serves the proofs: which files nothing need be told of, by their imports and words.
+-- For a reader of the contracts: what the program keeps of packages beside what it knows of each function.
+pub mod Signs
+-- What serves the proofs: what functions give and take, and which files nothing need be told of, by their imports and
+-- words.
+pub mod Functions
 pub mod Skipping

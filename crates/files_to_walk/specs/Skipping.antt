@@ -1,16 +1,13 @@
 -- What the program finds of a file that may be skipped: by its imports, and by the words of its text. The makers of
 -- cancel functions and their types are sought where `context` is imported, and `recover` in each file.
-use Rattle.std.specs.Prelude.{ℕ, ◌≡◌, ◌⊎◌, Bool, true, false, List, [], ◌∷◌, Option, None, Some, codes, slice_get}
+use Rattle.std.specs.Prelude.{ℕ, ◌≡◌, ◌⊎◌, Bool, false, List, Option, None, Some, codes, slice_get}
 use Rattle.std.specs.List.{list_any}
 use Rattle.lexer.specs.declared.source.Source.{Source}
-use Rattle.tree.specs.Syntax.{SourceFile, TopLevelDeclaration, function_declaration, general_declaration}
-use Rattle.meaning.specs.FunctionFacts.{CancelResult, FunctionFacts}
+use Rattle.tree.specs.Syntax.{SourceFile}
 use Rattle.meaning_reports.specs.Loaded.{imports_of}
 use Rattle.silent_files.specs.NamedWords.{LacksEach, LacksWord}
 use Rattle.silent_files.specs.SilentPackages.{imports_first, imports_group}
 use Rattle.silent_files.specs.SilentWords.{telling_words}
-
--- Files
 
 -- it imports neither `context` nor `errgroup`, or its text has none of the words as a name
 abbrev pub NamesNoMaker : SourceFile → List ℕ → Type 0
@@ -35,21 +32,3 @@ pub record AreQuiet (givers : List ℕ → Bool) (trees : List SourceFile) (sour
       → slice_get trees n ≡ Some tree
       → slice_get marks n ≡ Some false
       → IsQuietIn givers tree (slice_get sources n)
-
--- Functions of the package
-
-abbrev pub gives_any : List CancelResult → Bool
-gives_any [] = false
-gives_any (result ∷ results) = true
-
-abbrev pub gives_by : Option FunctionFacts → Bool
-gives_by None = false
-gives_by (Some facts) = gives_any facts.gives
-
--- the declaration is of a function that gives a cancel function, by the facts of its name
-abbrev pub declares_giver : (List ℕ → Option FunctionFacts) → TopLevelDeclaration → Bool
-declares_giver facts (function_declaration f) = gives_by (facts f.name.text)
-declares_giver facts (general_declaration d) = false
-
-abbrev pub has_giver : (List ℕ → Option FunctionFacts) → SourceFile → Bool
-has_giver facts tree = list_any (declares_giver facts) tree.declarations

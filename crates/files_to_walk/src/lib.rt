@@ -2,9 +2,11 @@
 //! `silent_files/specs/SilentPackages.antt` has it.
 #![tactic(auto)]
 
-mod givers;
+mod functions;
+mod signs;
 mod skipping;
 mod words;
 
-pub use givers::Givers;
-pub use skipping::{gives_some, walked_files};
+pub use functions::signs_of_files;
+pub use signs::{KnownSigns, Signs};
+pub use skipping::walked_files;

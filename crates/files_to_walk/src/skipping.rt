@@ -3,82 +3,32 @@
 ghost use Rattle.std.specs.Prelude.{◌≡◌, ℕ, true, false, List, IfOk, Some, map, slice_get};
 ghost use Rattle.std.specs.List.{list_any};
 ghost use Rattle.std.specs.Str.{bytes_eq};
-ghost use Rattle.facts.specs.FactViews.{cancel_result_view, facts_by_name};
 ghost use Rattle.meaning.specs.FunctionFacts.{errgroup_path};
 ghost use Rattle.meaning.specs.OuterBlocks.{is_first_path, specs_of};
 ghost use Rattle.meaning_reports.specs.Loaded.{LoadedPackage as MeantPackage, Tables, imported_signatures, imports_of, signatures_of};
 ghost use Rattle.meaning_reports.specs.WholeFaults.{HasNoWholeFault};
-ghost use Rattle.files_to_walk.specs.Givers.{may_give};
-ghost use Rattle.files_to_walk.specs.Skipping.{declares_giver, gives_any, gives_by, has_giver, AreQuiet, IsQuiet, IsQuietIn, NamesNoMaker};
+ghost use Rattle.files_to_walk.specs.Signs.{may_give};
+ghost use Rattle.files_to_walk.specs.Skipping.{AreQuiet, IsQuiet, IsQuietIn, NamesNoMaker};
 ghost use Rattle.silent_files.specs.SilentPackages.{GiveNone};
 ghost use Rattle.silent_files.specs.WalkedFiles.{is_walked, SkipsSilent};
-ghost use Rattle.tree.specs.View.{file_syntax, import_spec_syntax, import_syntax, top_level_syntax};
+ghost use Rattle.tree.specs.View.{file_syntax, import_spec_syntax, import_syntax};
 ghost use Rattle.whole_packages.specs.LoadedViews.{TellsPackage};
 
-use crate::givers::Givers;
+use crate::signs::{Among, KnownSigns};
 use crate::words::{may_name_telling, names_recover};
-use facts::{CancelResult, Table};
 use lexer::Source;
 use names::{CONTEXT, ERRGROUP};
 use std::alloc::{AllocError, Global};
-use tree::{File, ImportDecl, ImportSpec, TopLevelDecl};
-use whole_packages::{LoadedPackage, Picks};
-
-fn gives_any(results: &[CancelResult]) -> bool
-    ensures { result ≡ gives_any (map cancel_result_view results.now) }
-{
-    !results.is_empty()
-}
-
-fn gives_by_name(table: &Table<'_>, name: &str) -> bool
-    ensures { result ≡ gives_by (facts_by_name table.now name.now) }
-{
-    match table.facts(name) {
-        Some(facts) => gives_any(&facts.gives),
-        None => false,
-    }
-}
-
-/// Whether the declaration is of a function that gives a cancel function, by the facts of its name.
-fn declares_giver(table: &Table<'_>, declaration: &TopLevelDecl) -> bool
-    ensures { result ≡ declares_giver (facts_by_name table.now) (top_level_syntax declaration.now) }
-{
-    match declaration {
-        TopLevelDecl::Func(function) => gives_by_name(table, function.name.text.as_str()),
-        TopLevelDecl::Decl(_) => false,
-    }
-}
-
-fn declare_giver(table: &Table<'_>, declarations: &[TopLevelDecl]) -> bool
-    ensures { result ≡ list_any (declares_giver (facts_by_name table.now)) (map top_level_syntax declarations.now) }
-{
-    for declaration in declarations {
-        if declares_giver(table, declaration) {
-            return true;
-        }
-    }
-    false
-}
-
-/// Whether one of the functions of these files gives a cancel function, by the facts of its name.
-pub fn gives_some(table: &Table<'_>, trees: &[File]) -> bool
-    ensures { result ≡ list_any (has_giver (facts_by_name table.now)) (map file_syntax trees.now) }
-{
-    for tree in trees {
-        if declare_giver(table, &tree.declarations) {
-            return true;
-        }
-    }
-    false
-}
+use tree::{File, ImportDecl, ImportSpec};
+use whole_packages::LoadedPackage;
 
 /// `context` and `errgroup`.
 struct Tracked;
 
-impl Picks for Tracked {
-    ghost picked = { λ all. is_first_path };
+impl Among for Tracked {
+    ghost among = { λ all. is_first_path };
 
-    fn picks(&self, path: &str) -> bool {
+    fn has(&self, path: &str) -> bool {
         path == CONTEXT || path == ERRGROUP
     }
 }
@@ -86,30 +36,30 @@ impl Picks for Tracked {
 /// `errgroup`.
 struct Groups;
 
-impl Picks for Groups {
-    ghost picked = { λ all path. bytes_eq path errgroup_path };
+impl Among for Groups {
+    ghost among = { λ all path. bytes_eq path errgroup_path };
 
-    fn picks(&self, path: &str) -> bool {
+    fn has(&self, path: &str) -> bool {
         path == ERRGROUP
     }
 }
 
-fn any_picked<P: Picks>(picked: &P, specs: &[ImportSpec]) -> bool
-    ensures { result ≡ list_any (λ s. P.picked picked.now s.path) (map import_spec_syntax specs.now) }
+fn any_among<A: Among>(packages: &A, specs: &[ImportSpec]) -> bool
+    ensures { result ≡ list_any (λ s. A.among packages.now s.path) (map import_spec_syntax specs.now) }
 {
     for spec in specs {
-        if picked.picks(spec.path.as_str()) {
+        if packages.has(spec.path.as_str()) {
             return true;
         }
     }
     false
 }
 
-fn any_import<P: Picks>(picked: &P, declarations: &[ImportDecl]) -> bool
-    ensures { result ≡ list_any (λ s. P.picked picked.now s.path) (specs_of (map import_syntax declarations.now)) }
+fn any_import<A: Among>(packages: &A, declarations: &[ImportDecl]) -> bool
+    ensures { result ≡ list_any (λ s. A.among packages.now s.path) (specs_of (map import_syntax declarations.now)) }
 {
     for declaration in declarations {
-        if any_picked(picked, &declaration.specs) {
+        if any_among(packages, &declaration.specs) {
             return true;
         }
     }
@@ -117,17 +67,17 @@ fn any_import<P: Picks>(picked: &P, declarations: &[ImportDecl]) -> bool
 }
 
 /// Whether a file imports one of these packages.
-fn imports_picked<P: Picks>(picked: &P, tree: &File) -> bool
-    ensures { result ≡ list_any (λ s. P.picked picked.now s.path) (imports_of (file_syntax tree.now)) }
+fn imports_one<A: Among>(packages: &A, tree: &File) -> bool
+    ensures { result ≡ list_any (λ s. A.among packages.now s.path) (imports_of (file_syntax tree.now)) }
 {
-    any_import(picked, &tree.imports)
+    any_import(packages, &tree.imports)
 }
 
 /// Whether a file of that text may name a maker of cancel functions, or a type of these.
 fn may_name_makers(tree: &File, source: &Source) -> bool
     ensures { result ≡ false → NamesNoMaker (file_syntax tree.now) source.now.bytes.items }
 {
-    imports_picked(&Tracked, tree) && may_name_telling(source)
+    imports_one(&Tracked, tree) && may_name_telling(source)
 }
 
 /// Whether nothing is to be found in a file of that text, as far as no function of its package gives a cancel function.
@@ -135,15 +85,15 @@ fn is_quiet(
     alloc: Global,
     tree: &File,
     source: &Source,
-    givers: &Givers<'_>,
+    known: &KnownSigns<'_>,
 ) -> Result<bool, AllocError>
     ensures { IfOk result (λ is. is ≡ true
-        → IsQuiet (may_give givers.now) (file_syntax tree.now) source.now.bytes.items) }
+        → IsQuiet (may_give known.now) (file_syntax tree.now) source.now.bytes.items) }
 {
-    if imports_picked(&Groups, tree) {
+    if imports_one(&Groups, tree) {
         return Ok(false);
     }
-    if imports_picked(givers, tree) {
+    if imports_one(known, tree) {
         return Ok(false);
     }
     if may_name_makers(tree, source) {
@@ -159,14 +109,14 @@ fn must_walk(
     tree: &File,
     sources: &[Source],
     number: usize,
-    givers: &Givers<'_>,
+    known: &KnownSigns<'_>,
 ) -> Result<bool, AllocError>
     ensures { IfOk result (λ must. must ≡ false
-        → IsQuietIn (may_give givers.now) (file_syntax tree.now) (slice_get sources.now number)) }
+        → IsQuietIn (may_give known.now) (file_syntax tree.now) (slice_get sources.now number)) }
 {
     match sources.get(number) {
         Some(source) => {
-            let quiet = is_quiet(alloc, tree, source, givers)?;
+            let quiet = is_quiet(alloc, tree, source, known)?;
             Ok(!quiet)
         }
         None => Ok(true),
@@ -178,14 +128,14 @@ fn marks_of(
     alloc: Global,
     trees: &[File],
     sources: &[Source],
-    givers: &Givers<'_>,
+    known: &KnownSigns<'_>,
 ) -> Result<Vec<bool>, AllocError>
-    ensures { IfOk result (λ marks. AreQuiet (may_give givers.now) (map file_syntax trees.now) sources.now
+    ensures { IfOk result (λ marks. AreQuiet (may_give known.now) (map file_syntax trees.now) sources.now
         marks.items) }
 {
     let mut marks = Vec::new(alloc);
     for (number, tree) in trees.iter().enumerate() {
-        marks.push(must_walk(alloc, tree, sources, number, givers)?)?;
+        marks.push(must_walk(alloc, tree, sources, number, known)?)?;
     }
     Ok(marks)
 }
@@ -198,18 +148,18 @@ fn marks_of(
 pub fn walked_files(
     alloc: Global,
     loaded: &LoadedPackage,
-    givers: &Givers<'_>,
+    known: &KnownSigns<'_>,
     all: bool,
 ) -> Result<Vec<bool>, AllocError>
     ensures skip { IfOk result (λ walked. (ps : List MeantPackage) (tables : Tables) (i : ℕ) (p : MeantPackage)
         → slice_get ps i ≡ Some p → TellsPackage p loaded.now → HasNoWholeFault ps i
         → (all ≡ false → GiveNone (signatures_of ps p))
-        → ((path : List ℕ) → may_give givers.now path ≡ false → GiveNone (imported_signatures p tables path))
+        → ((path : List ℕ) → may_give known.now path ≡ false → GiveNone (imported_signatures p tables path))
         → SkipsSilent ps tables p (is_walked walked.items)) }
     ensures all { IfOk result (λ walked. all ≡ true → (n : ℕ) → is_walked walked.items n ≡ true) }
 {
     if all {
         return Ok(Vec::new(alloc));
     }
-    marks_of(alloc, &loaded.trees, &loaded.sources, givers)
+    marks_of(alloc, &loaded.trees, &loaded.sources, known)
 }

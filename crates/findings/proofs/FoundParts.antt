@@ -5,12 +5,12 @@ use Rattle.std.proofs.lemmas.Bool.{false≢true}
 use Rattle.bodies.specs.Bodies.{TellsBody}
 use Rattle.bodies.specs.declared.body.Body.{Body as KeptBody}
 use Rattle.bodies.specs.declared.graph.BodyGraph.{BodyGraph as KeptGraph}
-use Rattle.credits.proofs.SettledBodies.{paths_there, few_there}
+use Rattle.credits.proofs.SettledBodies.{paths_there, followed_there}
 use Rattle.std.proofs.lemmas.List.Elements.{Contains-append_left, Contains-append_right, Contains-append_cases}
 use Rattle.std.proofs.lemmas.Option.{none-some, same_Some}
 use Rattle.meaning.specs.Mentions.{BodyPlace}
 use Rattle.meaning.specs.Uses.{Callee}
-use Rattle.meaning.specs.BodyEvents.{Variable, variables_of, body_faults, outer_faults}
+use Rattle.meaning.specs.BodyEvents.{Variable, body_faults, outer_faults}
 use Rattle.meaning_packages.specs.CallsFlags.{FileWithCredits}
 use Rattle.meaning.proofs.Membership.{contains_nil, contains_here, contains_there, contains_cases, contains_map, contains_unmap}
 use Rattle.meaning_packages.specs.PathFaults.{Paths, PathFault, IsPathFault, loses_cancel, loses_group, returns_live, returns_open, returns_pending, IsFaultOf, of_a_pass, of_a_path}
@@ -19,7 +19,7 @@ use Rattle.meaning.specs.BodyEvents.{bodies_of}
 use Rattle.report.specs.Entries.{Entry, entry_of}
 use Rattle.report.specs.declared.diagnostics.Diagnostic.{Diagnostic}
 use Rattle.meaning_reports.specs.PackageReports.{use_entry, path_entry, IsFileFinding, outside_bodies, of_use, of_path}
-use Rattle.findings.specs.FoundEntries.{AddsEntries, IsEntryOf, IsPathEntry, IsFewPathEntry, known_paths, IsBodyEntry, IsOfBodies, IsEntryOfBodies, IsFoundIn, use_entries, path_entries}
+use Rattle.findings.specs.FoundEntries.{AddsEntries, IsEntryOf, IsPathEntry, IsFollowedPathEntry, known_paths, IsBodyEntry, IsOfBodies, IsEntryOfBodies, IsFoundIn, use_entries, path_entries}
 
 -- a list is added
 pub adds_list : (before after : List Diagnostic) (added : List Entry) → map entry_of after ≡ map entry_of before ++ added
@@ -228,18 +228,18 @@ variable_of_fault paths f (returns_pending v handed t o comes owes left) = (v, o
 
 module _ (calls : Callee → ℕ → Bool) (number : ℕ) (f : FileWithCredits) (b : BodyPlace) (body : KeptBody)
     (tells : TellsBody number f.seen b body) where
-  pub no_paths : body.graph ≡ None → (x : Entry) → IsFewPathEntry calls number f b x → ⊥
+  pub no_paths : body.graph ≡ None → (x : Entry) → IsFollowedPathEntry calls number f b x → ⊥
   no_paths none x h =
       let one = h.is_path_entry in
       let v = variable_of_fault (known_paths calls f b) one.fault one.is_fault in
       false≢true
-      (ap is_some (sym none) ∙ tells.has_graph ∙ paths_there (variables_of f.seen b.at) v.0 v.1 h.are_few)
+      (ap is_some (sym none) ∙ tells.has_graph ∙ paths_there f.seen b v.0 v.1 h.is_followed)
 
   pub few_paths : (kept : KeptGraph) → body.graph ≡ Some kept
-      → (x : Entry) → IsPathEntry calls number f b x ↔ IsFewPathEntry calls number f b x
+      → (x : Entry) → IsPathEntry calls number f b x ↔ IsFollowedPathEntry calls number f b x
   few_paths kept is x = (
     λ h. record {
-      are_few = few_there (variables_of f.seen b.at) (sym tells.has_graph ∙ ap is_some is);
+      is_followed = followed_there f.seen b (sym tells.has_graph ∙ ap is_some is);
       is_path_entry = h;
     },
     λ h. h.is_path_entry,
@@ -265,14 +265,14 @@ module _ (calls : Callee → ℕ → Bool) (number : ℕ) (f : FileWithCredits) 
     | inr few ↦
         let path = few.is_path_entry in
         subst (IsFileFinding calls number f) (sym path.is_entry)
-        (of_path w.body path.fault w.is_there (of_a_path path.fault few.are_few path.is_fault))
+        (of_path w.body path.fault w.is_there (of_a_path path.fault few.is_followed path.is_fault))
   ]
 
   path_part : (b : BodyPlace) (g : PathFault) → IsFaultOf f.seen (promises_in calls f.credits b.at) b g
       → IsBodyEntry calls number f b (path_entry number g)
   path_part b x (of_a_pass g h) = inl (inr (record { fault = g; is_fault = h; is_entry = refl }))
   path_part b x (of_a_path g few h) =
-      inr (record { are_few = few; is_path_entry = record { fault = g; is_fault = h; is_entry = refl } })
+      inr (record { is_followed = few; is_path_entry = record { fault = g; is_fault = h; is_entry = refl } })
 
   part_of : (x : Entry) → IsFileFinding calls number f x
       → Contains (use_entries number (outer_faults f.seen)) x ⊎ IsEntryOfBodies calls number f (bodies_of f.seen) x

@@ -2,7 +2,7 @@
 use Rattle.std.specs.Prelude.{ℕ, ◌≡◌, ◌↔◌, ◌⊎◌, Bool, List, [], map, Some, slice_get, Contains}
 use Rattle.meaning.specs.Mentions.{BodyPlace}
 use Rattle.meaning.specs.Uses.{Callee, UseFault}
-use Rattle.meaning.specs.BodyEvents.{variables_of, too_many_faults, body_faults}
+use Rattle.meaning.specs.BodyEvents.{unfollowed_faults, body_faults}
 use Rattle.meaning_packages.specs.PathFaults.{Paths, PathFault, paths_of, IsPathFault, IsPassFault}
 use Rattle.meaning_packages.specs.Credits.{promises_in}
 use Rattle.meaning_packages.specs.CallsFlags.{FileWithCredits}
@@ -39,16 +39,17 @@ IsPassEntry calls number file b = IsEntryOf number (IsPassFault (known_paths cal
 abbrev pub IsPathEntry : (Callee → ℕ → Bool) → ℕ → FileWithCredits → BodyPlace → Entry → Type 0
 IsPathEntry calls number file b = IsEntryOf number (IsPathFault (known_paths calls file b))
 
--- a body with too many variables has no fault of a path
-pub record IsFewPathEntry (calls : Callee → ℕ → Bool) (number : ℕ) (file : FileWithCredits) (b : BodyPlace) (x : Entry)
+-- a body that is not followed has no fault of a path
+pub record IsFollowedPathEntry
+    (calls : Callee → ℕ → Bool) (number : ℕ) (file : FileWithCredits) (b : BodyPlace) (x : Entry)
     : Type 0 where
-  pub are_few : too_many_faults (variables_of file.seen b.at) ≡ []
+  pub is_followed : unfollowed_faults file.seen b ≡ []
   pub is_path_entry : IsPathEntry calls number file b x
 
 abbrev pub IsBodyEntry : (Callee → ℕ → Bool) → ℕ → FileWithCredits → BodyPlace → Entry → Type 0
 IsBodyEntry calls number file b x =
     (Contains (use_entries number (body_faults file.seen b.at)) x ⊎ IsPassEntry calls number file b x)
-    ⊎ IsFewPathEntry calls number file b x
+    ⊎ IsFollowedPathEntry calls number file b x
 
 -- of one of these bodies, whatever is so of an entry of each
 pub record IsOfBodies (IsOfBody : BodyPlace → Entry → Type 0) (bodies : List BodyPlace) (x : Entry) : Type 0 where

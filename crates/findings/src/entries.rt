@@ -17,6 +17,7 @@ fn use_code(code: UseCode) -> DiagnosticCode
 {
     match code {
         UseCode::RecoverUsed => DiagnosticCode::LeftOut(TreeFault::Recover),
+        UseCode::GotoUsed => DiagnosticCode::LeftOut(TreeFault::Goto),
         UseCode::CancelDiscarded => DiagnosticCode::Discarded,
         UseCode::CancelUsedOtherwise => DiagnosticCode::CancelMisused,
         UseCode::GroupUsedOtherwise => DiagnosticCode::GroupMisused,

@@ -6,7 +6,7 @@ ghost use Rattle.calls_flags.specs.FilesBodies.{TellAll, TellsWithCredits};
 ghost use Rattle.calls_flags.specs.KnownCalls.{known_calls};
 ghost use Rattle.credits.specs.CreditViews.{has};
 ghost use Rattle.events.specs.ToldViews.{TellsFile};
-ghost use Rattle.findings.specs.FoundEntries.{AddsEntries, IsEntryOf, IsPassEntry, IsFewPathEntry, IsBodyEntry, IsEntryOfBodies, IsFoundIn};
+ghost use Rattle.findings.specs.FoundEntries.{AddsEntries, IsEntryOf, IsPassEntry, IsFollowedPathEntry, IsBodyEntry, IsEntryOfBodies, IsFoundIn};
 ghost use Rattle.meaning.specs.BodyEvents.{bodies_of};
 ghost use Rattle.meaning.specs.Mentions.{BodyPlace as MeantBody};
 ghost use Rattle.meaning.specs.Uses.{Seen};
@@ -77,8 +77,8 @@ fn add_paths<'a>(
 ) -> Result<(), AllocError>
     ensures { OnOk result ((number : ℕ) (f : FileWithCredits) → TellsWithCredits number f file.now
         → (b : MeantBody) → TellsBody number f.seen b body.now
-        → AddsEntries diagnostics.old.items diagnostics.new.items (IsFewPathEntry (known_calls calls.entry) number f
-        b)) }
+        → AddsEntries diagnostics.old.items diagnostics.new.items
+        (IsFollowedPathEntry (known_calls calls.entry) number f b)) }
 {
     let Some(kept) = &body.graph else {
         return Ok(());

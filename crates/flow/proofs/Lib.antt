@@ -6,4 +6,5 @@ pub mod Sizes
 pub mod TurnCounts
 pub mod WalksOfLists
 pub mod Ways
+pub mod Falls
 pub mod NodesInOrder

@@ -1,8 +1,9 @@
 -- A code whose occurrences carry the numbers of their nodes; what can come first in it, and after each node, by them.
 use Rattle.std.proofs.Common.{◌≡◌, ◌≢◌, ◌⊎◌, inl, inr, ℕ, ◌+◌, Bool, true, false, List, [], ◌∷◌, ◌++◌, Option, Some, Contains, refl, sym, ap, ◌∙◌, subst}
 use Rattle.std.specs.Prelude.{if◌then◌else◌, None}
+use Rattle.std.proofs.lemmas.Bool.Decides.{Decides-eqb}
 use Rattle.std.proofs.lemmas.Slice.Eq.{bytes_eq-Decides}
-use Rattle.meaning.specs.Code.{Occurrence, Way, returning, breaking, continuing, Code, skip, does, leave, then_code, either, repeats, up_to}
+use Rattle.meaning.specs.Code.{Occurrence, Way, returning, breaking, continuing, falling, Code, skip, does, leave, then_code, either, repeats, up_to}
 use Rattle.meaning.specs.Lists.{Exit, stopped, falls, leaves, Lists, not_begun, skipped, done, just_done, left, ends_in_first, goes_on, in_first, in_second, ends_in_turn, turns_again, arrives, passes}
 use Rattle.meaning.proofs.Membership.{contains_nil, contains_here, contains_there, contains_cases}
 use Rattle.flow.specs.GraphOfCode.{same_label, same_way, arriving, size, firsts}
@@ -80,6 +81,7 @@ same_way_itself : (w : Way) → same_way w w ≡ true
 same_way_itself returning = refl
 same_way_itself (breaking l) = same_label_itself l
 same_way_itself (continuing l) = same_label_itself l
+same_way_itself (falling at) = (Decides-eqb at at).1 refl
 
 same_label_is : (l m : Option (List ℕ)) → same_label l m ≡ true → l ≡ m
 same_label_is None None e = refl
@@ -91,12 +93,19 @@ same_way_is : (v w : Way) → same_way v w ≡ true → v ≡ w
 same_way_is returning returning e = refl
 same_way_is returning (breaking m) e = cc
 same_way_is returning (continuing m) e = cc
+same_way_is returning (falling n) e = cc
 same_way_is (breaking l) returning e = cc
 same_way_is (breaking l) (breaking m) e = ap breaking (same_label_is l m e)
 same_way_is (breaking l) (continuing m) e = cc
+same_way_is (breaking l) (falling n) e = cc
 same_way_is (continuing l) returning e = cc
 same_way_is (continuing l) (breaking m) e = cc
 same_way_is (continuing l) (continuing m) e = ap continuing (same_label_is l m e)
+same_way_is (continuing l) (falling n) e = cc
+same_way_is (falling at) returning e = cc
+same_way_is (falling at) (breaking m) e = cc
+same_way_is (falling at) (continuing m) e = cc
+same_way_is (falling at) (falling n) e = ap falling ((Decides-eqb at n).0 e)
 
 falls≢leaves : (w : Way) → falls ≢ leaves w
 falls≢leaves w e = cc

@@ -2,9 +2,9 @@
 -- the number of occurrences behind it in the code, so that what follows has its numbers first. `f` is the number of
 -- occurrences behind the code that is looked at, `next` the nodes that can follow where it falls through, and `exits`
 -- those that can follow where it is left.
-use Rattle.std.specs.Prelude.{ℕ, ◌+◌, Bool, true, false, if◌then◌else◌, List, [], ◌∷◌, ◌++◌, Option, Some, None}
+use Rattle.std.specs.Prelude.{ℕ, ◌+◌, ◌==◌, Bool, true, false, if◌then◌else◌, List, [], ◌∷◌, ◌++◌, Option, Some, None}
 use Rattle.std.specs.Str.{bytes_eq}
-use Rattle.meaning.specs.Code.{Occurrence, Way, returning, breaking, continuing, Code, skip, does, leave, then_code, either, repeats, up_to}
+use Rattle.meaning.specs.Code.{Occurrence, Way, returning, breaking, continuing, falling, Code, skip, does, leave, then_code, either, repeats, up_to}
 
 -- Ways out
 
@@ -18,12 +18,19 @@ abbrev pub same_way : Way → Way → Bool
 same_way returning returning = true
 same_way returning (breaking m) = false
 same_way returning (continuing m) = false
+same_way returning (falling n) = false
 same_way (breaking l) returning = false
 same_way (breaking l) (breaking m) = same_label l m
 same_way (breaking l) (continuing m) = false
+same_way (breaking l) (falling n) = false
 same_way (continuing l) returning = false
 same_way (continuing l) (breaking m) = false
 same_way (continuing l) (continuing m) = same_label l m
+same_way (continuing l) (falling n) = false
+same_way (falling at) returning = false
+same_way (falling at) (breaking m) = false
+same_way (falling at) (continuing m) = false
+same_way (falling at) (falling n) = at == n
 
 -- what is left by this way arrives at these nodes
 abbrev pub arriving : Way → List ℕ → (Way → List ℕ) → Way → List ℕ

@@ -1,14 +1,17 @@
 -- What the program keeps of a graph, and what it stands for.
-use Rattle.std.specs.Prelude.{ℕ, ◌≡◌, ◌+◌, ◌≤◌, List, [], ◌∷◌, ◌++◌, map, length}
+use Rattle.std.specs.Prelude.{ℕ, ◌≡◌, ◌+◌, ◌≤◌, Bool, false, if◌then◌else◌, nat_eq, List, [], ◌∷◌, ◌++◌, map, length}
+use Rattle.indexmap.specs.IndexSet.{contains}
 use Rattle.std.specs.declared.alloc.Global.{Global}
 use Rattle.std.specs.declared.vec.Vec.{Vec as VecIn}
 use Rattle.code.specs.CodeViews.{occurrence_view, way_view}
 use Rattle.flow.specs.declared.exits.Destination.{Destination}
 use Rattle.flow.specs.declared.exits.Exits.{Exits}
+use Rattle.flow.specs.declared.exits.Ways.{Ways}
+use Rattle.flow.specs.declared.exits.Ways.TheVariants.{One, Falls}
 use Rattle.flow.specs.declared.graph.Node.{Node}
 use Rattle.flow.specs.declared.graph.Graph.{Graph as KeptGraph}
-use Rattle.meaning.specs.Code.{Occurrence, Way, Code}
-use Rattle.flow.specs.GraphOfCode.{arriving, no_exit, size, nodes, firsts, links}
+use Rattle.meaning.specs.Code.{Occurrence, Way, returning, breaking, continuing, falling, Code}
+use Rattle.flow.specs.GraphOfCode.{same_way, arriving, no_exit, size, nodes, firsts, links}
 use Rattle.flow.specs.Walks.{Graph}
 
 abbrev pub Vec : Type 0 → Type 0
@@ -23,17 +26,46 @@ total (c ∷ cs) = size c + total cs
 
 -- Ways out
 
+-- the way is a `fallthrough` that passes the test
+abbrev pub falls_by : (ℕ → Bool) → Way → Bool
+falls_by test returning = false
+falls_by test (breaking l) = false
+falls_by test (continuing l) = false
+falls_by test (falling at) = test at
+
+-- the way is one of these
+abbrev pub leads_there : Ways → Way → Bool
+leads_there (One w) way = same_way way (way_view w)
+leads_there (Falls falls) way = falls_by (contains nat_eq falls) way
+
 abbrev pub exits_view : List Destination → Way → List ℕ
-exits_view [] = no_exit
-exits_view (e ∷ es) = arriving (way_view e.way) e.next.items (exits_view es)
+exits_view [] way = no_exit way
+exits_view (e ∷ es) way = if leads_there e.ways way then e.next.items else exits_view es way
+
+-- what falls through at one of these offsets arrives at these nodes
+abbrev pub arriving_falls : List ℕ → List ℕ → (Way → List ℕ) → Way → List ℕ
+arriving_falls [] next exits = exits
+arriving_falls (at ∷ ats) next exits = arriving_falls ats next (arriving (falling at) next exits)
 
 abbrev pub rest_of : {A : Type 0} → List A → List A
 rest_of [] = []
 rest_of (x ∷ xs) = xs
 
+-- ways out to one end are added, before the others
+pub record EntersWays (ways : Ways) (next : List ℕ) (before after : Exits) : Type 0 where
+  pub view : (way : Way)
+      → exits_view after.entries.items way
+      ≡ (if leads_there ways way then next else exits_view before.entries.items way)
+  pub others : rest_of after.entries.items ≡ before.entries.items
+
 -- a way out is added, before the others
 pub record Enters (way : Way) (next : List ℕ) (before after : Exits) : Type 0 where
   pub view : exits_view after.entries.items ≡ arriving way next (exits_view before.entries.items)
+  pub others : rest_of after.entries.items ≡ before.entries.items
+
+-- so are `fallthrough`s
+pub record EntersFalls (falls next : List ℕ) (before after : Exits) : Type 0 where
+  pub view : exits_view after.entries.items ≡ arriving_falls falls next (exits_view before.entries.items)
   pub others : rest_of after.entries.items ≡ before.entries.items
 
 -- Graphs

@@ -70,6 +70,12 @@ fn firsts<'a, E: Copy>(
             exits.leave();
             Ok(nodes)
         }
+        Code::UpToFalls(falls, inner) => {
+            exits.enter_falls(alloc, falls, next)?;
+            let nodes = firsts(alloc, behind, inner, next, exits)?;
+            exits.leave();
+            Ok(nodes)
+        }
     }
 }
 

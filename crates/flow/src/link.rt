@@ -83,6 +83,12 @@ pub fn link<'a, E: Copy>(
             graph.exits.leave();
             Ok(first)
         }
+        Code::UpToFalls(falls, inner) => {
+            graph.exits.enter_falls(alloc, falls, next)?;
+            let first = link(alloc, inner, next, graph)?;
+            graph.exits.leave();
+            Ok(first)
+        }
     }
 }
 

@@ -46,6 +46,7 @@ pub fn begins_with_event<E: Copy>(code: &Code<'_, E>) -> bool
         Code::Choice(codes) => codes.len() == 1 && last_begins(codes),
         Code::Repeats(turn) => begins_with_event(turn),
         Code::UpTo(_, inner) => begins_with_event(inner),
+        Code::UpToFalls(_, inner) => begins_with_event(inner),
     }
 }
 
@@ -83,6 +84,7 @@ pub fn count<E: Copy>(code: &Code<'_, E>, sizes: &mut Vec<usize>) -> Result<usiz
         Code::Choice(codes) => count_all(codes, sizes),
         Code::Repeats(turn) => count_turn(turn, sizes),
         Code::UpTo(_, inner) => count(inner, sizes),
+        Code::UpToFalls(_, inner) => count(inner, sizes),
     }
 }
 

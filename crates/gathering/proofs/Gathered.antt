@@ -21,7 +21,7 @@ use Rattle.gathering.specs.ResultLaws.{ResultsHaveTablesBy, ResultsHaveTables, R
 use Rattle.gathering.proofs.Results.{below_each, same_table}
 
 nothing_is_empty : IsEmpty no_table
-nothing_is_empty = record { no_signature = λ name. refl; no_flag = λ name k. refl }
+nothing_is_empty = record { no_signature = λ name. refl; no_flag = λ name k. refl; not_told = refl }
 
 -- The tables that results have: of each path that of the first package of this path, if it has a rank
 

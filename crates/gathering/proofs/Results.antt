@@ -41,7 +41,7 @@ module _ (rules : Rules) (ps : List LoadedPackage) (tables : Tables) where
       → IsTableBy rules.are_flags ps tables i p table
       → table ≡ no_table
   unranked_table i p table is none (empty x fault h) = nothing_known table h
-  unranked_table i p table is none (full flags no_fault its signatures calls) = absurd (cannot_be_unranked ps i p is no_fault none)
+  unranked_table i p table is none (full flags no_fault its signatures calls told) = absurd (cannot_be_unranked ps i p is no_fault none)
 
 -- By results of its imports
 

@@ -8,7 +8,7 @@ use inspect_packages::tell;
 use lexer::{LexFault, Source, lex};
 use names::{NameFault, PackageNames, resolve};
 use std::alloc::{AllocError, Global};
-use tree::File;
+use tree::{Edition, File};
 use tree_hold::release;
 
 /// What is counted of files.
@@ -114,10 +114,10 @@ fn count_with(
     Ok(())
 }
 
-/// The tree of the file of this name, where it has one, once it is counted.
+/// The tree of the file of this name in the first edition, where it has one, once it is counted.
 fn counted_tree(rt: &HostRuntime, path: &str, counts: &mut Counts) -> Result<Option<File>, Fault> {
     let source = read_whole(rt, path)?;
-    match tree_of(rt.alloc(), &source)? {
+    match tree_of(rt.alloc(), Edition::First, &source)? {
         Some(file) => {
             let declarations = file.imports.len().saturating_add(file.declarations.len());
             counts.add(source.bytes.len(), Some(declarations));

@@ -5,6 +5,7 @@ use inspect_source::{text_of_tokens, text_of_tree};
 use lexer::{Source, lex, place};
 use parser::parse;
 use std::alloc::{AllocError, Global};
+use tree::Edition;
 use tree_hold::release;
 
 /// What is shown of a file.
@@ -32,14 +33,18 @@ pub fn lines_of_tokens(alloc: Global, source: &Source) -> Result<FileLines, Allo
     }
 }
 
-/// The lines of a file's tree.
+/// The lines of a file's tree, as an edition reads it.
 ///
 /// # Errors
 ///
 /// Memory was refused.
-pub fn lines_of_tree(alloc: Global, source: &Source) -> Result<FileLines, AllocError> {
+pub fn lines_of_tree(
+    alloc: Global,
+    edition: Edition,
+    source: &Source,
+) -> Result<FileLines, AllocError> {
     match lex(alloc, source) {
-        Ok(tokens) => match parse(alloc, &source.bytes, &tokens) {
+        Ok(tokens) => match parse(alloc, edition, &source.bytes, &tokens) {
             Ok(file) => {
                 let text = text_of_tree(alloc, &file);
                 release::file(file);

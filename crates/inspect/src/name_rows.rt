@@ -6,7 +6,7 @@ use crate::trees::tree_of;
 use lexer::Source;
 use names::{NameFault, PackageNames, resolve};
 use std::alloc::{AllocError, Global};
-use tree::File;
+use tree::{Edition, File};
 use tree_hold::release;
 
 const NEXT_FILE: &str = "// NEXT FILE\n";
@@ -19,15 +19,16 @@ const GIVEN_PATH: &str = "example.org/go-yaml";
 
 const GIVEN_NAME: &str = "yaml";
 
-/// What the names of this source mean otherwise than its marks say, and nothing where all is as marked.
+/// What the names of this source, as an edition reads it, mean otherwise than its marks say, and nothing where all is
+/// as marked.
 ///
 /// # Errors
 ///
 /// Memory was refused.
-pub fn names_otherwise(alloc: Global, text: &str) -> Result<String, AllocError> {
+pub fn names_otherwise(alloc: Global, edition: Edition, text: &str) -> Result<String, AllocError> {
     let (first, second) = text.split_once(NEXT_FILE).unwrap_or((text, NO_FILE));
     let sources = [source(alloc, first)?, source(alloc, second)?];
-    compared(alloc, &sources)
+    compared(alloc, edition, &sources)
 }
 
 fn source(alloc: Global, text: &str) -> Result<Source, AllocError> {
@@ -37,16 +38,21 @@ fn source(alloc: Global, text: &str) -> Result<Source, AllocError> {
     })
 }
 
-fn compared(alloc: Global, sources: &[Source; 2]) -> Result<String, AllocError> {
-    match tree_of(alloc, &sources[0])? {
-        Some(first) => with_second(alloc, sources, first),
+fn compared(alloc: Global, edition: Edition, sources: &[Source; 2]) -> Result<String, AllocError> {
+    match tree_of(alloc, edition, &sources[0])? {
+        Some(first) => with_second(alloc, edition, sources, first),
         None => String::from_str(alloc, "the first file has no tree\n"),
     }
 }
 
 /// As `compared`, with the tree of the first file, which is let go.
-fn with_second(alloc: Global, sources: &[Source; 2], first: File) -> Result<String, AllocError> {
-    match tree_of(alloc, &sources[1]) {
+fn with_second(
+    alloc: Global,
+    edition: Edition,
+    sources: &[Source; 2],
+    first: File,
+) -> Result<String, AllocError> {
+    match tree_of(alloc, edition, &sources[1]) {
         Ok(Some(second)) => {
             let files = [first, second];
             let found = resolved(alloc, sources, &files);

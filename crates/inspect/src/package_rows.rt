@@ -9,6 +9,7 @@ use folders::Fault;
 use inspect_packages::{Shown, text_of_packages};
 use lexer::Source;
 use std::alloc::{AllocError, Global};
+use tree::Edition;
 
 const FILE: &str = "FILE ";
 
@@ -34,20 +35,21 @@ struct Case {
     wanted: String,
 }
 
-/// What is shown otherwise than the row wants, and nothing where all is as wanted.
+/// What is shown by an edition otherwise than the row wants, and nothing where all is as wanted.
 ///
 /// # Errors
 ///
 /// Two packages of the row have one path, or memory was refused.
 pub fn shown_otherwise(
     alloc: Global,
+    edition: Edition,
     wanted: RowKind,
     text: &str,
 ) -> Result<Option<String>, Fault> {
     let Case {
         packages,
         wanted: lines,
-    } = read_case(alloc, text)?;
+    } = read_case(alloc, edition, text)?;
     let found = match wanted {
         RowKind::Packages(shown) => text_of_packages(alloc, shown, packages)?,
         RowKind::Tokens | RowKind::Trees => text_of_files(alloc, wanted, &packages)?,
@@ -67,7 +69,7 @@ fn text_of_files(
     let mut text = String::new(alloc);
     for package in packages {
         for source in &package.sources {
-            push_file(&mut text, alloc, wanted, source)?;
+            push_file(&mut text, alloc, package.edition, wanted, source)?;
         }
     }
     Ok(text)
@@ -76,11 +78,12 @@ fn text_of_files(
 fn push_file(
     text: &mut String,
     alloc: Global,
+    edition: Edition,
     wanted: RowKind,
     source: &Source,
 ) -> Result<(), AllocError> {
     let shown = match wanted {
-        RowKind::Trees => lines_of_tree(alloc, source)?,
+        RowKind::Trees => lines_of_tree(alloc, edition, source)?,
         _ => lines_of_tokens(alloc, source)?,
     };
     match shown {
@@ -88,7 +91,7 @@ fn push_file(
     }
 }
 
-fn read_case(alloc: Global, text: &str) -> Result<Case, AllocError> {
+fn read_case(alloc: Global, edition: Edition, text: &str) -> Result<Case, AllocError> {
     let mut case = Case {
         packages: Vec::new(alloc),
         wanted: String::new(alloc),
@@ -101,7 +104,7 @@ fn read_case(alloc: Global, text: &str) -> Result<Case, AllocError> {
         } else if words == WANT {
             is_wanted = true;
         } else {
-            add_line(alloc, &mut case.packages, line, words)?;
+            add_line(alloc, edition, &mut case.packages, line, words)?;
         }
     }
     Ok(case)
@@ -110,6 +113,7 @@ fn read_case(alloc: Global, text: &str) -> Result<Case, AllocError> {
 /// Begins a file, or adds a line to the last one.
 fn add_line(
     alloc: Global,
+    edition: Edition,
     packages: &mut Vec<GivenPackage>,
     line: &str,
     words: &str,
@@ -119,13 +123,14 @@ fn add_line(
         None => None,
     };
     match file {
-        Some((name, path)) => begin_file(alloc, packages, name, path),
+        Some((name, path)) => begin_file(alloc, edition, packages, name, path),
         None => extend_file(packages, line),
     }
 }
 
 fn begin_file(
     alloc: Global,
+    edition: Edition,
     packages: &mut Vec<GivenPackage>,
     name: &str,
     path: &str,
@@ -143,6 +148,7 @@ fn begin_file(
     sources.push(source)?;
     packages.push(GivenPackage {
         path: String::from_str(alloc, path)?,
+        edition,
         sources,
     })?;
     Ok(())

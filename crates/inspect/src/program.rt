@@ -11,6 +11,7 @@ use std::io::Write;
 use std::rt::Files;
 use std::sync::Wait;
 use std::thread::Threads;
+use tree::Edition;
 
 /// The program's name, with which the lines of its faults begin.
 pub const PROGRAM: &str = "inspect";
@@ -19,12 +20,14 @@ const HELP: &str = "Shows what ctxvet makes of Go files, step by step
 
   inspect tokens FILE    its tokens, a line each:
                          START END KIND TEXT, in bytes; an inserted semicolon has no text
-  inspect tree FILE      its syntax tree, a line for each node, two spaces a level:
+  inspect tree [--edition N] FILE
+                         its syntax tree, a line for each node, two spaces a level:
                          ROLE: START-END FORM WORDS
   inspect events PATH=DIR..
                          for each function, method and literal of the Go files in DIR, which are the package with the
                          import path PATH: uses that the rules do not allow, the cancel functions and groups that are
-                         tracked, and what each statement does to them, in the order of the body's text
+                         tracked, and what each statement does to them, in the order of the body's text. In edition 2
+                         a brace of an if's block does so too, where the condition says that one of them is nil
   inspect graph PATH=DIR..
                          the same, and after each event: -> and the numbers of those that can directly follow it; then
                          | and for each variable what may be so before the event, as a sum. Of a cancel function:
@@ -37,6 +40,8 @@ const HELP: &str = "Shows what ctxvet makes of Go files, step by step
   inspect facts PATH=DIR..
                          for each package a line with PATH and, as JSON, what is known of its functions
   inspect --help
+
+The edition of the rules is 1 or 2. --edition N stands behind tree, events, graph, certs and facts; without it, it is 1.
 
 For those who work on ctxvet:
 
@@ -51,6 +56,7 @@ For those who work on ctxvet:
                          packages      folders, each with the packages of a run of ctxvet check
                          examples      packages, each with a run of its own
                          counts        files, on all of which inspect count is run
+                         Where the element before it is second, they are read by edition 2.
   inspect count tokens FILE..
                          files N bytes N tokens N faults N: how many there are in these files, where a file that has no
                          tokens counts as a fault
@@ -69,6 +75,12 @@ Exit status:
   2  wrong words, or the files could not be read or the lines not written
 ";
 
+/// The word that asks for the tree of a file.
+const TREE: &str = "tree";
+
+/// The option before the number of an edition.
+const EDITION_OPTION: &str = "--edition";
+
 /// The status of a run that printed what was asked for.
 const FINE: u8 = 0;
 
@@ -79,8 +91,8 @@ const OTHERWISE: u8 = 1;
 enum AskedFor<'a> {
     Help,
     Tokens(&'a str),
-    Tree(&'a str),
-    Packages(Shown, &'a [String]),
+    Tree(Edition, &'a str),
+    Packages(Edition, Shown, &'a [String]),
     Rows(&'a [String]),
     Count(Counted, &'a [String]),
 }
@@ -115,11 +127,12 @@ fn answer<R: Files + Surroundings + AllocGlobal + Threads + Wait + Sync>(
         Some(AskedFor::Tokens(path)) => {
             show_file(rt, &lines_of_tokens(rt.alloc(), &read_source(rt, path)?)?)
         }
-        Some(AskedFor::Tree(path)) => {
-            show_file(rt, &lines_of_tree(rt.alloc(), &read_source(rt, path)?)?)
+        Some(AskedFor::Tree(edition, path)) => {
+            let source = read_source(rt, path)?;
+            show_file(rt, &lines_of_tree(rt.alloc(), edition, &source)?)
         }
-        Some(AskedFor::Packages(of, words)) => {
-            let packages = read_packages(rt, words)?;
+        Some(AskedFor::Packages(edition, of, words)) => {
+            let packages = read_packages(rt, edition, words)?;
             shown(rt, &text_of_packages(rt.alloc(), of, packages)?)
         }
         Some(AskedFor::Rows(folders)) => {
@@ -155,10 +168,32 @@ fn read_words(words: &[String]) -> Option<AskedFor<'_>> {
     match words {
         [word] if word.as_str() == "--help" => Some(AskedFor::Help),
         [word, path] if word.as_str() == "tokens" => Some(AskedFor::Tokens(path.as_str())),
-        [word, path] if word.as_str() == "tree" => Some(AskedFor::Tree(path.as_str())),
         [word, _, ..] if word.as_str() == "rows" => Some(AskedFor::Rows(&words[1..])),
         [word, _, ..] if word.as_str() == "count" => asked_count(&words[1..]),
-        [word, _, ..] => Some(AskedFor::Packages(shown_by(word.as_str())?, &words[1..])),
+        [word, option, number, _, ..] if option.as_str() == EDITION_OPTION => {
+            asked_of_files(edition_of(number.as_str())?, word.as_str(), &words[3..])
+        }
+        [word, _, ..] => asked_of_files(Edition::First, word.as_str(), &words[1..]),
+        _ => None,
+    }
+}
+
+/// The edition of this number.
+fn edition_of(number: &str) -> Option<Edition> {
+    match number {
+        "1" => Some(Edition::First),
+        "2" => Some(Edition::Second),
+        _ => None,
+    }
+}
+
+/// What the word asks to show of these files or packages by an edition.
+fn asked_of_files<'a>(edition: Edition, word: &str, words: &'a [String]) -> Option<AskedFor<'a>> {
+    if word != TREE {
+        return Some(AskedFor::Packages(edition, shown_by(word)?, words));
+    }
+    match words {
+        [path] => Some(AskedFor::Tree(edition, path.as_str())),
         _ => None,
     }
 }

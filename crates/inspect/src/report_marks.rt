@@ -8,6 +8,7 @@ use driver::{GivenPackage, Report, report_of};
 use folders::Fault;
 use lexer::Source;
 use std::alloc::{AllocError, Global};
+use tree::Edition;
 
 /// The path of the package whose one file a source is.
 const PATH: &str = "a";
@@ -23,15 +24,19 @@ const OPENING: &str = "/* want ";
 
 const CLOSING: &str = " */";
 
-/// What is reported of this source otherwise than its marks say, with what they want, and nothing where all is as
-/// marked.
+/// What is reported of this source by an edition otherwise than its marks say, with what they want, and nothing where
+/// all is as marked.
 ///
 /// # Errors
 ///
 /// Memory was refused.
-pub fn reported_otherwise(alloc: Global, text: &str) -> Result<Option<String>, Fault> {
+pub fn reported_otherwise(
+    alloc: Global,
+    edition: Edition,
+    text: &str,
+) -> Result<Option<String>, Fault> {
     let MarkedSource { source, wanted } = read_marks(alloc, text)?;
-    let report = report_alone(alloc, source)?;
+    let report = report_alone(alloc, edition, source)?;
     if report.text.as_slice() == wanted.as_bytes() {
         return Ok(None);
     }
@@ -40,12 +45,16 @@ pub fn reported_otherwise(alloc: Global, text: &str) -> Result<Option<String>, F
 }
 
 /// The report of the source as the one file of its package.
-fn report_alone(alloc: Global, source: Source) -> Result<Report, Fault> {
+fn report_alone(alloc: Global, edition: Edition, source: Source) -> Result<Report, Fault> {
     let path = String::from_str(alloc, PATH)?;
     let mut sources = Vec::new(alloc);
     sources.push(source)?;
     let mut given = Vec::new(alloc);
-    given.push(GivenPackage { path, sources })?;
+    given.push(GivenPackage {
+        path,
+        edition,
+        sources,
+    })?;
     report_of(alloc, given)
 }
 

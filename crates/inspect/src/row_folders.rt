@@ -15,6 +15,17 @@ use std::alloc::Global;
 use std::rt::Files;
 use std::sync::Wait;
 use std::thread::Threads;
+use tree::Edition;
+
+/// The folder above those whose entries are read by the second edition.
+const SECOND: &str = "second";
+
+/// A folder's entries: by which edition they are read, and how.
+#[derive(Clone, Copy)]
+struct Rows {
+    edition: Edition,
+    cases: Cases,
+}
 
 /// How the entries of a folder are read.
 #[derive(Clone, Copy)]
@@ -80,6 +91,22 @@ fn last_element(folder: &str) -> &str {
     }
 }
 
+/// The edition by which the entries of a folder with this path are read.
+fn edition_of(folder: &str) -> Edition {
+    match folder.rsplit_once('/') {
+        Some((above, _)) if last_element(above) == SECOND => Edition::Second,
+        _ => Edition::First,
+    }
+}
+
+/// By which edition the entries of a folder with this path are read, and how.
+fn rows_of(folder: &str) -> Option<Rows> {
+    Some(Rows {
+        edition: edition_of(folder),
+        cases: cases_of(last_element(folder))?,
+    })
+}
+
 /// Goes through these folders, tells of each row, and gives whether all that are compared are as they are to be.
 ///
 /// # Errors
@@ -93,7 +120,7 @@ pub fn show_folders<R: Files + Surroundings + AllocGlobal + Threads + Wait + Syn
 ) -> Result<bool, Fault> {
     let mut kinds = Vec::new(rt.alloc());
     for folder in folders {
-        match cases_of(last_element(folder)) {
+        match rows_of(folder) {
             Some(rows) => kinds.push(rows)?,
             None => return Err(Fault::WrongWords(PROGRAM)),
         }
@@ -110,31 +137,42 @@ fn show_folder<R: Files + Surroundings + AllocGlobal + Threads + Wait + Sync>(
     rt: &HostRuntime,
     system: &R,
     folder: &str,
-    rows: Cases,
+    rows: Rows,
 ) -> Result<bool, Fault> {
-    match rows {
-        Cases::Compared(compared) => return compare_all(rt, folder, compared),
-        Cases::Packages => show_runs(rt, system, folder)?,
-        Cases::Examples => show_examples(rt, system, folder)?,
+    let edition = rows.edition;
+    match rows.cases {
+        Cases::Compared(compared) => return compare_all(rt, edition, folder, compared),
+        Cases::Packages => show_runs(rt, system, edition, folder)?,
+        Cases::Examples => show_examples(rt, system, edition, folder)?,
         Cases::Counts => show_counts(rt, folder)?,
     }
     Ok(true)
 }
 
 /// Tells of each row of the folder whether it is as it is to be, and gives whether all are.
-fn compare_all(rt: &HostRuntime, folder: &str, compared: Compared) -> Result<bool, Fault> {
+fn compare_all(
+    rt: &HostRuntime,
+    edition: Edition,
+    folder: &str,
+    compared: Compared,
+) -> Result<bool, Fault> {
     let mut is_well = true;
     for name in &entries(rt, folder)? {
         let path = format!(in rt.alloc(); "{folder}/{name}")?;
-        is_well = compare(rt, &path, compared)? && is_well;
+        is_well = compare(rt, edition, &path, compared)? && is_well;
     }
     Ok(is_well)
 }
 
 /// Tells whether the row in this file is as it is to be.
-fn compare(rt: &HostRuntime, path: &str, compared: Compared) -> Result<bool, Fault> {
+fn compare(
+    rt: &HostRuntime,
+    edition: Edition,
+    path: &str,
+    compared: Compared,
+) -> Result<bool, Fault> {
     let text = read_text(rt, path)?;
-    let (line, is_well) = match otherwise(rt.alloc(), &text, compared)? {
+    let (line, is_well) = match otherwise(rt.alloc(), edition, &text, compared)? {
         None => {
             let well = compared.as_it_should();
             (format!(in rt.alloc(); "{path}: {well}\n")?, true)
@@ -148,14 +186,19 @@ fn compare(rt: &HostRuntime, path: &str, compared: Compared) -> Result<bool, Fau
     Ok(is_well)
 }
 
-/// What is found otherwise than the row wants.
-fn otherwise(alloc: Global, text: &str, compared: Compared) -> Result<Option<String>, Fault> {
+/// What is found by an edition otherwise than the row wants.
+fn otherwise(
+    alloc: Global,
+    edition: Edition,
+    text: &str,
+    compared: Compared,
+) -> Result<Option<String>, Fault> {
     match compared {
         Compared::Names => {
-            let found = names_otherwise(alloc, text)?;
+            let found = names_otherwise(alloc, edition, text)?;
             Ok(if found.is_empty() { None } else { Some(found) })
         }
-        Compared::Report => reported_otherwise(alloc, text),
-        Compared::Shown(wanted) => shown_otherwise(alloc, wanted, text),
+        Compared::Report => reported_otherwise(alloc, edition, text),
+        Compared::Shown(wanted) => shown_otherwise(alloc, edition, wanted, text),
     }
 }

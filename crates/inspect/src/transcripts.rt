@@ -9,9 +9,15 @@ use std::alloc::{AllocError, Global};
 use std::rt::Files;
 use std::sync::Wait;
 use std::thread::Threads;
+use tree::Edition;
 
-/// Runs `ctxvet check` for each folder in this one, on all packages that lie there. `system` is the runtime once more,
-/// as it is of the program's `run`.
+/// The word by which packages are judged by the second edition, and what runs with it begin with.
+const SECOND_EDITION: &str = "--edition=2";
+
+const SECOND_CHECK: &str = "./ctxvet check --edition=2";
+
+/// Runs `ctxvet check`, by an edition, for each folder in this one, on all packages that lie there. `system` is the
+/// runtime once more, as it is of the program's `run`.
 ///
 /// # Errors
 ///
@@ -19,11 +25,12 @@ use std::thread::Threads;
 pub fn show_runs<R: Files + Surroundings + AllocGlobal + Threads + Wait + Sync>(
     rt: &HostRuntime,
     system: &R,
+    edition: Edition,
     folder: &str,
 ) -> Result<(), Fault> {
     for name in &entries(rt, folder)? {
         let packages = format!(in rt.alloc(); "{folder}/{name}")?;
-        show_packages(rt, system, &packages)?;
+        show_packages(rt, system, edition, &packages)?;
     }
     Ok(())
 }
@@ -32,13 +39,14 @@ pub fn show_runs<R: Files + Surroundings + AllocGlobal + Threads + Wait + Sync>(
 fn show_packages<R: Files + Surroundings + AllocGlobal + Threads + Wait + Sync>(
     rt: &HostRuntime,
     system: &R,
+    edition: Edition,
     folder: &str,
 ) -> Result<(), Fault> {
     let mut words = Vec::new(rt.alloc());
     for package in &entries(rt, folder)? {
         words.push(format!(in rt.alloc(); "{package}={folder}/{package}")?)?;
     }
-    show_check(rt, system, &words)
+    show_check(rt, system, edition, &words)
 }
 
 /// Runs `ctxvet check` on each package in this folder by itself.
@@ -49,12 +57,13 @@ fn show_packages<R: Files + Surroundings + AllocGlobal + Threads + Wait + Sync>(
 pub fn show_examples<R: Files + Surroundings + AllocGlobal + Threads + Wait + Sync>(
     rt: &HostRuntime,
     system: &R,
+    edition: Edition,
     folder: &str,
 ) -> Result<(), Fault> {
     for name in &entries(rt, folder)? {
         let mut words = Vec::new(rt.alloc());
         words.push(format!(in rt.alloc(); "{name}={folder}/{name}")?)?;
-        show_check(rt, system, &words)?;
+        show_check(rt, system, edition, &words)?;
     }
     Ok(())
 }
@@ -63,14 +72,22 @@ pub fn show_examples<R: Files + Surroundings + AllocGlobal + Threads + Wait + Sy
 fn show_check<R: Files + Surroundings + AllocGlobal + Threads + Wait + Sync>(
     rt: &HostRuntime,
     system: &R,
+    edition: Edition,
     packages: &[String],
 ) -> Result<(), Fault> {
     let mut words = Vec::new(rt.alloc());
     words.push("check")?;
+    let program = match edition {
+        Edition::First => "./ctxvet check",
+        Edition::Second => {
+            words.push(SECOND_EDITION)?;
+            SECOND_CHECK
+        }
+    };
     for package in packages {
         words.push(package.as_str())?;
     }
-    let command = command_line(rt.alloc(), "./ctxvet check", packages)?;
+    let command = command_line(rt.alloc(), program, packages)?;
     print(rt, command.as_bytes())?;
     let mut shown = Vec::new(rt.alloc());
     let mut complaints = Vec::new(rt.alloc());

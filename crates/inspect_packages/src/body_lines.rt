@@ -23,7 +23,7 @@ pub fn push_body<'a>(
     push_header(text, page.source, body.place)?;
     let faults = body_faults(alloc, page.file.told, &body.variables, body.place.at)?;
     push_inner(alloc, text, page.source, &faults)?;
-    if body.has_too_many {
+    if body.is_unfollowed {
         return Ok(());
     }
     push_variables(

@@ -6,6 +6,7 @@ use folders::{Fault, escaped, read_folder, split_word};
 use load::{GivenPackage, LoadFault, load, release};
 use std::alloc::{AllocError, Global};
 use std::rt::Files;
+use tree::Edition;
 use whole_packages::LoadedPackage;
 
 /// What is shown of packages.
@@ -21,26 +22,32 @@ pub enum Shown {
     Facts,
 }
 
-/// The packages that these words, `PATH=DIR` each, name, in their order.
+/// The packages that these words, `PATH=DIR` each, name, in their order, to be judged by an edition.
 ///
 /// # Errors
 ///
 /// A word is no `PATH=DIR`, a folder or a file can't be read, or memory was refused.
 pub fn read_packages<R: Files + AllocGlobal>(
     rt: &R,
+    edition: Edition,
     words: &[String],
 ) -> Result<Vec<GivenPackage>, Fault> {
     let mut packages = Vec::new(rt.alloc());
     for word in words {
-        packages.push(read_package(rt, word.as_str())?)?;
+        packages.push(read_package(rt, edition, word.as_str())?)?;
     }
     Ok(packages)
 }
 
-fn read_package<R: Files + AllocGlobal>(rt: &R, word: &str) -> Result<GivenPackage, Fault> {
+fn read_package<R: Files + AllocGlobal>(
+    rt: &R,
+    edition: Edition,
+    word: &str,
+) -> Result<GivenPackage, Fault> {
     match split_word(word) {
         Some((path, folder)) => Ok(GivenPackage {
             path: String::from_str(rt.alloc(), path)?,
+            edition,
             sources: read_folder(rt, folder)?,
         }),
         None => Err(Fault::BadPackage(escaped(rt.alloc(), word)?)),

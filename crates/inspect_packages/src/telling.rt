@@ -4,7 +4,7 @@ use calls_flags::{Telling, tell_files};
 use facts::{Imported, Table, signatures};
 use names::{NameFault, Names, PackageNames, resolve};
 use std::alloc::{AllocError, Global};
-use tree::File;
+use tree::{Edition, File};
 
 /// Finds what the names of the files mean, as those of a package that imports no given one, and what its bodies do to
 /// their tracked variables. Where two of its functions have one name, nothing more is found.
@@ -26,7 +26,7 @@ fn tell_resolved<'a>(
     files: &'a [File],
     names: &Names<'a>,
 ) -> Result<(), AllocError> {
-    let own = signatures(alloc, files, names)?;
+    let own = signatures(alloc, Edition::First, files, names)?;
     let imported = Imported::new(alloc);
     tell_known(alloc, files, &*names, &own, &imported)
 }
@@ -39,6 +39,7 @@ fn tell_known<'k, 't: 'k, 'a>(
     imported: &'k Imported<'a, 't>,
 ) -> Result<(), AllocError> {
     let telling = Telling {
+        edition: Edition::First,
         files,
         names,
         table: own,

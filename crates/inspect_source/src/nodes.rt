@@ -50,6 +50,7 @@ fn expression_form(kind: &ExprKind) -> &'static str {
         ExprKind::Paren(_) => "Paren",
         ExprKind::Selector(_, _) => "Selector",
         ExprKind::Index(_, _) => "Index",
+        ExprKind::Instance(_, _) => "Instance",
         ExprKind::Slice(_, _) => "Slice",
         ExprKind::TypeAssert(_, _) => "TypeAssert",
         ExprKind::Call(_, _, _) => "Call",
@@ -95,6 +96,10 @@ fn parts_of_expression(lines: &mut Lines, slot: Slot, kind: &ExprKind) {
         ExprKind::Index(operand, index) => {
             expression(lines, slot.below("operand"), operand);
             expression(lines, slot.below("index"), index);
+        }
+        ExprKind::Instance(operand, arguments) => {
+            expression(lines, slot.below("operand"), operand);
+            expressions(lines, slot.below("argument"), arguments);
         }
         ExprKind::Slice(operand, bounds) => {
             expression(lines, slot.below("operand"), operand);
@@ -229,6 +234,14 @@ fn field(lines: &mut Lines, slot: Slot, part: &Field) {
                 lines.node(slot.below("tag"), *tag, "BasicLit");
             }
         }
+        Field::Element(has_star, kind, tag, span) => {
+            lines.node(slot, *span, "Element");
+            lines.flag("star", *has_star);
+            expression(lines, slot.below("type"), kind);
+            if let Some(tag) = tag {
+                lines.node(slot.below("tag"), *tag, "BasicLit");
+            }
+        }
         Field::Method(name, types, span) => {
             lines.node(slot, *span, "Method");
             result_brackets(lines, types);
@@ -262,6 +275,8 @@ fn statement_form(kind: &StmtKind) -> &'static str {
         StmtKind::Return(_) => "Return",
         StmtKind::Break(_) => "Break",
         StmtKind::Continue(_) => "Continue",
+        StmtKind::Goto(_) => "Goto",
+        StmtKind::Fallthrough => "Fallthrough",
         StmtKind::Block(_) => "Block",
         StmtKind::If { .. } => "If",
         StmtKind::For { .. } => "For",
@@ -308,6 +323,8 @@ fn parts_of_statement(lines: &mut Lines, slot: Slot, kind: &StmtKind) {
         StmtKind::Return(values) => expressions(lines, slot.below("value"), values),
         StmtKind::Break(label) => optional_identifier(lines, slot.below("label"), label),
         StmtKind::Continue(label) => optional_identifier(lines, slot.below("label"), label),
+        StmtKind::Goto(label) => identifier(lines, slot.below("label"), label),
+        StmtKind::Fallthrough => {}
         StmtKind::Block(part) => statements(lines, slot.below("statement"), &part.statements),
         StmtKind::If {
             init,
@@ -440,10 +457,11 @@ fn spec(lines: &mut Lines, slot: Slot, part: &Spec) {
             optional_expression(lines, slot.below("type"), kind);
             expressions(lines, slot.below("value"), values);
         }
-        Spec::Type(name, is_alias, kind, span) => {
+        Spec::Type(name, type_params, is_alias, kind, span) => {
             lines.node(slot, *span, "Type");
             lines.flag("alias", *is_alias);
             identifier(lines, slot.below("name"), name);
+            params(lines, slot.below("type_param"), type_params);
             expression(lines, slot.below("type"), kind);
         }
     }

@@ -51,7 +51,8 @@ fn top_level(lines: &mut Lines, slot: Slot, part: &TopLevelDecl) {
     }
 }
 
-/// `Func`, and below it its receiver, if it has one, its name, its parameters and results, and its body, if it has one.
+/// `Func`, and below it its receiver, if it has one, its name, its type parameters, its parameters and results, and its
+/// body, if it has one.
 fn function(lines: &mut Lines, slot: Slot, part: &Func) {
     lines.node(slot, part.span, "Func");
     result_brackets(lines, &part.signature);
@@ -59,6 +60,7 @@ fn function(lines: &mut Lines, slot: Slot, part: &Func) {
         params(lines, slot.below("receiver"), receiver);
     }
     identifier(lines, slot.below("name"), &part.name);
+    params(lines, slot.below("type_param"), &part.type_params);
     signature(lines, slot, &part.signature);
     if let Some(body) = &part.body {
         block(lines, slot.below("body"), body);

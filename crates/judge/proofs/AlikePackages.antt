@@ -6,6 +6,7 @@ use Rattle.std.specs.List.{list_any}
 use Rattle.std.specs.Str.{bytes_eq}
 use Rattle.std.proofs.lemmas.Option.{none-some, same_Some}
 use Rattle.imports.specs.Ranks.{Package, Imports, HasRank}
+use Rattle.imports.specs.Settling.{place_from}
 use Rattle.lexer.specs.declared.fault.LexFault.{LexFault}
 use Rattle.lexer.specs.declared.fault.LexFault.TheVariants as lex_fault
 use Rattle.lexer.proofs.Outcomes.{one_outcome, one_fault}
@@ -21,15 +22,18 @@ use Rattle.load.specs.Readings.{AreReadingsOf, IsLoadedAs}
 use Rattle.meaning.specs.Declarations.{declaration_of_use}
 use Rattle.meaning.specs.FunctionFacts.{package_facts}
 use Rattle.meaning.specs.OuterBlocks.{PackageNames}
-use Rattle.meaning.specs.TwoFunctions.{second_function}
+use Rattle.meaning.specs.TwoFunctions.{FunctionName, function_names_from, second_function}
 use Rattle.meaning.specs.Uses.{Seen}
 use Rattle.meaning_packages.specs.CallsFlags.{Flags, FileWithCredits, calls_by}
-use Rattle.meaning_reports.specs.Loaded.{Reading, has_tree, has_text_fault, has_tree_fault, LoadedPackage, NumberedTree, Tables, no_table, trees_from, numbered_trees, trees_of, imports_of, import_list, name_in, name_of, package_at, package_names, imported_flags, signatures_of, seen_from, seen_files}
-use Rattle.meaning_reports.specs.PackageReports.{IsFindingBy, of_whole, of_import, of_files, IsYesBy}
-use Rattle.meaning_reports.specs.PackageTables.{IsEmpty, IsTableBy, empty, full, AreTablesBy}
+use Rattle.meaning_reports.specs.Loaded.{Reading, has_tree, has_text_fault, has_tree_fault, LoadedPackage, NumberedTree, Tables, no_table, trees_from, numbered_trees, trees_of, imports_of, import_list, name_in, name_of, package_at, package_names, imported_flags, imported_tables, signatures_of, seen_from, seen_files}
+use Rattle.meaning_reports.specs.DotImports.{SaysSomething, as_library, by_table, by_fault, IsLeftOut}
+use Rattle.meaning_reports.specs.UsedImports.{IsUsed, IsNeeded, in_first, has_whole_fault, is_used}
+use Rattle.meaning_reports.specs.PackageReports.{IsFindingBy, of_whole, of_import, of_dot, of_files, IsYesBy}
+use Rattle.meaning_reports.specs.PackageTables.{tells, tells_of, IsEmpty, IsTableBy, empty, full, AreTablesBy}
 use Rattle.meaning_reports.specs.WholeFaults.{ImportsAt, IsWholeFault, has_no_tokens, has_no_tree, has_two_functions, has_no_rank, HasNoWholeFault}
 use Rattle.report.specs.Entries.{Entry}
-use Rattle.tree.specs.Syntax.{ImportSpec, SourceFile}
+use Rattle.tree.specs.declared.edition.Edition.{Edition}
+use Rattle.tree.specs.Syntax.{Identifier, ImportSpec, SourceFile}
 use Rattle.verifier.specs.Rules.{GivenByPath, IsVerified, AreFlagsByCertificates, SaysByCertificates, by_certificates}
 use Rattle.verifier.specs.Verified.{AreClaimed, AreGivenCredits, IsSaid}
 use Rattle.whole_packages.specs.declared.loaded_package.LoadedPackage.{LoadedPackage as KeptPackage}
@@ -65,22 +69,23 @@ told f at UnclosedRune h = (ap kind_of h.fault_there, ap offset_of h.fault_there
 told f at UnknownCharacter h = (ap kind_of h.fault_there, ap offset_of h.fault_there)
 told f at TooLong h = (ap kind_of h.fault_there, ap offset_of h.fault_there ∙ sym (h.at_start refl))
 
-one_reading : (text : List ℕ) (r s : Reading) → IsReadingOf text r → IsReadingOf text s → (r ≡ s) ⊎ (HasTreeFault r × HasTreeFault s)
-one_reading text (has_tree t) (has_tree u) h k = inl (ap has_tree (one_tree text t u h k))
-one_reading text (has_tree t) (has_text_fault at why) h k = absurd (one_outcome text h.tokens k.0 h.cut k.1)
-one_reading text (has_tree t) (has_tree_fault at why) h k = absurd (k.no_tree t h)
-one_reading text (has_text_fault at why) (has_tree u) h k = absurd (one_outcome text k.tokens h.0 k.cut h.1)
-one_reading text (has_text_fault at why) (has_text_fault place reason) h k =
+one_reading : (edition : Edition) (text : List ℕ) (r s : Reading) → IsReadingOf edition text r → IsReadingOf edition text s
+    → (r ≡ s) ⊎ (HasTreeFault r × HasTreeFault s)
+one_reading edition text (has_tree t) (has_tree u) h k = inl (ap has_tree (one_tree edition text t u h k))
+one_reading edition text (has_tree t) (has_text_fault at why) h k = absurd (one_outcome text h.tokens k.0 h.cut k.1)
+one_reading edition text (has_tree t) (has_tree_fault at why) h k = absurd (k.no_tree t h)
+one_reading edition text (has_text_fault at why) (has_tree u) h k = absurd (one_outcome text k.tokens h.0 k.cut h.1)
+one_reading edition text (has_text_fault at why) (has_text_fault place reason) h k =
     let same = one_fault text h.0 k.0 h.1 k.1 in
     let one = told h.0 at why h.2 in
     let other = told k.0 place reason k.2 in
     let kind = sym one.0 ∙ (ap kind_of same ∙ other.0) in
     let offset = sym one.1 ∙ (ap offset_of same ∙ other.1) in
     inl (λ i. has_text_fault (offset i) (kind i))
-one_reading text (has_text_fault at why) (has_tree_fault place reason) h k = absurd (one_outcome text k.tokens h.0 k.cut h.1)
-one_reading text (has_tree_fault at why) (has_tree u) h k = absurd (h.no_tree u k)
-one_reading text (has_tree_fault at why) (has_text_fault place reason) h k = absurd (one_outcome text h.tokens k.0 h.cut k.1)
-one_reading text (has_tree_fault at why) (has_tree_fault place reason) h k = inr (tt, tt)
+one_reading edition text (has_text_fault at why) (has_tree_fault place reason) h k = absurd (one_outcome text k.tokens h.0 k.cut h.1)
+one_reading edition text (has_tree_fault at why) (has_tree u) h k = absurd (h.no_tree u k)
+one_reading edition text (has_tree_fault at why) (has_text_fault place reason) h k = absurd (one_outcome text h.tokens k.0 h.cut k.1)
+one_reading edition text (has_tree_fault at why) (has_tree_fault place reason) h k = inr (tt, tt)
 
 -- the same became of the file, or both times it has no tree
 abbrev IsLikeReading : Reading → Reading → Type 0
@@ -132,20 +137,22 @@ same_trees n [] (s ∷ ss) h = absurd h
 same_trees n (r ∷ rs) [] h = absurd h
 same_trees n (r ∷ rs) (s ∷ ss) h = rest_same n r rs ss (same_trees (n + 1) rs ss h.1) ∙ first_same n r s ss h.0
 
-like_readings : (sources : List Source) (rs ss : List Reading) → AreReadingsOf sources rs → AreReadingsOf sources ss
+like_readings : (edition : Edition) (sources : List Source) (rs ss : List Reading) → AreReadingsOf edition sources rs
+    → AreReadingsOf edition sources ss
     → AreLike rs ss
-like_readings [] [] [] h k = tt
-like_readings [] [] (s ∷ ss) h k = absurd k
-like_readings [] (r ∷ rs) ss h k = absurd h
-like_readings (x ∷ xs) [] ss h k = absurd h
-like_readings (x ∷ xs) (r ∷ rs) [] h k = absurd k
-like_readings (x ∷ xs) (r ∷ rs) (s ∷ ss) h k =
-    (one_reading x.bytes.items r s h.0 k.0, like_readings xs rs ss h.1 k.1)
+like_readings edition [] [] [] h k = tt
+like_readings edition [] [] (s ∷ ss) h k = absurd k
+like_readings edition [] (r ∷ rs) ss h k = absurd h
+like_readings edition (x ∷ xs) [] ss h k = absurd h
+like_readings edition (x ∷ xs) (r ∷ rs) [] h k = absurd k
+like_readings edition (x ∷ xs) (r ∷ rs) (s ∷ ss) h k =
+    (one_reading edition x.bytes.items r s h.0 k.0, like_readings edition xs rs ss h.1 k.1)
 
 -- Packages
 
 pub record IsLike (p q : LoadedPackage) : Type 0 where
   pub is_path : p.path ≡ q.path
+  pub is_edition : p.edition ≡ q.edition
   pub are_files : AreLike p.files q.files
 
 -- package by package
@@ -156,7 +163,11 @@ AreAlike (p ∷ ps) [] = ⊥
 AreAlike (p ∷ ps) (q ∷ qs) = IsLike p q × AreAlike ps qs
 
 turned_package : (p q : LoadedPackage) → IsLike p q → IsLike q p
-turned_package p q h = record { is_path = sym h.is_path; are_files = all_turned p.files q.files h.are_files }
+turned_package p q h = record {
+  is_path = sym h.is_path;
+  is_edition = sym h.is_edition;
+  are_files = all_turned p.files q.files h.are_files;
+}
 
 pub turned_packages : (ps qs : List LoadedPackage) → AreAlike ps qs → AreAlike qs ps
 turned_packages [] [] h = tt
@@ -164,17 +175,18 @@ turned_packages [] (q ∷ qs) h = absurd h
 turned_packages (p ∷ ps) [] h = absurd h
 turned_packages (p ∷ ps) (q ∷ qs) h = (turned_package p q h.0, turned_packages ps qs h.1)
 
-like_package : (path : List ℕ) (sources : List Source) (p q : LoadedPackage) (k l : KeptPackage)
-    → IsLoadedAs path sources p k
-    → IsLoadedAs path sources q l
+like_package : (edition : Edition) (path : List ℕ) (sources : List Source) (p q : LoadedPackage) (k l : KeptPackage)
+    → IsLoadedAs edition path sources p k
+    → IsLoadedAs edition path sources q l
     → IsLike p q
-like_package path sources p q k l h m =
+like_package edition path sources p q k l h m =
     let same : k.sources.items ≡ l.sources.items =
     by_name_is_one sources k.sources.items l.sources.items h.by_name m.by_name in
     record {
       is_path = h.is_path ∙ sym m.is_path;
-      are_files = like_readings k.sources.items p.files q.files h.are_files
-          (subst (λ (s : List Source). AreReadingsOf s q.files) (sym same) m.are_files);
+      is_edition = h.is_edition ∙ sym m.is_edition;
+      are_files = like_readings edition k.sources.items p.files q.files h.are_files
+          (subst (λ (s : List Source). AreReadingsOf edition s q.files) (sym same) m.are_files);
     }
 
 pub loaded_alike : (es : List PathAndFiles) (ps qs : List LoadedPackage) (ks ls : List KeptPackage)
@@ -189,7 +201,7 @@ loaded_alike (e ∷ es) (p ∷ ps) [] ks ls h m = absurd m
 loaded_alike (e ∷ es) (p ∷ ps) (q ∷ qs) [] ls h m = absurd h
 loaded_alike (e ∷ es) (p ∷ ps) (q ∷ qs) (k ∷ ks) [] h m = absurd m
 loaded_alike (e ∷ es) (p ∷ ps) (q ∷ qs) (k ∷ ks) (l ∷ ls) h m =
-    (like_package (string_bytes e.0) e.1.items p q k l h.0 m.0, loaded_alike es ps qs ks ls h.1 m.1)
+    (like_package e.1.0 (string_bytes e.0) e.1.1.items p q k l h.0 m.0, loaded_alike es ps qs ks ls h.1 m.1)
 
 pub package_there : (ps qs : List LoadedPackage) → AreAlike ps qs → (i : ℕ) (p : LoadedPackage) → slice_get ps i ≡ Some p
     → (q : LoadedPackage) × (slice_get qs i ≡ Some q) × IsLike p q
@@ -234,29 +246,38 @@ names_same (p ∷ ps) (q ∷ qs) h path =
     by true rest = ap name_in (trees_same p q h.0)
     by false rest = rest
 
--- by their trees and the names of packages alone
-abbrev seen_with : List SourceFile → PackageNames → Tables → List Seen
-seen_with trees names tables =
+-- by their edition, their trees and the names of packages alone
+abbrev seen_with : Edition → List SourceFile → PackageNames → Tables → List Seen
+seen_with edition trees names tables =
     seen_from (λ number. record {
+      edition = edition;
       means = declaration_of_use trees names number;
-      functions = package_facts (λ n. declaration_of_use trees names n) trees;
+      functions = package_facts edition (λ n. declaration_of_use trees names n) trees;
       imported = λ path. (if list_any (λ r. bytes_eq r path) (paths_in trees) then tables path else no_table).signatures;
     }) 0 trees
 
+abbrev table_with : List SourceFile → Tables → Tables
+table_with trees tables path = if list_any (λ r. bytes_eq r path) (paths_in trees) then tables path else no_table
+
 abbrev flags_with : List SourceFile → Tables → List ℕ → Flags
-flags_with trees tables path = (if list_any (λ r. bytes_eq r path) (paths_in trees) then tables path else no_table).calls
+flags_with trees tables path = (table_with trees tables path).calls
 
 module _ (ps qs : List LoadedPackage) (alike : AreAlike ps qs) where
   all_names : package_names ps ≡ package_names qs
   all_names = λ j path. names_same ps qs alike path j
 
   seen_same : (tables : Tables) (p q : LoadedPackage) → IsLike p q → seen_files ps tables p ≡ seen_files qs tables q
-  seen_same tables p q h = λ j. seen_with (trees_same p q h j) (all_names j) tables
+  seen_same tables p q h = λ j. seen_with (h.is_edition j) (trees_same p q h j) (all_names j) tables
+
+  tells_same : (p q : LoadedPackage) → IsLike p q → tells_of ps p ≡ tells_of qs q
+  tells_same p q h = λ j.
+      list_any (λ (f : FunctionName). tells (package_facts (h.is_edition j) (λ n. declaration_of_use (trees_same p q h j) (all_names j) n) (trees_same p q h j) f.name.text))
+      (function_names_from 0 (trees_same p q h j))
 
   signatures_same : (p q : LoadedPackage) → IsLike p q → (name : List ℕ)
       → signatures_of ps p name ≡ signatures_of qs q name
   signatures_same p q h name =
-      λ j. package_facts (λ n. declaration_of_use (trees_same p q h j) (all_names j) n) (trees_same p q h j) name
+      λ j. package_facts (h.is_edition j) (λ n. declaration_of_use (trees_same p q h j) (all_names j) n) (trees_same p q h j) name
 
   -- Faults of whole packages
 
@@ -320,6 +341,58 @@ module _ (ps qs : List LoadedPackage) (alike : AreAlike ps qs) (given : GivenByP
   none_too : (i : ℕ) → HasNoWholeFault ps i → HasNoWholeFault qs i
   none_too i none x fault = let w = whole_too qs ps (turned_packages ps qs alike) i x fault in none w.0 w.1
 
+  -- Imports with a dot
+
+  says_too_of : (path : List ℕ) (p q : LoadedPackage) → IsLike p q → SaysSomething ps (imported_tables p tables) path
+      → SaysSomething qs (imported_tables q tables) path
+  says_too_of path p q h (as_library library) = as_library library
+  says_too_of path p q h (by_table told) =
+      by_table (ap (λ (trees : List SourceFile). (table_with trees tables path).is_told) (sym (trees_same p q h)) ∙ told)
+  says_too_of path p q h (by_fault j x place fault) =
+      let w = whole_too ps qs alike j x fault in
+      by_fault j w.0 (ap (λ (l : List Package). place_from path l 0) (sym (lists_same ps qs alike)) ∙ place) w.1
+
+  dots_too : (i file : ℕ) (dot : Identifier) → IsLeftOut ps tables i file dot → IsLeftOut qs tables i file dot
+  dots_too i file dot h =
+      let importer = package_there ps qs alike i h.importer h.is_importer in
+      record {
+        importer = importer.0;
+        tree = h.tree;
+        spec = h.spec;
+        is_importer = importer.1;
+        is_tree =
+            subst (λ (ts : List NumberedTree). Contains ts h.tree) (numbered_same h.importer importer.0 importer.2)
+            h.is_tree;
+        is_file = h.is_file;
+        is_spec = h.is_spec;
+        is_its = h.is_its;
+        is_dot = h.is_dot;
+        says_something = says_too_of h.spec.path h.importer importer.0 importer.2 h.says_something;
+      }
+
+  -- Imports that are needed
+
+  used_too : (i : ℕ) (path : List ℕ) → IsUsed ps tables i path → IsUsed qs tables i path
+  used_too i path h =
+      let user = package_there ps qs alike i h.user h.is_user in
+      record {
+        user = user.0;
+        file = h.file;
+        callee = h.callee;
+        is_user = user.1;
+        is_file =
+            subst (λ (files : List Seen). Contains files h.file) (seen_same ps qs alike tables h.user user.0 user.2)
+            h.is_file;
+        is_of_path = h.is_of_path;
+        hands = h.hands;
+      }
+
+  needed_too : (i j : ℕ) (path : List ℕ) → IsNeeded ps tables i j path → IsNeeded qs tables i j path
+  needed_too i j path (in_first {importer = p} is first) =
+      let q = package_there ps qs alike i p is in in_first q.1 (sym q.2.is_edition ∙ first)
+  needed_too i j path (has_whole_fault {x = x} fault) = has_whole_fault (whole_too ps qs alike j x fault).1
+  needed_too i j path (is_used h) = is_used (used_too i path h)
+
   -- What `verify` says
 
   pub verified_too : (i : ℕ) (p q : LoadedPackage) (files : List FileWithCredits) (flags : Flags) → IsLike p q
@@ -362,9 +435,13 @@ module _ (ps qs : List LoadedPackage) (alike : AreAlike ps qs) (given : GivenByP
   finding_too : (i : ℕ) (x : Entry) → IsFindingBy (by_certificates given declared) ps tables i x
       → (y : Entry) × IsFindingBy (by_certificates given declared) qs tables i y
   finding_too i x (of_whole fault) = let w = whole_too ps qs alike i x fault in (w.0, of_whole w.1)
-  finding_too i x (of_import j number spec y none im finding) =
-      let w = finding_too j y finding in
-      (_, of_import j number spec w.0 (none_too i none) (imports_too ps qs alike i j number spec im) w.1)
+  finding_too i x (of_import j number spec y none im needed finding) =
+      let w = finding_too j y finding in (
+        _,
+        of_import j number spec w.0 (none_too i none) (imports_too ps qs alike i j number spec im)
+            (needed_too i j spec.path needed) w.1,
+      )
+  finding_too i x (of_dot file dot none out) = (_, of_dot file dot (none_too i none) (dots_too i file dot out))
   finding_too i x (of_files none said) = (x, of_files (none_too i none) (says_too i x said))
 
   table_too : (i : ℕ) (p q : LoadedPackage) → IsLike p q → slice_get qs i ≡ Some q
@@ -373,7 +450,7 @@ module _ (ps qs : List LoadedPackage) (alike : AreAlike ps qs) (given : GivenByP
   table_too i p q h is (empty x fault nothing) =
       let w = whole_too ps qs alike i x fault in
       empty w.0 w.1 (subst (λ (path : List ℕ). IsEmpty (tables path)) h.is_path nothing)
-  table_too i p q h is (full flags none its signatures calls) =
+  table_too i p q h is (full flags none its signatures calls told) =
       full flags (none_too i none) (record {
         files = its.files;
         is_verified = verified_too i p q its.files flags h is its.is_verified;
@@ -381,6 +458,7 @@ module _ (ps qs : List LoadedPackage) (alike : AreAlike ps qs) (given : GivenByP
       (λ name. ap (λ (path : List ℕ). (tables path).signatures name) (sym h.is_path)
       ∙ (signatures name ∙ signatures_same ps qs alike p q h name))
       (λ name k. ap (λ (path : List ℕ). (tables path).calls name k) (sym h.is_path) ∙ calls name k)
+      (ap (λ (path : List ℕ). (tables path).is_told) (sym h.is_path) ∙ (told ∙ tells_same ps qs alike p q h))
 
 module _ (ps qs : List LoadedPackage) (alike : AreAlike ps qs) (given : GivenByPath) (declared tables : Tables) where
   pub yes_too : (i : ℕ) → IsYesBy (by_certificates given declared) ps tables i

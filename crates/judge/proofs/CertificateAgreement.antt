@@ -75,7 +75,7 @@ has_table declared ps tables are i p files flags judged = by (are.of_package i p
   where
     by : IsTableBy AreFlagsByPaths ps tables i p (tables p.path) → HasTable ps tables p flags
     by (empty x fault h) = absurd (judged.has_no_whole_fault x fault)
-    by (full more none its signatures calls) =
+    by (full more none its signatures calls told) =
         let same = flags_by_paths ps tables tables i p more flags judged.is_package none refl its
         record { files = files; is_judged = judged } in
         record {
@@ -111,7 +111,7 @@ module _ (ps : List LoadedPackage) (tables : Tables) (i : ℕ) (p : LoadedPackag
       let known : (tables p.path).calls name k ≡ true = ap (λ (f : Flags). f name k) table.are_calls ∙ e in
       let facts = some_facts k ((tables p.path).signatures name)
       (ap (facts_take cancel k) (sym functions) ∙ kept.is_claim.is_cancel_parameter) in
-      let signature = in_files (means_in ps p) name 0 (trees_of p) facts.0 (sym (table.are_signatures name) ∙ facts.1) in
+      let signature = in_files p.edition (means_in ps p) name 0 (trees_of p) facts.0 (sym (table.are_signatures name) ∙ facts.1) in
       let calls = (tables p.path).calls name in
       let told_there = known_is_told calls k known (fits.positions_fit name k known) signature.means 0 signature.items
       (ap (list_any (has_kind_at cancel k)) (sym signature.are_parameters) ∙ facts.2) in

@@ -17,15 +17,17 @@ use Rattle.lexer.specs.declared.pieces.PieceKind.{PieceKind}
 use Rattle.lexer.specs.declared.pieces.PieceKind.TheVariants.{WhiteSpace, Newline, LineComment, GeneralComment, GeneralCommentWithNewline, TokenOf}
 use Rattle.lexer.specs.declared.token.Token.{Token}
 use Rattle.meaning.proofs.Membership.{contains_nil, contains_here, contains_there, contains_cases}
-use Rattle.meaning.specs.Cursor.{Cursor, Rule, ◌⨾◌}
-use Rattle.meaning.specs.FunctionFacts.{Meanings, TrackedType, Item, items_of, item_type, cancel, FunctionFacts, parameter_at, tracked_parameters, signature_facts, facts_in, facts_from}
-use Rattle.meaning.specs.Grammar.{before_item, after_items, SpellsItems, SpellsSignature, SpellsImportSpec, SpellsImportSpecs, SpellsOneImport, SpellsImports, SpellsReceiver, SpellsBody, SpellsFunction, SpellsTopLevel, SpellsTopLevels, SpellsFile}
+use Rattle.meaning.specs.Cursor.{GoText, read_in, Cursor, Rule, ◌⨾◌, one_of}
+use Rattle.meaning.specs.FunctionFacts.{Meanings, TrackedType, Item, items_of, item_type, cancel, FunctionFacts, parameter_at, tracked_parameters, signature_facts, function_facts, facts_in, facts_from}
+use Rattle.meaning.specs.Grammar.{before_item, after_items, IsSecond, IsNoMethod, type_parameters, import_name, SpellsItems, SpellsTypeParameters, SpellsSignature, SpellsImportSpec, SpellsImportSpecs, SpellsOneImport, SpellsImports, SpellsReceiver, SpellsBody, SpellsFunction, SpellsTopLevel, SpellsTopLevels, SpellsFile}
 use Rattle.meaning.specs.OuterBlocks.{can_be_meant, or_else}
 use Rattle.meaning.specs.TreeOfText.{first_place, IsTreeOf}
 use Rattle.meaning.specs.Uses.{has_kind_at}
-use Rattle.tree.specs.Syntax.{Block, Parameters, no_parameter, named_and, unnamed_and, name_alone_and, Signature, signature_of, Function, TopLevelDeclaration, function_declaration, general_declaration, ImportSpec, ImportDeclaration, SourceFile}
+use Rattle.tree.specs.declared.edition.Edition.{Edition}
+use Rattle.tree.specs.declared.edition.Edition.TheVariants.{First, Second}
+use Rattle.tree.specs.Syntax.{Identifier, Block, Parameters, no_parameter, named_and, unnamed_and, name_alone_and, Signature, signature_of, Function, TopLevelDeclaration, function_declaration, general_declaration, ImportSpec, ImportDeclaration, SourceFile}
 use Rattle.meaning.specs.Grammar.{as_type}
-use Rattle.tree_reader.proofs.Lengths.{NoLonger, Shorter, weak, both, enclosed, same_length, never_longer, token_shorter, chosen_longest, optional_longest, spanning_no_longer, where_no_longer, string_shorter, semicolon_longest, identifier_shorter, optional_identifier_longest, expression_shorter, items_longest, signature_longest, statements_longest, declaration_shorter}
+use Rattle.tree_reader.proofs.Lengths.{NoLonger, Shorter, weak, both, enclosed, same_length, never_longer, token_shorter, chosen_longest, optional_longest, spanning_no_longer, where_no_longer, string_shorter, semicolon_longest, identifier_shorter, type_parameters_longest, expression_shorter, items_longest, type_items_longest, signature_longest, statements_longest, declaration_shorter}
 
 -- the rule takes so many tokens, or more
 abbrev TakesMany : ℕ → Rule → Type 0
@@ -48,7 +50,11 @@ after_items_longest false = optional_longest (weak (token_shorter _))
 abbrev parameters_of : Signature → List Item
 parameters_of (signature_of ps rs brackets) = items_of ps
 
-module _ (text : List ℕ) where
+either_longest : {first second : Rule} → NoLonger first → NoLonger second → NoLonger (one_of first second)
+either_longest h k from to (inl s) = h from to s
+either_longest h k from to (inr s) = k from to s
+
+module _ (text : GoText) where
   many_items : (first : Bool) (ps : Parameters) → TakesMany (length (items_of ps)) (SpellsItems text first ps)
   unfolding SpellsItems
   many_items first no_parameter = λ from to s. let h = after_items_longest first from to s in omega (arith, h)
@@ -81,10 +87,18 @@ module _ (text : List ℕ) where
   body_longest None = same_length
   body_longest (Some b) = spanning_no_longer (weak (enclosed _ _ (statements_longest text b.statements)))
 
+  type_parameters_too : (f : Function)
+      → NoLonger (type_parameters (IsSecond text.edition × IsNoMethod f.receiver) f.type_parameters
+      (SpellsTypeParameters text true f.type_parameters))
+  type_parameters_too f =
+      type_parameters_longest (IsSecond text.edition × IsNoMethod f.receiver) f.type_parameters
+      (type_items_longest text true f.type_parameters)
+
   top_level_longest : (d : TopLevelDeclaration) → NoLonger (SpellsTopLevel text d)
   top_level_longest (function_declaration f) =
       spanning_no_longer (both (weak (token_shorter _)) (both (receiver_longest f.receiver)
-      (both (weak (identifier_shorter text f.name)) (both (signature_longest text f.signature) (body_longest f.body)))))
+      (both (weak (identifier_shorter text f.name)) (both (type_parameters_too f)
+      (both (signature_longest text f.signature) (body_longest f.body))))))
   top_level_longest (general_declaration d) = weak (declaration_shorter text d)
 
   few_of_function : (f : Function) (from to : Cursor) → SpellsFunction text f from to
@@ -92,13 +106,15 @@ module _ (text : List ℕ) where
   few_of_function f from to s =
       let receiver = s.0.2 in
       let name = receiver.2 in
-      let signature = name.2 in
+      let types = name.2 in
+      let signature = types.2 in
       omega (
         arith,
         token_shorter _ from s.0.0 s.0.1,
         receiver_longest f.receiver s.0.0 receiver.0 receiver.1,
         identifier_shorter text f.name receiver.0 name.0 name.1,
-        few_of_signature f.signature name.0 signature.0 signature.1,
+        type_parameters_too f name.0 types.0 types.1,
+        few_of_signature f.signature types.0 signature.0 signature.1,
       )
 
   few_of_each : (ds : List TopLevelDeclaration) (from to : Cursor) → SpellsTopLevels text ds from to
@@ -119,9 +135,15 @@ module _ (text : List ℕ) where
             )
       ]
 
+  import_name_longest : (n : Option Identifier) → NoLonger (import_name text n)
+  import_name_longest None = same_length
+  import_name_longest (Some n) =
+      either_longest (weak (identifier_shorter text n))
+      (where_no_longer (where_no_longer (spanning_no_longer (weak (token_shorter _)))))
+
   import_spec_longest : (i : ImportSpec) → NoLonger (SpellsImportSpec text i)
   import_spec_longest i =
-      where_no_longer (spanning_no_longer (both (optional_identifier_longest text i.name)
+      where_no_longer (spanning_no_longer (both (import_name_longest i.name)
       (spanning_no_longer (weak string_shorter))))
 
   import_specs_longest : (is : List ImportSpec) → NoLonger (SpellsImportSpecs text is)
@@ -189,11 +211,11 @@ few_tokens text tokens t =
     let all = few_from (drop (mark_size text) text) t.pieces (mark_size text) None t.cut in
     omega (arith, ap length t.listed, left, all)
 
-few_parameters : (text : List ℕ) (tree : SourceFile) → IsTreeOf text tree
+few_parameters : (edition : Edition) (text : List ℕ) (tree : SourceFile) → IsTreeOf edition text tree
     → (f : Function) → Contains tree.declarations (function_declaration f)
     → length (parameters_of f.signature) < 2 ^ 32
-few_parameters text tree is f h =
-    let few = few_of_file text tree (first_place is.tokens) is.last is.spelled f h in
+few_parameters edition text tree is f h =
+    let few = few_of_file (read_in edition text) tree (first_place is.tokens) is.last is.spelled f h in
     let tokens = few_tokens text is.tokens is.cut in
     let small = is.cut.small in
     omega (arith, few, tokens, small)
@@ -231,40 +253,47 @@ few_known means (signature_of ps rs brackets) few k e =
     let within = position_within means 0 k (items_of ps) e in
     omega (arith, few, within)
 
-few_in : (means : Meanings) (name : List ℕ) (ds : List TopLevelDeclaration) (facts : FunctionFacts)
+few_of : (edition : Edition) (means : Meanings) (f : Function) → length (parameters_of f.signature) < 2 ^ 32
+    → KnowsFew (function_facts edition means f)
+few_of First means f few k e = few_known means f.signature few k e
+few_of Second means f few k e = few_known means f.signature few k e
+
+few_in : (edition : Edition) (means : Meanings) (name : List ℕ) (ds : List TopLevelDeclaration) (facts : FunctionFacts)
     → ((f : Function) → Contains ds (function_declaration f) → length (parameters_of f.signature) < 2 ^ 32)
-    → facts_in means name ds ≡ Some facts
+    → facts_in edition means name ds ≡ Some facts
     → KnowsFew facts
-few_in means name [] facts few e = absurd (none-some facts e)
-few_in means name (general_declaration d ∷ ds) facts few e =
-    few_in means name ds facts (λ f h. few f (contains_there (general_declaration d) (function_declaration f) ds h)) e
-few_in means name (function_declaration g ∷ ds) facts few e =
+few_in edition means name [] facts few e = absurd (none-some facts e)
+few_in edition means name (general_declaration d ∷ ds) facts few e =
+    few_in edition means name ds facts
+    (λ f h. few f (contains_there (general_declaration d) (function_declaration f) ds h)) e
+few_in edition means name (function_declaration g ∷ ds) facts few e =
     by (can_be_meant g && bytes_eq g.name.text name) e
-    (few_in means name ds facts
+    (few_in edition means name ds facts
     (λ f h. few f (contains_there (function_declaration g) (function_declaration f) ds h)))
   where
-    by : (b : Bool) → (if b then Some (signature_facts means g.signature) else facts_in means name ds) ≡ Some facts
-        → (facts_in means name ds ≡ Some facts → KnowsFew facts)
+    by : (b : Bool) → (if b then Some (function_facts edition means g) else facts_in edition means name ds) ≡ Some facts
+        → (facts_in edition means name ds ≡ Some facts → KnowsFew facts)
         → KnowsFew facts
     by true h go =
-        subst KnowsFew (same_Some (signature_facts means g.signature) facts h)
-        (few_known means g.signature (few g (contains_here (function_declaration g) ds)))
+        subst KnowsFew (same_Some (function_facts edition means g) facts h)
+        (few_of edition means g (few g (contains_here (function_declaration g) ds)))
     by false h go = go h
 
-pub positions_fit : (means : ℕ → Meanings) (name : List ℕ) (n : ℕ) (trees : List SourceFile) (facts : FunctionFacts)
-    → ((tree : SourceFile) → Contains trees tree → (text : List ℕ) × IsTreeOf text tree)
-    → facts_from means name n trees ≡ Some facts
+pub positions_fit : (edition : Edition) (means : ℕ → Meanings) (name : List ℕ) (n : ℕ) (trees : List SourceFile)
+    (facts : FunctionFacts)
+    → ((tree : SourceFile) → Contains trees tree → (text : List ℕ) × IsTreeOf edition text tree)
+    → facts_from edition means name n trees ≡ Some facts
     → KnowsFew facts
-positions_fit means name n [] facts texts e = absurd (none-some facts e)
-positions_fit means name n (tree ∷ trees) facts texts e =
-    by (facts_in (means n) name tree.declarations) refl e
-    (positions_fit means name (n + 1) trees facts (λ t h. texts t (contains_there tree t trees h)))
+positions_fit edition means name n [] facts texts e = absurd (none-some facts e)
+positions_fit edition means name n (tree ∷ trees) facts texts e =
+    by (facts_in edition (means n) name tree.declarations) refl e
+    (positions_fit edition means name (n + 1) trees facts (λ t h. texts t (contains_there tree t trees h)))
   where
-    by : (o : Option FunctionFacts) → facts_in (means n) name tree.declarations ≡ o
-        → or_else o (facts_from means name (n + 1) trees) ≡ Some facts
-        → (facts_from means name (n + 1) trees ≡ Some facts → KnowsFew facts)
+    by : (o : Option FunctionFacts) → facts_in edition (means n) name tree.declarations ≡ o
+        → or_else o (facts_from edition means name (n + 1) trees) ≡ Some facts
+        → (facts_from edition means name (n + 1) trees ≡ Some facts → KnowsFew facts)
         → KnowsFew facts
     by None p h go = go h
     by (Some g) p h go =
         let text = texts tree (contains_here tree trees) in
-        few_in (means n) name tree.declarations facts (few_parameters text.0 tree text.1) (p ∙ h)
+        few_in edition (means n) name tree.declarations facts (few_parameters edition text.0 tree text.1) (p ∙ h)

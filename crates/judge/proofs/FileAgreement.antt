@@ -6,7 +6,7 @@ use Rattle.judge.proofs.OneTable.{IsSound, is_certified, one_table}
 use Rattle.judge.specs.AgreementLaws.{HasLeastCertificates, KeepsItsFlags, FindsNothing, LeastCertificatesAreBelieved, WhatIsBelievedHasNoFinding}
 use Rattle.judge.specs.OwnGroups.{HaveOwnGroups}
 use Rattle.checker.specs.Certificates.{is_claimed}
-use Rattle.meaning.specs.BodyEvents.{Variable, bodies_of, variables_of, too_many_faults}
+use Rattle.meaning.specs.BodyEvents.{Variable, bodies_of, variables_of, unfollowed_faults}
 use Rattle.meaning.specs.FunctionFacts.{cancel}
 use Rattle.meaning.specs.Mentions.{BodyPlace}
 use Rattle.meaning.specs.Uses.{Callee, Seen}
@@ -40,23 +40,26 @@ module _ (laws : LowerLaws) (given : Given) (own : Flags) (calls : Callee → �
   -- Where nothing is found
 
   module _ (keeps : KeepsItsFlags own calls file) (nothing : FindsNothing calls number file) where
-    sound : (b : BodyPlace) → Contains (bodies_of seen) b → too_many_faults (variables_of seen b.at) ≡ []
+    sound : (b : BodyPlace) → Contains (bodies_of seen) b → unfollowed_faults seen b ≡ []
         → IsSound own (paths_of seen (promises_in calls full b.at) b) b
-    sound b among few = record {
-      no_fault = λ f fault. nothing _ (of_path b f among (of_a_path f few fault));
-      keeps = λ v there kind claimed. keeps b v among few there kind claimed;
+    sound b among followed = record {
+      no_fault = λ f fault. nothing _ (of_path b f among (of_a_path f followed fault));
+      keeps = λ v there kind claimed. keeps b v among followed there kind claimed;
     }
 
     pub same_credits : (literal variable : ℕ) → other literal variable ≡ full literal variable
     same_credits =
-        one_table given own calls number seen laws full groups least other are (λ b among few same. sound b among few)
+        one_table given own calls number seen laws full groups least other are
+        (λ b among followed same. sound b among followed)
 
     nothing_said : (x : Entry) → IsSaid given own calls number file x → ⊥
     nothing_said x (verified.outside_bodies f h) = nothing _ (outside_bodies f h)
     nothing_said x (verified.of_use b f among h) = nothing _ (of_use b f among h)
     nothing_said x (verified.of_pass b f among h) = nothing _ (of_path b f among (of_a_pass f h))
-    nothing_said x (verified.not_certified b among few none) =
-        none (is_certified given own calls number seen laws full groups least b few (least.each b among few) (sound b among few))
+    nothing_said x (verified.not_certified b among followed none) =
+        none
+        (is_certified given own calls number seen laws full groups least b followed (least.each b among followed)
+        (sound b among followed))
 
     pub says_nothing : SaysNothing given own calls number (with_table seen other)
     says_nothing =
@@ -71,10 +74,10 @@ module _ (laws : LowerLaws) (given : Given) (own : Flags) (calls : Callee → �
     none_found = laws.nothing_is_found given own calls number (with_table seen other) places nothing
 
     -- what a certificate refutes is not so
-    refuted : (b : BodyPlace) → Contains (bodies_of seen) b → too_many_faults (variables_of seen b.at) ≡ []
+    refuted : (b : BodyPlace) → Contains (bodies_of seen) b → unfollowed_faults seen b ≡ []
         → (IsCertified given own calls number (with_table seen other) b → ⊥)
         → ⊥
-    refuted b among few none = nothing _ (verified.not_certified b among few none)
+    refuted b among followed none = nothing _ (verified.not_certified b among followed none)
 
     kept : (b : BodyPlace) (v : Variable) → Contains (bodies_of seen) b → Contains (variables_of seen b.at) v
         → v.kind ≡ cancel
@@ -88,22 +91,23 @@ module _ (laws : LowerLaws) (given : Given) (own : Flags) (calls : Callee → �
         (record { is_graph = refl; are_variables = refl; are_promises = refl })
         (places b (promises_in calls other b.at) among) c.holds w.0 v w.1 kind claimed
 
-    sound_too : (b : BodyPlace) → Contains (bodies_of seen) b → too_many_faults (variables_of seen b.at) ≡ []
+    sound_too : (b : BodyPlace) → Contains (bodies_of seen) b → unfollowed_faults seen b ≡ []
         → IsSound own (paths_of seen (promises_in calls other b.at) b) b
-    sound_too b among few = record {
-      no_fault = λ f fault. none_found _ (of_path b f among (of_a_path f few fault));
+    sound_too b among followed = record {
+      no_fault = λ f fault. none_found _ (of_path b f among (of_a_path f followed fault));
       keeps = λ v there kind claimed. record {
         never_open = λ handed t o comes same.
-            refuted b among few λ c. (kept b v among there kind claimed c).never_open handed t o comes same;
+            refuted b among followed λ c. (kept b v among there kind claimed c).never_open handed t o comes same;
         never_left = λ handed t o comes left.
-            refuted b among few λ c. (kept b v among there kind claimed c).never_left handed t o comes left;
+            refuted b among followed λ c. (kept b v among there kind claimed c).never_left handed t o comes left;
       };
     }
 
     pub same_credits_too : (literal variable : ℕ) → other literal variable ≡ full literal variable
     same_credits_too =
-        one_table given own calls number seen laws full groups least other are λ b among few same.
-        subst (λ c. IsSound own (paths_of seen (record { calls = calls; credits = c }) b) b) same (sound_too b among few)
+        one_table given own calls number seen laws full groups least other are λ b among followed same.
+        subst (λ c. IsSound own (paths_of seen (record { calls = calls; credits = c }) b) b) same
+        (sound_too b among followed)
 
     pub finds_nothing : FindsNothing calls number file
     finds_nothing = same_file (FindsNothing calls number) seen other full same_credits_too none_found

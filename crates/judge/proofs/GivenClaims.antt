@@ -8,14 +8,16 @@ use Rattle.std.proofs.lemmas.Bool.Decides.{Decides-eqb}
 use Rattle.std.proofs.lemmas.Slice.Eq.{bytes_eq-Decides}
 use Rattle.plain_tables.specs.Tables.{as_list, parameter_kept, parameter_told, entry_told, is_none_of, entries_with, entries_for}
 use Rattle.meaning.proofs.Membership.{contains_nil, contains_cases}
-use Rattle.meaning.specs.FunctionFacts.{Meanings, CancelType, plain, with_cause, TrackedType, cancel_type, group_type, TrackedParameter, parameter_at, tracked_parameters, Item, items_of, item_type, FunctionFacts, signature_facts, facts_in, facts_from}
+use Rattle.meaning.specs.FunctionFacts.{Meanings, CancelType, plain, with_cause, TrackedType, cancel_type, group_type, TrackedParameter, parameter_at, tracked_parameters, Item, items_of, item_type, FunctionFacts, signature_facts, function_facts, facts_in, facts_from}
 use Rattle.meaning.specs.FunctionFacts.{cancel}
 use Rattle.meaning.specs.OuterBlocks.{or_else, can_be_meant}
 use Rattle.meaning.specs.Uses.{has_kind_at, has_type_at}
 use Rattle.meaning_reports.specs.Loaded.{PackageTable}
 use Rattle.table_json.specs.declared.table.Parameter.{Parameter}
 use Rattle.table_json.specs.TableValues.{if_fits}
-use Rattle.tree.specs.Syntax.{Signature, signature_of, TopLevelDeclaration, function_declaration, general_declaration, SourceFile}
+use Rattle.tree.specs.declared.edition.Edition.{Edition}
+use Rattle.tree.specs.declared.edition.Edition.TheVariants.{First, Second}
+use Rattle.tree.specs.Syntax.{Signature, signature_of, Function, TopLevelDeclaration, function_declaration, general_declaration, SourceFile}
 use Rattle.verifier.specs.GivenViews.{claim_at, first_params}
 
 -- The parameters that are told
@@ -228,32 +230,39 @@ pub record OfSignature (f : FunctionFacts) : Type 0 where
 of_signature : (means : Meanings) (s : Signature) → OfSignature (signature_facts means s)
 of_signature means (signature_of ps rs brackets) = record { means = means; items = items_of ps; are_parameters = refl }
 
-in_file : (means : Meanings) (name : List ℕ) (ds : List TopLevelDeclaration) (f : FunctionFacts) → facts_in means name ds ≡ Some f
+of_function : (edition : Edition) (means : Meanings) (f : Function) → OfSignature (function_facts edition means f)
+of_function First means f = of_signature means f.signature
+of_function Second means f =
+    let it = of_signature means f.signature in
+    record { means = it.means; items = it.items; are_parameters = it.are_parameters }
+
+in_file : (edition : Edition) (means : Meanings) (name : List ℕ) (ds : List TopLevelDeclaration) (f : FunctionFacts)
+    → facts_in edition means name ds ≡ Some f
     → OfSignature f
-in_file means name [] f e = absurd (some_not_none f e)
-in_file means name (general_declaration d ∷ ds) f e = in_file means name ds f e
-in_file means name (function_declaration g ∷ ds) f e =
-    by (can_be_meant g && bytes_eq g.name.text name) e (in_file means name ds f)
+in_file edition means name [] f e = absurd (some_not_none f e)
+in_file edition means name (general_declaration d ∷ ds) f e = in_file edition means name ds f e
+in_file edition means name (function_declaration g ∷ ds) f e =
+    by (can_be_meant g && bytes_eq g.name.text name) e (in_file edition means name ds f)
   where
-    by : (b : Bool) → (if b then Some (signature_facts means g.signature) else facts_in means name ds) ≡ Some f
-        → (facts_in means name ds ≡ Some f → OfSignature f)
+    by : (b : Bool) → (if b then Some (function_facts edition means g) else facts_in edition means name ds) ≡ Some f
+        → (facts_in edition means name ds ≡ Some f → OfSignature f)
         → OfSignature f
-    by true h go = let same : signature_facts means g.signature ≡ f = cc in subst OfSignature same (of_signature means g.signature)
+    by true h go = let same : function_facts edition means g ≡ f = cc in subst OfSignature same (of_function edition means g)
     by false h go = go h
 
-pub in_files : (means : ℕ → Meanings) (name : List ℕ) (n : ℕ) (trees : List SourceFile) (f : FunctionFacts)
-    → facts_from means name n trees ≡ Some f
+pub in_files : (edition : Edition) (means : ℕ → Meanings) (name : List ℕ) (n : ℕ) (trees : List SourceFile)
+    (f : FunctionFacts) → facts_from edition means name n trees ≡ Some f
     → OfSignature f
-in_files means name n [] f e = absurd (some_not_none f e)
-in_files means name n (tree ∷ trees) f e =
-    by (facts_in (means n) name tree.declarations) refl e (in_files means name (n + 1) trees f)
+in_files edition means name n [] f e = absurd (some_not_none f e)
+in_files edition means name n (tree ∷ trees) f e =
+    by (facts_in edition (means n) name tree.declarations) refl e (in_files edition means name (n + 1) trees f)
   where
-    by : (o : Option FunctionFacts) → facts_in (means n) name tree.declarations ≡ o
-        → or_else o (facts_from means name (n + 1) trees) ≡ Some f
-        → (facts_from means name (n + 1) trees ≡ Some f → OfSignature f)
+    by : (o : Option FunctionFacts) → facts_in edition (means n) name tree.declarations ≡ o
+        → or_else o (facts_from edition means name (n + 1) trees) ≡ Some f
+        → (facts_from edition means name (n + 1) trees ≡ Some f → OfSignature f)
         → OfSignature f
     by None p h go = go h
-    by (Some g) p h go = in_file (means n) name tree.declarations f (p ∙ h)
+    by (Some g) p h go = in_file edition (means n) name tree.declarations f (p ∙ h)
 
 -- Entries of a table
 

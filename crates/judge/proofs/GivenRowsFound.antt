@@ -10,7 +10,7 @@ use Rattle.all_certificates.specs.CertifiedBodies.{IsEntry, AreOfBody, InTurn, n
 use Rattle.certificate_json.specs.Certificates.{BodyEntry, PackageEntry}
 use Rattle.certificates.specs.Least.{IsLeastOf}
 use Rattle.meaning.proofs.Membership.{contains_nil, contains_here, contains_there, contains_cases}
-use Rattle.meaning.specs.BodyEvents.{opened_in, bodies_of, variables_of, too_many_faults}
+use Rattle.meaning.specs.BodyEvents.{opened_in, bodies_of, unfollowed_faults}
 use Rattle.meaning.specs.Mentions.{BodyPlace}
 use Rattle.meaning.specs.Uses.{Callee, Seen}
 use Rattle.meaning_packages.proofs.BodyPlaces.{placed_only}
@@ -193,13 +193,13 @@ module _ (calls : Callee → ℕ → Bool) where
       is_entry : IsEntry calls credits number seen b entry
 
     has_entry : (own : List BodyEntry) → AreOfBody calls credits number seen b own
-        → too_many_faults (variables_of seen b.at) ≡ []
+        → unfollowed_faults seen b ≡ []
         → (if_fits number ≡ None → ⊥)
         → HasEntry own
-    has_entry [] (inl many) few fits = absurd (many few)
-    has_entry [] (inr unfit) few fits = absurd (fits unfit)
-    has_entry (x ∷ []) are few fits = record { entry = x; is_among = contains_here x []; is_entry = are }
-    has_entry (x ∷ y ∷ ys) are few fits = absurd are
+    has_entry [] (inl unfollowed) followed fits = absurd (unfollowed followed)
+    has_entry [] (inr unfit) followed fits = absurd (fits unfit)
+    has_entry (x ∷ []) are followed fits = record { entry = x; is_among = contains_here x []; is_entry = are }
+    has_entry (x ∷ y ∷ ys) are followed fits = absurd are
 
   -- the least rows are those of the same body, wherever it was found
   moved : (file other : FileWithCredits) (b c : BodyPlace) (rows : List (List ℕ)) → other ≡ file → c ≡ b
@@ -227,12 +227,12 @@ module _ (calls : Callee → ℕ → Bool) where
       → ((b c : BodyPlace) → Contains (opened_in file.seen.marks) b → Contains (opened_in file.seen.marks) c → b.at ≡ c.at
       → b ≡ c)
       → GivesLeast (given_of (Some p)) calls number file
-  gives_least p files are number file is fits one_each b among few =
+  gives_least p files are number file is fits one_each b among followed =
       let zero_more : 0 + number ≡ number = omega arith in
       let its = files_to 0 files p.bodies are number file is in
       let of_file = subst (λ n. AreOfFile calls n file its.own) zero_more its.are_of in
       let body = turn_to (AreOfBody calls file.credits number file.seen) (bodies_of file.seen) its.own of_file b among in
-      let has = has_entry file.credits number file.seen b body.own body.has few fits in
+      let has = has_entry file.credits number file.seen b body.own body.has followed fits in
       let there = its.are_among has.entry (body.are_among has.entry has.is_among) in
       let first = rows_found p.bodies number b.at has.entry there has.is_entry.is_file has.is_entry.is_place in
       let from = files_from 0 files p.bodies are first.entry first.is_among in

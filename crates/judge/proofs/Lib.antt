@@ -27,3 +27,4 @@ mod FullCredits
 mod WrittenNumbers
 mod AlikePackages
 mod GivenReports
+mod SameMentions

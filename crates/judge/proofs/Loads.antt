@@ -56,7 +56,7 @@ is_report_by rules format outside same are_quiet they_lie given loaded report be
       quiet =
           subst (λ (d : Tables). YesAreQuiet d load.meant reports.is_report.tables judged.said) same
           (yes_are_quiet (rules (declared_tables outside)) are_quiet load.meant judged.said reports.is_report
-          (of_texts load.in_order load.meant loaded.packages.items load.are_loaded));
+          load.distinct (of_texts load.in_order load.meant loaded.packages.items load.are_loaded));
     }
 
 -- what is said of them by paths is their report

@@ -17,6 +17,7 @@ use Rattle.lexer.proofs.Outcomes.{one_outcome, one_fault}
 use Rattle.meaning.proofs.Membership.{contains_nil, contains_cases}
 use Rattle.report.specs.declared.codes.TextFault.{TextFault}
 use Rattle.report.specs.declared.codes.TextFault.TheVariants.{NotUtf8, Nul, UnclosedString, UnclosedComment, UnclosedRune, UnknownCharacter, TooLong}
+use Rattle.tree.specs.declared.edition.Edition.{Edition}
 use Rattle.tree_reader.proofs.OneTree.{one_tree}
 use Rattle.meaning_reports.specs.Loaded.{Reading, has_tree, has_text_fault, has_tree_fault, LoadedPackage}
 use Rattle.meaning_reports.proofs.EntryOrder.{AreInOrder, one_list}
@@ -151,22 +152,23 @@ HasTreeFault (has_tree tree) = ⊥
 HasTreeFault (has_text_fault at why) = ⊥
 HasTreeFault (has_tree_fault at why) = Unit {0}
 
-one_reading : (text : List ℕ) (r s : Reading) → IsReadingOf text r → IsReadingOf text s → (r ≡ s) ⊎ (HasTreeFault r × HasTreeFault s)
-one_reading text (has_tree t) (has_tree u) h k = inl (ap has_tree (one_tree text t u h k))
-one_reading text (has_tree t) (has_text_fault at why) h k = absurd (one_outcome text h.tokens k.0 h.cut k.1)
-one_reading text (has_tree t) (has_tree_fault at why) h k = absurd (k.no_tree t h)
-one_reading text (has_text_fault at why) (has_tree u) h k = absurd (one_outcome text k.tokens h.0 k.cut h.1)
-one_reading text (has_text_fault at why) (has_text_fault place reason) h k =
+one_reading : (edition : Edition) (text : List ℕ) (r s : Reading) → IsReadingOf edition text r → IsReadingOf edition text s
+    → (r ≡ s) ⊎ (HasTreeFault r × HasTreeFault s)
+one_reading edition text (has_tree t) (has_tree u) h k = inl (ap has_tree (one_tree edition text t u h k))
+one_reading edition text (has_tree t) (has_text_fault at why) h k = absurd (one_outcome text h.tokens k.0 h.cut k.1)
+one_reading edition text (has_tree t) (has_tree_fault at why) h k = absurd (k.no_tree t h)
+one_reading edition text (has_text_fault at why) (has_tree u) h k = absurd (one_outcome text k.tokens h.0 k.cut h.1)
+one_reading edition text (has_text_fault at why) (has_text_fault place reason) h k =
     let same = one_fault text h.0 k.0 h.1 k.1 in
     let one = told h.0 at why h.2 in
     let other = told k.0 place reason k.2 in
     let kind = sym one.0 ∙ (ap kind_of same ∙ other.0) in
     let offset = sym one.1 ∙ (ap offset_of same ∙ other.1) in
     inl (λ i. has_text_fault (offset i) (kind i))
-one_reading text (has_text_fault at why) (has_tree_fault place reason) h k = absurd (one_outcome text k.tokens h.0 k.cut h.1)
-one_reading text (has_tree_fault at why) (has_tree u) h k = absurd (h.no_tree u k)
-one_reading text (has_tree_fault at why) (has_text_fault place reason) h k = absurd (one_outcome text h.tokens k.0 h.cut k.1)
-one_reading text (has_tree_fault at why) (has_tree_fault place reason) h k = inr (tt, tt)
+one_reading edition text (has_text_fault at why) (has_tree_fault place reason) h k = absurd (one_outcome text k.tokens h.0 k.cut h.1)
+one_reading edition text (has_tree_fault at why) (has_tree u) h k = absurd (h.no_tree u k)
+one_reading edition text (has_tree_fault at why) (has_text_fault place reason) h k = absurd (one_outcome text h.tokens k.0 h.cut k.1)
+one_reading edition text (has_tree_fault at why) (has_tree_fault place reason) h k = inr (tt, tt)
 
 -- some file has tokens and no tree
 pub record HasNoTree (rs : List Reading) : Type 0 where
@@ -178,14 +180,15 @@ pub record HasNoTree (rs : List Reading) : Type 0 where
 later_file : (r : Reading) (rs : List Reading) → HasNoTree rs → HasNoTree (r ∷ rs)
 later_file r rs h = record { place = suc h.place; reading = h.reading; is_there = h.is_there; is_fault = h.is_fault }
 
-readings : (sources : List Source) (rs ss : List Reading) → AreReadingsOf sources rs → AreReadingsOf sources ss
+readings : (edition : Edition) (sources : List Source) (rs ss : List Reading) → AreReadingsOf edition sources rs
+    → AreReadingsOf edition sources ss
     → (rs ≡ ss) ⊎ (HasNoTree rs × HasNoTree ss)
-readings [] [] [] h k = inl refl
-readings [] [] (s ∷ ss) h k = absurd k
-readings [] (r ∷ rs) ss h k = absurd h
-readings (x ∷ xs) [] ss h k = absurd h
-readings (x ∷ xs) (r ∷ rs) [] h k = absurd k
-readings (x ∷ xs) (r ∷ rs) (s ∷ ss) h k = by (one_reading x.bytes.items r s h.0 k.0) (readings xs rs ss h.1 k.1)
+readings edition [] [] [] h k = inl refl
+readings edition [] [] (s ∷ ss) h k = absurd k
+readings edition [] (r ∷ rs) ss h k = absurd h
+readings edition (x ∷ xs) [] ss h k = absurd h
+readings edition (x ∷ xs) (r ∷ rs) [] h k = absurd k
+readings edition (x ∷ xs) (r ∷ rs) (s ∷ ss) h k = by (one_reading edition x.bytes.items r s h.0 k.0) (readings edition xs rs ss h.1 k.1)
   where
     by : (r ≡ s) ⊎ (HasTreeFault r × HasTreeFault s) → (rs ≡ ss) ⊎ (HasNoTree rs × HasNoTree ss)
         → ((r ∷ rs) ≡ (s ∷ ss)) ⊎ (HasNoTree (r ∷ rs) × HasNoTree (s ∷ ss))
@@ -208,21 +211,25 @@ pub record HasNoTreeIn (ps : List LoadedPackage) : Type 0 where
 later_package : (p : LoadedPackage) (ps : List LoadedPackage) → HasNoTreeIn ps → HasNoTreeIn (p ∷ ps)
 later_package p ps h = record { place = suc h.place; loaded = h.loaded; is_there = h.is_there; file = h.file }
 
-one_package : (path : List ℕ) (sources : List Source) (p q : LoadedPackage) (k l : KeptPackage)
-    → IsLoadedAs path sources p k
-    → IsLoadedAs path sources q l
+one_package : (edition : Edition) (path : List ℕ) (sources : List Source) (p q : LoadedPackage) (k l : KeptPackage)
+    → IsLoadedAs edition path sources p k
+    → IsLoadedAs edition path sources q l
     → (k.sources.items ≡ l.sources.items) × ((p ≡ q) ⊎ (HasNoTree p.files × HasNoTree q.files))
-one_package path sources p q k l h m = (
+one_package edition path sources p q k l h m = (
   same,
-  by (readings k.sources.items p.files q.files h.are_files
-      (subst (λ (s : List Source). AreReadingsOf s q.files) (sym same) m.are_files)),
+  by (readings edition k.sources.items p.files q.files h.are_files
+      (subst (λ (s : List Source). AreReadingsOf edition s q.files) (sym same) m.are_files)),
 )
   where
     same : k.sources.items ≡ l.sources.items
     same = by_name_is_one sources k.sources.items l.sources.items h.by_name m.by_name
 
     by : (p.files ≡ q.files) ⊎ (HasNoTree p.files × HasNoTree q.files) → (p ≡ q) ⊎ (HasNoTree p.files × HasNoTree q.files)
-    by (inl e) = inl (λ i. record { path = (h.is_path ∙ sym m.is_path) i; files = e i })
+    by (inl e) = inl (λ i. record {
+      path = (h.is_path ∙ sym m.is_path) i;
+      edition = (h.is_edition ∙ sym m.is_edition) i;
+      files = e i;
+    })
     by (inr f) = inr f
 
 pub one_way : (es : List PathAndFiles) (ps qs : List LoadedPackage) (ks ls : List KeptPackage)
@@ -237,7 +244,7 @@ one_way (e ∷ es) (p ∷ ps) [] ks ls h m = absurd m
 one_way (e ∷ es) (p ∷ ps) (q ∷ qs) [] ls h m = absurd h
 one_way (e ∷ es) (p ∷ ps) (q ∷ qs) (k ∷ ks) [] h m = absurd m
 one_way (e ∷ es) (p ∷ ps) (q ∷ qs) (k ∷ ks) (l ∷ ls) h m =
-    by (one_package (string_bytes e.0) e.1.items p q k l h.0 m.0).1 (one_way es ps qs ks ls h.1 m.1)
+    by (one_package e.1.0 (string_bytes e.0) e.1.1.items p q k l h.0 m.0).1 (one_way es ps qs ks ls h.1 m.1)
   where
     by : (p ≡ q) ⊎ (HasNoTree p.files × HasNoTree q.files) → (ps ≡ qs) ⊎ (HasNoTreeIn ps × HasNoTreeIn qs)
         → ((p ∷ ps) ≡ (q ∷ qs)) ⊎ (HasNoTreeIn (p ∷ ps) × HasNoTreeIn (q ∷ qs))
@@ -269,7 +276,7 @@ one_source (e ∷ es) (p ∷ ps) (q ∷ qs) (k ∷ ks) (l ∷ ls) h m zero a b i
     let first : k ≡ a = cc in
     let second : l ≡ b = cc in
     ap (λ (x : KeptPackage). x.sources.items) (sym first)
-    ∙ ((one_package (string_bytes e.0) e.1.items p q k l h.0 m.0).0
+    ∙ ((one_package e.1.0 (string_bytes e.0) e.1.1.items p q k l h.0 m.0).0
     ∙ ap (λ (x : KeptPackage). x.sources.items) second)
 one_source (e ∷ es) (p ∷ ps) (q ∷ qs) (k ∷ ks) (l ∷ ls) h m (suc i) a b is that =
     one_source es ps qs ks ls h.1 m.1 i a b is that

@@ -187,21 +187,23 @@ module _
       let long = are_as_many first_load.in_order first_load.meant first_kept first_load.are_loaded in
       let kept = there first_kept w.place (omega (arith, within, long)) in
       let own = each_loaded first_load.in_order first_load.meant first_kept first_load.are_loaded w.place w.loaded kept.0 w.is_there kept.1 in
-      let s = source_there kept.0.sources.items w.loaded.files own.loaded.are_files w.file.place w.file.reading w.file.is_there in
+      let s = source_there own.of.1.0 kept.0.sources.items w.loaded.files own.loaded.are_files w.file.place w.file.reading w.file.is_there in
       let among : Contains kept.0.sources.items s.0 =
       (w.file.place, slice_get_within kept.0.sources.items w.file.place s.0 s.1, get_or_from_slice_get kept.0.sources.items w.file.place s.0 s.0 s.1) in
       let by_name = own.loaded.by_name.same in
-      let its = Contains-permutation kept.0.sources.items own.of.1.items s.0
-      (IsPermutation-sym own.of.1.items kept.0.sources.items by_name) among in
+      let its = Contains-permutation kept.0.sources.items own.of.1.1.items s.0
+      (IsPermutation-sym own.of.1.1.items kept.0.sources.items by_name) among in
       let entry = Contains-permutation first_load.in_order (map path_and_files given) own.of
       (IsPermutation-sym (map path_and_files given) first_load.in_order first_load.same) own.is_given in
       let g = contains_unmap path_and_files given own.of entry in
       let in_given : Contains g.0.sources.items s.0 =
-      subst (λ (e : PathAndFiles). Contains e.1.items s.0) (sym g.2) its in
-      by g.0 s.0 g.1 in_given w.file.reading s.2 w.file.is_fault
+      subst (λ (e : PathAndFiles). Contains e.1.1.items s.0) (sym g.2) its in
+      let edition : own.of.1.0 ≡ g.0.edition = ap (λ (e : PathAndFiles). e.1.0) (sym g.2) in
+      by g.0 s.0 g.1 in_given w.file.reading (subst (λ e. IsReadingOf e s.0.bytes.items w.file.reading) edition s.2)
+      w.file.is_fault
     where
       by : (g : GivenPackage) (s : Source) → Contains given g → Contains g.sources.items s → (r : Reading)
-          → IsReadingOf s.bytes.items r
+          → IsReadingOf g.edition s.bytes.items r
           → HasTreeFault r
           → ⊥
       by g s among its (has_tree tree) read fault = fault

@@ -4,6 +4,7 @@
 use Rattle.std.proofs.Common.{◌≡◌, ℕ, zero, suc, ◌+◌, ◌<◌, ◌≤◌, Bool, true, false, if◌then◌else◌, List, [], ◌∷◌, Some, Contains, refl, sym, ap, ◌∙◌, subst, arith}
 use Rattle.std.specs.Prelude.{◌==◌, slice_get}
 use Rattle.std.proofs.lemmas.Bool.Decides.{Decides-eqb}
+use Rattle.bodies.proofs.FewVariables.{none_at_first}
 use Rattle.judge.proofs.LowerLaws.{LowerLaws}
 use Rattle.judge.proofs.MoreKnown.{settles_still}
 use Rattle.judge.specs.AgreementLaws.{IsGivenLeast, HasLeastCertificates}
@@ -13,7 +14,7 @@ use Rattle.certificates.specs.LeastLaws as certificates
 use Rattle.certificates.specs.LeastLaws.{HasNoFault}
 use Rattle.checker.specs.Certificates.{CheckedBody, is_claimed, Holds, SettlesIn}
 use Rattle.meaning.proofs.Membership.{contains_here, contains_there}
-use Rattle.meaning.specs.BodyEvents.{Variable, bodies_of, variables_of, too_many_faults}
+use Rattle.meaning.specs.BodyEvents.{Variable, bodies_of, variables_of, too_many_faults, jump_faults, unfollowed_faults}
 use Rattle.meaning.specs.FunctionFacts.{cancel}
 use Rattle.meaning.specs.Mentions.{BodyPlace}
 use Rattle.meaning.specs.Uses.{Callee, Seen}
@@ -72,7 +73,7 @@ credited_too seen one other literal number same h = record {
   body = h.body;
   variable = h.variable;
   is_there = h.is_there;
-  are_few = h.are_few;
+  is_followed = h.is_followed;
   is_of_body = h.is_of_body;
   is_captured = h.is_captured;
   is_it = h.is_it;
@@ -96,7 +97,7 @@ module _ (given : Given) (own : Flags) (calls : Callee → ℕ → Bool) (number
 
     -- Least certificates
 
-    module _ (b : BodyPlace) (few : too_many_faults (variables_of seen b.at) ≡ [])
+    module _ (b : BodyPlace) (followed : unfollowed_faults seen b ≡ [])
         (its : IsGivenLeast given calls number (with_table seen full) b) where
       abbrev its_body : CheckedBody
       its_body = body_with (its_paths b) its.are_least.order (flags_of_body own b)
@@ -104,7 +105,7 @@ module _ (given : Given) (own : Flags) (calls : Callee → ℕ → Bool) (number
       certifiable : certificates.CanHaveCertificate (its_paths b) its_body
       certifiable = record {
         is_of = record { is_graph = refl; are_variables = refl; are_promises = refl };
-        are_few = few;
+        are_few = none_at_first (too_many_faults (variables_of seen b.at)) (jump_faults seen b) followed;
         starts_in_own_groups =
             groups b (promises_in calls full b.at) its.are_least.order (flags_of_body own b);
       }
@@ -121,7 +122,7 @@ module _ (given : Given) (own : Flags) (calls : Callee → ℕ → Bool) (number
         is_certified = record {
           rows = its.rows;
           order = its.are_least.order;
-          are_few = few;
+          is_followed = followed;
           are_given = its.are_given;
           is_order = record { same = its.are_least.has_each; ordered = its.are_least.ordered };
           holds = its_holds;
@@ -140,26 +141,25 @@ module _ (given : Given) (own : Flags) (calls : Callee → ℕ → Bool) (number
                   (its.are_least.is_least (flags_of_body own b)) w.0 v w.1).1 settles,
             )
 
-    credited_by : (literal variable : ℕ) → IsCredited seen full literal variable
-        → ((b : BodyPlace) → Contains (bodies_of seen) b → b.at ≡ literal → IsSound own (its_paths b) b)
+    credited_by : (literal variable : ℕ) (h : IsCredited seen full literal variable)
+        → IsSound own (its_paths h.body) h.body
         → IsCreditedBy given own calls number (with_table seen full) literal variable
     unfolding is_certified
     credited_by literal variable h sound =
         let b = h.body in
         let first = first_there literal (bodies_of seen) b h.is_there in
         let back = sym first.is_there in
-        let few = subst (λ at. too_many_faults (variables_of seen at) ≡ []) back h.are_few in
         let among = subst (λ at. Contains (variables_of seen at) h.variable) back h.is_of_body in
-        let its = least.each b first.is_among few in
-        let its_sound = sound b first.is_among first.is_there in
+        let its = least.each b first.is_among h.is_followed in
         let settles =
         subst (λ at. Settles (paths_of seen (promises_in no_calls full at) b) h.variable) back h.settles in
-        let settled = is_settled_by b few its its_sound h.variable among (settles_still calls seen full b h.variable settles) in
+        let still = settles_still calls seen full b h.variable settles in
+        let settled = is_settled_by b h.is_followed its sound h.variable among still in
         record {
           body = b;
           is_there = h.is_there;
           settled = record {
-            certified = is_certified b few its its_sound;
+            certified = is_certified b h.is_followed its sound;
             place = settled.0;
             found = h.variable;
             is_of_body = settled.1;
@@ -175,7 +175,7 @@ module _ (given : Given) (own : Flags) (calls : Callee → ℕ → Bool) (number
         (are : AreGivenCredits given own calls number (with_table seen other))
         (sound : (b : BodyPlace)
         → Contains (bodies_of seen) b
-        → too_many_faults (variables_of seen b.at) ≡ []
+        → unfollowed_faults seen b ≡ []
         → begun_after b.at other ≡ begun_after b.at full
         → IsSound own (its_paths b) b) where
       none_past : (literal variable : ℕ) → bound (bodies_of seen) ≤ literal → other literal variable ≡ true → ⊥
@@ -203,14 +203,12 @@ module _ (given : Given) (own : Flags) (calls : Callee → ℕ → Bool) (number
           → other literal variable ≡ true
       full_too literal variable same e =
           let h = (least.are_full.each literal variable).0 e in
+          let first = first_there literal (bodies_of seen) h.body h.is_there in
           (are literal variable).1
           (credited_by_too given own calls number seen full other literal variable (sym same)
-          (credited_by literal variable h λ b among is.
-          sound b among (few_there h b among is) (subst (λ n. begun_after n other ≡ begun_after n full) (sym is) same)))
-        where
-          few_there : IsCredited seen full literal variable → (b : BodyPlace) → Contains (bodies_of seen) b → b.at ≡ literal
-              → too_many_faults (variables_of seen b.at) ≡ []
-          few_there h b among is = subst (λ at. too_many_faults (variables_of seen at) ≡ []) (sym is) h.are_few
+          (credited_by literal variable h
+          (sound h.body first.is_among h.is_followed
+          (subst (λ n. begun_after n other ≡ begun_after n full) (sym first.is_there) same))))
 
       same_from : (k literal : ℕ) → bound (bodies_of seen) ≤ literal + k → (variable : ℕ)
           → other literal variable ≡ full literal variable

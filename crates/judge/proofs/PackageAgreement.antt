@@ -15,7 +15,7 @@ use Rattle.meaning_packages.specs.CallsFlags.{Flags, FileWithCredits, calls_by}
 use Rattle.meaning_reports.proofs.OneReport.{one_way}
 use Rattle.meaning_reports.specs.Loaded.{LoadedPackage, Tables, imported_flags, seen_files}
 use Rattle.meaning_reports.specs.OneReport.{AreDetermined}
-use Rattle.meaning_reports.specs.PackageReports.{Rules, IsFindingBy, of_whole, of_import, of_files, IsYesBy, Said, IsReportBy, SaysByPaths, by_paths}
+use Rattle.meaning_reports.specs.PackageReports.{Rules, IsFindingBy, of_whole, of_import, of_dot, of_files, IsYesBy, Said, IsReportBy, SaysByPaths, by_paths}
 use Rattle.meaning_reports.specs.PackageTables.{IsTableBy, empty, full, AreTablesBy, IsJudged, AreFlagsByPaths}
 use Rattle.meaning_reports.specs.WholeFaults.{HasNoWholeFault}
 use Rattle.meaning_runs.proofs.EntryPlaces.{seen_there}
@@ -55,12 +55,12 @@ module _ (declared : Tables) (given : GivenByPath) (ps : List LoadedPackage) (ta
       by : (i : ℕ) (p : LoadedPackage) → IsTableBy AreFlagsByPaths ps tables i p (tables p.path)
           → IsTableBy (AreFlagsByClaims given) ps tables i p (tables p.path)
       by i p (empty x fault h) = empty x fault h
-      by i p (full flags none its signatures calls) =
+      by i p (full flags none its signatures calls told) =
           full flags none (record {
             files = its.files;
             are_seen = credited_seen its.is_judged.are_files;
             are_claimed = (least i p its.files flags its.is_judged).are_claimed;
-          }) signatures calls
+          }) signatures calls told
 
   tables_by_certificates : AreTablesBy (AreFlagsByCertificates given) declared ps tables
       → AreTablesBy (AreFlagsByClaims given) declared ps tables
@@ -72,12 +72,12 @@ module _ (declared : Tables) (given : GivenByPath) (ps : List LoadedPackage) (ta
       by : (i : ℕ) (p : LoadedPackage) → IsTableBy (AreFlagsByCertificates given) ps tables i p (tables p.path)
           → IsTableBy (AreFlagsByClaims given) ps tables i p (tables p.path)
       by i p (empty x fault h) = empty x fault h
-      by i p (full flags none its signatures calls) =
+      by i p (full flags none its signatures calls told) =
           full flags none (record {
             files = its.files;
             are_seen = its.is_verified.are_seen;
             are_claimed = its.is_verified.are_flags;
-          }) signatures calls
+          }) signatures calls told
 
 -- Files at one place
 
@@ -165,7 +165,7 @@ module _ (laws : LowerLaws) (bodies : BodiesAreApart) (declared : Tables) (given
       where
         by : IsTableBy AreFlagsByPaths ps tables i p (tables p.path) → (flags : Flags) × AreFlagsByPaths ps tables i p flags
         by (empty x fault h) = absurd (none x fault)
-        by (full flags nothing its signatures calls) = (flags, its)
+        by (full flags nothing its signatures calls told) = (flags, its)
 
     its_claims : (i : ℕ) (p : LoadedPackage) → slice_get ps i ≡ Some p → HasNoWholeFault ps i
         → (flags : Flags) × AreFlagsByCertificates given ps tables i p flags
@@ -174,7 +174,7 @@ module _ (laws : LowerLaws) (bodies : BodiesAreApart) (declared : Tables) (given
         by : IsTableBy (AreFlagsByCertificates given) ps tables i p (tables p.path)
             → (flags : Flags) × AreFlagsByCertificates given ps tables i p flags
         by (empty x fault h) = absurd (none x fault)
-        by (full flags nothing its signatures calls) = (flags, its)
+        by (full flags nothing its signatures calls told) = (flags, its)
 
     -- what is said of files by certificates is not said where nothing is by paths
     none_said : (i : ℕ) (x : Entry) → HasNoWholeFault ps i → IsYesBy (by_paths declared) ps tables i
@@ -233,16 +233,18 @@ module _ (laws : LowerLaws) (bodies : BodiesAreApart) (declared : Tables) (given
         → IsYesBy (by_paths declared) ps tables i
         → ⊥
     quiet_by_certificates i x (of_whole h) its_yes = its_yes x (of_whole h)
-    quiet_by_certificates i x (of_import j number spec y none im finding) its_yes =
-        quiet_by_certificates j y finding (λ z h. its_yes _ (of_import j number spec z none im h))
+    quiet_by_certificates i x (of_import j number spec y none im needed finding) its_yes =
+        quiet_by_certificates j y finding (λ z h. its_yes _ (of_import j number spec z none im needed h))
+    quiet_by_certificates i x (of_dot file dot none out) its_yes = its_yes _ (of_dot file dot none out)
     quiet_by_certificates i x (of_files none said) its_yes = none_said i x none its_yes said
 
     quiet_by_paths : (i : ℕ) (x : Entry) → IsFindingBy (by_paths declared) ps tables i x
         → IsYesBy (by_certificates given declared) ps tables i
         → ⊥
     quiet_by_paths i x (of_whole h) its_yes = its_yes x (of_whole h)
-    quiet_by_paths i x (of_import j number spec y none im finding) its_yes =
-        quiet_by_paths j y finding (λ z h. its_yes _ (of_import j number spec z none im h))
+    quiet_by_paths i x (of_import j number spec y none im needed finding) its_yes =
+        quiet_by_paths j y finding (λ z h. its_yes _ (of_import j number spec z none im needed h))
+    quiet_by_paths i x (of_dot file dot none out) its_yes = its_yes _ (of_dot file dot none out)
     quiet_by_paths i x (of_files none said) its_yes = none_found i x none its_yes said
 
     pub same_yes : (i : ℕ) → IsYesBy (by_paths declared) ps tables i

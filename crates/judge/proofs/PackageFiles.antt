@@ -65,7 +65,7 @@ module _ (bodies : BodiesAreApart) (ps : List LoadedPackage) (tables : Tables) (
             have_own_places = places_of_text t.0 tree (known_in ps tables p number) t.1;
             have_own_groups = starts_have_own_groups (seen_file (known_in ps tables p number) tree);
             are_locals = refl;
-            one_each = (bodies t.0 tree t.1).one_each;
+            one_each = (bodies p.edition t.0 tree t.1).one_each;
           }
 
 -- Files with credits

@@ -25,6 +25,7 @@ use Rattle.meaning_reports.specs.Loaded.{Reading, has_tree, has_text_fault, has_
 use Rattle.meaning_reports.specs.PackageTables.{IsTableBy, empty, full, AreTables, AreFlagsByPaths}
 use Rattle.meaning_runs.specs.Promise.{AreTreesOfTexts}
 use Rattle.path_faults.proofs.Places.{place_of, any_holds}
+use Rattle.tree.specs.declared.edition.Edition.{Edition}
 use Rattle.whole_packages.specs.declared.loaded_package.LoadedPackage.{LoadedPackage as KeptPackage}
 
 -- Files
@@ -35,11 +36,12 @@ few_trees n (has_tree t ∷ rs) = let rest = few_trees (n + 1) rs in omega (arit
 few_trees n (has_text_fault at why ∷ rs) = let rest = few_trees (n + 1) rs in omega (arith, rest)
 few_trees n (has_tree_fault at why ∷ rs) = let rest = few_trees (n + 1) rs in omega (arith, rest)
 
-as_many_read : (sources : List Source) (rs : List Reading) → AreReadingsOf sources rs → length rs ≡ length sources
-as_many_read [] [] h = refl
-as_many_read [] (r ∷ rs) h = absurd h
-as_many_read (s ∷ ss) [] h = absurd h
-as_many_read (s ∷ ss) (r ∷ rs) h = ap suc (as_many_read ss rs h.1)
+as_many_read : (edition : Edition) (sources : List Source) (rs : List Reading) → AreReadingsOf edition sources rs
+    → length rs ≡ length sources
+as_many_read edition [] [] h = refl
+as_many_read edition [] (r ∷ rs) h = absurd h
+as_many_read edition (s ∷ ss) [] h = absurd h
+as_many_read edition (s ∷ ss) (r ∷ rs) h = ap suc (as_many_read edition ss rs h.1)
 
 no_or : (x y : Bool) → (x || y) ≡ false → y ≡ false
 no_or true y e = let bad : true ≡ false = e in cc
@@ -66,10 +68,10 @@ module _ (given : List GivenPackage) (kept : List KeptPackage) (can : AreLoadabl
       let entry = Contains-permutation load.in_order (map entry_of given) own.of
       (IsPermutation-sym (map entry_of given) load.in_order load.same) own.is_given in
       let g = contains_unmap entry_of given own.of entry in
-      let few : length own.of.1.items ≤ MOST_FILES =
-      subst (λ (e : PathAndFiles). length e.1.items ≤ MOST_FILES) g.2 (few_files given can g.0 g.1) in
-      let same = length_permutation own.of.1.items k.0.sources.items own.loaded.by_name.same in
-      let read = as_many_read k.0.sources.items p.files own.loaded.are_files in
+      let few : length own.of.1.1.items ≤ MOST_FILES =
+      subst (λ (e : PathAndFiles). length e.1.1.items ≤ MOST_FILES) g.2 (few_files given can g.0 g.1) in
+      let same = length_permutation own.of.1.1.items k.0.sources.items own.loaded.by_name.same in
+      let read = as_many_read own.of.1.0 k.0.sources.items p.files own.loaded.are_files in
       let trees = few_trees 0 p.files in
       let counted = length-map (numbered_trees p) (λ (t : NumberedTree). t.tree) in
       omega (arith, few, same, read, trees, counted)
@@ -83,7 +85,7 @@ module _ (declared : Tables) (ps : List LoadedPackage) (tables : Tables) (are : 
     where
       by : IsTableBy AreFlagsByPaths ps tables i p (tables p.path) → k < 2 ^ 32
       by (empty x fault nothing) = absurd (false≢true (sym (nothing.no_flag name k) ∙ known))
-      by (full flags none its signatures calls) =
+      by (full flags none its signatures calls told) =
           let judged = its.is_judged in
           let kept = judged.are_flags.are_consistent.each name k (sym (calls name k) ∙ known) in
           let place = place_of its.files kept.file kept.is_of_package in
@@ -92,7 +94,7 @@ module _ (declared : Tables) (ps : List LoadedPackage) (tables : Tables) (are : 
           ap (λ (s : Seen). s.known.functions name) w.2 in
           let facts = some_facts k (signatures_of ps p name)
           (ap (facts_take cancel k) functions ∙ kept.is_claim.is_cancel_parameter) in
-          positions_fit (means_in ps p) name 0 (trees_of p) facts.0 texts facts.1 k facts.2
+          positions_fit p.edition (means_in ps p) name 0 (trees_of p) facts.0 texts facts.1 k facts.2
 
 pub can_be_written : (given : List GivenPackage) (kept : List KeptPackage) (can : AreLoadable given) (load : IsLoad given kept)
     (declared tables : Tables)

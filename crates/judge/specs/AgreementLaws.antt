@@ -5,7 +5,7 @@ use Rattle.std.specs.Prelude.{ℕ, ◌≡◌, Bool, true, List, [], Some, Contai
 use Rattle.judge.specs.OwnGroups.{HaveOwnGroups}
 use Rattle.certificates.specs.Least.{IsLeastOf}
 use Rattle.checker.specs.Certificates.{is_claimed}
-use Rattle.meaning.specs.BodyEvents.{Variable, bodies_of, variables_of, too_many_faults}
+use Rattle.meaning.specs.BodyEvents.{Variable, bodies_of, variables_of, unfollowed_faults}
 use Rattle.meaning.specs.FunctionFacts.{cancel}
 use Rattle.meaning.specs.Mentions.{BodyPlace}
 use Rattle.meaning.specs.Uses.{Callee}
@@ -25,11 +25,11 @@ pub record IsGivenLeast
   pub are_given : given.rows number b.at ≡ Some rows
   pub are_least : IsLeastOf (paths_of file.seen (promises_in calls file.credits b.at) b) rows
 
--- so it is of each body with not too many variables
+-- so it is of each body whose paths are followed
 abbrev pub GivesLeast : Given → (Callee → ℕ → Bool) → ℕ → FileWithCredits → Type 0
 GivesLeast given calls number file = (b : BodyPlace)
     → Contains (bodies_of file.seen) b
-    → too_many_faults (variables_of file.seen b.at) ≡ []
+    → unfollowed_faults file.seen b ≡ []
     → IsGivenLeast given calls number file b
 
 -- the file as `check` sees it, with all its credits, and its certificates
@@ -43,7 +43,7 @@ pub record HasLeastCertificates
 abbrev pub KeepsItsFlags : Flags → (Callee → ℕ → Bool) → FileWithCredits → Type 0
 KeepsItsFlags own calls file = (b : BodyPlace) (v : Variable)
     → Contains (bodies_of file.seen) b
-    → too_many_faults (variables_of file.seen b.at) ≡ []
+    → unfollowed_faults file.seen b ≡ []
     → Contains (variables_of file.seen b.at) v
     → v.kind ≡ cancel
     → is_claimed (flags_of_body own b) v.role ≡ true

@@ -6,9 +6,10 @@ use Rattle.std.specs.Prelude.{ℕ, ◌+◌, Bool, false, ◌||◌, if◌then◌e
 use Rattle.std.specs.List.{list_any}
 use Rattle.meaning.specs.Declarations.{declaration_of_use}
 use Rattle.meaning.specs.FunctionFacts.{Meanings, context_path, is_of}
-use Rattle.meaning.specs.Mentions.{Named, Mark, mentions, defers_literal, returns, opens, closes, file_marks}
+use Rattle.meaning.specs.Mentions.{Named, Mark, mentions, defers_literal, returns, opens, closes, marks_by, file_marks}
 use Rattle.meaning.specs.OuterBlocks.{PackageNames}
 use Rattle.meaning_reports.specs.Loaded.{LoadedPackage, package_names, trees_of}
+use Rattle.tree.specs.declared.edition.Edition.TheVariants.{First}
 use Rattle.tree.specs.Syntax.{SourceFile}
 use Rattle.tree.specs.View.{file_syntax}
 use Rattle.whole_packages.specs.declared.loaded_package.LoadedPackage.{LoadedPackage as KeptPackage}
@@ -27,8 +28,9 @@ mark_mentions means (returns at es) = false
 mark_mentions means (opens b) = false
 mark_mentions means closes = false
 
-abbrev pub file_mentions : Meanings → SourceFile → Bool
-file_mentions means tree = list_any (mark_mentions means) (file_marks tree)
+-- what conditions find out names a variable alone
+unfoldable pub file_mentions : Meanings → SourceFile → Bool
+file_mentions means tree = list_any (mark_mentions means) (marks_by First (file_marks tree))
 
 -- one of these files does, where the first has the number n
 abbrev pub files_mention : (ℕ → Meanings) → ℕ → List SourceFile → Bool

@@ -18,7 +18,7 @@ HaveTrees given = (g : GivenPackage) (s : Source) (tokens : List Token)
     → Contains given g
     → Contains g.sources.items s
     → IsTokens s.bytes.items tokens
-    → (tree : SourceFile) × IsTreeOf s.bytes.items tree
+    → (tree : SourceFile) × IsTreeOf g.edition s.bytes.items tree
 
 pub record GivenPackagesHaveOneReport : Type 0 where
   pub one_verdict : (format format_too : Format) (outside : List PackageEntry) (given : List GivenPackage)

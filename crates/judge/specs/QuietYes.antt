@@ -1,6 +1,6 @@
 -- What a yes says of runs: where nothing is said of a package, each return of a frame of the package is quiet, in every
--- run over the package and the given packages below it. `meaning_runs` has the runs. They have two premises on
--- functions without a body, as those of packages that were not given: what is declared of one is true when it returns
+-- run over all given packages, be they yes or not. `meaning_runs` has the runs. They have two premises on functions
+-- without a body, as those of packages that were not given: what is declared of one is true when it returns
 -- (`DeclaredIsTrue`); and it starts work in a group that it was lent only before it returns (`IsOutsideCall`), while
 -- what it started there may start more.
 use Rattle.std.specs.Prelude.{ℕ, ◌≡◌, true, List, Some, slice_get}

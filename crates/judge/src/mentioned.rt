@@ -13,7 +13,7 @@ use marks::file_marks;
 use mentions::{Mark, Named};
 use names::{CONTEXT, Names, PackageNames, names_of};
 use std::alloc::{AllocError, Global};
-use tree::File;
+use tree::{Edition, File};
 
 /// Whether it names the type of cancel functions with a cause, or one of the makers that came with them.
 fn is_cause_name(names: &Names<'_>, file: usize, named: Named<'_>) -> bool
@@ -45,7 +45,9 @@ fn marks_mention(names: &Names<'_>, file: usize, marks: &[Mark<'_, '_>]) -> bool
     false
 }
 
-/// Whether the file of that number mentions one.
+/// Whether the file of that number mentions one. What conditions find out names none, so the marks of the first edition
+/// are enough.
+#[tactic(auto, unfolding(crate::specs::CauseMentions::file_mentions))]
 fn file_mentions(
     alloc: Global,
     names: &Names<'_>,
@@ -55,7 +57,7 @@ fn file_mentions(
     ensures { IfOk result (λ does. does ≡ file_mentions (declared_at names.now number) (file_syntax file.now)) }
 {
     let arena = Bump::new(alloc);
-    let marks = file_marks(alloc, &arena, file)?;
+    let marks = file_marks(alloc, &arena, Edition::First, file)?;
     Ok(marks_mention(names, number, &marks))
 }
 

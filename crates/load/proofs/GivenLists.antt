@@ -58,17 +58,17 @@ pub gives_next : (given left before : List GivenPackage) (entries next : List Pa
     → before ≡ g ∷ left
     → b ≡ is_some (lookup (string_eq g.path) entries)
     → b ≡ false
-    → next ≡ entries ++ (g.path, g.sources) ∷ []
+    → next ≡ entries ++ entry_of g ∷ []
     → GivesOn given entries before
     → GivesOn given next left
 gives_next given left before entries next g b is found there grown so = record {
   whole =
       (λ i. grown i ++ map entry_of left)
-      ∙ (append_assoc entries ((g.path, g.sources) ∷ []) (map entry_of left)
+      ∙ (append_assoc entries (entry_of g ∷ []) (map entry_of left)
       ∙ ((λ i. entries ++ map entry_of (sym is i)) ∙ so.whole));
   first =
       (λ i. first_repeated (keys_of (grown i)) (map path_of left))
-      ∙ ((λ i. first_repeated (map-append (λ (e : PathAndFiles). e.0) entries ((g.path, g.sources) ∷ []) i) (map path_of left))
+      ∙ ((λ i. first_repeated (map-append (λ (e : PathAndFiles). e.0) entries (entry_of g ∷ []) i) (map path_of left))
       ∙ (sym (next_path (keys_of entries) g.path (map path_of left) false
       (among_keys (string_eq g.path) entries ∙ (sym found ∙ there)))
       ∙ ((λ i. first_repeated (keys_of entries) (map path_of (sym is i))) ∙ so.first)));
@@ -84,10 +84,10 @@ gives_all given left entries none so = (
 
 -- What is read
 
--- this is kept of the package of that path with these files
+-- this is kept of the package of that path and edition with these files
 pub record IsRead (entry : PathAndFiles) (kept : KeptPackage) : Type 0 where
   pub meant : LoadedPackage
-  pub loaded : IsLoadedAs (string_bytes entry.0) entry.1.items meant kept
+  pub loaded : IsLoadedAs entry.1.0 (string_bytes entry.0) entry.1.1.items meant kept
 
 abbrev pub AreRead : List PathAndFiles → List KeptPackage → Type 0
 AreRead = AllZip IsRead
@@ -99,8 +99,11 @@ is_read entry given kept ordered read = record {
   loaded = record {
     tells = read.tells;
     is_path = read.is_path ∙ ap string_bytes ordered.is_path;
-    by_name = subst (AreByName entry.1.items) (sym read.same_files) ordered.by_name;
-    are_files = subst (λ ss. AreReadingsOf ss read.meant.files) (sym read.same_files) read.are_files;
+    is_edition = read.is_edition ∙ ordered.is_edition;
+    by_name = subst (AreByName entry.1.1.items) (sym read.same_files) ordered.by_name;
+    are_files =
+        subst (λ e. AreReadingsOf e kept.sources.items read.meant.files) ordered.is_edition
+        (subst (λ ss. AreReadingsOf given.edition ss read.meant.files) (sym read.same_files) read.are_files);
   };
 }
 

@@ -1,15 +1,14 @@
 -- Files that were read ahead.
 use Rattle.std.proofs.Common.{◌≡◌, List, [], ◌∷◌, Option, map, Result, Ok, IfOk, subst}
-use Rattle.std.specs.Borrow.{Bor}
-use Rattle.lexer.specs.declared.source.Source.{Source}
 use Rattle.workers.specs.Outcomes.{AreOutcomes}
-use Rattle.load.specs.Ahead.{AreReadAhead}
+use Rattle.load.specs.Ahead.{file_view, AreReadAhead}
+use Rattle.load.specs.declared.ahead.FileToRead.{FileToRead}
 use Rattle.load.specs.Readings.{IsParsed, Parsed}
 
 -- what came of the files is what was read ahead of them
-pub of_outcomes : (files : List (Bor Source)) (read : List (Option Parsed))
-    → AreOutcomes (λ file parsed. IsParsed file.now parsed) files read
-    → AreReadAhead (map (λ file. file.now) files) read
+pub of_outcomes : (files : List FileToRead) (read : List (Option Parsed))
+    → AreOutcomes (λ file parsed. IsParsed file.edition file.source.now parsed) files read
+    → AreReadAhead (map file_view files) read
 of_outcomes [] [] are = tt
 of_outcomes [] (t ∷ ts) are = absurd are
 of_outcomes (f ∷ fs) [] are = absurd are

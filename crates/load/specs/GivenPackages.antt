@@ -5,6 +5,7 @@ use Rattle.std.specs.List.{list_any, AllZip, IsDistinct}
 use Rattle.std.specs.Map.{keys_of}
 use Rattle.std.specs.declared.alloc.Global.{Global}
 use Rattle.lexer.specs.declared.source.Source.{Source}
+use Rattle.tree.specs.declared.edition.Edition.{Edition}
 use Rattle.meaning_reports.specs.Loaded.{LoadedPackage}
 use Rattle.whole_packages.specs.declared.loaded_package.LoadedPackage.{LoadedPackage as KeptPackage}
 use Rattle.whole_packages.specs.LoadedViews.{HaveDistinctPaths, TellsPackage}
@@ -18,15 +19,15 @@ use Rattle.load.specs.declared.packages.TheConstants.{MOST_PACKAGES, MOST_FILES}
 abbrev pub Text : Type 0
 Text = String Global
 
--- a path, and the files of its package
+-- a path, the edition by which its package is judged, and its files
 abbrev pub PathAndFiles : Type 0
-PathAndFiles = Text × Vec Source Global
+PathAndFiles = Text × (Edition × Vec Source Global)
 
 abbrev pub path_of : GivenPackage → Text
 path_of g = g.path
 
 abbrev pub entry_of : GivenPackage → PathAndFiles
-entry_of g = (g.path, g.sources)
+entry_of g = (g.path, (g.edition, g.sources))
 
 abbrev pub has_many_files : GivenPackage → Bool
 has_many_files g = nat_lt MOST_FILES (length g.sources.items)
@@ -57,7 +58,8 @@ pub record AreLoadable (given : List GivenPackage) : Type 0 where
 -- each of these was read so, and that is kept of it
 abbrev pub AreLoaded : List PathAndFiles → List LoadedPackage → List KeptPackage → Type 0
 AreLoaded [] [] [] = ⊤
-AreLoaded (e ∷ es) (p ∷ ps) (k ∷ ks) = IsLoadedAs (string_bytes e.0) e.1.items p k × AreLoaded es ps ks
+AreLoaded (e ∷ es) (p ∷ ps) (k ∷ ks) =
+    IsLoadedAs e.1.0 (string_bytes e.0) e.1.1.items p k × AreLoaded es ps ks
 AreLoaded [] [] (k ∷ ks) = ⊥
 AreLoaded [] (p ∷ ps) ks = ⊥
 AreLoaded (e ∷ es) [] ks = ⊥
@@ -83,10 +85,11 @@ IsRepeated given (TwoPackages path) = first_repeated [] (map path_of given) ≡ 
 IsRepeated given (NamesGiven path) = ⊥
 IsRepeated given OutOfMemory = ⊤
 
--- the package has that path, and these files in the order of their names
+-- the package has that path and edition, and these files in the order of their names
 pub record IsByName (entry : PathAndFiles) (given : GivenPackage) : Type 0 where
   pub is_path : given.path ≡ entry.0
-  pub by_name : AreByName entry.1.items given.sources.items
+  pub is_edition : given.edition ≡ entry.1.0
+  pub by_name : AreByName entry.1.1.items given.sources.items
 
 -- the packages of these paths and files, in the order of their paths, and their files in that of their names
 pub record AreInOrder (entries : List PathAndFiles) (given : List GivenPackage) : Type 0 where
@@ -101,5 +104,6 @@ pub record IsReadAs (given : GivenPackage) (kept : KeptPackage) : Type 0 where
   pub meant : LoadedPackage
   pub tells : TellsPackage meant kept
   pub is_path : meant.path ≡ string_bytes given.path
+  pub is_edition : meant.edition ≡ given.edition
   pub same_files : kept.sources.items ≡ given.sources.items
-  pub are_files : AreReadingsOf given.sources.items meant.files
+  pub are_files : AreReadingsOf given.edition given.sources.items meant.files

@@ -16,6 +16,7 @@ use Rattle.report.specs.declared.codes.TextFault.{TextFault}
 use Rattle.report.specs.declared.codes.TextFault.TheVariants.{NotUtf8, Nul, UnclosedString, UnclosedComment, UnclosedRune, UnknownCharacter, TooLong}
 use Rattle.report.specs.declared.codes.TreeFault.{TreeFault}
 use Rattle.report.specs.declared.codes.TreeFault.TheVariants.{UnexpectedToken, TypeParameters, Goto, Fallthrough, DotImport, TooDeep, Recover}
+use Rattle.tree.specs.declared.edition.Edition.{Edition}
 use Rattle.tree.specs.Syntax.{SourceFile}
 use Rattle.tree.specs.View.{file_syntax}
 use Rattle.tree.specs.declared.file.File.{File}
@@ -45,45 +46,48 @@ pub record IsFaultAt (fault : LexFault) (at : ℕ) (why : TextFault) : Type 0 wh
 abbrev pub IsUnreadable : List ℕ → ℕ → TextFault → Type 0
 IsUnreadable text at why = (fault : LexFault) × IsFault text fault × IsFaultAt fault at why
 
--- A text has tokens and no tree for a reason that stands at this offset. Which of the reasons it is, and where, is not
--- said, but that the use of `recover` is none of them.
-pub record IsUnparsed (text : List ℕ) (at : ℕ) (why : TreeFault) : Type 0 where
+-- A text has tokens and no tree in the edition, for a reason that stands at this offset. Which of the reasons it is,
+-- and where, is not said, but that the use of `recover` is none of them.
+pub record IsUnparsed (edition : Edition) (text : List ℕ) (at : ℕ) (why : TreeFault) : Type 0 where
   pub tokens : List Token
   pub cut : IsTokens text tokens
-  pub no_tree : (tree : SourceFile) → IsTreeOf text tree → ⊥
+  pub no_tree : (tree : SourceFile) → IsTreeOf edition text tree → ⊥
   pub within : at ≤ length text
   pub of_tree : why ≢ Recover
 
 -- this became of the bytes
-abbrev pub IsReadingOf : List ℕ → Reading → Type 0
-IsReadingOf text (has_tree tree) = IsTreeOf text tree
-IsReadingOf text (has_text_fault at why) = IsUnreadable text at why
-IsReadingOf text (has_tree_fault at why) = IsUnparsed text at why
+abbrev pub IsReadingOf : Edition → List ℕ → Reading → Type 0
+IsReadingOf edition text (has_tree tree) = IsTreeOf edition text tree
+IsReadingOf edition text (has_text_fault at why) = IsUnreadable text at why
+IsReadingOf edition text (has_tree_fault at why) = IsUnparsed edition text at why
 
-abbrev pub AreReadingsOf : List Source → List Reading → Type 0
-AreReadingsOf [] [] = Unit {0}
-AreReadingsOf [] (r ∷ rs) = ⊥
-AreReadingsOf (s ∷ ss) [] = ⊥
-AreReadingsOf (s ∷ ss) (r ∷ rs) = IsReadingOf s.bytes.items r × AreReadingsOf ss rs
+abbrev pub AreReadingsOf : Edition → List Source → List Reading → Type 0
+AreReadingsOf edition [] [] = Unit {0}
+AreReadingsOf edition [] (r ∷ rs) = ⊥
+AreReadingsOf edition (s ∷ ss) [] = ⊥
+AreReadingsOf edition (s ∷ ss) (r ∷ rs) = IsReadingOf edition s.bytes.items r × AreReadingsOf edition ss rs
 
--- of the package of that path with these files, `p` is what was read, and that is kept
-pub record IsLoadedAs (path : List ℕ) (sources : List Source) (p : LoadedPackage) (kept : KeptPackage) : Type 0 where
+-- of the package of that path with these files, `p` is what was read in the edition, and that is kept
+pub record IsLoadedAs
+    (edition : Edition) (path : List ℕ) (sources : List Source) (p : LoadedPackage) (kept : KeptPackage)
+    : Type 0 where
   pub tells : TellsPackage p kept
   pub is_path : p.path ≡ path
+  pub is_edition : p.edition ≡ edition
   pub by_name : AreByName sources kept.sources.items
-  pub are_files : AreReadingsOf kept.sources.items p.files
+  pub are_files : AreReadingsOf edition kept.sources.items p.files
 
 -- What serves the proofs
 
 -- this became of the text, and these are its trees: one, or none
-abbrev pub IsKeptWith : List ℕ → KeptReading → List File → Type 0
-IsKeptWith text kept.Tree (tree ∷ []) = IsTreeOf text (file_syntax tree)
-IsKeptWith text kept.Tree [] = ⊥
-IsKeptWith text kept.Tree (tree ∷ next ∷ trees) = ⊥
-IsKeptWith text (kept.NoTokens at why) [] = IsUnreadable text at why
-IsKeptWith text (kept.NoTokens at why) (tree ∷ trees) = ⊥
-IsKeptWith text (kept.NoTree at why) [] = IsUnparsed text at why
-IsKeptWith text (kept.NoTree at why) (tree ∷ trees) = ⊥
+abbrev pub IsKeptWith : Edition → List ℕ → KeptReading → List File → Type 0
+IsKeptWith edition text kept.Tree (tree ∷ []) = IsTreeOf edition text (file_syntax tree)
+IsKeptWith edition text kept.Tree [] = ⊥
+IsKeptWith edition text kept.Tree (tree ∷ next ∷ trees) = ⊥
+IsKeptWith edition text (kept.NoTokens at why) [] = IsUnreadable text at why
+IsKeptWith edition text (kept.NoTokens at why) (tree ∷ trees) = ⊥
+IsKeptWith edition text (kept.NoTree at why) [] = IsUnparsed edition text at why
+IsKeptWith edition text (kept.NoTree at why) (tree ∷ trees) = ⊥
 
 -- what became of a file: its tree, or what it has instead
 abbrev pub Parsed : Type 0
@@ -97,8 +101,8 @@ abbrev pub trees_of : Parsed → List File
 trees_of (Ok tree) = tree ∷ []
 trees_of (Err reading) = []
 
-abbrev pub IsParsed : Source → Parsed → Type 0
-IsParsed source parsed = IsKeptWith source.bytes.items (reading_of parsed) (trees_of parsed)
+abbrev pub IsParsed : Edition → Source → Parsed → Type 0
+IsParsed edition source parsed = IsKeptWith edition source.bytes.items (reading_of parsed) (trees_of parsed)
 
 abbrev pub fault_of_form : LeftOut → TreeFault
 fault_of_form form.TypeParameters = TypeParameters

@@ -2,8 +2,7 @@
 
 ghost use Rattle.std.specs.Prelude.{◌++◌, List, IfOk, OnOk};
 ghost use Rattle.std.specs.Vec.Iter.{into_iter_items};
-ghost use Rattle.lexer.specs.declared.source.Source.{Source};
-ghost use Rattle.load.specs.Ahead.{AreReadAhead};
+ghost use Rattle.load.specs.Ahead.{files_in, AreReadAhead, EditionAndFile};
 ghost use Rattle.load.specs.FilesByName.{AreByName};
 ghost use Rattle.load.specs.GivenPackages.{IsReadAs};
 
@@ -23,7 +22,7 @@ pub fn by_name(sources: Vec<Source>) -> Result<Vec<Source>, AllocError>
     Ok(ordered)
 }
 
-/// The package with its files as they are read. Those that were read ahead are the next ones there.
+/// The package with its files as they are read in its edition. Those that were read ahead are the next ones there.
 ///
 /// # Errors
 ///
@@ -33,23 +32,30 @@ pub fn load_package(
     given: GivenPackage,
     ahead: &mut Ahead,
 ) -> Result<LoadedPackage, AllocError>
-    ensures read { (after : List Source) → AreReadAhead (given.sources.items ++ after) (into_iter_items ahead.old)
+    ensures read { (after : List EditionAndFile)
+        → AreReadAhead (files_in given.edition given.sources.items ++ after) (into_iter_items ahead.old)
         → IfOk result (IsReadAs given) }
-    ensures ahead { (after : List Source) → AreReadAhead (given.sources.items ++ after) (into_iter_items ahead.old)
+    ensures ahead { (after : List EditionAndFile)
+        → AreReadAhead (files_in given.edition given.sources.items ++ after) (into_iter_items ahead.old)
         → OnOk result (AreReadAhead after (into_iter_items ahead.new)) }
 {
-    let GivenPackage { path, sources } = given;
+    let GivenPackage {
+        path,
+        edition,
+        sources,
+    } = given;
     let mut readings = Vec::new(alloc);
     let mut trees = Vec::new(alloc);
     for source in &sources {
         keep(
-            next_parsed(alloc, source, ahead)?,
+            next_parsed(alloc, edition, source, ahead)?,
             &mut readings,
             &mut trees,
         )?;
     }
     Ok(LoadedPackage {
         path,
+        edition,
         sources,
         readings,
         trees,

@@ -12,6 +12,7 @@ use indexmap::IndexMap;
 use lexer::Source;
 use std::alloc::{AllocError, Global};
 use std::thread::Threads;
+use tree::Edition;
 use whole_packages::LoadedPackage;
 use workers::Workers;
 
@@ -21,10 +22,11 @@ pub const MOST_PACKAGES: usize = 10_000;
 /// The most files of one package.
 pub const MOST_FILES: usize = u32::MAX as usize;
 
-/// A package that is to be loaded: its import path, and its Go files.
+/// A package that is to be loaded: its import path, the edition by which it is judged, and its Go files.
 #[derive(Debug, Drop)]
 pub struct GivenPackage {
     pub path: String,
+    pub edition: Edition,
     pub sources: Vec<Source>,
 }
 
@@ -79,17 +81,21 @@ fn has_too_many(given: &[GivenPackage]) -> bool
 fn by_path(
     alloc: Global,
     given: Vec<GivenPackage>,
-) -> Result<IndexMap<String, Vec<Source>>, LoadFault>
+) -> Result<IndexMap<String, (Edition, Vec<Source>)>, LoadFault>
     ensures entries { IfOk result (λ packages. packages.entries ≡ map entry_of given.items) }
     ensures distinct { IfOk result (λ packages. first_repeated [] (map path_of given.items) ≡ None) }
     ensures err { IfErr result (IsRepeated given.items) }
 {
     let mut packages = IndexMap::new(alloc);
-    for GivenPackage { path, sources } in given {
+    for GivenPackage {
+        path,
+        edition,
+        sources,
+    } in given {
         if packages.contains_key(&path) {
             return Err(LoadFault::TwoPackages(path));
         }
-        if packages.insert(path, sources).is_err() {
+        if packages.insert(path, (edition, sources)).is_err() {
             return Err(LoadFault::OutOfMemory);
         }
     }
@@ -99,14 +105,18 @@ fn by_path(
 /// Each of these packages, with its files in the order of their names.
 fn order_files(
     alloc: Global,
-    packages: IndexMap<String, Vec<Source>>,
+    packages: IndexMap<String, (Edition, Vec<Source>)>,
 ) -> Result<Vec<GivenPackage>, AllocError>
     ensures { IfOk result (λ ordered. AllZip IsByName packages.entries ordered.items) }
 {
     let mut ordered = Vec::new(alloc);
-    for (path, sources) in packages {
+    for (path, (edition, sources)) in packages {
         let sources = by_name(sources)?;
-        ordered.push(GivenPackage { path, sources })?;
+        ordered.push(GivenPackage {
+            path,
+            edition,
+            sources,
+        })?;
     }
     Ok(ordered)
 }
@@ -114,7 +124,7 @@ fn order_files(
 /// The packages in the order of their paths, and their files in that of their names.
 fn in_order(
     alloc: Global,
-    packages: IndexMap<String, Vec<Source>>,
+    packages: IndexMap<String, (Edition, Vec<Source>)>,
 ) -> Result<Vec<GivenPackage>, AllocError>
     ensures { IfOk result (λ ordered. AreInOrder packages.entries ordered.items) }
 {

@@ -9,7 +9,7 @@ use lexer::{LexFault, Source, lex};
 use parser::{LeftOut, ParseFault, parse};
 use report::{TextFault, TreeFault};
 use std::alloc::{AllocError, Global};
-use tree::File;
+use tree::{Edition, File};
 use whole_packages::Reading;
 
 /// What became of a file: its tree, or what it has instead.
@@ -67,16 +67,16 @@ fn parsed_without_tree(read: Result<Reading, AllocError>) -> Result<Parsed, Allo
     }
 }
 
-/// What becomes of a source.
+/// What becomes of a source that is read in that edition.
 ///
 /// # Errors
 ///
 /// Memory was refused.
-pub fn read_source(alloc: Global, source: &Source) -> Result<Parsed, AllocError>
-    ensures { IfOk result (IsParsed source.now) }
+pub fn read_source(alloc: Global, edition: Edition, source: &Source) -> Result<Parsed, AllocError>
+    ensures { IfOk result (IsParsed edition source.now) }
 {
     match lex(alloc, source) {
-        Ok(tokens) => match parse(alloc, &source.bytes, &tokens) {
+        Ok(tokens) => match parse(alloc, edition, &source.bytes, &tokens) {
             Ok(tree) => Ok(Ok(tree)),
             Err(fault) => parsed_without_tree(without_tree(fault)),
         },

@@ -1,3 +1,5 @@
+pub mod AddingBy
 pub mod OuterMarks
+pub mod FoundOut
 pub mod WalkLists
 pub mod WalkSteps

@@ -1,5 +1,5 @@
 -- What declarations outside all functions add to the marks.
-use Rattle.std.proofs.Common.{◌≡◌, ℕ, List, [], ◌∷◌, ◌++◌, Option, Some, None, option_map, refl, ap}
+use Rattle.std.proofs.Common.{◌≡◌, ℕ, List, [], ◌∷◌, ◌++◌, Option, Some, None, option_map, refl, sym, ap, ◌∙◌}
 use Rattle.std.specs.Borrow.{Bor}
 use Rattle.std.specs.declared.alloc.Global.{Global}
 use Rattle.std.specs.declared.vec.Vec.{Vec}
@@ -8,28 +8,34 @@ use Rattle.tree.specs.declared.expression.Param.{Param}
 use Rattle.tree.specs.declared.statement.Block.{Block, out-Block}
 use Rattle.tree.specs.declared.span.Span.{Span}
 use Rattle.tree.specs.Syntax.{Identifier, Signature, Parameters, expression_node, Specs, no_spec, Statements}
-use Rattle.tree.specs.View.{block_braces, expression_form, row_expressions, held_expression, parameters_syntax, spec_and}
+use Rattle.tree.specs.View.{block_braces, expression_form, row_expressions, held_expression, row_parameters, parameters_syntax, spec_and}
 use Rattle.tree.proofs.Views.{block_syntax-out}
-use Rattle.mentions.specs.declared.mark.Mark.{Mark as KeptMark}
-use Rattle.mentions.specs.MarkViews.{Adds}
-use Rattle.mentions.proofs.Adding.{adds_then, one_part, two_parts}
-use Rattle.meaning.specs.Mentions.{BodyPlace, Mark, opens, closes, in_body, other_use, part_of, expression_marks, expressions_marks, optional_marks, outer_specs_marks}
+use Rattle.marks.specs.declared.by_edition.Walk.{Walk}
+use Rattle.marks.specs.WalkViews.{AddsBy}
+use Rattle.mentions.proofs.Adding.{two_parts}
+use Rattle.std.proofs.lemmas.List.{append_assoc, append-nil}
+use Rattle.tree.specs.declared.edition.Edition.{Edition}
+use Rattle.tree.specs.declared.edition.Edition.TheVariants.{Second}
+use Rattle.mentions.specs.MarkViews.{marks_view}
+use Rattle.marks.proofs.AddingBy.{by_nothing, by_both, adds_then}
+use Rattle.meaning.specs.Mentions.{BodyPlace, Mark, opens, closes, in_body, other_use, part_of, expression_marks, expressions_marks, optional_marks, type_parameters_marks, outer_specs_marks, marks_by}
 
 pub outer_specs_more : (s : Spec) (ss : Specs) → outer_specs_marks (spec_and s ss) ≡ outer_specs_marks (spec_and s no_spec) ++ outer_specs_marks ss
 unfolding spec_and
 outer_specs_more (Value' ns t shape es span) ss =
     two_parts (optional_marks span.start (held_expression t)) (expressions_marks (part_of span.start) (row_expressions es))
     (outer_specs_marks ss)
-outer_specs_more (Type' n alias p t t_span span) ss =
-    one_part (expression_marks (part_of span.start) (expression_node (expression_form t) t_span)) (outer_specs_marks ss)
+outer_specs_more (Type' n shape ps alias p t t_span span) ss =
+    two_parts (type_parameters_marks span.start (row_parameters ps))
+    (expression_marks (part_of span.start) (expression_node (expression_form t) t_span)) (outer_specs_marks ss)
 
 -- a function's block, from the mark that opens it to the one that closes it
-pub adds_function : (body : BodyPlace) (a b c d e : List KeptMark) (types rest : List Mark)
-    → Adds a b (opens body ∷ [])
-    → Adds b c types
-    → Adds c d rest
-    → Adds d e (closes ∷ [])
-    → Adds a e (in_body body (types ++ rest))
+pub adds_function : (body : BodyPlace) (a b c d e : Walk) (types rest : List Mark)
+    → AddsBy a b (opens body ∷ [])
+    → AddsBy b c types
+    → AddsBy c d rest
+    → AddsBy d e (closes ∷ [])
+    → AddsBy a e (in_body body (types ++ rest))
 adds_function body a b c d e types rest first second third last =
     adds_then a b e (opens body ∷ []) ((types ++ rest) ++ closes ∷ []) first
     (adds_then b d e (types ++ rest) (closes ∷ []) (adds_then b c d types rest second third) last)
@@ -62,3 +68,37 @@ pub body_same : (at : ℕ) (name : Option Identifier) (lent kept : Option Parame
     → lent ≡ kept
     → body_of at name lent signature ss braces ≡ body_of at name kept signature ss braces
 body_same at name lent kept signature ss braces same = ap (λ ps. body_of at name ps signature ss braces) same
+
+-- A loop over the declarations of a file keeps that what was added with what the rest adds is the whole.
+
+module _ (e : Edition) where
+  abbrev pub IsSoFar : Walk → List Mark → List Mark → Type 0
+  IsSoFar now all whole = (now.edition ≡ e) × (marks_view now.marks.list.items ++ marks_by e all ≡ whole)
+
+  pub file_next : (now next : Walk) (all marks rest whole : List Mark)
+      → IsSoFar now all whole
+      → all ≡ marks ++ rest
+      → AddsBy now next marks
+      → IsSoFar next rest whole
+  file_next now next all marks rest whole so_far parts added =
+      let before = marks_view now.marks.list.items in (
+        added.keeps ∙ so_far.0,
+        ap (λ l. l ++ marks_by e rest) (added.adds ∙ ap (λ f. before ++ marks_by f marks) so_far.0)
+            ∙ (append_assoc before (marks_by e marks) (marks_by e rest)
+            ∙ (ap (λ l. before ++ l) (sym (ap (marks_by e) parts ∙ by_both e marks rest)) ∙ so_far.1)),
+      )
+
+  pub file_all : (end : Walk) (all whole : List Mark) → IsSoFar end all whole → all ≡ [] → marks_view end.marks.list.items ≡ whole
+  file_all end all whole so_far nothing =
+      let after = marks_view end.marks.list.items in
+      sym (append-nil after) ∙ (ap (λ l. after ++ l) (sym (ap (marks_by e) nothing ∙ by_nothing e)) ∙ so_far.1)
+
+-- the second edition leaves no mark out
+pub all_marks : (start end : Walk) (xs ys : List Mark)
+    → start.edition ≡ Second
+    → start.marks.list.items ≡ []
+    → xs ≡ ys
+    → AddsBy start end xs
+    → marks_view end.marks.list.items ≡ ys
+all_marks start end xs ys second none same added =
+    added.adds ∙ (λ i. marks_view (none i) ++ marks_by (second i) (same i))

@@ -1,10 +1,10 @@
 -- What the parts of a tree add to the marks: an item of a list and the rest, a clause, a body.
-use Rattle.std.proofs.Common.{Bool, not, ◌&&◌, ◌≡◌, ℕ, List, [], ◌∷◌, ◌++◌, map, Option, Some, None, option_map, refl, ap, ◌∙◌}
+use Rattle.std.proofs.Common.{Bool, not, ◌&&◌, ◌≡◌, ℕ, List, [], ◌∷◌, ◌++◌, map, Option, Some, None, option_map, refl, ap, ◌∙◌, false}
 use Rattle.std.specs.Borrow.{Bor}
 use Rattle.std.specs.Option.{option_copied}
 use Rattle.tree.specs.declared.declaration.Spec.{Spec, Value', Type'}
 use Rattle.tree.specs.declared.expression.Expr.{Expr}
-use Rattle.tree.specs.declared.expression.Field.{Field, Named' as NamedField', Embedded, Method'}
+use Rattle.tree.specs.declared.expression.Field.{Field, Named' as NamedField', Embedded, Element', Method'}
 use Rattle.tree.specs.declared.expression.Literal.{Literal, out-Literal}
 use Rattle.tree.specs.declared.expression.Param.{Param, Named' as NamedParam', Unnamed', NameAlone}
 use Rattle.tree.specs.declared.operator.DeclKeyword.{DeclKeyword}
@@ -18,10 +18,13 @@ use Rattle.tree.specs.Syntax.{Identifier, expression_node, signature_of, Paramet
 use Rattle.tree.specs.View.{identifier_syntax, block_braces, expression_form, literal_syntax, row_expressions, held_expression, row_parameters, parameter_and, field_and, spec_and, case_clause_and, communication_clause_and, expressions_syntax, signature_syntax, statements_syntax, optional_statement_syntax}
 use Rattle.tree.proofs.Views.{literal_syntax-out, block_syntax-out, case_clause_and-out, communication_clause_and-out}
 use Rattle.mentions.specs.declared.mark.BodyPlace.{BodyPlace as KeptBody}
-use Rattle.mentions.specs.declared.mark.Mark.{Mark as KeptMark}
-use Rattle.mentions.specs.MarkViews.{Adds, body_view}
-use Rattle.meaning.specs.Mentions.{Mark, Spot, part_of, ordinary, communication, declares, row_of, value_spot, left_names, declaring, elsewhere, number_of, parameter_type_or, guard_in_clause, in_body, literal_body, deferral, BodyPlace, opens, closes, expression_marks, form_marks, expressions_marks, names_type_marks, signature_marks, parameters_marks, fields_marks, statements_marks, optional_statement_marks, cases_marks, communications_marks, specs_marks}
-use Rattle.mentions.proofs.Adding.{adds_same, adds_then, one_part, two_parts, three_parts, two_joined, three_joined}
+use Rattle.mentions.specs.MarkViews.{body_view}
+use Rattle.marks.specs.declared.by_edition.Walk.{Walk}
+use Rattle.marks.specs.WalkViews.{AddsBy}
+use Rattle.meaning.specs.Scopes.{parameters_named}
+use Rattle.meaning.specs.Mentions.{Mark, Spot, part_of, declared_elsewhere, ordinary, communication, declares, row_of, value_spot, left_names, declaring, exposed, number_of, parameter_type_or, guard_in_clause, in_body, literal_body, deferral, BodyPlace, opens, closes, expression_marks, form_marks, expressions_marks, names_type_marks, signature_marks, parameters_marks, fields_marks, statements_marks, optional_statement_marks, cases_marks, communications_marks, specs_marks}
+use Rattle.mentions.proofs.Adding.{one_part, three_parts, four_parts, two_joined, three_joined}
+use Rattle.marks.proofs.AddingBy.{adds_same, adds_then}
 
 pub parameters_more : (are_parameters : Bool) (site : ℕ) (p : Param) (ps : Parameters)
     → parameters_marks are_parameters site (parameter_and p ps)
@@ -41,6 +44,8 @@ unfolding fields_marks field_and
 fields_more site (NamedField' ns t t_span tag span) fs =
     one_part (expression_marks (part_of site) (expression_node (expression_form t) t_span)) (fields_marks site fs)
 fields_more site (Embedded star n tag span) fs = refl
+fields_more site (Element' star e e_span tag span) fs =
+    one_part (expression_marks (part_of site) (expression_node (expression_form e) e_span)) (fields_marks site fs)
 fields_more site (Method' n ps_shape ps rs_shape rs brackets span) fs =
     one_part (signature_marks site (signature_of (row_parameters ps) (row_parameters rs) brackets)) (fields_marks site fs)
 
@@ -52,8 +57,9 @@ specs_more keyword at (Value' ns t shape es span) ss =
     three_parts (names_type_marks row span.start (held_expression t))
     (expressions_marks (value_spot row span.start) (row_expressions es))
     (left_names row span.start 0 (map identifier_syntax ns.items)) (specs_marks keyword at ss)
-specs_more keyword at (Type' n alias p t t_span span) ss =
-    two_parts (declaring span.start elsewhere (identifier_syntax n) (number_of (identifier_syntax n)) ∷ [])
+specs_more keyword at (Type' n shape ps alias p t t_span span) ss =
+    four_parts (declaring span.start exposed (identifier_syntax n) (number_of (identifier_syntax n)) ∷ [])
+    (declared_elsewhere span.start (parameters_named (row_parameters ps))) (parameters_marks false span.start (row_parameters ps))
     (expression_marks (part_of span.start) (expression_node (expression_form t) t_span)) (specs_marks keyword at ss)
 
 abbrev pub case_marks : ℕ → Option Identifier → CaseClause → List Mark
@@ -73,13 +79,13 @@ cases_more at guard c cs =
     (cases_marks at guard cs)
 
 -- a clause, whose lists the code reads as slices
-pub adds_case : (at : ℕ) (guard : Option Identifier) (clause : CaseClause) (a b c d : List KeptMark) (es : List Expr) (ss : List Stmt)
-    → Adds a b (guard_in_clause at guard (out-CaseClause clause).span)
+pub adds_case : (at : ℕ) (guard : Option Identifier) (clause : CaseClause) (a b c d : Walk) (es : List Expr) (ss : List Stmt)
+    → AddsBy a b (guard_in_clause at guard (out-CaseClause clause).span)
     → es ≡ (out-CaseClause clause).expressions.items
-    → Adds b c (expressions_marks (part_of (out-CaseClause clause).span.start) (expressions_syntax es))
+    → AddsBy b c (expressions_marks (part_of (out-CaseClause clause).span.start) (expressions_syntax es))
     → ss ≡ (out-CaseClause clause).statements.items
-    → Adds c d (statements_marks (statements_syntax ss))
-    → Adds a d (case_marks at guard clause)
+    → AddsBy c d (statements_marks (statements_syntax ss))
+    → AddsBy a d (case_marks at guard clause)
 adds_case at guard clause a b c d es ss first same second equal third =
     let o = out-CaseClause clause in
     let spot = part_of o.span.start in
@@ -104,11 +110,11 @@ communications_more c cs =
     (statements_marks (statements_syntax (out-CommClause c).statements.items))
     (communications_marks cs)
 
-pub adds_communication : (clause : CommClause) (a b c : List KeptMark) (ss : List Stmt)
-    → Adds a b (optional_statement_marks communication (optional_statement_syntax (out-CommClause clause).communication))
+pub adds_communication : (clause : CommClause) (a b c : Walk) (ss : List Stmt)
+    → AddsBy a b (optional_statement_marks communication (optional_statement_syntax (out-CommClause clause).communication))
     → ss ≡ (out-CommClause clause).statements.items
-    → Adds b c (statements_marks (statements_syntax ss))
-    → Adds a c (communication_marks clause)
+    → AddsBy b c (statements_marks (statements_syntax ss))
+    → AddsBy a c (communication_marks clause)
 adds_communication clause a b c ss first same second =
     let o = out-CommClause clause in
     let body = statements_marks (statements_syntax o.statements.items) in
@@ -136,23 +142,23 @@ literal_marks spot span l =
     ++ deferral spot.literal spot.site span.start)
 
 -- what stands in a body, and what is added behind it
-pub adds_body : (a b c d e f : List KeptMark) (place : BodyPlace) (xs ys zs : List Mark)
-    → Adds a b (opens place ∷ [])
-    → Adds b c xs
-    → Adds c d ys
-    → Adds d e (closes ∷ [])
-    → Adds e f zs
-    → Adds a f (in_body place (xs ++ ys) ++ zs)
+pub adds_body : (a b c d e f : Walk) (place : BodyPlace) (xs ys zs : List Mark)
+    → AddsBy a b (opens place ∷ [])
+    → AddsBy b c xs
+    → AddsBy c d ys
+    → AddsBy d e (closes ∷ [])
+    → AddsBy e f zs
+    → AddsBy a f (in_body place (xs ++ ys) ++ zs)
 adds_body a b c d e f place xs ys zs first second third fourth fifth =
     adds_then a e f (in_body place (xs ++ ys)) zs
     (adds_then a b e (opens place ∷ []) ((xs ++ ys) ++ closes ∷ []) first
     (adds_then b d e (xs ++ ys) (closes ∷ []) (adds_then b c d xs ys second third) fourth)) fifth
 
 -- a body that stands in the arena
-pub opens_kept : (a b : List KeptMark) (kept : Bor KeptBody) (place : BodyPlace)
+pub opens_kept : (a b : Walk) (kept : Bor KeptBody) (place : BodyPlace)
     → body_view kept.now ≡ place
-    → Adds a b (opens (body_view kept.now) ∷ [])
-    → Adds a b (opens place ∷ [])
+    → AddsBy a b (opens (body_view kept.now) ∷ [])
+    → AddsBy a b (opens place ∷ [])
 opens_kept a b kept place same = adds_same a b (opens (body_view kept.now) ∷ []) (opens place ∷ []) (ap (λ p. opens p ∷ []) same)
 
 pub guard_same : (lent : Option (Bor KeptIdentifier)) (kept : Option KeptIdentifier)

@@ -13,47 +13,48 @@ use Rattle.tree.specs.declared.operator.DeclKeyword.{DeclKeyword}
 use Rattle.tree.specs.declared.operator.UnaryOperator.{UnaryOperator}
 use Rattle.tree.specs.declared.span.Identifier.{Identifier as KeptIdentifier}
 use Rattle.tree.specs.declared.span.Span.{Span}
-use Rattle.tree.specs.Syntax.{Expression, expression_node, Expressions, expression_and, OptionalExpression}
+use Rattle.tree.specs.Syntax.{Expression, expression_node, Expressions, expression_and, OptionalExpression, Statement, Statements, statement_and}
 use Rattle.tree.specs.View.{identifier_syntax, expression_form, expression_syntax, expressions_syntax}
 use Rattle.tree.proofs.Views.{expression_form-Unary}
-use Rattle.mentions.specs.declared.mark.Mark.{Mark as KeptMark}
-use Rattle.mentions.specs.MarkViews.{Adds}
-use Rattle.mentions.proofs.Adding.{adds_same, same_adds, then_adds, adds_then, three_adds, alone_adds}
-use Rattle.meaning.specs.Mentions.{Mark, Named, Spot, Role, Call, Row, LiteralUse, Standing, ordinary, part_of, nowhere, declares, assigns, defines, returns, argument, addressed, as_bare, as_named, left, whole, return_item, row_of, value_spot, left_names, is_none_left, argument_use, argument_at, argument_or, named_or, callee_or, expression_marks, expressions_marks, arguments_marks, items_marks, lefts_marks, names_type_marks}
+use Rattle.marks.specs.declared.by_edition.Walk.{Walk}
+use Rattle.marks.specs.WalkViews.{AddsBy, FindsNothing}
+use Rattle.marks.proofs.AddingBy.{adds_same, same_adds, then_adds, adds_then, three_adds, four_adds, alone_adds}
+use Rattle.mentions.proofs.Adding.{two_joined}
+use Rattle.meaning.specs.Mentions.{Mark, Named, Spot, Role, Call, Row, LiteralUse, Standing, ordinary, part_of, nowhere, declares, assigns, defines, returns, argument, addressed, as_bare, as_named, left, whole, return_item, row_of, value_spot, left_names, is_none_left, argument_use, argument_at, argument_or, named_or, callee_or, expression_marks, expressions_marks, arguments_marks, items_marks, lefts_marks, ranged_marks, names_type_marks, statement_marks, statements_marks, exposed_or, behind_row, row_in, CallPlace, as_statement, only_value, deferred, name_role}
 
-pub at_spot : {T E : Type 0} (result : Result T E) (a b : List KeptMark) (s t : Spot) (e : Expression)
+pub at_spot : {T E : Type 0} (result : Result T E) (a b : Walk) (s t : Spot) (e : Expression)
     → s ≡ t
-    → OnOk result (Adds a b (expression_marks s e))
-    → OnOk result (Adds a b (expression_marks t e))
+    → OnOk result (AddsBy a b (expression_marks s e))
+    → OnOk result (AddsBy a b (expression_marks t e))
 at_spot result a b s t e same = same_adds result a b (expression_marks s e) (expression_marks t e) (ap (λ x. expression_marks x e) same)
 
-pub all_at_spot : {T E : Type 0} (result : Result T E) (a b : List KeptMark) (s t : Spot) (es : Expressions)
+pub all_at_spot : {T E : Type 0} (result : Result T E) (a b : Walk) (s t : Spot) (es : Expressions)
     → s ≡ t
-    → OnOk result (Adds a b (expressions_marks s es))
-    → OnOk result (Adds a b (expressions_marks t es))
+    → OnOk result (AddsBy a b (expressions_marks s es))
+    → OnOk result (AddsBy a b (expressions_marks t es))
 all_at_spot result a b s t es same =
     same_adds result a b (expressions_marks s es) (expressions_marks t es) (ap (λ x. expressions_marks x es) same)
 
-pub adds_at_spot : (a b : List KeptMark) (s t : Spot) (es : Expressions)
+pub adds_at_spot : (a b : Walk) (s t : Spot) (es : Expressions)
     → s ≡ t
-    → Adds a b (expressions_marks s es)
-    → Adds a b (expressions_marks t es)
+    → AddsBy a b (expressions_marks s es)
+    → AddsBy a b (expressions_marks t es)
 adds_at_spot a b s t es same = adds_same a b (expressions_marks s es) (expressions_marks t es) (ap (λ x. expressions_marks x es) same)
 
-pub named_at_spot : {T E : Type 0} (result : Result T E) (a b : List KeptMark) (n : Option Named) (role : Role) (s t : Spot) (e : Expression)
+pub named_at_spot : {T E : Type 0} (result : Result T E) (a b : Walk) (n : Option Named) (role : Role) (s t : Spot) (e : Expression)
     → s ≡ t
-    → OnOk result (Adds a b (named_or n s.site role (expression_marks s e)))
-    → OnOk result (Adds a b (named_or n t.site role (expression_marks t e)))
+    → OnOk result (AddsBy a b (named_or n s.site role (expression_marks s e)))
+    → OnOk result (AddsBy a b (named_or n t.site role (expression_marks t e)))
 named_at_spot result a b n role s t e same =
     same_adds result a b (named_or n s.site role (expression_marks s e)) (named_or n t.site role (expression_marks t e))
     (ap (λ x. named_or n x.site role (expression_marks x e)) same)
 
 -- what is named, and where nothing is, other marks
-pub named_adds : {T E : Type 0} (result : Result T E) (a b : List KeptMark) (n m : Option Named) (site : ℕ) (role : Role) (xs ys : List Mark)
+pub named_adds : {T E : Type 0} (result : Result T E) (a b : Walk) (n m : Option Named) (site : ℕ) (role : Role) (xs ys : List Mark)
     → n ≡ m
     → xs ≡ ys
-    → OnOk result (Adds a b (named_or n site role xs))
-    → OnOk result (Adds a b (named_or m site role ys))
+    → OnOk result (AddsBy a b (named_or n site role xs))
+    → OnOk result (AddsBy a b (named_or m site role ys))
 named_adds result a b n m site role xs ys same equal =
     same_adds result a b (named_or n site role xs) (named_or m site role ys) (λ i. named_or (same i) site role (equal i))
 
@@ -61,12 +62,12 @@ abbrev pub used_at : LiteralUse → ℕ → Spot
 used_at used site = record { place = nowhere; literal = used; site = site }
 
 -- a callee and its arguments
-pub call_adds : {T E : Type 0} (result : Result T E) (a b c : List KeptMark) (site : ℕ) (call made : Option Call) (used other : LiteralUse) (e : Expression) (es : Expressions)
+pub call_adds : {T E : Type 0} (result : Result T E) (a b c : Walk) (site : ℕ) (call made : Option Call) (used other : LiteralUse) (e : Expression) (es : Expressions)
     → call ≡ made
     → used ≡ other
-    → Adds a b (callee_or call site e (expression_marks (used_at used site) e))
-    → OnOk result (Adds b c (arguments_marks call site 0 es))
-    → OnOk result (Adds a c (callee_or made site e (expression_marks (used_at other site) e) ++ arguments_marks made site 0 es))
+    → AddsBy a b (callee_or call site e (expression_marks (used_at used site) e))
+    → OnOk result (AddsBy b c (arguments_marks call site 0 es))
+    → OnOk result (AddsBy a c (callee_or made site e (expression_marks (used_at other site) e) ++ arguments_marks made site 0 es))
 call_adds result a b c site call made used other e es same equal first second =
     same_adds result a c (callee_or call site e (expression_marks (used_at used site) e) ++ arguments_marks call site 0 es)
     (callee_or made site e (expression_marks (used_at other site) e) ++ arguments_marks made site 0 es)
@@ -99,14 +100,14 @@ pub declared_same : (keyword : DeclKeyword) (at : ℕ) (t : OptionalExpression) 
 declared_same keyword at t ls ns vs xs l v = λ i. declared_row keyword at t (l i) (v i)
 
 -- values, and the left sides that they are assigned to
-pub assignment_adds : {T E : Type 0} (result : Result T E) (a b c : List KeptMark) (at : ℕ) (spot : Spot) (kept row : Row) (ms ns ws xs : List Expr)
+pub assignment_adds : {T E : Type 0} (result : Result T E) (a b c : Walk) (at : ℕ) (spot : Spot) (kept row : Row) (ms ns ws xs : List Expr)
     → kept ≡ row
     → ws ≡ xs
     → ms ≡ ns
     → spot ≡ value_spot kept at
-    → Adds a b (expressions_marks spot (expressions_syntax ws))
-    → OnOk result (Adds b c (lefts_marks kept at 0 (expressions_syntax ms)))
-    → OnOk result (Adds a c (expressions_marks (value_spot row at) (expressions_syntax xs) ++ lefts_marks row at 0 (expressions_syntax ns)))
+    → AddsBy a b (expressions_marks spot (expressions_syntax ws))
+    → OnOk result (AddsBy b c (lefts_marks kept at 0 (expressions_syntax ms)))
+    → OnOk result (AddsBy a c (expressions_marks (value_spot row at) (expressions_syntax xs) ++ lefts_marks row at 0 (expressions_syntax ns)))
 assignment_adds result a b c at spot kept row ms ns ws xs r w m s first second =
     same_adds result a c (expressions_marks spot (expressions_syntax ws) ++ lefts_marks kept at 0 (expressions_syntax ms))
     (expressions_marks (value_spot row at) (expressions_syntax xs) ++ lefts_marks row at 0 (expressions_syntax ns))
@@ -115,14 +116,14 @@ assignment_adds result a b c at spot kept row ms ns ws xs r w m s first second =
     (then_adds result a b c (expressions_marks spot (expressions_syntax ws)) (lefts_marks kept at 0 (expressions_syntax ms)) first second)
 
 -- values, and the names that are defined by them
-pub definition_adds : {T E : Type 0} (result : Result T E) (a b c : List KeptMark) (at : ℕ) (spot : Spot) (kept row : Row) (ms ns : List KeptIdentifier) (ws xs : List Expr)
+pub definition_adds : {T E : Type 0} (result : Result T E) (a b c : Walk) (at : ℕ) (spot : Spot) (kept row : Row) (ms ns : List KeptIdentifier) (ws xs : List Expr)
     → kept ≡ row
     → ws ≡ xs
     → ms ≡ ns
     → spot ≡ value_spot kept at
-    → Adds a b (expressions_marks spot (expressions_syntax ws))
-    → OnOk result (Adds b c (left_names kept at 0 (map identifier_syntax ms)))
-    → OnOk result (Adds a c (expressions_marks (value_spot row at) (expressions_syntax xs) ++ left_names row at 0 (map identifier_syntax ns)))
+    → AddsBy a b (expressions_marks spot (expressions_syntax ws))
+    → OnOk result (AddsBy b c (left_names kept at 0 (map identifier_syntax ms)))
+    → OnOk result (AddsBy a c (expressions_marks (value_spot row at) (expressions_syntax xs) ++ left_names row at 0 (map identifier_syntax ns)))
 definition_adds result a b c at spot kept row ms ns ws xs r w m s first second =
     same_adds result a c (expressions_marks spot (expressions_syntax ws) ++ left_names kept at 0 (map identifier_syntax ms))
     (expressions_marks (value_spot row at) (expressions_syntax xs) ++ left_names row at 0 (map identifier_syntax ns))
@@ -131,15 +132,15 @@ definition_adds result a b c at spot kept row ms ns ws xs r w m s first second =
     (then_adds result a b c (expressions_marks spot (expressions_syntax ws)) (left_names kept at 0 (map identifier_syntax ms)) first second)
 
 -- the type, the values and the names of a spec
-pub spec_adds : {T E : Type 0} (result : Result T E) (a b c d : List KeptMark) (site : ℕ) (t : OptionalExpression) (spot : Spot) (kept row : Row) (ms ns : List KeptIdentifier) (ws xs : List Expr)
+pub spec_adds : {T E : Type 0} (result : Result T E) (a b c d : Walk) (site : ℕ) (t : OptionalExpression) (spot : Spot) (kept row : Row) (ms ns : List KeptIdentifier) (ws xs : List Expr)
     → kept ≡ row
     → ws ≡ xs
     → ms ≡ ns
     → spot ≡ value_spot kept site
-    → Adds a b (names_type_marks kept site t)
-    → Adds b c (expressions_marks spot (expressions_syntax ws))
-    → OnOk result (Adds c d (left_names kept site 0 (map identifier_syntax ms)))
-    → OnOk result (Adds a d (names_type_marks row site t
+    → AddsBy a b (names_type_marks kept site t)
+    → AddsBy b c (expressions_marks spot (expressions_syntax ws))
+    → OnOk result (AddsBy c d (left_names kept site 0 (map identifier_syntax ms)))
+    → OnOk result (AddsBy a d (names_type_marks row site t
     ++ (expressions_marks (value_spot row site) (expressions_syntax xs) ++ (left_names row site 0 (map identifier_syntax ns) ++ []))))
 spec_adds result a b c d site t spot kept row ms ns ws xs r w m s first second third =
     three_adds result a b c d (names_type_marks row site t) (expressions_marks (value_spot row site) (expressions_syntax xs))
@@ -152,12 +153,12 @@ spec_adds result a b c d site t spot kept row ms ns ws xs r w m s first second t
     (λ i. left_names (r i) site 0 (map identifier_syntax (m i))) third))
 
 -- the items of a return, and the return itself
-pub return_adds : (a b c : List KeptMark) (at : ℕ) (ds es fs : List Expr)
+pub return_adds : (a b c : Walk) (at : ℕ) (ds es fs : List Expr)
     → ds ≡ fs
     → es ≡ fs
-    → Adds a b (items_marks at 0 (expressions_syntax ds))
-    → Adds b c (returns at (expressions_syntax es) ∷ [])
-    → Adds a c (items_marks at 0 (expressions_syntax fs) ++ returns at (expressions_syntax fs) ∷ [])
+    → AddsBy a b (items_marks at 0 (expressions_syntax ds))
+    → AddsBy b c (returns at (expressions_syntax es) ∷ [])
+    → AddsBy a c (items_marks at 0 (expressions_syntax fs) ++ returns at (expressions_syntax fs) ∷ [])
 return_adds a b c at ds es fs d e first second =
     adds_same a c (items_marks at 0 (expressions_syntax ds) ++ returns at (expressions_syntax es) ∷ [])
     (items_marks at 0 (expressions_syntax fs) ++ returns at (expressions_syntax fs) ∷ [])
@@ -176,11 +177,11 @@ no_operator (FuncLit' p (Literal' ps_shape ps rs_shape rs brackets body)) span c
 no_operator _ span call site index xs other = refl
 
 -- an argument of a call of another expression
-pub alone_adds_argument : {T E : Type 0} (result : Result T E) (a b : List KeptMark) (call : Option Call) (site index : ℕ) (is_last : Bool) (used : LiteralUse) (e : Expression)
+pub alone_adds_argument : {T E : Type 0} (result : Result T E) (a b : Walk) (call : Option Call) (site index : ℕ) (is_last : Bool) (used : LiteralUse) (e : Expression)
     → call ≡ None
     → used ≡ argument_use call
-    → OnOk result (Adds a b (expression_marks (used_at used site) e))
-    → OnOk result (Adds a b (argument_at call site index is_last e (expression_marks (used_at (argument_use call) site) e)))
+    → OnOk result (AddsBy a b (expression_marks (used_at used site) e))
+    → OnOk result (AddsBy a b (argument_at call site index is_last e (expression_marks (used_at (argument_use call) site) e)))
 alone_adds_argument result a b call site index is_last used e none same =
     let marks = expression_marks (used_at (argument_use call) site) e in
     same_adds result a b (expression_marks (used_at used site) e) (argument_at call site index is_last e marks)
@@ -194,6 +195,14 @@ pub operator_argument : (k : ExprKind) (op : UnaryOperator) (e : Box Expr Global
 operator_argument k op e span call site index n xs is same =
     (λ i. named_or (same i) site (argument index true call) xs)
     ∙ sym (ap (λ f. argument_or call site index (expression_node f span) xs) (ap expression_form is ∙ expression_form-Unary op e))
+
+-- what stands at a place as a whole is no condition's
+pub place_finds : (place : CallPlace) → FindsNothing (name_role place)
+place_finds nowhere site n = refl
+place_finds as_statement site n = refl
+place_finds (only_value row) site n = refl
+place_finds (return_item k) site n = refl
+place_finds deferred site n = refl
 
 -- The first of a list, and the rest.
 
@@ -212,9 +221,36 @@ item_first site k e es = refl
 
 pub left_first : (row : Row) (site k : ℕ) (e : Expression) (es : Expressions)
     → lefts_marks row site k (expression_and e es)
-    ≡ named_or (as_bare e) site (left k row) (expression_marks (part_of site) e) ++ lefts_marks row site (k + 1) es
+    ≡ named_or (as_bare e) site (left k row) (exposed_or site e (expression_marks (part_of site) e))
+    ++ lefts_marks row site (k + 1) es
 unfolding lefts_marks
 left_first row site k e es = refl
+
+pub ranged_first : (site : ℕ) (e : Expression) (es : Expressions)
+    → ranged_marks site (expression_and e es)
+    ≡ exposed_or site e (expression_marks (part_of site) e) ++ ranged_marks site es
+unfolding ranged_marks
+ranged_first site e es = refl
+
+pub statement_first : (s : Statement) (ss : Statements)
+    → statements_marks (statement_and s ss) ≡ (statement_marks ordinary s ++ behind_row (row_in s) ss) ++ statements_marks ss
+unfolding statements_marks
+statement_first s ss = two_joined (statement_marks ordinary s) (behind_row (row_in s) ss) (statements_marks ss)
+
+-- an `if`: its first statement, its condition, its block between its braces, and what stands behind `else`
+pub branch_adds : {T E : Type 0} (result : Result T E) (a b c d e f g h : Walk) (xs ys us ns zs ls ws : List Mark)
+    → AddsBy a b xs
+    → AddsBy b c ys
+    → AddsBy c d us
+    → AddsBy d e ns
+    → AddsBy e f zs
+    → AddsBy f g ls
+    → OnOk result (AddsBy g h ws)
+    → OnOk result (AddsBy a h (xs ++ (ys ++ (us ++ ((ns ++ (zs ++ ls)) ++ ws)))))
+branch_adds result a b c d e f g h xs ys us ns zs ls ws first second third fourth fifth sixth last =
+    four_adds result a b c d h xs ys us ((ns ++ (zs ++ ls)) ++ ws) first second third
+    (then_adds result d g h (ns ++ (zs ++ ls)) ws
+    (adds_then d e g ns (zs ++ ls) fourth (adds_then e f g zs ls fifth sixth)) last)
 
 -- whether none is left behind an item
 left_behind : (ys : List Expr) (m n : ℕ) → length ys ≡ n - m → m ≤ n → ((eqb m n ≡ true) × (m ≡ n)) ⊎ ((eqb m n ≡ false) × (m ≢ n)) → eqb m n ≡ is_none_left (expressions_syntax ys)

@@ -1,20 +1,25 @@
 //! The marks of a whole file.
 
-ghost use Rattle.std.specs.Prelude.{◌≡◌, OnOk, IfOk, option_map};
-ghost use Rattle.meaning.specs.Mentions.{part_of, expression_marks, receiver_marks, function_types_marks, function_marks, outer_specs_marks, top_level_marks, file_marks};
+ghost use Rattle.std.specs.Prelude.{◌≡◌, OnOk, IfOk, map, option_map};
+ghost use Rattle.meaning.specs.Mentions.{part_of, expression_marks, declared_elsewhere, receiver_marks, type_parameters_marks, function_types_marks, function_marks, outer_specs_marks, top_level_marks, statements_marks, marks_by, file_marks};
+ghost use Rattle.marks.specs.WalkViews.{AddsBy};
 ghost use Rattle.mentions.specs.MarkViews.{Adds, marks_view};
+ghost use Rattle.scopes.specs.Views.{bare_view};
 ghost use Rattle.tree.specs.Syntax.{no_spec};
-ghost use Rattle.tree.specs.View.{expression_syntax, parameters_syntax, block_syntax, function_syntax, specs_syntax, spec_and, top_level_syntax, file_syntax};
+ghost use Rattle.tree.specs.View.{expression_syntax, parameters_syntax, block_syntax, function_syntax, specs_syntax, statements_syntax, spec_and, top_level_syntax, file_syntax};
 
+use crate::by_edition::Walk;
 use crate::walk::{expression, expressions, optional, parameters, signature, statements};
 use bumpalo::Bump;
 use mentions::Marks;
 use mentions::mark::{BodyPlace, LiteralUse, Mark};
-use mentions::parts::part_of;
+use mentions::parts::{declare_text, declared_parameters, part_of};
+use scopes::{BareName, named_in_types};
 use std::alloc::{AllocError, Global};
-use tree::{Block, Expr, File, Func, Param, Spec, TopLevelDecl};
+use tree::{Block, Edition, Expr, File, Func, Param, Spec, Stmt, TopLevelDecl};
 
-/// The marks of a file, in the order in which its statements do what they say. What they refer to stands in the arena.
+/// The marks of a file, in the order in which its statements do what they say; in the first edition without what
+/// conditions find out. What they refer to stands in the arena.
 ///
 /// # Errors
 ///
@@ -22,21 +27,26 @@ use tree::{Block, Expr, File, Func, Param, Spec, TopLevelDecl};
 pub fn file_marks<'m, 'a>(
     alloc: Global,
     arena: &'m Bump,
+    edition: Edition,
     file: &'a File,
 ) -> Result<Vec<Mark<'m, 'a>>, AllocError>
-    ensures { IfOk result (λ marks. marks_view marks.items ≡ file_marks (file_syntax file.now)) }
+    ensures { IfOk result (λ marks. marks_view marks.items ≡ marks_by edition (file_marks (file_syntax file.now))) }
 {
-    let mut marks = Marks {
-        arena,
-        list: Vec::new(alloc),
+    let mut walk = Walk {
+        edition,
+        marks: Marks {
+            arena,
+            list: Vec::new(alloc),
+        },
     };
     for declaration in &file.declarations {
-        top_level(&mut marks, declaration)?;
+        top_level(alloc, &mut walk, declaration)?;
     }
-    Ok(marks.list)
+    Ok(walk.marks.list)
 }
 
-/// The marks of an expression that stands nowhere as a whole, as if its site were at offset 0.
+/// The marks of an expression that stands nowhere as a whole, as if its site were at offset 0; in its literals with
+/// what conditions find out.
 ///
 /// # Errors
 ///
@@ -49,39 +59,67 @@ pub fn expression_marks<'m, 'a>(
     ensures { IfOk result (λ marks. marks_view marks.items ≡ expression_marks
         (part_of 0) (expression_syntax value.now)) }
 {
-    let mut marks = Marks {
-        arena,
-        list: Vec::new(alloc),
+    let mut walk = Walk {
+        edition: Edition::Second,
+        marks: Marks {
+            arena,
+            list: Vec::new(alloc),
+        },
     };
-    expression(&mut marks, part_of(0), value)?;
-    Ok(marks.list)
+    expression(&mut walk, part_of(0), value)?;
+    Ok(walk.marks.list)
+}
+
+/// The marks of statements, with what conditions find out.
+///
+/// # Errors
+///
+/// Memory was refused.
+pub fn statement_marks<'m, 'a>(
+    alloc: Global,
+    arena: &'m Bump,
+    list: &'a [Stmt],
+) -> Result<Vec<Mark<'m, 'a>>, AllocError>
+    ensures { IfOk result (λ marks. marks_view marks.items ≡ statements_marks (statements_syntax list.now)) }
+{
+    let mut walk = Walk {
+        edition: Edition::Second,
+        marks: Marks {
+            arena,
+            list: Vec::new(alloc),
+        },
+    };
+    statements(&mut walk, list)?;
+    Ok(walk.marks.list)
 }
 
 fn top_level<'m, 'a>(
-    marks: &mut Marks<'m, 'a>,
+    alloc: Global,
+    walk: &mut Walk<'m, 'a>,
     declaration: &'a TopLevelDecl,
 ) -> Result<(), AllocError>
-    ensures { OnOk result (Adds marks.old.list.items marks.new.list.items (top_level_marks
+    ensures { OnOk result (AddsBy walk.old walk.new (top_level_marks
         (top_level_syntax declaration.now))) }
 {
     match declaration {
-        TopLevelDecl::Func(declared) => function(marks, declared, &declared.body),
-        TopLevelDecl::Decl(declared) => outer_specs(marks, &declared.specs),
+        TopLevelDecl::Func(declared) => function(alloc, walk, declared, &declared.body),
+        TopLevelDecl::Decl(declared) => outer_specs(walk, &declared.specs),
     }
 }
 
 /// A function or method; the types of one without a block stand in no body.
 fn function<'m, 'a>(
-    marks: &mut Marks<'m, 'a>,
+    alloc: Global,
+    walk: &mut Walk<'m, 'a>,
     function: &'a Func,
     body: &'a Option<Block>,
 ) -> Result<(), AllocError>
-    ensures { OnOk result (Adds marks.old.list.items marks.new.list.items (function_marks (function_syntax function.now)
+    ensures { OnOk result (AddsBy walk.old walk.new (function_marks (function_syntax function.now)
         (option_map block_syntax body.now))) }
 {
     match body {
         Some(block) => {
-            let place = marks.keep_body(BodyPlace {
+            let place = walk.marks.keep_body(BodyPlace {
                 at: function.span.start,
                 name: Some(&function.name),
                 receiver: function.receiver.as_deref(),
@@ -90,57 +128,98 @@ fn function<'m, 'a>(
                 braces: block.span,
                 literal: LiteralUse::Other,
             })?;
-            marks.push(Mark::Opens(place))?;
-            function_types(marks, function)?;
-            statements(marks, &block.statements)?;
-            marks.push(Mark::Closes)?;
+            walk.marks.push(Mark::Opens(place))?;
+            function_types(alloc, walk, function)?;
+            statements(walk, &block.statements)?;
+            walk.marks.push(Mark::Closes)?;
             Ok(())
         }
-        None => function_types(marks, function),
+        None => function_types(alloc, walk, function),
     }
 }
 
-fn function_types<'m, 'a>(marks: &mut Marks<'m, 'a>, function: &'a Func) -> Result<(), AllocError>
-    ensures { OnOk result (Adds marks.old.list.items marks.new.list.items (function_types_marks
+fn function_types<'m, 'a>(
+    alloc: Global,
+    walk: &mut Walk<'m, 'a>,
+    function: &'a Func,
+) -> Result<(), AllocError>
+    ensures { OnOk result (AddsBy walk.old walk.new (function_types_marks
         (function_syntax function.now))) }
 {
-    receiver(marks, function.span.start, &function.receiver)?;
-    signature(marks, function.span.start, &function.signature)
+    receiver(alloc, walk, function.span.start, &function.receiver)?;
+    type_parameters(walk, function.span.start, &function.type_params)?;
+    signature(walk, function.span.start, &function.signature)
 }
 
+/// The type parameters that a receiver's type names, and the marks of that type.
 fn receiver<'m, 'a>(
-    marks: &mut Marks<'m, 'a>,
+    alloc: Global,
+    walk: &mut Walk<'m, 'a>,
     site: u32,
     receiver: &'a Option<Vec<Param>>,
 ) -> Result<(), AllocError>
-    ensures { OnOk result (Adds marks.old.list.items marks.new.list.items (receiver_marks site (option_map
+    ensures { OnOk result (AddsBy walk.old walk.new (receiver_marks site (option_map
         (λ ps. parameters_syntax ps.items) receiver.now))) }
 {
     match receiver {
-        Some(params) => parameters(marks, true, site, params),
+        Some(params) => {
+            let named = named_in_types(alloc, params)?;
+            declare_bare_names(&mut walk.marks, site, &named)?;
+            parameters(walk, true, site, params)
+        }
         None => Ok(()),
     }
 }
 
-/// The marks of a declaration outside all functions: no statement, and no local.
-fn outer_specs<'m, 'a>(marks: &mut Marks<'m, 'a>, list: &'a [Spec]) -> Result<(), AllocError>
-    ensures { OnOk result (Adds marks.old.list.items marks.new.list.items (outer_specs_marks (specs_syntax list.now))) }
+fn declare_bare_names<'m, 'a>(
+    marks: &mut Marks<'m, 'a>,
+    site: u32,
+    names: &[BareName<'a>],
+) -> Result<(), AllocError>
+    ensures { OnOk result (Adds marks.old.list.items marks.new.list.items (declared_elsewhere site
+        (map bare_view names.now))) }
 {
-    for item in list {
-        outer_spec(marks, item)?;
+    for name in names {
+        declare_text(marks, site, name.text, name.span)?;
     }
     Ok(())
 }
 
-fn outer_spec<'m, 'a>(marks: &mut Marks<'m, 'a>, spec: &'a Spec) -> Result<(), AllocError>
-    ensures { OnOk result (Adds marks.old.list.items marks.new.list.items (outer_specs_marks
+/// Type parameters, and then their constraints.
+fn type_parameters<'m, 'a>(
+    walk: &mut Walk<'m, 'a>,
+    site: u32,
+    params: &'a [Param],
+) -> Result<(), AllocError>
+    ensures { OnOk result (AddsBy walk.old walk.new (type_parameters_marks site
+        (parameters_syntax params.now))) }
+{
+    declared_parameters(&mut walk.marks, site, params)?;
+    parameters(walk, false, site, params)
+}
+
+/// The marks of a declaration outside all functions: no statement, and no local of a body.
+fn outer_specs<'m, 'a>(walk: &mut Walk<'m, 'a>, list: &'a [Spec]) -> Result<(), AllocError>
+    ensures { OnOk result (AddsBy walk.old walk.new (outer_specs_marks (specs_syntax list.now))) }
+{
+    for item in list {
+        outer_spec(walk, item)?;
+    }
+    Ok(())
+}
+
+fn outer_spec<'m, 'a>(walk: &mut Walk<'m, 'a>, spec: &'a Spec) -> Result<(), AllocError>
+    ensures { OnOk result (AddsBy walk.old walk.new (outer_specs_marks
         (spec_and spec.now no_spec))) }
 {
     match spec {
         Spec::Value(_, kind, values, span) => {
-            optional(marks, span.start, kind)?;
-            expressions(marks, part_of(span.start), values)
+            optional(walk, span.start, kind)?;
+            expressions(walk, part_of(span.start), values)
         }
-        Spec::Type(_, _, kind, span) => expression(marks, part_of(span.start), kind),
+        Spec::Type(_, params, _, kind, span) => {
+            type_parameters(walk, span.start, params)?;
+            expression(walk, part_of(span.start), kind)
+        }
     }
 }

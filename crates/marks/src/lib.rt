@@ -2,7 +2,11 @@
 //! them, and where bodies begin and end.
 #![tactic(auto)]
 
+mod by_edition;
 mod file;
+mod returns;
+mod rows;
 mod walk;
 
 pub use file::{expression_marks, file_marks};
+pub use returns::own_returns;

@@ -2,11 +2,11 @@
 use Rattle.std.proofs.Common.{refl, arith, inl, inr}
 use Rattle.meaning.specs.Cursor.{no_semicolon}
 use Rattle.meaning.specs.TreeExamples.{IsSpelled, expression, type_of, statement, chain_text, chain, levels_text, levels, negated_text, negated, send_only_text, send_only, receivers_text, receivers, literal_text, literal_of_functions, qualified_text, qualified_literal, call_text, call_with_ellipsis, named_text, one_type_for_two, mixed_text, type_among_names, types_text, two_types, result_text, list_of_one_result, embedded_text, embedded_pointer, header_text, literal_in_brackets, semicolons_text, empty_header, range_text, range_without_names, switch_text, type_switch, label_text, label_at_the_end, DelicateTrees}
-use Rattle.meaning.proofs.Spelled.{spelling, taken, semicolon_taken, ◌by◌then◌, ◌and◌, there}
+use Rattle.meaning.proofs.Spelled.{spelling, no_arguments, taken, semicolon_taken, ◌by◌then◌, ◌and◌, there}
 
 chain_spelled : IsSpelled chain_text (expression chain)
 unfolding spelling
-chain_spelled =
+chain_spelled edition =
     there (tt and (omega arith, omega arith) and
     _ by there (tt and (omega arith, omega arith) and
     _ by there (_ by taken and refl then refl)
@@ -17,7 +17,7 @@ chain_spelled =
 
 levels_spelled : IsSpelled levels_text (expression levels)
 unfolding spelling
-levels_spelled =
+levels_spelled edition =
     there (tt and (omega arith, omega arith) and
     _ by there (_ by taken and refl then refl)
     then _ by taken
@@ -31,35 +31,35 @@ levels_spelled =
 
 negated_spelled : IsSpelled negated_text (expression negated)
 unfolding spelling
-negated_spelled =
+negated_spelled edition =
     there (tt and omega arith and
     _ by taken
     then there (refl and
     _ by there (_ by taken and refl then refl)
     then _ by taken
-    then there (taken and refl)))
+    then _ by there (taken and refl) then refl))
 
 send_only_spelled : IsSpelled send_only_text (type_of send_only)
 unfolding spelling
-send_only_spelled =
+send_only_spelled edition =
     there (_ by (_ by taken then taken)
     then _ by there (_ by (_ by taken then (refl and refl))
-    then _ by there (_ by taken and refl then (refl and refl))
+    then _ by there (_ by taken and refl then _ by (refl and refl) then no_arguments edition refl)
     then refl)
     then refl)
 
 receivers_spelled : IsSpelled receivers_text (type_of receivers)
 unfolding spelling
-receivers_spelled =
+receivers_spelled edition =
     there (_ by (_ by taken then taken)
     then _ by there (_ by (_ by taken then taken)
-    then _ by there (_ by taken and refl then (refl and refl))
+    then _ by there (_ by taken and refl then _ by (refl and refl) then no_arguments edition refl)
     then refl)
     then refl)
 
 literal_spelled : IsSpelled literal_text (expression literal_of_functions)
 unfolding spelling
-literal_spelled =
+literal_spelled edition =
     there (tt and refl and
     _ by there (_ by (_ by taken then _ by refl then taken)
     then _ by there (_ by taken
@@ -72,16 +72,17 @@ literal_spelled =
 
 qualified_spelled : IsSpelled qualified_text (expression qualified_literal)
 unfolding spelling
-qualified_spelled =
+qualified_spelled edition =
     there (tt and refl and
-    _ by there (refl and _ by there (_ by taken and refl then refl) then _ by taken then there (taken and refl))
+    _ by there (refl and _ by there (_ by taken and refl then refl) then _ by taken
+    then _ by there (taken and refl) then no_arguments edition refl)
     then _ by taken
     then _ by refl
     then taken)
 
 call_spelled : IsSpelled call_text (expression call_with_ellipsis)
 unfolding spelling
-call_spelled =
+call_spelled edition =
     there (tt and refl and
     _ by there (_ by taken and refl then refl)
     then _ by taken
@@ -90,7 +91,7 @@ call_spelled =
 
 named_spelled : IsSpelled named_text (type_of one_type_for_two)
 unfolding spelling
-named_spelled =
+named_spelled edition =
     there (_ by taken
     then _ by ((refl, tt, tt) and
     _ by (_ by taken
@@ -99,7 +100,7 @@ named_spelled =
     then _ by taken
     then _ by there (taken and refl)
     then _ by refl
-    then _ by there (_ by taken and refl then (refl and refl))
+    then _ by there (_ by taken and refl then _ by (refl and refl) then no_arguments edition refl)
     then inl refl)
     then taken)
     then (refl and refl))
@@ -107,7 +108,7 @@ named_spelled =
 
 mixed_spelled : IsSpelled mixed_text (type_of type_among_names)
 unfolding spelling
-mixed_spelled =
+mixed_spelled edition =
     there (_ by taken
     then _ by ((refl, tt, (refl, tt)) and
     _ by (_ by taken
@@ -115,11 +116,11 @@ mixed_spelled =
     then _ by there (taken and refl)
     then _ by taken
     then _ by refl
-    then _ by there (tt and _ by taken then there (_ by taken and refl then (refl and refl)))
+    then _ by there (tt and _ by taken then there (_ by taken and refl then _ by (refl and refl) then no_arguments edition refl))
     then _ by taken
     then _ by there (taken and refl)
     then _ by refl
-    then _ by there (_ by taken and refl then (refl and refl))
+    then _ by there (_ by taken and refl then _ by (refl and refl) then no_arguments edition refl)
     then inl refl)
     then taken)
     then (refl and refl))
@@ -127,16 +128,16 @@ mixed_spelled =
 
 types_spelled : IsSpelled types_text (type_of two_types)
 unfolding spelling
-types_spelled =
+types_spelled edition =
     there (_ by taken
     then _ by ((refl, (refl, tt)) and
     _ by (_ by taken
     then _ by (_ by refl
     then _ by refl
-    then _ by there (_ by taken and refl then (refl and refl))
+    then _ by there (_ by taken and refl then _ by (refl and refl) then no_arguments edition refl)
     then _ by taken
     then _ by refl
-    then _ by there (_ by taken and refl then (refl and refl))
+    then _ by there (_ by taken and refl then _ by (refl and refl) then no_arguments edition refl)
     then inl refl)
     then taken)
     then (refl and refl))
@@ -144,19 +145,19 @@ types_spelled =
 
 result_spelled : IsSpelled result_text (type_of list_of_one_result)
 unfolding spelling
-result_spelled =
+result_spelled edition =
     there (_ by taken
     then _ by (tt and
     _ by (_ by taken then _ by refl then taken)
     then ((refl, tt) and
     _ by taken
-    then _ by (_ by refl then _ by refl then _ by there (_ by taken and refl then (refl and refl)) then inl refl)
+    then _ by (_ by refl then _ by refl then _ by there (_ by taken and refl then _ by (refl and refl) then no_arguments edition refl) then inl refl)
     then taken))
     then refl)
 
 embedded_spelled : IsSpelled embedded_text (type_of embedded_pointer)
 unfolding spelling
-embedded_spelled =
+embedded_spelled edition =
     there (_ by taken
     then _ by (_ by taken
     then _ by (tt and
@@ -170,7 +171,7 @@ embedded_spelled =
 
 header_spelled : IsSpelled header_text (statement literal_in_brackets)
 unfolding spelling
-header_spelled =
+header_spelled edition =
     there (tt and refl and
     _ by taken
     then _ by refl
@@ -179,7 +180,7 @@ header_spelled =
     then _ by taken
     then there (_ by taken
     then _ by there (tt and refl and
-    _ by there (_ by taken and refl then (refl and refl))
+    _ by there (_ by taken and refl then _ by (refl and refl) then no_arguments edition refl)
     then _ by taken
     then _ by refl
     then taken)
@@ -189,7 +190,7 @@ header_spelled =
 
 semicolons_spelled : IsSpelled semicolons_text (statement empty_header)
 unfolding spelling
-semicolons_spelled =
+semicolons_spelled edition =
     there (tt and tt and tt and
     _ by taken
     then _ by (_ by refl
@@ -201,7 +202,7 @@ semicolons_spelled =
 
 range_spelled : IsSpelled range_text (statement range_without_names)
 unfolding spelling
-range_spelled =
+range_spelled edition =
     there (tt and refl and
     _ by taken
     then _ by refl
@@ -211,7 +212,7 @@ range_spelled =
 
 switch_spelled : IsSpelled switch_text (statement type_switch)
 unfolding spelling
-switch_spelled =
+switch_spelled edition =
     there (tt and refl and refl and
     _ by taken
     then _ by refl
@@ -225,7 +226,7 @@ switch_spelled =
 
 label_spelled : IsSpelled label_text (statement label_at_the_end)
 unfolding spelling
-label_spelled =
+label_spelled edition =
     there (there (_ by taken
     then _ by (_ by no_semicolon
     then _ by (tt and there (_ by there (taken and refl) then _ by taken then there refl))

@@ -1,9 +1,12 @@
+pub mod Conditions
 pub mod DelicateTrees
 pub mod FirstTokens
 pub mod Fronts
 pub mod GuardOperand
 pub mod Membership
+pub mod NameExamples
 pub mod RefusedTrees
 pub mod Returns
 pub mod Spelled
+pub mod StatementExamples
 pub mod UsesJudged

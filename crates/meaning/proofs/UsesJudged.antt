@@ -2,10 +2,12 @@
 use Rattle.std.proofs.Common.{◌≡◌, ◌≢◌, ℕ, Bool, true, false, true≢false, if◌then◌else◌, List, [], Option, Some, None, inl, inr, refl, sym, ap, ◌∙◌}
 use Rattle.std.specs.Prelude.{◌==◌}
 use Rattle.std.proofs.lemmas.Bool.Decides.{eqb_tells}
+use Rattle.tree.specs.declared.edition.Edition.{Edition}
+use Rattle.tree.specs.declared.edition.Edition.TheVariants.{First, Second}
 use Rattle.meaning.specs.FunctionFacts.{VariableKind, cancel, group}
-use Rattle.meaning.specs.Mentions.{BodyPlace, Row, Role, elsewhere, called, called_in_brackets, argument, returned, left, names_type, new_literal, parameter_pointer, Mention, Mark, mentions, defers_literal, returns, opens, closes}
+use Rattle.meaning.specs.Mentions.{BodyPlace, Row, Role, elsewhere, exposed, found_nil, found_error, called, called_in_brackets, argument, returned, left, names_type, new_literal, parameter_pointer, Mention, Mark, mentions, defers_literal, returns, opens, closes}
 use Rattle.meaning.specs.Tracked.{variable_of, Local, kind_of_local}
-use Rattle.meaning.specs.Uses.{Seen, found, may_be_tracked, tracked_kind, kind_of, Binding, binding_at, Event, kind_use, cancel_type_of, cancel_use, group_use, use_outcome, mention_outcome, row_outcome, role_outcome, local_outcome, variable_outcome}
+use Rattle.meaning.specs.Uses.{Seen, found, may_be_tracked, tracked_kind, kind_of, Binding, binding_at, Event, kind_use, cancel_type_of, cancel_use_by, group_use, use_outcome, mention_outcome, row_outcome, role_outcome, local_outcome, variable_outcome}
 use Rattle.meaning.specs.BodyEvents.{mark_events, is_site}
 use Rattle.meaning.specs.UseLaws.{IsMentionOf, binding_of, IsOneOfThree, binds, is_allowed, is_fault, EachMentionIsOneOfThree, EventsStandAtOneSite}
 
@@ -39,7 +41,13 @@ module _ (seen : Seen) (bodies : List BodyPlace) (m : Mention) (l : Local) (kind
 
   no_use_at_left : (k : ℕ) (row : Row) → m.role ≡ left k row → (kind : VariableKind)
       → kind_use seen l kind bodies m ≡ None
-  no_use_at_left k row e cancel = ap (cancel_use seen.known (cancel_type_of seen l) l bodies m) e
+  no_use_at_left k row e cancel =
+      ap (cancel_use_by seen.known.edition seen.known (cancel_type_of seen l) l bodies m) e ∙ by seen.known.edition
+    where
+      by : (edition : Edition)
+          → cancel_use_by edition seen.known (cancel_type_of seen l) l bodies m (left k row) ≡ None
+      by First = refl
+      by Second = refl
   no_use_at_left k row e group = ap (group_use seen l bodies m) e
 
   at_left : (k : ℕ) (row : Row) → m.role ≡ left k row → (b : Option Binding) → binding_at seen row k ≡ b
@@ -55,6 +63,9 @@ module _ (seen : Seen) (bodies : List BodyPlace) (m : Mention) (l : Local) (kind
   by_role : (r : Role) → m.role ≡ r → IsOneOfThree seen bodies m l kind
   by_role (left k row) e = at_left k row e _ refl
   by_role elsewhere e = other_role elsewhere e refl refl
+  by_role exposed e = other_role exposed e refl refl
+  by_role (found_nil nil) e = other_role (found_nil nil) e refl refl
+  by_role (found_error nil row) e = other_role (found_error nil row) e refl refl
   by_role (called c) e = other_role (called c) e refl refl
   by_role called_in_brackets e = other_role called_in_brackets e refl refl
   by_role (argument k has_address c) e = other_role (argument k has_address c) e refl refl

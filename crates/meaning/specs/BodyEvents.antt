@@ -1,18 +1,22 @@
 -- What is told of a body: its use faults, its variables in their order, and the events at its sites. Its variables are
 -- the tracked ones that it declares outside its inner literals, and those declared outside it that it or a literal in
--- it mentions. Parameters come first; then the name that occurs first comes first. Of a body with too many variables
--- its use faults alone are told. Faults are listed as the marks come, and one may come twice: two clauses of a type
--- switch declare the name of one guard, and a binding may break two rules of one code.
+-- it mentions. Parameters come first; then the name that occurs first comes first. Of a body with too many variables,
+-- or with variables and a `goto`, its use faults alone are told. Faults are listed as the marks come, and one may come
+-- twice: two clauses of a type switch declare the name of one guard, and a binding may break two rules of one code.
 -- (This tool's rules.)
-use Rattle.std.specs.Prelude.{ℕ, zero, suc, ◌+◌, ◌==◌, Bool, true, false, not, ◌&&◌, ◌||◌, if◌then◌else◌, List, [], ◌∷◌, ◌++◌, Option, Some, None, is_some, map, codes, nat_lt, nat_le}
+use Rattle.std.specs.Prelude.{ℕ, zero, suc, ◌+◌, ◌==◌, Bool, true, false, not, ◌&&◌, ◌||◌, if◌then◌else◌, List, [], ◌∷◌, ◌++◌, Option, Some, None, is_some, map, flat_map, codes, nat_lt, nat_le}
 use Rattle.std.specs.List.{list_any, filter}
+use Rattle.tree.specs.declared.edition.Edition.{Edition}
+use Rattle.tree.specs.declared.edition.Edition.TheVariants.{First, Second}
 use Rattle.tree.specs.Syntax.{Expression, Expressions, no_expression, expression_and, SourceFile}
 use Rattle.meaning.specs.declared.TheConstants.{MOST_CANCELS, MOST_GROUPS}
+use Rattle.meaning.specs.OuterBlocks.{has_any}
+use Rattle.meaning.specs.Jumps.{jumps_in}
 use Rattle.meaning.specs.StatementCode.{Sites}
-use Rattle.meaning.specs.Mentions.{Named, as_bare, Role, called, Mention, BodyPlace, Mark, mentions, defers_literal, returns, opens, closes, file_marks}
+use Rattle.meaning.specs.Mentions.{Named, as_bare, Role, called, Mention, BodyPlace, Mark, mentions, defers_literal, returns, opens, closes, marks_by, file_marks}
 use Rattle.meaning.specs.FunctionFacts.{VariableKind, cancel, group, CancelResult}
 use Rattle.meaning.specs.Tracked.{Known, is_of_universe, local_meant_or, variable_of, Placed, LocalRole, parameter, receiver, variadic, result, in_block, Local, body_locals}
-use Rattle.meaning.specs.Uses.{Seen, seen_in, found, tracked_kind, cancel_type_of, is_given_as, is_outside, is_of_local, is_body, body_gives, is_statement_place, Handed, Event, other, defer_literal, return_event, too_many_variables, UseFault, fault_at, variable_outcome, mention_faults, result_faults, is_cancel}
+use Rattle.meaning.specs.Uses.{Seen, seen_in, found, tracked_kind, cancel_type_of, is_given_as, is_outside, is_of_local, is_body, body_gives, is_statement_place, Handed, Event, other, defer_literal, return_event, goto_used, too_many_variables, UseFault, fault_at, error_events, variable_outcome, mention_faults, recover_faults, result_faults, is_cancel}
 
 -- Bodies of a file
 
@@ -41,29 +45,6 @@ by_place (b ∷ bs) = put_body b (by_place bs)
 abbrev pub bodies_of : Seen → List BodyPlace
 bodies_of seen = by_place (opened_in seen.marks)
 
--- Use faults
-
-abbrev pub mark_faults : Seen → List BodyPlace → Mark → List UseFault
-mark_faults seen bodies (mentions m) = mention_faults seen bodies m
-mark_faults seen bodies (defers_literal site at) = []
-mark_faults seen bodies (returns at es) = []
-mark_faults seen bodies (opens b) = result_faults (body_locals seen.known b)
-mark_faults seen bodies closes = []
-
--- of what stands in no body
-abbrev pub outer_faults_of : Seen → List Placed → List UseFault
-outer_faults_of seen [] = []
-outer_faults_of seen (p ∷ ps) =
-    if is_outside p.bodies then mark_faults seen p.bodies p.mark ++ outer_faults_of seen ps
-    else outer_faults_of seen ps
-
--- of what stands in the body, and in no literal in it
-abbrev pub faults_of : Seen → ℕ → List Placed → List UseFault
-faults_of seen body [] = []
-faults_of seen body (p ∷ ps) =
-    if is_body body p.bodies then mark_faults seen p.bodies p.mark ++ faults_of seen body ps
-    else faults_of seen body ps
-
 -- Events
 
 -- the variable that an item of a return hands on
@@ -89,7 +70,7 @@ handed_on seen gives k no_expression = []
 handed_on seen gives k (expression_and e es) = handed_item seen gives k e ++ handed_on seen gives (k + 1) es
 
 abbrev pub mark_events : Seen → List BodyPlace → Mark → List Event
-mark_events seen bodies (mentions m) = (variable_outcome seen bodies m).events
+mark_events seen bodies (mentions m) = (variable_outcome seen bodies m).events ++ error_events seen m m.role
 mark_events seen bodies (defers_literal site at) = defer_literal at ∷ []
 mark_events seen bodies (returns at es) = return_event (handed_on seen (body_gives seen.known bodies) 0 es) ∷ []
 mark_events seen bodies (opens b) = []
@@ -281,7 +262,49 @@ too_many_faults vs =
     fault_after MOST_CANCELS (filter is_cancel_variable vs)
     ++ fault_after MOST_GROUPS (filter (λ v. not (is_cancel_variable v)) vs)
 
+-- Use faults
+
+abbrev pub has_variables : Seen → BodyPlace → Bool
+has_variables seen b = has_any (variables_of seen b.at)
+
+-- in the second edition `recover` is free where no body around it has a tracked variable
+abbrev pub forbids_recover : Edition → Seen → List BodyPlace → Bool
+forbids_recover First seen bodies = true
+forbids_recover Second seen bodies = list_any (has_variables seen) bodies
+
+-- of each `goto` of a body that has tracked variables; the first edition's trees have none
+abbrev pub jump_faults : Seen → BodyPlace → List UseFault
+jump_faults seen b =
+    if has_variables seen b then flat_map (λ at. fault_at at goto_used (codes "-")) (jumps_in b.statements) else []
+
+abbrev pub mark_faults : Seen → List BodyPlace → Mark → List UseFault
+mark_faults seen bodies (mentions m) =
+    mention_faults seen bodies m
+    ++ (if forbids_recover seen.known.edition seen bodies then recover_faults seen.known m else [])
+mark_faults seen bodies (defers_literal site at) = []
+mark_faults seen bodies (returns at es) = []
+mark_faults seen bodies (opens b) = result_faults (body_locals seen.known b) ++ jump_faults seen b
+mark_faults seen bodies closes = []
+
+-- of what stands in no body
+abbrev pub outer_faults_of : Seen → List Placed → List UseFault
+outer_faults_of seen [] = []
+outer_faults_of seen (p ∷ ps) =
+    if is_outside p.bodies then mark_faults seen p.bodies p.mark ++ outer_faults_of seen ps
+    else outer_faults_of seen ps
+
+-- of what stands in the body, and in no literal in it
+abbrev pub faults_of : Seen → ℕ → List Placed → List UseFault
+faults_of seen body [] = []
+faults_of seen body (p ∷ ps) =
+    if is_body body p.bodies then mark_faults seen p.bodies p.mark ++ faults_of seen body ps
+    else faults_of seen body ps
+
 -- All of a body
+
+-- The paths of a body are not followed where it has too many variables, or a `goto` beside variables.
+abbrev pub unfollowed_faults : Seen → BodyPlace → List UseFault
+unfollowed_faults seen b = too_many_faults (variables_of seen b.at) ++ jump_faults seen b
 
 abbrev pub body_faults : Seen → ℕ → List UseFault
 body_faults seen body = faults_of seen body seen.marks ++ too_many_faults (variables_of seen body)
@@ -291,4 +314,4 @@ outer_faults seen = outer_faults_of seen seen.marks
 
 -- a file with what is known of it
 abbrev pub seen_file : Known → SourceFile → Seen
-seen_file known file = seen_in known (file_marks file)
+seen_file known file = seen_in known (marks_by known.edition (file_marks file))

@@ -10,11 +10,13 @@ pub record Occurrence (E : Type 0) : Type 0 where
   pub order : ℕ
   pub event : E
 
--- The ways out of a statement other than its end. A `break` and a `continue` may name a label, by its text.
+-- The ways out of a statement other than its end. A `break` and a `continue` may name a label, by its text. A
+-- `fallthrough` is told by its offset.
 pub data Way : Type 0 where
   returning : Way
   breaking : Option (List ℕ) → Way
   continuing : Option (List ℕ) → Way
+  falling : ℕ → Way
 
 -- skip, one event, leave, one after the other, one of two, a loop, and the end of a way out
 pub data Code (E : Type 0) : Type 0 where

@@ -6,8 +6,18 @@ use Rattle.std.specs.Prelude.{◌≡◌, ℕ, ◌⊎◌, Bool, true, false, List
 use Rattle.lexer.specs.declared.token.Token.{Token}
 use Rattle.lexer.specs.declared.token.TokenKind.{TokenKind}
 use Rattle.lexer.specs.declared.token.TokenKind.TheVariants.{Identifier as identifier_kind, InterpretedString, RawString, RightBrace, RightParenthesis, Comma, Semicolon}
+use Rattle.tree.specs.declared.edition.Edition.{Edition}
 use Rattle.tree.specs.declared.span.Span.{Span}
 use Rattle.tree.specs.Syntax.{Identifier}
+
+-- a text, and the edition of the rules by which it is read
+pub record GoText : Type 0 where
+  pub edition : Edition
+  pub bytes : List ℕ
+
+-- the text as an edition reads it
+abbrev pub read_in : Edition → List ℕ → GoText
+read_in edition text = record { edition = edition; bytes = text }
 
 -- a place among the tokens: those that are left, and the end of the last one that was taken
 pub record Cursor : Type 0 where
@@ -111,10 +121,10 @@ start_at place = first_start place.end place.left
 abbrev pub spanning : Span → Rule → Rule
 spanning span rule from to = rule from to × (span.start ≡ start_at from) × (span.end ≡ to.end)
 
-module _ (text : List ℕ) where
+module _ (text : GoText) where
   -- the token of a name that is written so in the text
   abbrev pub word : List ℕ → Rule
-  word name from to = token identifier_kind from to × (name ≡ slice_range text (start_at from) to.end)
+  word name from to = token identifier_kind from to × (name ≡ slice_range text.bytes (start_at from) to.end)
 
   abbrev pub identifier : Identifier → Rule
   identifier n = spanning n.span (word n.text)

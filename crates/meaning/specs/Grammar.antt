@@ -1,27 +1,33 @@
 -- The tree of a text: which tokens spell which tree. There is one case for each rule of the grammar. Semicolons that
 -- may be missing, empty statements and commas after the last item leave nothing in the tree; brackets, groups and a
 -- header's lone semicolon are kept. WellFormed has the conditions that the cases name.
--- (The Go specification, from "Source file organization" back to "Types". Left out: type parameters and arguments,
--- `goto`, `fallthrough`, imports with a dot.)
+-- The first edition leaves out type parameters, instances, `goto`, `fallthrough` and imports with a dot: the cases of
+-- these ask for the second. (The Go specification, from "Source file organization" back to "Types".)
 use Rattle.std.specs.Prelude.{◌≡◌, ℕ, ◌-◌, ◌+◌, Bool, true, false, List, [], ◌∷◌, Option, Some, None, slice_range}
-use Rattle.lexer.specs.declared.token.TokenKind.TheVariants.{BreakKeyword, CaseKeyword, ChanKeyword, ContinueKeyword, DefaultKeyword, DeferKeyword, ElseKeyword, ForKeyword, FuncKeyword, GoKeyword, IfKeyword, ImportKeyword, InterfaceKeyword, MapKeyword, PackageKeyword, RangeKeyword, ReturnKeyword, SelectKeyword, StructKeyword, SwitchKeyword, TypeKeyword, Star, Arrow, Increment, Decrement, Assign, Define, Ellipsis, LeftParenthesis, RightParenthesis, LeftBracket, RightBracket, LeftBrace, RightBrace, Comma, Dot, Colon}
+use Rattle.lexer.specs.declared.token.TokenKind.TheVariants.{BreakKeyword, CaseKeyword, ChanKeyword, ContinueKeyword, DefaultKeyword, DeferKeyword, ElseKeyword, FallthroughKeyword, ForKeyword, FuncKeyword, GoKeyword, GotoKeyword, IfKeyword, ImportKeyword, InterfaceKeyword, MapKeyword, PackageKeyword, RangeKeyword, ReturnKeyword, SelectKeyword, StructKeyword, SwitchKeyword, TypeKeyword, Star, Arrow, Increment, Decrement, Assign, Define, Ellipsis, LeftParenthesis, RightParenthesis, LeftBracket, RightBracket, LeftBrace, RightBrace, Comma, Dot, Colon}
+use Rattle.tree.specs.declared.edition.Edition.{Edition}
+use Rattle.tree.specs.declared.edition.Edition.TheVariants.{First, Second}
+use Rattle.tree.specs.declared.operator.UnaryOperator.{UnaryOperator}
+use Rattle.tree.specs.declared.operator.UnaryOperator.TheVariants.{Tilde}
 use Rattle.tree.specs.declared.span.Span.{Span}
 use Rattle.tree.specs.declared.operator.ChanDirection.{ChanDirection}
 use Rattle.tree.specs.declared.operator.ChanDirection.TheVariants.{Both, Send, Receive}
 use Rattle.tree.specs.declared.operator.DeclKeyword.{DeclKeyword}
 use Rattle.tree.specs.declared.operator.DeclKeyword.TheVariants.{Const, Var, «Type» as type_keyword}
-use Rattle.tree.specs.Syntax.{Identifier, TypeName, Expression, expression_node, ExpressionForm, name_expression, basic_literal, function_literal, composite_literal, literal_value, key_value, parenthesized, selector_expression, index_expression, slice_expression, type_assertion, call_expression, star_expression, unary_expression, binary_expression, array_type, ellipsis_array_type, slice_type, map_type, channel_type, function_type, struct_type, interface_type, Expressions, no_expression, expression_and, OptionalExpression, missing_expression, present_expression, Signature, signature_of, Parameters, no_parameter, named_and, unnamed_and, name_alone_and, Fields, no_field, fields_and, embedded_and, method_and, Statement, statement_node, StatementForm, empty_statement, declaration_statement, labeled_statement, expression_statement, send_statement, increment_statement, decrement_statement, assignment, operator_assignment, define_statement, go_statement, defer_statement, return_statement, break_statement, continue_statement, block_statement, if_statement, for_statement, range_assignment, range_definition, switch_statement, type_switch_statement, select_statement, Statements, no_statement, statement_and, OptionalStatement, missing_statement, present_statement, CaseClauses, no_case, case_and, CommunicationClauses, no_communication, communication_and, Declaration, declaration_of, Specs, no_spec, value_and, type_and, Block, Function, TopLevelDeclaration, function_declaration, general_declaration, ImportSpec, ImportDeclaration, SourceFile}
-use Rattle.meaning.specs.Cursor.{Cursor, Rule, ◌⨾◌, ◌⇒◌, nothing, never, optional, chosen, only_if, token, string_token, not_before, semicolon, semicolons, start_at, spanning, word, identifier, optional_identifier, identifiers}
-use Rattle.meaning.specs.OperatorTokens.{operator_token, assign_operator, unary_token, literal_token, keyword_token, can_begin_type, is_dot, is_arrow, is_left_brace}
-use Rattle.meaning.specs.WellFormed.{IsPrimary, IsUnaryOperand, NestByLevel, is_name, takes_elements, is_parenthesized, is_call, FitsHeader, FitHeader, OptionalFitsHeader, InitFitsHeader, IsCommunication, IsElse, IsKept, FitTogether}
+use Rattle.tree.specs.Syntax.{Identifier, TypeName, Expression, expression_node, ExpressionForm, name_expression, basic_literal, function_literal, composite_literal, literal_value, key_value, parenthesized, selector_expression, index_expression, instance_expression, slice_expression, type_assertion, call_expression, star_expression, unary_expression, binary_expression, array_type, ellipsis_array_type, slice_type, map_type, channel_type, function_type, struct_type, interface_type, Expressions, no_expression, expression_and, OptionalExpression, missing_expression, present_expression, Signature, signature_of, Parameters, no_parameter, named_and, unnamed_and, name_alone_and, Fields, no_field, fields_and, embedded_and, element_and, method_and, Statement, statement_node, StatementForm, empty_statement, declaration_statement, labeled_statement, expression_statement, send_statement, increment_statement, decrement_statement, assignment, operator_assignment, define_statement, go_statement, defer_statement, return_statement, break_statement, continue_statement, goto_statement, fallthrough_statement, block_statement, if_statement, for_statement, range_assignment, range_definition, switch_statement, type_switch_statement, select_statement, Statements, no_statement, statement_and, OptionalStatement, missing_statement, present_statement, CaseClauses, no_case, case_and, CommunicationClauses, no_communication, communication_and, Declaration, declaration_of, Specs, no_spec, value_and, type_and, Block, Function, TopLevelDeclaration, function_declaration, general_declaration, ImportSpec, ImportDeclaration, SourceFile}
+use Rattle.meaning.specs.Cursor.{GoText, Cursor, Rule, ◌⨾◌, ◌⇒◌, nothing, never, one_of, optional, chosen, only_if, token, string_token, not_before, semicolon, semicolons, start_at, spanning, word, identifier, optional_identifier, identifiers}
+use Rattle.meaning.specs.OperatorTokens.{operator_token, assign_operator, unary_token, literal_token, keyword_token, can_begin_type, is_dot, takes_arguments, is_arrow, is_left_brace}
+use Rattle.meaning.specs.TypeParameters.{begins_parameters, is_parameter, is_one_parameter}
+use Rattle.meaning.specs.WellFormed.{IsPrimary, IsUnaryOperand, NestByLevel, is_name, names_type, is_instance, is_type, are_types, is_constraint, takes_elements, is_parenthesized, is_call, FitsHeader, FitHeader, OptionalFitsHeader, InitFitsHeader, IsCommunication, IsElse, IsKept, FitTogether, end_constrained}
 
 -- where an expression stands: where only a type can, where an expression can, at a key or a value among the elements of
--- a composite literal, or as one of these elements
+-- a composite literal, as one of these elements, or as a constraint, where `~` can stand before terms
 pub data Position : Type 0 where
   as_type : Position
   as_expression : Position
   as_value : Position
   as_element : Position
+  as_constraint : Position
 
 abbrev pub IsNoType : Position → Type 0
 IsNoType as_type = ⊥
@@ -47,10 +53,40 @@ abbrev pub CanPoint : Position → Expression → Type 0
 CanPoint as_type e = Unit {0}
 CanPoint place e = IsUnaryOperand e
 
--- a type's name takes a dot that follows
-abbrev pub end_of_name : Position → Rule
-end_of_name as_type = not_before is_dot
-end_of_name place = nothing
+-- where the operands of an operator stand
+abbrev pub operand : Position → Position
+operand as_constraint = as_constraint
+operand place = as_expression
+
+-- `~` stands in constraints alone
+abbrev pub CanOperate : Position → UnaryOperator → Type 0
+CanOperate place Tilde = place ≡ as_constraint
+CanOperate place op = IsNoType place
+
+-- where a type stands, a type's name takes a bracket that follows, in the second edition, and so do its package's name
+-- and its own
+abbrev pub end_of_selector : Edition → Position → Rule
+end_of_selector edition as_type = not_before (takes_arguments edition)
+end_of_selector edition place = nothing
+
+-- and a name alone takes a dot
+abbrev pub end_of_name : Edition → Position → Rule
+end_of_name edition as_type = not_before is_dot ⨾ not_before (takes_arguments edition)
+end_of_name edition place = nothing
+
+abbrev pub IsSecond : Edition → Type 0
+IsSecond First = ⊥
+IsSecond Second = Unit {0}
+
+-- where a type stands, brackets follow a type's name, and types stand in them
+abbrev pub CanIndex : Edition → Position → Expression → Bool → Type 0
+CanIndex edition as_type e are_types = IsSecond edition × (names_type e ≡ true) × (are_types ≡ true)
+CanIndex edition place e are_types = Unit {0}
+
+-- after one argument of an instance there is a comma; without one it is an index
+abbrev pub after_instance : Expressions → Rule
+after_instance (expression_and e no_expression) = token Comma
+after_instance es = optional (token Comma)
 
 -- No brace follows another type where a literal can stand: there it would begin a literal, of this type or, after a
 -- function's type, of a function.
@@ -101,7 +137,7 @@ third_bound missing_expression bound = nothing
 third_bound (present_expression e) bound = token Colon ⨾ bound
 
 -- the name that a type switch declares
-abbrev pub guard_name : List ℕ → Option Identifier → Rule
+abbrev pub guard_name : GoText → Option Identifier → Rule
 guard_name text None = nothing
 guard_name text (Some n) = identifier text n ⨾ token Define
 
@@ -191,12 +227,56 @@ abbrev pub statement_start : StatementForm → Cursor → ℕ
 statement_start empty_statement from = from.end
 statement_start form from = start_at from
 
+-- a struct embeds an instance; where the types of an interface are restricted, names alone are embedded as such
+abbrev pub CanBeElement : Edition → Owner → Bool → Expression → Option Span → Type 0
+CanBeElement edition of_struct star t tag = IsSecond edition × (is_instance t ≡ true)
+CanBeElement edition of_interface star t tag =
+    IsSecond edition × (star ≡ false) × (tag ≡ None) × (is_constraint t ≡ true) × (names_type t ≡ false)
+
+abbrev pub element_place : Owner → Position
+element_place of_struct = as_type
+element_place of_interface = as_constraint
+
+-- type parameters, where there are any
+abbrev pub type_parameters : Type 0 → Parameters → Rule → Rule
+type_parameters allowed no_parameter list = nothing
+type_parameters allowed ps list = allowed ⇒ (end_constrained ps ≡ true) ⇒ in_brackets list
+
+-- by the tokens from here on, type parameters stand here, or they do not
+abbrev pub parameters_stand : Bool → Rule
+parameters_stand stand from to = (from ≡ to) × (begins_parameters from.left ≡ stand)
+
+-- no type parameters stand where the length of an array can be read
+abbrev pub length_stands : ExpressionForm → Rule
+length_stands (array_type n t) = (is_parameter n ≡ false) ⇒ parameters_stand false
+length_stands form = nothing
+
+abbrev pub no_type_parameters : Edition → Bool → Expression → Rule
+no_type_parameters Second false (expression_node form span) = length_stands form
+no_type_parameters edition is_alias t = nothing
+
+-- what stands between the name of a type and the type, or `=` of an alias
+abbrev pub after_type_name : Edition → Parameters → Bool → Expression → Rule → Rule
+after_type_name edition no_parameter is_alias t list = no_type_parameters edition is_alias t
+after_type_name edition ps is_alias t list =
+    one_of (parameters_stand true) ((is_one_parameter ps ≡ true) ⇒ parameters_stand false)
+    ⨾ type_parameters (IsSecond edition) ps list
+
+-- only what has no receiver has type parameters
+abbrev pub IsNoMethod : Option Parameters → Type 0
+IsNoMethod None = Unit {0}
+IsNoMethod (Some ps) = ⊥
+
+-- the text of the name that an import with a dot has
+abbrev pub dot_text : List ℕ
+dot_text = 46 ∷ []
+
 -- the name of an embedded type
-abbrev pub qualifier : List ℕ → Option Identifier → Rule
+abbrev pub qualifier : GoText → Option Identifier → Rule
 qualifier text None = nothing
 qualifier text (Some n) = identifier text n ⨾ token Dot
 
-module _ (text : List ℕ) where
+module _ (text : GoText) where
   abbrev pub type_name : TypeName → Rule
   type_name n = spanning n.span (qualifier text n.qualifier ⨾ identifier text n.name)
 
@@ -205,7 +285,7 @@ module _ (text : List ℕ) where
     SpellsExpression place (expression_node form span) = spanning span (SpellsForm place form)
 
     pub SpellsForm : Position → ExpressionForm → Rule
-    SpellsForm place (name_expression name) = word text name ⨾ end_of_name place
+    SpellsForm place (name_expression name) = word text name ⨾ end_of_name text.edition place
     SpellsForm place (basic_literal kind) = IsNoType place ⇒ token (literal_token kind)
     SpellsForm place (function_literal signature ss braces) =
         IsNoType place ⇒ token FuncKeyword ⨾ SpellsSignature signature ⨾ block braces (SpellsStatements ss)
@@ -218,9 +298,15 @@ module _ (text : List ℕ) where
         (place ≡ as_element) ⇒ SpellsExpression as_value k ⨾ token Colon ⨾ SpellsExpression as_value v
     SpellsForm place (parenthesized e) = in_parentheses (SpellsExpression (inside place) e)
     SpellsForm place (selector_expression e n) =
-        CanSelect place e ⇒ SpellsExpression as_expression e ⨾ token Dot ⨾ identifier text n
+        CanSelect place e
+        ⇒ SpellsExpression as_expression e ⨾ token Dot ⨾ identifier text n ⨾ end_of_selector text.edition place
     SpellsForm place (index_expression e i) =
-        IsNoType place ⇒ IsPrimary e ⇒ SpellsExpression as_expression e ⨾ in_brackets (SpellsExpression as_expression i)
+        CanIndex text.edition place e (is_type i) ⇒ IsPrimary e
+        ⇒ SpellsExpression as_expression e ⨾ in_brackets (SpellsExpression as_expression i)
+    SpellsForm place (instance_expression e es) =
+        IsSecond text.edition ⇒ CanIndex text.edition place e (are_types es) ⇒ IsPrimary e
+        ⇒ SpellsExpression as_expression e
+        ⨾ in_brackets (SpellsExpressions as_expression es ⨾ after_instance es)
     SpellsForm place (slice_expression e low high most) =
         IsNoType place ⇒ IsPrimary e
         ⇒ SpellsExpression as_expression e
@@ -235,10 +321,10 @@ module _ (text : List ℕ) where
         ⨾ in_parentheses (arguments es ellipsis (SpellsExpressions as_expression es))
     SpellsForm place (star_expression e) = CanPoint place e ⇒ token Star ⨾ SpellsExpression (inside place) e
     SpellsForm place (unary_expression op e) =
-        IsNoType place ⇒ IsUnaryOperand e ⇒ token (unary_token op) ⨾ SpellsExpression as_expression e
+        CanOperate place op ⇒ IsUnaryOperand e ⇒ token (unary_token op) ⨾ SpellsExpression as_expression e
     SpellsForm place (binary_expression op l r) =
         IsNoType place ⇒ NestByLevel op l r
-        ⇒ SpellsExpression as_expression l ⨾ token (operator_token op) ⨾ SpellsExpression as_expression r
+        ⇒ SpellsExpression (operand place) l ⨾ token (operator_token op) ⨾ SpellsExpression (operand place) r
     SpellsForm place (array_type n t) =
         in_brackets (SpellsExpression as_expression n) ⨾ SpellsExpression as_type t ⨾ end_of_type place
     SpellsForm place (ellipsis_array_type t) =
@@ -291,6 +377,16 @@ module _ (text : List ℕ) where
         before_item first ⨾ only_if ellipsis (token Ellipsis) ⨾ SpellsExpression as_type t ⨾ SpellsItems false ps
     SpellsItems first (name_alone_and n ps) = before_item first ⨾ identifier text n ⨾ SpellsItems false ps
 
+    -- type parameters, from the first on or behind another
+    pub SpellsTypeParameters : Bool → Parameters → Rule
+    SpellsTypeParameters first no_parameter = after_items first
+    SpellsTypeParameters first (named_and n ellipsis t ps) =
+        (ellipsis ≡ false) ⇒ (is_constraint t ≡ true)
+        ⇒ before_item first ⨾ identifier text n ⨾ SpellsExpression as_constraint t ⨾ SpellsTypeParameters false ps
+    SpellsTypeParameters first (unnamed_and ellipsis t ps) = never
+    SpellsTypeParameters first (name_alone_and n ps) =
+        before_item first ⨾ identifier text n ⨾ SpellsTypeParameters false ps
+
     pub SpellsFields : Owner → Fields → Rule
     SpellsFields owner no_field = nothing
     SpellsFields owner (fields_and ns t tag span fs) =
@@ -300,6 +396,10 @@ module _ (text : List ℕ) where
     SpellsFields owner (embedded_and star n tag span fs) =
         CanEmbed owner star tag
         ⇒ spanning span (only_if star (token Star) ⨾ type_name n ⨾ optional_tag tag)
+        ⨾ semicolon ⨾ SpellsFields owner fs
+    SpellsFields owner (element_and star t tag span fs) =
+        CanBeElement text.edition owner star t tag
+        ⇒ spanning span (only_if star (token Star) ⨾ SpellsExpression (element_place owner) t ⨾ optional_tag tag)
         ⨾ semicolon ⨾ SpellsFields owner fs
     SpellsFields owner (method_and n signature span fs) =
         IsInterface owner
@@ -330,6 +430,8 @@ module _ (text : List ℕ) where
     SpellsStatementForm (return_statement es) = token ReturnKeyword ⨾ perhaps es (SpellsExpressions as_expression es)
     SpellsStatementForm (break_statement n) = token BreakKeyword ⨾ optional_identifier text n
     SpellsStatementForm (continue_statement n) = token ContinueKeyword ⨾ optional_identifier text n
+    SpellsStatementForm (goto_statement n) = IsSecond text.edition ⇒ token GotoKeyword ⨾ identifier text n
+    SpellsStatementForm fallthrough_statement = IsSecond text.edition ⇒ token FallthroughKeyword
     SpellsStatementForm (block_statement ss braces) = block braces (SpellsStatements ss)
     SpellsStatementForm (if_statement init has_semicolon c ss braces otherwise) =
         InitFitsHeader init ⇒ FitsHeader c
@@ -418,16 +520,23 @@ module _ (text : List ℕ) where
         ⇒ spanning span (identifiers text ns ⨾ SpellsOptional as_type t
         ⨾ perhaps es (token Assign ⨾ SpellsExpressions as_expression es))
         ⨾ chosen is_grouped (semicolon ⨾ SpellsSpecs keyword true specs) (IsLast specs ⇒ nothing)
-    SpellsSpecs keyword is_grouped (type_and n is_alias t span specs) =
+    SpellsSpecs keyword is_grouped (type_and n ps is_alias t span specs) =
         IsTypeKeyword keyword
-        ⇒ spanning span (identifier text n ⨾ only_if is_alias (token Assign) ⨾ SpellsExpression as_type t)
+        ⇒ spanning span (identifier text n ⨾ after_type_name text.edition ps is_alias t (SpellsTypeParameters true ps)
+        ⨾ only_if is_alias (token Assign) ⨾ SpellsExpression as_type t)
         ⨾ chosen is_grouped (semicolon ⨾ SpellsSpecs keyword true specs) (IsLast specs ⇒ nothing)
+
+  -- an import's name, or a dot
+  abbrev pub import_name : Option Identifier → Rule
+  import_name None = nothing
+  import_name (Some n) =
+      one_of (identifier text n) (IsSecond text.edition ⇒ (n.text ≡ dot_text) ⇒ spanning n.span (token Dot))
 
   -- an import's path is the text between its quotes
   abbrev pub SpellsImportSpec : ImportSpec → Rule
   SpellsImportSpec i =
-      (i.path ≡ slice_range text (i.path_span.start + 1) (i.path_span.end - 1))
-      ⇒ spanning i.span (optional_identifier text i.name ⨾ spanning i.path_span string_token)
+      (i.path ≡ slice_range text.bytes (i.path_span.start + 1) (i.path_span.end - 1))
+      ⇒ spanning i.span (import_name i.name ⨾ spanning i.path_span string_token)
 
   -- the specs of a group
   abbrev pub SpellsImportSpecs : List ImportSpec → Rule
@@ -456,6 +565,8 @@ module _ (text : List ℕ) where
   abbrev pub SpellsFunction : Function → Rule
   SpellsFunction f =
       spanning f.span (token FuncKeyword ⨾ SpellsReceiver f.receiver ⨾ identifier text f.name
+      ⨾ type_parameters (IsSecond text.edition × IsNoMethod f.receiver) f.type_parameters
+      (SpellsTypeParameters true f.type_parameters)
       ⨾ SpellsSignature f.signature ⨾ SpellsBody f.body)
 
   abbrev pub SpellsTopLevel : TopLevelDeclaration → Rule

@@ -3,7 +3,7 @@ use Rattle.std.specs.Prelude.{◌≡◌, List, [], ◌∷◌, ◌++◌}
 use Rattle.tree.specs.Syntax.{Block}
 use Rattle.meaning.specs.Code.{Occurrence, Code}
 use Rattle.meaning.specs.Lists.{Exit, stopped, falls, Lists}
-use Rattle.meaning.specs.StatementCode.{Sites, statements_code, entry, last_return, body_code}
+use Rattle.meaning.specs.StatementCode.{Sites, block_code, entry, last_return, body_code}
 
 -- each front of a list that a code may go through is one at which it may stop
 abbrev pub EachFrontStops : Type 0 → Type 0
@@ -12,7 +12,7 @@ EachFrontStops E =
 
 -- the statements of a body may go through the list and fall off its end
 abbrev pub FallsOff : {E : Type 0} → Sites E → Block → List (Occurrence E) → Type 0
-FallsOff sites b t = Lists (statements_code sites b.statements) t falls
+FallsOff sites b t = Lists (block_code sites b.statements) t falls
 
 -- the list between the first event of a body and the return at its end
 abbrev pub whole_list : {E : Type 0} → Sites E → Block → List (Occurrence E) → List (Occurrence E)

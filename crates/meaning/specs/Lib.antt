@@ -2,11 +2,13 @@
 pub mod Cursor
 pub mod OperatorTokens
 pub mod WellFormed
+pub mod TypeParameters
 pub mod Grammar
 pub mod TreeOfText
 -- What a body does, and the lists of events that it may go through: to be trusted.
 pub mod Code
 pub mod Lists
+pub mod Jumps
 pub mod StatementCode
 -- Which declaration a name means: to be trusted.
 pub mod Scopes
@@ -24,5 +26,9 @@ pub mod Classes
 -- What is proved of them.
 pub mod Laws
 pub mod UseLaws
+pub mod Conditions
 -- For a reader of the grammar: texts and trees to try it on.
 pub mod TreeExamples
+-- For a reader of the rules for names, and of what statements do: functions and statements to try them on.
+pub mod NameExamples
+pub mod StatementExamples

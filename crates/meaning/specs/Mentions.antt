@@ -4,17 +4,23 @@
 -- where it stands as a whole: as a statement, as the only value of `:=`, `=` or `var`, as an item of a return list, or
 -- behind `defer`. What stands in brackets stands elsewhere; a callee in brackets has a role of its own.
 -- The marks of a file are in the order in which its statements do what they say: values before the names that they are
--- bound to. Between the two marks that open and close a body is all that stands in it, its signature too.
+-- bound to; what the condition of an `if` finds out is marked at the block's braces. Between the two marks that open
+-- and close a body is all that stands in it, its signature too.
 -- (The Go specification, "Expression statements", "Assignment statements", "Short variable declarations", "Variable
 -- declarations", "Return statements", "Defer statements", "Calls", "Function literals".)
-use Rattle.std.specs.Prelude.{ℕ, ◌+◌, Bool, true, false, not, ◌&&◌, ◌||◌, if◌then◌else◌, List, [], ◌∷◌, ◌++◌, Option, Some, None, option_map, codes}
+use Rattle.std.specs.Prelude.{ℕ, ◌+◌, Bool, true, false, not, ◌&&◌, ◌||◌, if◌then◌else◌, List, [], ◌∷◌, ◌++◌, Option, Some, None, option_map, codes, ◌-◌}
+use Rattle.std.specs.List.{filter}
 use Rattle.std.specs.Str.{bytes_eq}
+use Rattle.tree.specs.declared.edition.Edition.{Edition}
+use Rattle.tree.specs.declared.edition.Edition.TheVariants.{First, Second}
 use Rattle.tree.specs.declared.operator.DeclKeyword.{DeclKeyword}
+use Rattle.tree.specs.declared.operator.BinaryOperator.{BinaryOperator}
+use Rattle.tree.specs.declared.operator.BinaryOperator.TheVariants.{Equal, NotEqual, LogicalAnd, LogicalOr}
 use Rattle.tree.specs.declared.operator.UnaryOperator.{UnaryOperator}
 use Rattle.tree.specs.declared.operator.UnaryOperator.TheVariants.{Address}
 use Rattle.tree.specs.declared.span.Span.{Span}
-use Rattle.tree.specs.Syntax.{Identifier, TypeName, Expression, expression_node, ExpressionForm, name_expression, basic_literal, function_literal, composite_literal, literal_value, key_value, parenthesized, selector_expression, index_expression, slice_expression, type_assertion, call_expression, star_expression, unary_expression, binary_expression, array_type, ellipsis_array_type, slice_type, map_type, channel_type, function_type, struct_type, interface_type, Expressions, no_expression, expression_and, OptionalExpression, missing_expression, present_expression, Signature, signature_of, Parameters, no_parameter, named_and, unnamed_and, name_alone_and, Fields, no_field, fields_and, embedded_and, method_and, Statement, statement_node, StatementForm, empty_statement, declaration_statement, labeled_statement, expression_statement, send_statement, increment_statement, decrement_statement, assignment, operator_assignment, define_statement, go_statement, defer_statement, return_statement, break_statement, continue_statement, block_statement, if_statement, for_statement, range_assignment, range_definition, switch_statement, type_switch_statement, select_statement, Statements, no_statement, statement_and, OptionalStatement, missing_statement, present_statement, CaseClauses, no_case, case_and, CommunicationClauses, no_communication, communication_and, Declaration, declaration_of, Specs, no_spec, value_and, type_and, Block, Function, TopLevelDeclaration, function_declaration, general_declaration, SourceFile}
-use Rattle.meaning.specs.Scopes.{is_blank, first_of}
+use Rattle.tree.specs.Syntax.{Identifier, TypeName, Expression, expression_node, ExpressionForm, name_expression, basic_literal, function_literal, composite_literal, literal_value, key_value, parenthesized, selector_expression, index_expression, instance_expression, slice_expression, type_assertion, call_expression, star_expression, unary_expression, binary_expression, array_type, ellipsis_array_type, slice_type, map_type, channel_type, function_type, struct_type, interface_type, Expressions, no_expression, expression_and, OptionalExpression, missing_expression, present_expression, Signature, signature_of, Parameters, no_parameter, named_and, unnamed_and, name_alone_and, Fields, no_field, fields_and, embedded_and, element_and, method_and, Statement, statement_node, StatementForm, empty_statement, declaration_statement, labeled_statement, expression_statement, send_statement, increment_statement, decrement_statement, assignment, operator_assignment, define_statement, go_statement, defer_statement, return_statement, break_statement, continue_statement, goto_statement, fallthrough_statement, block_statement, if_statement, for_statement, range_assignment, range_definition, switch_statement, type_switch_statement, select_statement, Statements, no_statement, statement_and, OptionalStatement, missing_statement, present_statement, CaseClauses, no_case, case_and, CommunicationClauses, no_communication, communication_and, Declaration, declaration_of, Specs, no_spec, value_and, type_and, Block, Function, TopLevelDeclaration, function_declaration, general_declaration, SourceFile}
+use Rattle.meaning.specs.Scopes.{is_blank, first_of, parameters_named, named_in_types}
 
 -- Names
 
@@ -157,6 +163,14 @@ callee_use place = other_use
 -- what a place asks of a name
 pub data Role : Type 0 where
   elsewhere : Role
+  -- n where no row declares it, where its address is taken, or where it may get another value, and is no argument and
+  -- no whole left side of a row: `&n`, `(n) = ..`, `n += ..`, `n++`, the names of a `range`, a type switch and a type
+  exposed : Role
+  -- n of `n == nil` or `n != nil`, mentioned once more at the brace at which it is known to be nil; with the offset of
+  -- `nil`
+  found_nil : ℕ → Role
+  -- the same where it is known not to be nil, behind a row; with the offset of `nil`, and the row
+  found_error : ℕ → Row → Role
   -- n in `n(..)`, n.m in `n.m(..)`
   called : Call → Role
   -- the same in brackets
@@ -234,6 +248,65 @@ abbrev pub named_or : Option Named → ℕ → Role → List Mark → List Mark
 named_or None site role marks = marks
 named_or (Some n) site role marks = mention site role n ∷ []
 
+-- `n`, in brackets or not
+abbrev pub bare_within : Expression → Option Named
+bare_within e = as_bare (without_brackets e)
+
+abbrev pub addressed_within : UnaryOperator → Expression → Option Named
+addressed_within Address e = bare_within e
+addressed_within op e = None
+
+abbrev pub exposed_or : ℕ → Expression → List Mark → List Mark
+exposed_or site e marks = named_or (bare_within e) site exposed marks
+
+-- Conditions that find something nil
+
+-- a name that is compared with `nil`, and the offset of `nil`, by its form
+pub record NilTest : Type 0 where
+  pub named : Named
+  pub nil : ℕ
+
+abbrev pub nil_test : Option Named → Option Named → List NilTest
+nil_test None m = []
+nil_test (Some n) None = []
+nil_test (Some n) (Some m) = if bytes_eq m.name (codes "nil") then record { named = n; nil = m.at } ∷ [] else []
+
+-- where this comes out so, both operands do
+abbrev pub has_both : Bool → BinaryOperator → Bool
+has_both true LogicalAnd = true
+has_both false LogicalOr = true
+has_both outcome op = false
+
+-- where this comes out so, the operands are equal
+abbrev pub compares : Bool → BinaryOperator → Bool
+compares true Equal = true
+compares false NotEqual = true
+compares outcome op = false
+
+-- The names that are nil wherever a condition has come out so: those of `==` as true and of `!=` as false, of the parts
+-- of `&&` as true, and of the parts of `||` as false.
+abbrev pub nil_where : Bool → Expression → List NilTest
+nil_where outcome (expression_node (binary_expression op l r) span) =
+    if has_both outcome op then nil_where outcome l ++ nil_where outcome r
+    else if compares outcome op then nil_test (as_bare l) (as_bare r) ++ nil_test (as_bare r) (as_bare l)
+    else []
+nil_where outcome e = []
+
+abbrev pub nil_marks : ℕ → List NilTest → List Mark
+nil_marks site [] = []
+nil_marks site (t ∷ ts) = mention site (found_nil t.nil) t.named ∷ nil_marks site ts
+
+-- The name that is not nil where a condition of one comparison has come out so: that of `!=` as true, and that of `==`
+-- as false.
+abbrev pub error_where : Bool → Expression → List NilTest
+error_where outcome (expression_node (binary_expression op l r) span) =
+    if compares (not outcome) op then nil_test (as_bare l) (as_bare r) ++ nil_test (as_bare r) (as_bare l) else []
+error_where outcome e = []
+
+abbrev pub error_marks : ℕ → Row → List NilTest → List Mark
+error_marks site row [] = []
+error_marks site row (t ∷ ts) = mention site (found_error t.nil row) t.named ∷ error_marks site row ts
+
 abbrev pub callee_or : Option Call → ℕ → Expression → List Mark → List Mark
 callee_or None site e marks = named_or (as_bracketed e) site called_in_brackets marks
 callee_or (Some c) site e marks = mention site (called c) c.callee ∷ []
@@ -294,16 +367,48 @@ left_names row site k (n ∷ ns) =
 -- names that are declared where no row is
 abbrev pub declared_elsewhere : ℕ → List Identifier → List Mark
 declared_elsewhere site [] = []
-declared_elsewhere site (n ∷ ns) = declaring site elsewhere n (number_of n) ∷ declared_elsewhere site ns
+declared_elsewhere site (n ∷ ns) = declaring site exposed n (number_of n) ∷ declared_elsewhere site ns
 
 -- the name of a type switch, which each clause declares anew, at the clause's keyword
 abbrev pub guard_in_clause : ℕ → Option Identifier → Span → List Mark
 guard_in_clause site None clause = []
 guard_in_clause site (Some n) clause =
-    if is_blank n.text then [] else declaring site elsewhere n (Some clause.start) ∷ []
+    if is_blank n.text then [] else declaring site exposed n (Some clause.start) ∷ []
 
 abbrev pub row_of : Standing → ℕ → RowForm → Expressions → Row
 row_of standing at form values = record { form = form; values = values; statement = at; standing = standing }
+
+-- An `if` right behind a row
+
+-- the row of the last spec, or else this one
+abbrev pub last_row : DeclKeyword → ℕ → Option Row → Specs → Option Row
+last_row keyword at before no_spec = before
+last_row keyword at before (value_and ns t es span specs) =
+    last_row keyword at (Some (row_of ordinary at (declares keyword ns t) es)) specs
+last_row keyword at before (type_and n ps is_alias t span specs) = last_row keyword at None specs
+
+-- the row that a statement without label is or ends with
+abbrev pub row_in : Statement → Option Row
+row_in (statement_node (assignment ls rs) span) = Some (row_of ordinary span.start (assigns ls) rs)
+row_in (statement_node (define_statement ns rs) span) = Some (row_of ordinary span.start (defines ns) rs)
+row_in (statement_node (declaration_statement (declaration_of keyword specs is_grouped bytes)) span) =
+    last_row keyword bytes.start None specs
+row_in s = None
+
+abbrev pub first_row : OptionalStatement → Option Row
+first_row missing_statement = None
+first_row (present_statement s) = row_in s
+
+abbrev pub guard_marks : Option Row → Expression → Span → List Mark
+guard_marks None c braces = []
+guard_marks (Some row) c braces =
+    error_marks braces.start row (error_where true c) ++ error_marks (braces.end - 1) row (error_where false c)
+
+-- the statement after the row is an `if` without a first statement of its own
+abbrev pub behind_row : Option Row → Statements → List Mark
+behind_row row (statement_and (statement_node (if_statement missing_statement semicolon c ss braces other) span) rest) =
+    guard_marks row c braces
+behind_row row ss = []
 
 unfoldable mutual
   pub expression_marks : Spot → Expression → List Mark
@@ -327,6 +432,8 @@ unfoldable mutual
       named_or (select_from (as_bare e) n) spot.site elsewhere (expression_marks (part_of spot.site) e)
   form_marks spot span (index_expression e i) =
       expression_marks (part_of spot.site) e ++ expression_marks (part_of spot.site) i
+  form_marks spot span (instance_expression e es) =
+      expression_marks (part_of spot.site) e ++ expressions_marks (part_of spot.site) es
   form_marks spot span (slice_expression e low high most) =
       expression_marks (part_of spot.site) e
       ++ (optional_marks spot.site low ++ (optional_marks spot.site high ++ optional_marks spot.site most))
@@ -338,7 +445,8 @@ unfoldable mutual
       ++ arguments_marks (call_of spot.place e es ellipsis) spot.site 0 es
   form_marks spot span (star_expression e) = expression_marks (part_of spot.site) e
   form_marks spot span (unary_expression op e) =
-      new_literal_or spot.place spot.site (as_new_literal op e) (expression_marks (part_of spot.site) e)
+      new_literal_or spot.place spot.site (as_new_literal op e)
+      (named_or (addressed_within op e) spot.site exposed (expression_marks (part_of spot.site) e))
   form_marks spot span (binary_expression op l r) =
       expression_marks (part_of spot.site) l ++ expression_marks (part_of spot.site) r
   form_marks spot span (array_type n t) =
@@ -379,8 +487,14 @@ unfoldable mutual
   pub lefts_marks : Row → ℕ → ℕ → Expressions → List Mark
   lefts_marks row site k no_expression = []
   lefts_marks row site k (expression_and e es) =
-      named_or (as_bare e) site (left k row) (expression_marks (part_of site) e)
+      named_or (as_bare e) site (left k row) (exposed_or site e (expression_marks (part_of site) e))
       ++ lefts_marks row site (k + 1) es
+
+  -- the left sides of a `range`
+  pub ranged_marks : ℕ → Expressions → List Mark
+  ranged_marks site no_expression = []
+  ranged_marks site (expression_and e es) =
+      exposed_or site e (expression_marks (part_of site) e) ++ ranged_marks site es
 
   -- the type of a row's names
   pub names_type_marks : Row → ℕ → OptionalExpression → List Mark
@@ -406,6 +520,7 @@ unfoldable mutual
   fields_marks site no_field = []
   fields_marks site (fields_and ns t tag span fs) = expression_marks (part_of site) t ++ fields_marks site fs
   fields_marks site (embedded_and star n tag span fs) = mention site elsewhere (embedded n) ∷ fields_marks site fs
+  fields_marks site (element_and star t tag span fs) = expression_marks (part_of site) t ++ fields_marks site fs
   fields_marks site (method_and n signature span fs) = signature_marks site signature ++ fields_marks site fs
 
   pub statement_marks : Standing → Statement → List Mark
@@ -420,13 +535,13 @@ unfoldable mutual
       expression_marks (whole (place_in standing as_statement) at) e
   statement_form_marks standing at (send_statement c v) =
       expression_marks (part_of at) c ++ expression_marks (part_of at) v
-  statement_form_marks standing at (increment_statement e) = expression_marks (part_of at) e
-  statement_form_marks standing at (decrement_statement e) = expression_marks (part_of at) e
+  statement_form_marks standing at (increment_statement e) = exposed_or at e (expression_marks (part_of at) e)
+  statement_form_marks standing at (decrement_statement e) = exposed_or at e (expression_marks (part_of at) e)
   statement_form_marks standing at (assignment ls rs) =
       expressions_marks (value_spot (row_of standing at (assigns ls) rs) at) rs
       ++ lefts_marks (row_of standing at (assigns ls) rs) at 0 ls
   statement_form_marks standing at (operator_assignment op l r) =
-      expression_marks (part_of at) l ++ expression_marks (part_of at) r
+      exposed_or at l (expression_marks (part_of at) l) ++ expression_marks (part_of at) r
   statement_form_marks standing at (define_statement ns rs) =
       expressions_marks (value_spot (row_of standing at (defines ns) rs) at) rs
       ++ left_names (row_of standing at (defines ns) rs) at 0 ns
@@ -435,15 +550,22 @@ unfoldable mutual
   statement_form_marks standing at (return_statement es) = items_marks at 0 es ++ returns at es ∷ []
   statement_form_marks standing at (break_statement n) = []
   statement_form_marks standing at (continue_statement n) = []
+  statement_form_marks standing at (goto_statement n) = []
+  statement_form_marks standing at fallthrough_statement = []
   statement_form_marks standing at (block_statement ss braces) = statements_marks ss
   statement_form_marks standing at (if_statement init has_semicolon c ss braces otherwise) =
       optional_statement_marks ordinary init
-      ++ (expression_marks (part_of at) c ++ (statements_marks ss ++ optional_statement_marks ordinary otherwise))
+      ++ (expression_marks (part_of at) c
+      ++ (guard_marks (first_row init) c braces
+      -- what is nil in the block stands at its first brace, what is nil past it at its last one
+      ++ ((nil_marks braces.start (nil_where true c)
+      ++ (statements_marks ss ++ nil_marks (braces.end - 1) (nil_where false c)))
+      ++ optional_statement_marks ordinary otherwise)))
   statement_form_marks standing at (for_statement init c post has_semicolons ss braces) =
       optional_statement_marks first_of_for init
       ++ (optional_marks at c ++ (optional_statement_marks ordinary post ++ statements_marks ss))
   statement_form_marks standing at (range_assignment ls e ss braces) =
-      expressions_marks (part_of at) ls ++ (expression_marks (part_of at) e ++ statements_marks ss)
+      ranged_marks at ls ++ (expression_marks (part_of at) e ++ statements_marks ss)
   statement_form_marks standing at (range_definition ns e ss braces) =
       expression_marks (part_of at) e ++ (declared_elsewhere at ns ++ statements_marks ss)
   statement_form_marks standing at (switch_statement init has_semicolon tag cs) =
@@ -454,7 +576,8 @@ unfoldable mutual
 
   pub statements_marks : Statements → List Mark
   statements_marks no_statement = []
-  statements_marks (statement_and s ss) = statement_marks ordinary s ++ statements_marks ss
+  statements_marks (statement_and s ss) =
+      statement_marks ordinary s ++ (behind_row (row_in s) ss ++ statements_marks ss)
 
   pub optional_statement_marks : Standing → OptionalStatement → List Mark
   optional_statement_marks standing missing_statement = []
@@ -483,13 +606,20 @@ unfoldable mutual
       ++ (expressions_marks (value_spot (row_of ordinary at (declares keyword ns t) es) span.start) es
       ++ (left_names (row_of ordinary at (declares keyword ns t) es) span.start 0 ns
       ++ specs_marks keyword at specs))
-  specs_marks keyword at (type_and n is_alias t span specs) =
-      declaring span.start elsewhere n (number_of n)
-      ∷ (expression_marks (part_of span.start) t ++ specs_marks keyword at specs)
+  specs_marks keyword at (type_and n ps is_alias t span specs) =
+      declaring span.start exposed n (number_of n)
+      ∷ (declared_elsewhere span.start (parameters_named ps)
+      ++ (parameters_marks false span.start ps
+      ++ (expression_marks (part_of span.start) t ++ specs_marks keyword at specs)))
 
+-- type parameters, and then their constraints
+abbrev pub type_parameters_marks : ℕ → Parameters → List Mark
+type_parameters_marks site ps = declared_elsewhere site (parameters_named ps) ++ parameters_marks false site ps
+
+-- A type parameter that a receiver's type declares is mentioned twice, and only where it is declared it means anything.
 abbrev pub receiver_marks : ℕ → Option Parameters → List Mark
 receiver_marks site None = []
-receiver_marks site (Some ps) = parameters_marks true site ps
+receiver_marks site (Some ps) = declared_elsewhere site (named_in_types ps) ++ parameters_marks true site ps
 
 abbrev pub function_body : Function → Block → BodyPlace
 function_body f b = record {
@@ -503,20 +633,23 @@ function_body f b = record {
 }
 
 abbrev pub function_types_marks : Function → List Mark
-function_types_marks f = receiver_marks f.span.start f.receiver ++ signature_marks f.span.start f.signature
+function_types_marks f =
+    receiver_marks f.span.start f.receiver
+    ++ (type_parameters_marks f.span.start f.type_parameters ++ signature_marks f.span.start f.signature)
 
 -- the types of a function without a block stand in no body
 abbrev pub function_marks : Function → Option Block → List Mark
 function_marks f None = function_types_marks f
 function_marks f (Some b) = in_body (function_body f b) (function_types_marks f ++ statements_marks b.statements)
 
--- a declaration outside all functions: no statement, and no local
+-- a declaration outside all functions: no statement, and no local of a body
 abbrev pub outer_specs_marks : Specs → List Mark
 outer_specs_marks no_spec = []
 outer_specs_marks (value_and ns t es span specs) =
     optional_marks span.start t ++ (expressions_marks (part_of span.start) es ++ outer_specs_marks specs)
-outer_specs_marks (type_and n is_alias t span specs) =
-    expression_marks (part_of span.start) t ++ outer_specs_marks specs
+outer_specs_marks (type_and n ps is_alias t span specs) =
+    type_parameters_marks span.start ps
+    ++ (expression_marks (part_of span.start) t ++ outer_specs_marks specs)
 
 abbrev pub top_level_marks : TopLevelDeclaration → List Mark
 top_level_marks (function_declaration f) = function_marks f f.body
@@ -525,6 +658,21 @@ top_level_marks (general_declaration (declaration_of keyword specs is_grouped sp
 abbrev pub top_levels_marks : List TopLevelDeclaration → List Mark
 top_levels_marks [] = []
 top_levels_marks (d ∷ ds) = top_level_marks d ++ top_levels_marks ds
+
+-- what a condition finds out
+abbrev pub is_found : Mark → Bool
+is_found (mentions m) = is_found_role m.role
+  where
+    is_found_role : Role → Bool
+    is_found_role (found_nil nil) = true
+    is_found_role (found_error nil row) = true
+    is_found_role role = false
+is_found mark = false
+
+-- In the first edition conditions find out nothing.
+abbrev pub marks_by : Edition → List Mark → List Mark
+marks_by First ms = filter (λ m. not (is_found m)) ms
+marks_by Second ms = ms
 
 abbrev pub file_marks : SourceFile → List Mark
 file_marks file = top_levels_marks file.declarations

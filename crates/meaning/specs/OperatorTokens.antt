@@ -2,13 +2,15 @@
 -- (The Go specification, "Operators", "Assignment statements", "Function types".)
 use Rattle.std.specs.Prelude.{Bool, true, false}
 use Rattle.lexer.specs.declared.token.TokenKind.{TokenKind}
-use Rattle.lexer.specs.declared.token.TokenKind.TheVariants.{Identifier, Number as number_token, Rune as rune_token, InterpretedString as interpreted_string_token, RawString as raw_string_token, ConstKeyword, VarKeyword, TypeKeyword, ChanKeyword, FuncKeyword, InterfaceKeyword, MapKeyword, StructKeyword, Plus as plus_token, Minus, Star, Slash, Percent, Ampersand, Pipe, Caret, ShiftLeft as shift_left_token, ShiftRight as shift_right_token, AndNot as and_not_token, PlusAssign, MinusAssign, StarAssign, SlashAssign, PercentAssign, AmpersandAssign, PipeAssign, CaretAssign, ShiftLeftAssign, ShiftRightAssign, AndNotAssign, LogicalAnd as logical_and_token, LogicalOr as logical_or_token, Arrow, EqualEqual, LessThan, GreaterThan, Bang, NotEqual as not_equal_token, LessOrEqual as less_or_equal_token, GreaterOrEqual as greater_or_equal_token, LeftParenthesis, LeftBracket, LeftBrace, Dot}
+use Rattle.lexer.specs.declared.token.TokenKind.TheVariants.{Identifier, Number as number_token, Rune as rune_token, InterpretedString as interpreted_string_token, RawString as raw_string_token, ConstKeyword, VarKeyword, TypeKeyword, ChanKeyword, FuncKeyword, InterfaceKeyword, MapKeyword, StructKeyword, Plus as plus_token, Minus, Star, Slash, Percent, Ampersand, Pipe, Caret, ShiftLeft as shift_left_token, ShiftRight as shift_right_token, AndNot as and_not_token, PlusAssign, MinusAssign, StarAssign, SlashAssign, PercentAssign, AmpersandAssign, PipeAssign, CaretAssign, ShiftLeftAssign, ShiftRightAssign, AndNotAssign, LogicalAnd as logical_and_token, LogicalOr as logical_or_token, Arrow, EqualEqual, LessThan, GreaterThan, Bang, NotEqual as not_equal_token, LessOrEqual as less_or_equal_token, GreaterOrEqual as greater_or_equal_token, LeftParenthesis, LeftBracket, LeftBrace, Dot, Tilde as tilde_token}
+use Rattle.tree.specs.declared.edition.Edition.{Edition}
+use Rattle.tree.specs.declared.edition.Edition.TheVariants.{First, Second}
 use Rattle.tree.specs.declared.operator.BasicLitKind.{BasicLitKind}
 use Rattle.tree.specs.declared.operator.BasicLitKind.TheVariants.{Number, Rune, InterpretedString, RawString}
 use Rattle.tree.specs.declared.operator.BinaryOperator.{BinaryOperator}
 use Rattle.tree.specs.declared.operator.BinaryOperator.TheVariants.{LogicalOr, LogicalAnd, Equal, NotEqual, Less, LessOrEqual, Greater, GreaterOrEqual, Add, Subtract, Or, Xor, Multiply, Divide, Remainder, ShiftLeft, ShiftRight, And, AndNot}
 use Rattle.tree.specs.declared.operator.UnaryOperator.{UnaryOperator}
-use Rattle.tree.specs.declared.operator.UnaryOperator.TheVariants.{Plus, Negate, Not, Complement, Address, Receive}
+use Rattle.tree.specs.declared.operator.UnaryOperator.TheVariants.{Plus, Negate, Not, Complement, Address, Receive, Tilde}
 use Rattle.tree.specs.declared.operator.DeclKeyword.{DeclKeyword}
 use Rattle.tree.specs.declared.operator.DeclKeyword.TheVariants.{Const, Var, «Type» as type_keyword}
 use Rattle.meaning.specs.Cursor.{Rule, token, never}
@@ -56,6 +58,7 @@ unary_token Not = Bang
 unary_token Complement = Caret
 unary_token Address = Ampersand
 unary_token Receive = Arrow
+unary_token Tilde = tilde_token
 
 abbrev pub literal_token : BasicLitKind → TokenKind
 literal_token Number = number_token
@@ -86,6 +89,12 @@ can_begin_type _ = false
 abbrev pub is_dot : TokenKind → Bool
 is_dot Dot = true
 is_dot _ = false
+
+-- a bracket continues a type's name, in the second edition
+abbrev pub takes_arguments : Edition → TokenKind → Bool
+takes_arguments First kind = false
+takes_arguments Second LeftBracket = true
+takes_arguments Second kind = false
 
 -- an arrow continues the word `chan`
 abbrev pub is_arrow : TokenKind → Bool

@@ -60,6 +60,10 @@ abbrev pub or_else : {A : Type 0} → Option A → Option A → Option A
 or_else None other = other
 or_else (Some a) other = Some a
 
+abbrev pub has_any : {A : Type 0} → List A → Bool
+has_any [] = false
+has_any (a ∷ rest) = true
+
 abbrev pub import_meant : PackageNames → List ImportSpec → List ℕ → Option (List ℕ)
 import_meant packages specs name =
     or_else (import_among is_first_path packages name specs) (import_among any_path packages name specs)
@@ -83,7 +87,7 @@ abbrev pub specs_at_package_level : Specs → List PackageLevel
 specs_at_package_level no_spec = []
 specs_at_package_level (value_and ns t es span specs) =
     names_at_package_level ns ++ specs_at_package_level specs
-specs_at_package_level (type_and n is_alias t span specs) =
+specs_at_package_level (type_and n ps is_alias t span specs) =
     declares_at_package_level false n.text ++ specs_at_package_level specs
 
 abbrev pub is_init : List ℕ → Bool

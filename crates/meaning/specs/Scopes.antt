@@ -1,20 +1,22 @@
 -- The names of a tree, form by form: which functions declare, and which are used. A declaration belongs to a block, and
 -- its scope is the rest of that block from some offset on. Blocks are: that of a function, which begins at its `{` and
 -- has its receiver, parameters and results; each other pair of braces around statements; each `if`, `for` and `switch`
--- as a whole; each clause of a `switch` or `select`. Of two blocks around one offset the one that begins later is the
--- inner one. OuterBlocks has what is declared outside functions.
+-- as a whole; each clause of a `switch` or `select`; and what follows the name of a function, method or new type, which
+-- has its type parameters. Of two blocks around one offset the one that begins later is the inner one. OuterBlocks has
+-- what is declared outside functions.
 -- A use is a name in an expression or a type, a key of a composite literal, or an embedded type or interface element.
 -- Names that are declared, labels, fields, methods and what stands after a dot are none. A name that `:=` only assigns
 -- to is a use too; which those are, Declarations says.
 -- (The Go specification, "Blocks", "Declarations and scope", "Blank identifier", "Short variable declarations", "Type
--- switches", "For statements", "Select statements".)
-use Rattle.std.specs.Prelude.{ℕ, Bool, true, false, if◌then◌else◌, List, [], ◌∷◌, ◌++◌, Option, Some, None}
+-- switches", "For statements", "Select statements", "Type parameter declarations", "Method declarations".)
+use Rattle.std.specs.Prelude.{ℕ, ◌==◌, Bool, true, false, not, if◌then◌else◌, List, [], ◌∷◌, ◌++◌, Option, Some, None}
+use Rattle.std.specs.List.{list_any, filter}
 use Rattle.std.specs.Str.{bytes_eq}
 use Rattle.lexer.specs.Bytes.{underscore}
 use Rattle.tree.specs.declared.operator.DeclKeyword.{DeclKeyword}
 use Rattle.tree.specs.declared.operator.DeclKeyword.TheVariants.{Var, «Type» as type_keyword}
 use Rattle.tree.specs.declared.span.Span.{Span}
-use Rattle.tree.specs.Syntax.{Identifier, TypeName, Expression, expression_node, ExpressionForm, name_expression, basic_literal, function_literal, composite_literal, literal_value, key_value, parenthesized, selector_expression, index_expression, slice_expression, type_assertion, call_expression, star_expression, unary_expression, binary_expression, array_type, ellipsis_array_type, slice_type, map_type, channel_type, function_type, struct_type, interface_type, Expressions, no_expression, expression_and, OptionalExpression, missing_expression, present_expression, Signature, signature_of, Parameters, no_parameter, named_and, unnamed_and, name_alone_and, Fields, no_field, fields_and, embedded_and, method_and, Statement, statement_node, StatementForm, empty_statement, declaration_statement, labeled_statement, expression_statement, send_statement, increment_statement, decrement_statement, assignment, operator_assignment, define_statement, go_statement, defer_statement, return_statement, break_statement, continue_statement, block_statement, if_statement, for_statement, range_assignment, range_definition, switch_statement, type_switch_statement, select_statement, Statements, no_statement, statement_and, OptionalStatement, missing_statement, present_statement, CaseClauses, no_case, case_and, CommunicationClauses, no_communication, communication_and, Declaration, declaration_of, Specs, no_spec, value_and, type_and, Block, Function, TopLevelDeclaration, function_declaration, general_declaration, SourceFile}
+use Rattle.tree.specs.Syntax.{Identifier, TypeName, Expression, expression_node, ExpressionForm, name_expression, basic_literal, function_literal, composite_literal, literal_value, key_value, parenthesized, selector_expression, index_expression, instance_expression, slice_expression, type_assertion, call_expression, star_expression, unary_expression, binary_expression, array_type, ellipsis_array_type, slice_type, map_type, channel_type, function_type, struct_type, interface_type, Expressions, no_expression, expression_and, OptionalExpression, missing_expression, present_expression, Signature, signature_of, Parameters, no_parameter, named_and, unnamed_and, name_alone_and, Fields, no_field, fields_and, embedded_and, element_and, method_and, Statement, statement_node, StatementForm, empty_statement, declaration_statement, labeled_statement, expression_statement, send_statement, increment_statement, decrement_statement, assignment, operator_assignment, define_statement, go_statement, defer_statement, return_statement, break_statement, continue_statement, goto_statement, fallthrough_statement, block_statement, if_statement, for_statement, range_assignment, range_definition, switch_statement, type_switch_statement, select_statement, Statements, no_statement, statement_and, OptionalStatement, missing_statement, present_statement, CaseClauses, no_case, case_and, CommunicationClauses, no_communication, communication_and, Declaration, declaration_of, Specs, no_spec, value_and, type_and, Block, Function, TopLevelDeclaration, function_declaration, general_declaration, SourceFile}
 
 -- what a function declares
 pub record LocalName : Type 0 where
@@ -75,6 +77,48 @@ signature_declared block (signature_of ps rs brackets) = parameters_declared blo
 abbrev pub type_declared : Span → Identifier → List Naming
 type_declared block n = declared_names type_keyword block n.span.start false (n ∷ [])
 
+-- Type parameters
+
+-- the block of those of a function, method or new type: it begins behind its name, and ends with the function or spec
+abbrev pub behind_name : Identifier → Span → Span
+behind_name n span = record { start = n.span.end; end = span.end }
+
+-- they are local types, and their scope is the whole block
+abbrev pub type_parameters_declared : Span → List Identifier → List Naming
+type_parameters_declared block ns = declared_names type_keyword block block.start false ns
+
+-- the names in a list of parameters
+abbrev pub parameters_named : Parameters → List Identifier
+parameters_named no_parameter = []
+parameters_named (named_and n ellipsis t ps) = n ∷ parameters_named ps
+parameters_named (unnamed_and ellipsis t ps) = parameters_named ps
+parameters_named (name_alone_and n ps) = n ∷ parameters_named ps
+
+-- the bare names among expressions
+abbrev pub bare_names : Expressions → List Identifier
+bare_names no_expression = []
+bare_names (expression_and (expression_node (name_expression text) span) es) =
+    record { text = text; span = span } ∷ bare_names es
+bare_names (expression_and e es) = bare_names es
+
+-- A receiver's type declares the type parameters of its method: the bare names in the brackets behind its own name.
+abbrev pub named_in_type : Expression → List Identifier
+named_in_type (expression_node (parenthesized t) span) = named_in_type t
+named_in_type (expression_node (star_expression t) span) = named_in_type t
+named_in_type (expression_node (index_expression t p) span) = bare_names (expression_and p no_expression)
+named_in_type (expression_node (instance_expression t ps) span) = bare_names ps
+named_in_type t = []
+
+abbrev pub named_in_types : Parameters → List Identifier
+named_in_types no_parameter = []
+named_in_types (named_and n ellipsis t ps) = named_in_type t ++ named_in_types ps
+named_in_types (unnamed_and ellipsis t ps) = named_in_type t ++ named_in_types ps
+named_in_types (name_alone_and n ps) = named_in_types ps
+
+abbrev pub named_in_receiver : Option Parameters → List Identifier
+named_in_receiver None = []
+named_in_receiver (Some ps) = named_in_types ps
+
 abbrev pub end_of : Expression → ℕ
 end_of (expression_node form span) = span.end
 
@@ -121,6 +165,7 @@ unfoldable mutual
   expression_form_names at (parenthesized e) = expression_names e
   expression_form_names at (selector_expression e n) = expression_names e
   expression_form_names at (index_expression e i) = expression_names e ++ expression_names i
+  expression_form_names at (instance_expression e es) = expression_names e ++ expressions_names es
   expression_form_names at (slice_expression e low high most) =
       expression_names e ++ (optional_names low ++ (optional_names high ++ optional_names most))
   expression_form_names at (type_assertion e t) = expression_names e ++ expression_names t
@@ -159,6 +204,7 @@ unfoldable mutual
   fields_names no_field = []
   fields_names (fields_and ns t tag span fs) = expression_names t ++ fields_names fs
   fields_names (embedded_and star n tag span fs) = embedded_name n ++ fields_names fs
+  fields_names (element_and star t tag span fs) = expression_names t ++ fields_names fs
   fields_names (method_and n signature span fs) = signature_names signature ++ fields_names fs
 
   -- the names of a statement that stands in the block
@@ -183,6 +229,8 @@ unfoldable mutual
   statement_form_names block span (return_statement es) = expressions_names es
   statement_form_names block span (break_statement n) = []
   statement_form_names block span (continue_statement n) = []
+  statement_form_names block span (goto_statement n) = []
+  statement_form_names block span fallthrough_statement = []
   statement_form_names block span (block_statement ss braces) = statements_names braces ss
   statement_form_names block span (if_statement init has_semicolon c ss braces otherwise) =
       optional_statement_names span init
@@ -229,13 +277,20 @@ unfoldable mutual
       optional_names t
       ++ (expressions_names es
       ++ (declared_names keyword block span.end false ns ++ specs_names block keyword specs))
-  specs_names block keyword (type_and n is_alias t span specs) =
-      type_declared block n ++ (expression_names t ++ specs_names block keyword specs)
+  specs_names block keyword (type_and n ps is_alias t span specs) =
+      type_declared block n
+      ++ (type_parameters_declared (behind_name n span) (parameters_named ps)
+      ++ (parameters_names ps ++ (expression_names t ++ specs_names block keyword specs)))
 
--- the names of a receiver's type
+-- none of these names is what is used there
+abbrev pub is_none_of : List Identifier → Naming → Bool
+is_none_of ns (uses_name name at) = not (list_any (λ n. n.span.start == at) ns)
+is_none_of ns (declares_name l) = true
+
+-- the names that a receiver's type uses: all but those that it declares
 abbrev pub receiver_names : Option Parameters → List Naming
 receiver_names None = []
-receiver_names (Some ps) = parameters_names ps
+receiver_names (Some ps) = filter (is_none_of (named_in_types ps)) (parameters_names ps)
 
 abbrev pub receiver_declared : Span → Option Parameters → List Naming
 receiver_declared block None = []
@@ -248,17 +303,23 @@ body_names receiver signature (Some b) =
     receiver_declared b.braces receiver
     ++ (signature_declared b.braces signature ++ statements_names b.braces b.statements)
 
--- a function or method; one without a block declares none of its parameters
+-- a function or method; one without a block declares its type parameters, and none of the others
 abbrev pub function_names : Function → List Naming
 function_names f =
-    receiver_names f.receiver ++ (signature_names f.signature ++ body_names f.receiver f.signature f.body)
+    receiver_names f.receiver
+    ++ (type_parameters_declared (behind_name f.name f.span)
+    (named_in_receiver f.receiver ++ parameters_named f.type_parameters)
+    ++ (parameters_names f.type_parameters
+    ++ (signature_names f.signature ++ body_names f.receiver f.signature f.body)))
 
--- a declaration outside all functions: it declares no local
+-- a declaration outside all functions: it declares no local but type parameters
 abbrev pub outer_specs_names : Specs → List Naming
 outer_specs_names no_spec = []
 outer_specs_names (value_and ns t es span specs) =
     optional_names t ++ (expressions_names es ++ outer_specs_names specs)
-outer_specs_names (type_and n is_alias t span specs) = expression_names t ++ outer_specs_names specs
+outer_specs_names (type_and n ps is_alias t span specs) =
+    type_parameters_declared (behind_name n span) (parameters_named ps)
+    ++ (parameters_names ps ++ (expression_names t ++ outer_specs_names specs))
 
 abbrev pub top_level_names : TopLevelDeclaration → List Naming
 top_level_names (function_declaration f) = function_names f

@@ -8,8 +8,10 @@
 use Rattle.std.specs.Prelude.{ℕ, zero, suc, ◌+◌, ◌==◌, Bool, true, false, ◌&&◌, ◌||◌, if◌then◌else◌, List, [], ◌∷◌, ◌++◌, Option, Some, None, is_none, is_some, option_map, map, slice_get, codes, length}
 use Rattle.std.specs.List.{list_any, list_all}
 use Rattle.std.specs.Str.{bytes_eq}
+use Rattle.tree.specs.declared.edition.Edition.{Edition}
+use Rattle.tree.specs.declared.edition.Edition.TheVariants.{First, Second}
 use Rattle.tree.specs.declared.operator.DeclKeyword.TheVariants.{Const, Var, «Type» as type_keyword}
-use Rattle.tree.specs.Syntax.{Identifier, Expression, expression_node, call_expression, unary_expression, Expressions, no_expression, expression_and, OptionalExpression, present_expression, Signature, signature_of, Parameters}
+use Rattle.tree.specs.Syntax.{Identifier, Expression, expression_node, call_expression, unary_expression, Expressions, no_expression, expression_and, OptionalExpression, missing_expression, present_expression, Signature, signature_of, Parameters}
 use Rattle.meaning.specs.Scopes.{is_blank}
 use Rattle.meaning.specs.OuterBlocks.{or_else}
 use Rattle.meaning.specs.Declarations.{Meaning, local_name, import_name, function_name, package_name, universe_name}
@@ -18,9 +20,10 @@ use Rattle.meaning.specs.FunctionFacts.{Meanings, context_path, errgroup_path, i
 
 -- What is known
 
--- what the uses of a file mean, and the facts of functions: of this package's by name, and of the given imports' by
--- path and name
+-- the edition of the rules, what the uses of a file mean, and the facts of functions: of this package's by name, and of
+-- the given imports' by path and name
 pub record Known : Type 0 where
+  pub edition : Edition
   pub means : Meanings
   pub functions : List ℕ → Option FunctionFacts
   pub imported : List ℕ → List ℕ → Option FunctionFacts
@@ -253,12 +256,24 @@ made_by_type known (present_expression t) no_expression =
     if is_group_type known (as_named t) then Some idle else None
 made_by_type known t es = None
 
+-- `var g, x = errgroup.WithContext(..)`, in the second edition alone
+abbrev pub made_by_pair : Edition → Known → Row → ℕ → OptionalExpression → Option GroupState
+made_by_pair First known row count t = None
+made_by_pair Second known row count (present_expression t) = None
+made_by_pair Second known row count missing_expression =
+    if is_context_call (only_call row row.values) && (count == 2) then Some live else None
+  where
+    is_context_call : Option Call → Bool
+    is_context_call None = false
+    is_context_call (Some c) = is_of known.means errgroup_path (codes "WithContext") c.callee
+
 abbrev pub made_by_form : Known → Row → ℕ → RowForm → Option GroupState
 made_by_form known row k (defines ns) = if_first k (made_by_values known row (length ns) row.values)
 made_by_form known row k (assigns ls) =
     if_first k (made_by_values known row (length (lefts_of_expressions ls)) row.values)
 made_by_form known row k (declares Const ns t) = None
-made_by_form known row k (declares Var ns t) = made_by_type known t row.values
+made_by_form known row k (declares Var ns t) =
+    or_else (made_by_type known t row.values) (if_first k (made_by_pair known.edition known row (length ns) t))
 made_by_form known row k (declares type_keyword ns t) = None
 
 -- what the row makes on its left side k, by its form, where a local stands there

@@ -6,13 +6,15 @@ use Rattle.std.specs.Prelude.{ℕ, ◌+◌, true, false, List, [], ◌∷◌, So
 use Rattle.lexer.specs.declared.token.Token.{Token}
 use Rattle.lexer.specs.declared.token.TokenKind.{TokenKind}
 use Rattle.lexer.specs.declared.token.TokenKind.TheVariants.{Identifier as name_token, InterpretedString, ChanKeyword, DefaultKeyword, ForKeyword, FuncKeyword, IfKeyword, RangeKeyword, StructKeyword, SwitchKeyword, TypeKeyword, Minus, Star, LogicalAnd as logical_and_token, LogicalOr as logical_or_token, Arrow, EqualEqual, Define, Ellipsis, LeftParenthesis, RightParenthesis, LeftBracket, RightBracket, LeftBrace, RightBrace, Comma, Semicolon, Dot, Colon}
+use Rattle.tree.specs.declared.edition.Edition.{Edition}
+use Rattle.tree.specs.declared.edition.Edition.TheVariants.{First, Second}
 use Rattle.tree.specs.declared.span.Span.{Span}
 use Rattle.tree.specs.declared.operator.BinaryOperator.TheVariants.{LogicalOr, LogicalAnd, Equal, Subtract}
 use Rattle.tree.specs.declared.operator.ChanDirection.TheVariants.{Both, Send, Receive}
-use Rattle.tree.specs.declared.operator.DeclKeyword.TheVariants.{Const}
-use Rattle.tree.specs.declared.operator.UnaryOperator.TheVariants.{Negate}
-use Rattle.tree.specs.Syntax.{Identifier, TypeName, Expression, expression_node, ExpressionForm, name_expression, composite_literal, parenthesized, selector_expression, type_assertion, call_expression, unary_expression, binary_expression, star_expression, slice_type, channel_type, function_type, struct_type, Expressions, no_expression, expression_and, missing_expression, present_expression, Parameters, no_parameter, named_and, unnamed_and, name_alone_and, signature_of, no_field, embedded_and, Statement, statement_node, StatementForm, empty_statement, declaration_statement, go_statement, labeled_statement, block_statement, if_statement, for_statement, range_assignment, type_switch_statement, no_statement, statement_and, missing_statement, no_case, case_and, declaration_of, no_spec, value_and}
-use Rattle.meaning.specs.Cursor.{Cursor, Rule}
+use Rattle.tree.specs.declared.operator.DeclKeyword.TheVariants.{Const, «Type» as type_keyword}
+use Rattle.tree.specs.declared.operator.UnaryOperator.TheVariants.{Negate, Tilde}
+use Rattle.tree.specs.Syntax.{Identifier, TypeName, Expression, expression_node, ExpressionForm, name_expression, composite_literal, parenthesized, selector_expression, index_expression, type_assertion, call_expression, unary_expression, binary_expression, star_expression, slice_type, channel_type, function_type, struct_type, Expressions, no_expression, expression_and, missing_expression, present_expression, Parameters, no_parameter, named_and, unnamed_and, name_alone_and, signature_of, no_field, embedded_and, Statement, statement_node, StatementForm, empty_statement, declaration_statement, go_statement, labeled_statement, block_statement, if_statement, for_statement, range_assignment, type_switch_statement, no_statement, statement_and, missing_statement, no_case, case_and, declaration_of, no_spec, value_and, type_and}
+use Rattle.meaning.specs.Cursor.{GoText, read_in, Cursor, Rule}
 use Rattle.meaning.specs.Grammar.{as_type, as_expression, SpellsExpression, SpellsStatement}
 use Rattle.meaning.specs.TreeOfText.{first_place}
 
@@ -35,26 +37,39 @@ pub record Example : Type 0 where
 abbrev pub begin : Example → Cursor
 begin example = first_place (laid_out 0 example.pieces)
 
--- The rule of a tree spells all tokens of the text.
-abbrev pub IsSpelled : Example → (List ℕ → Rule) → Type 0
-IsSpelled example rule = rule example.text (begin example) record { left = []; end = length example.text }
+-- the text as an edition reads it
+abbrev pub in_edition : Edition → Example → GoText
+in_edition edition example = read_in edition example.text
+
+-- The rule of a tree spells all tokens of the text, in the edition.
+abbrev pub IsSpelledIn : Edition → Example → (GoText → Rule) → Type 0
+IsSpelledIn edition example rule =
+    rule (in_edition edition example) (begin example) record { left = []; end = length example.text }
+
+-- In both editions it spells them.
+abbrev pub IsSpelled : Example → (GoText → Rule) → Type 0
+IsSpelled example rule = (edition : Edition) → IsSpelledIn edition example rule
 
 -- The rule of a tree does not spell these tokens, nor the first of them.
-abbrev pub IsNotSpelled : Example → (List ℕ → Rule) → Type 0
-IsNotSpelled example rule = (to : Cursor) → rule example.text (begin example) to → ⊥
+abbrev pub IsNotSpelled : Example → (GoText → Rule) → Type 0
+IsNotSpelled example rule = (edition : Edition) (to : Cursor) → rule (in_edition edition example) (begin example) to → ⊥
 
 -- The rule of a tree spells no tokens of any text.
-abbrev pub SpellsNothing : (List ℕ → Rule) → Type 0
-SpellsNothing rule = (text : List ℕ) (from to : Cursor) → rule text from to → ⊥
+abbrev pub SpellsNothing : (GoText → Rule) → Type 0
+SpellsNothing rule = (text : GoText) (from to : Cursor) → rule text from to → ⊥
+
+-- It spells no tokens of any text in this edition.
+abbrev pub SpellsNothingIn : Edition → (GoText → Rule) → Type 0
+SpellsNothingIn edition rule = (bytes : List ℕ) (from to : Cursor) → rule (read_in edition bytes) from to → ⊥
 
 -- the rules of a tree: of an expression, of a type, of a statement
-abbrev pub expression : Expression → List ℕ → Rule
+abbrev pub expression : Expression → GoText → Rule
 expression e text = SpellsExpression text as_expression e
 
-abbrev pub type_of : Expression → List ℕ → Rule
+abbrev pub type_of : Expression → GoText → Rule
 type_of t text = SpellsExpression text as_type t
 
-abbrev pub statement : Statement → List ℕ → Rule
+abbrev pub statement : Statement → GoText → Rule
 statement s text = SpellsStatement text s
 
 -- nodes, each with the offsets of its first byte and of the byte after its last one
@@ -393,6 +408,36 @@ constant_without_value =
     no_spec)
     false (from_to 0 11)))
 
+-- []T[int], as an index of a slice type
+abbrev pub index_of_slice_type : Expression
+index_of_slice_type =
+    node 0 8 (index_expression (node 0 3 (slice_type (use_of (codes "T") 2))) (use_of (codes "int") 4))
+
+-- T[int]
+abbrev pub instance : Expression
+instance = node 0 6 (index_expression (use_of (codes "T") 0) (use_of (codes "int") 2))
+
+-- ~y
+abbrev pub tilde_before_operand : Expression
+tilde_before_operand = node 0 2 (unary_expression Tilde (use_of (codes "y") 1))
+
+-- type T [P *C]int
+abbrev pub length_text : Example
+length_text = record {
+  text = codes "type T [P *C]int";
+  pieces = (0, TypeKeyword, 4) ∷ (1, name_token, 1) ∷ (1, LeftBracket, 1) ∷ (0, name_token, 1) ∷ (1, Star, 1)
+      ∷ (0, name_token, 1) ∷ (0, RightBracket, 1) ∷ (0, name_token, 3) ∷ [];
+}
+
+-- with a type parameter P
+abbrev pub parameter_for_length : Statement
+parameter_for_length =
+    doing 0 16 (declaration_statement (declaration_of type_keyword
+    (type_and (name (codes "T") 5)
+    (named_and (name (codes "P") 8) false (node 10 12 (star_expression (use_of (codes "C") 11))) no_parameter)
+    false (use_of (codes "int") 13) (from_to 5 16) no_spec)
+    false (from_to 0 16)))
+
 -- Each text has this tree.
 pub record DelicateTrees : Type 0 where
   -- Operators of one level nest to the left, tighter ones inside looser ones.
@@ -449,7 +494,16 @@ pub record RefusedTrees : Type 0 where
   pub empty_statement_kept : SpellsNothing (statement empty_in_block)
   pub no_call : SpellsNothing (statement go_without_call)
   pub no_value : SpellsNothing (statement constant_without_value)
+  -- an index of a slice type, in the edition that gives the bracket to the type's name; and an instance, in the other
+  pub index_behind_name : SpellsNothingIn Second (expression index_of_slice_type)
+  pub instance_in_the_first : SpellsNothingIn First (type_of instance)
+  -- a type parameter where the length of an array can be read
+  pub parameter_in_brackets : (to : Cursor)
+      → statement parameter_for_length (in_edition Second length_text) (begin length_text) to
+      → ⊥
+  -- `~` before an operand, in both editions
+  pub tilde_outside : SpellsNothing (expression tilde_before_operand)
   -- `x.(type)` as a type assertion, or as any other expression
   pub guard_as_assertion : (operand type : Expression) (span : Span)
       → IsNotSpelled guard_text (expression (expression_node (type_assertion operand type) span))
-  pub guard_as_expression : (e : Expression) → IsSpelled guard_text (expression e) → ⊥
+  pub guard_as_expression : (edition : Edition) (e : Expression) → IsSpelledIn edition guard_text (expression e) → ⊥

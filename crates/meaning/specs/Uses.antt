@@ -1,19 +1,21 @@
 -- What each mention of a tracked variable does, and which uses the rules don't allow. A mention is a binding, one of
 -- the allowed mentions below, or a fault. In the body that declares a variable more is allowed than in the literals in
 -- it. A cancel variable has one type: a binding, call, pass or return by the other type is a fault. Besides, makers,
--- givers, `errgroup` and the universe's `recover` may be named only as the rules say.
+-- givers, `errgroup` and the universe's `recover` may be named only as the rules say. The rules have two editions.
 -- (The documentation of `context` and `golang.org/x/sync/errgroup`; this tool's rules.)
-use Rattle.std.specs.Prelude.{ℕ, zero, suc, ◌+◌, ◌==◌, Bool, true, false, not, ◌&&◌, ◌||◌, if◌then◌else◌, List, [], ◌∷◌, ◌++◌, Option, Some, None, is_some, option_map, codes, length, nat_le}
-use Rattle.std.specs.List.{list_any, list_all}
+use Rattle.std.specs.Prelude.{ℕ, zero, suc, ◌+◌, ◌==◌, Bool, true, false, not, ◌&&◌, ◌||◌, if◌then◌else◌, List, [], ◌∷◌, ◌++◌, Option, Some, None, is_some, option_map, map, flat_map, slice_get, codes, length, nat_le}
+use Rattle.std.specs.List.{list_any, list_all, filter}
 use Rattle.std.specs.Str.{bytes_eq}
+use Rattle.tree.specs.declared.edition.Edition.{Edition}
+use Rattle.tree.specs.declared.edition.Edition.TheVariants.{First, Second}
 use Rattle.tree.specs.declared.operator.DeclKeyword.TheVariants.{Const, Var, «Type» as type_keyword}
-use Rattle.tree.specs.Syntax.{Identifier, Expression, expression_node, function_literal, Expressions, no_expression, expression_and, OptionalExpression, present_expression, Signature, signature_of, Parameters}
+use Rattle.tree.specs.Syntax.{Identifier, Expression, expression_node, parenthesized, star_expression, function_literal, Expressions, no_expression, expression_and, OptionalExpression, present_expression, Signature, signature_of, Parameters}
 use Rattle.meaning.specs.Scopes.{is_blank}
 use Rattle.meaning.specs.OuterBlocks.{is_init}
 use Rattle.meaning.specs.Declarations.{Meaning, import_name}
-use Rattle.meaning.specs.Mentions.{Named, as_bare, RowForm, defines, assigns, declares, Standing, ordinary, first_of_for, communication, Row, Call, CallPlace, nowhere, as_statement, only_value, return_item, deferred, Role, called, called_in_brackets, argument, returned, left, names_type, new_literal, parameter_pointer, Mention, LiteralUse, other_use, deferred_call, started_by, BodyPlace, Mark, mentions, defers_literal, returns, opens, closes, expression_marks, part_of}
-use Rattle.meaning.specs.FunctionFacts.{errgroup_path, is_import, is_selected, CancelType, plain, with_cause, is_same_type, is_cancel_type, TrackedType, cancel_type, group_type, is_same_tracked, VariableKind, cancel, group, kind_of_type, TrackedParameter, CancelResult, FunctionFacts, items_of, cancel_results}
-use Rattle.meaning.specs.Tracked.{Known, facts_of, is_universe, is_of_universe, is_maker, Giving, giving_of, local_meant_or, variable_of, declared_by, left_local, lefts_of, local_at, is_blank_at, is_binding_form, may_bind, only_call, row_giving, are_locals, row_obtains, GroupState, row_makes, Placed, placed, LocalRole, parameter, receiver, variadic, result, in_block, Local, find_local, locals_of, is_variable, kind_of_local}
+use Rattle.meaning.specs.Mentions.{Named, as_bare, RowForm, defines, assigns, declares, Standing, ordinary, first_of_for, communication, Row, Call, CallPlace, nowhere, as_statement, only_value, return_item, deferred, Role, elsewhere, found_nil, found_error, called, called_in_brackets, argument, returned, left, names_type, new_literal, parameter_pointer, Mention, LiteralUse, other_use, deferred_call, started_by, BodyPlace, Mark, mentions, defers_literal, returns, opens, closes, is_none_left, expression_marks, part_of}
+use Rattle.meaning.specs.FunctionFacts.{errgroup_path, is_import, is_selected, CancelType, plain, with_cause, is_same_type, is_cancel_type, TrackedType, cancel_type, group_type, is_same_tracked, VariableKind, cancel, group, kind_of_type, TrackedParameter, CancelResult, Unless, FunctionFacts, items_of, cancel_results, listed}
+use Rattle.meaning.specs.Tracked.{Known, facts_of, is_universe, is_of_universe, is_maker, Giving, giving_of, local_meant_or, variable_of, declared_by, Left, left_local, lefts_of, local_at, is_blank_at, is_binding_form, may_bind, call_giving, call_in, only_call, row_giving, are_locals, row_obtains, GroupState, row_makes, Placed, placed, LocalRole, parameter, receiver, variadic, result, in_block, Local, find_local, locals_of, is_variable, kind_of_local}
 
 -- A file with what is known of it
 
@@ -209,9 +211,25 @@ clears_by_form known row (declares Const ns t) = false
 clears_by_form known row (declares Var ns t) = clears_by_type known t row.values
 clears_by_form known row (declares type_keyword ns t) = false
 
--- what the row may clear, if it is a cancel variable
-abbrev pub row_clears : Known → Row → Bool
-row_clears known row = may_bind row.standing row.form && clears_by_form known row row.form
+abbrev pub is_no_giving : Known → Row → Option Expression → Bool
+is_no_giving known row None = false
+is_no_giving known row (Some e) = not (is_some (call_giving known (call_in row e)))
+
+-- no value at all, one for all left sides, or one for each: none that is a call of a maker or a giver clears
+abbrev pub clears_at : Known → Row → ℕ → List Expression → Bool
+clears_at known row k [] = true
+clears_at known row k (e ∷ []) = is_no_giving known row (Some e)
+clears_at known row k (e ∷ f ∷ es) =
+    (length (e ∷ f ∷ es) == length (lefts_of row.form)) && is_no_giving known row (slice_get (e ∷ f ∷ es) k)
+
+-- In the first edition a row of one name clears it by a type or an empty value alone; in the second each value does.
+abbrev pub clears_by_edition : Edition → Known → Row → ℕ → Bool
+clears_by_edition First known row k = clears_by_form known row row.form
+clears_by_edition Second known row k = clears_at known row k (listed row.values)
+
+-- the row may clear what stands on its left side k, if it is a cancel variable
+abbrev pub row_clears : Known → Row → ℕ → Bool
+row_clears known row k = may_bind row.standing row.form && clears_by_edition known.edition known row k
 
 abbrev pub second : Expressions → Option Expression
 second no_expression = None
@@ -222,11 +240,12 @@ abbrev pub has_tracked_in : Seen → Option Expression → Bool
 has_tracked_in seen None = false
 has_tracked_in seen (Some e) = has_tracked seen e
 
--- x of `g, x := errgroup.WithContext(..)` has no tracked name, in literals neither
+-- x of `g, x := errgroup.WithContext(..)`, or of `var`, has no tracked name, in literals neither
 abbrev pub is_second_free : Seen → Row → RowForm → Bool
 is_second_free seen row (defines ns) = not (is_tracked seen (local_at seen.known row 1))
 is_second_free seen row (assigns ls) = not (has_tracked_in seen (second ls))
-is_second_free seen row (declares keyword ns t) = true
+is_second_free seen row (declares keyword ns t) =
+    is_none_left row.values || not (is_tracked seen (local_at seen.known row 1))
 
 abbrev pub is_group_or_none : Seen → Option ℕ → Bool
 is_group_or_none seen None = true
@@ -237,7 +256,9 @@ abbrev pub are_groups : Seen → Row → RowForm → Bool
 are_groups seen row (defines ns) = is_group (kind_at seen row 0)
 are_groups seen row (assigns ls) = is_group (kind_at seen row 0)
 are_groups seen row (declares keyword ns t) =
-    list_all (λ l. is_group_or_none seen (left_local seen.known (Some l))) (lefts_of row.form)
+    if is_none_left row.values
+    then list_all (λ l. is_group_or_none seen (left_local seen.known (Some l))) (lefts_of row.form)
+    else is_group (kind_at seen row 0)
 
 abbrev pub made_binding : Seen → Row → Option GroupState → Option Binding
 made_binding seen row None = None
@@ -248,8 +269,59 @@ made_binding seen row (Some state) =
 abbrev pub binding_at : Seen → Row → ℕ → Option Binding
 binding_at seen row k =
     if row_obtains seen.known row k then if row_binds seen row then Some (obtained k) else None
-    else if row_clears seen.known row && is_cancel (kind_at seen row k) then Some cleared
+    else if row_clears seen.known row k && is_cancel (kind_at seen row k) then Some cleared
     else made_binding seen row (row_makes seen.known row k)
+
+-- Rows of givers with an error
+
+abbrev pub unless_in : Option FunctionFacts → List Unless
+unless_in None = []
+unless_in (Some f) = f.unless
+
+abbrev pub call_unless : Known → Option Call → List Unless
+call_unless known None = []
+call_unless known (Some c) = unless_in (facts_of known c.callee)
+
+abbrev pub is_obtained : Option Binding → Bool
+is_obtained None = false
+is_obtained (Some (obtained k)) = true
+is_obtained (Some cleared) = false
+is_obtained (Some (made state)) = false
+
+abbrev pub is_left_of : Known → ℕ → Left → Bool
+is_left_of known number l = is_variable (left_local known (Some l)) number
+
+-- `*e`, or something in brackets: it may be a local by another name
+unfoldable pub may_be_a_local : Expression → Bool
+may_be_a_local (expression_node (star_expression e) span) = true
+may_be_a_local (expression_node (parenthesized e) span) = true
+may_be_a_local e = false
+
+abbrev pub has_hidden_left : RowForm → Bool
+has_hidden_left (defines ns) = false
+has_hidden_left (assigns ls) = list_any may_be_a_local (listed ls)
+has_hidden_left (declares keyword ns t) = false
+
+-- that local stands on the left side k of the row, and nowhere else there, by another name neither
+abbrev pub stands_once : Known → Row → ℕ → ℕ → Bool
+stands_once known row k number =
+    is_variable (local_at known row k) number
+    && ((length (filter (is_left_of known number) (lefts_of row.form)) == 1) && not (has_hidden_left row.form))
+
+-- what the row obtains from a function that gives it only where its error, which that local holds, is nil
+abbrev pub obtained_unless : Seen → Row → ℕ → Unless → List ℕ
+obtained_unless seen row error u =
+    if is_obtained (binding_at seen row u.given) && stands_once seen.known row u.error error
+    then some (local_at seen.known row u.given) else []
+  where
+    some : Option ℕ → List ℕ
+    some None = []
+    some (Some number) = number ∷ []
+
+abbrev pub lost_to : Seen → Row → Option ℕ → List ℕ
+lost_to seen row None = []
+lost_to seen row (Some error) =
+    flat_map (obtained_unless seen row error) (call_unless seen.known (only_call row row.values))
 
 abbrev pub is_made : Option Binding → Bool
 is_made None = false
@@ -472,7 +544,26 @@ cancel_use known t l bodies m (argument k has_address c) =
 -- an item of a return list at the position of such a result is handed on by the return
 cancel_use known t l bodies m (returned k) =
     allowed_if (is_own l bodies && is_given_as k t (body_gives known bodies)) []
+-- where the variable is nil nothing is left to call, so it is as good as called there
+cancel_use known t l bodies m (found_nil nil) = Some (if is_universe (known.means nil) then call l.number ∷ [] else [])
+cancel_use known t l bodies m (found_error nil row) = Some []
 cancel_use known t l bodies m role = None
+
+-- In the second edition the variable may be read anywhere: its function may be called by several and more than once, so
+-- that a copy takes nothing away from who has to call it. A call with other arguments than its own is no read.
+abbrev pub is_read : CancelType → Role → Option (List ℕ) → Bool
+is_read t elsewhere selected = true
+is_read t (called c) selected = is_some selected || has_its_arguments t c
+is_read t called_in_brackets selected = true
+is_read t (argument k has_address c) selected = not has_address
+is_read t (returned k) selected = true
+is_read t role selected = false
+
+abbrev pub cancel_use_by
+    : Edition → Known → CancelType → Local → List BodyPlace → Mention → Role → Option (List Event)
+cancel_use_by First known t l bodies m role = cancel_use known t l bodies m role
+cancel_use_by Second known t l bodies m role =
+    either_use (cancel_use known t l bodies m role) (allowed_if (is_read t role m.named.selected) [])
 
 abbrev pub literal_at : Expression → Option ℕ
 literal_at (expression_node (function_literal signature ss braces) span) = Some span.start
@@ -530,6 +621,8 @@ group_lent known l bodies (Some m) k c = None
 abbrev pub group_use : Seen → Local → List BodyPlace → Mention → Role → Option (List Event)
 group_use seen l bodies m (called c) = group_called seen l bodies m.named.selected c
 group_use seen l bodies m (argument k has_address c) = group_lent seen.known l bodies m.named.selected k c
+group_use seen l bodies m (found_nil nil) = Some []
+group_use seen l bodies m (found_error nil row) = Some []
 group_use seen l bodies m role = None
 
 -- Faults
@@ -537,6 +630,7 @@ group_use seen l bodies m role = None
 -- what is said of a use; in a report these are LC02, LC03, LC06, LC09, LC11 and LC12
 pub data UseCode : Type 0 where
   recover_used : UseCode
+  goto_used : UseCode
   cancel_discarded : UseCode
   cancel_used_otherwise : UseCode
   group_used_otherwise : UseCode
@@ -625,6 +719,12 @@ binding_outcome seen l kind bodies m row b in_block = record {
   events = event_here l bodies (binding_event seen.known l m row b);
 }
 
+-- Behind a giver with an error nothing was given where its error is not nil.
+abbrev pub error_events : Seen → Mention → Role → List Event
+error_events seen m (found_error nil row) =
+    if is_universe (seen.known.means nil) then map call (lost_to seen row (variable_of seen.known m)) else []
+error_events seen m role = []
+
 -- Mentions of variables
 
 abbrev pub use_outcome : VariableKind → Local → Mention → Option (List Event) → Outcome
@@ -632,7 +732,8 @@ use_outcome kind l m None = only_faults (fault_at m.named.at (otherwise kind) l.
 use_outcome kind l m (Some events) = record { faults = []; events = events }
 
 abbrev pub kind_use : Seen → Local → VariableKind → List BodyPlace → Mention → Option (List Event)
-kind_use seen l cancel bodies m = cancel_use seen.known (cancel_type_of seen l) l bodies m m.role
+kind_use seen l cancel bodies m =
+    cancel_use_by seen.known.edition seen.known (cancel_type_of seen l) l bodies m m.role
 kind_use seen l group bodies m = group_use seen l bodies m m.role
 
 -- a mention that binds nothing
@@ -686,12 +787,17 @@ call_faults seen bodies m g (return_item k) =
     if_not (hands_on (body_gives seen.known bodies) k g) (last_fault cancel_used_otherwise m.named)
 call_faults seen bodies m g deferred = last_fault cancel_used_otherwise m.named
 
--- a giver may be named where it is not called, a maker not
+-- In the first edition a giver may be named where it is not called, a maker not; in the second neither may. A call of
+-- an instance is no call here, so that what it names stands elsewhere.
+abbrev pub is_only_called : Edition → Known → Named → Bool
+is_only_called First known n = is_maker known n
+is_only_called Second known n = true
+
 abbrev pub giving_role_faults : Seen → List BodyPlace → Mention → Giving → Role → List UseFault
 giving_role_faults seen bodies m g (called c) = call_faults seen bodies m g c.place
 giving_role_faults seen bodies m g called_in_brackets = last_fault cancel_used_otherwise m.named
 giving_role_faults seen bodies m g role =
-    if is_maker seen.known m.named then last_fault cancel_used_otherwise m.named else []
+    if is_only_called seen.known.edition seen.known m.named then last_fault cancel_used_otherwise m.named else []
 
 abbrev pub giving_faults : Seen → List BodyPlace → Mention → Option Giving → List UseFault
 giving_faults seen bodies m None = []
@@ -730,13 +836,12 @@ recover_faults known m =
     if bytes_eq m.named.name (codes "recover") && is_universe (known.means m.named.at)
     then fault_at m.named.at recover_used (codes "-") else []
 
--- All of a mark
+-- All of a mark, but for `recover`, of which BodyEvents says where it is a fault
 
 abbrev pub mention_faults : Seen → List BodyPlace → Mention → List UseFault
 mention_faults seen bodies m =
     (variable_outcome seen bodies m).faults
-    ++ (giving_faults seen bodies m (giving_of seen.known m.named)
-    ++ (errgroup_faults seen m ++ recover_faults seen.known m))
+    ++ (giving_faults seen bodies m (giving_of seen.known m.named) ++ errgroup_faults seen m)
 
 abbrev pub is_result : LocalRole → Bool
 is_result (parameter k) = false

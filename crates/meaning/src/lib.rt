@@ -2,7 +2,10 @@
 //! runs nothing.
 #![tactic(auto)]
 
+ghost use Rattle.meaning.specs.Conditions.{ConditionsFindOut};
 ghost use Rattle.meaning.specs.Laws.{EachFrontStops, FallingOffReturns};
+ghost use Rattle.meaning.specs.NameExamples.{TypeParametersHide};
+ghost use Rattle.meaning.specs.StatementExamples.{FallingAndJumping};
 ghost use Rattle.meaning.specs.TreeExamples.{DelicateTrees, RefusedTrees};
 ghost use Rattle.meaning.specs.UseLaws.{EachMentionIsOneOfThree, EventsStandAtOneSite};
 
@@ -39,6 +42,16 @@ pub fn other_trees_are_not()
     ensures { RefusedTrees }
 {}
 
+/// In small functions type parameters hide what stands around the function, and a receiver's type declares some.
+pub fn type_parameters_hide()
+    ensures { TypeParametersHide }
+{}
+
+/// A `fallthrough` comes to its switch's header again, and of a body with a `goto` any order of its parts is a list.
+pub fn falling_and_jumping()
+    ensures { FallingAndJumping }
+{}
+
 /// A mention of a tracked variable is a binding, an allowed mention or neither, and just one of these; an allowed one
 /// gives no fault, and one that is neither gives one. What a binding gives is not said: an event, a fault, or both.
 pub fn each_mention_is_one_of_three()
@@ -48,4 +61,10 @@ pub fn each_mention_is_one_of_three()
 /// What a mention, a return or a deferred literal does stands at one site.
 pub fn events_stand_at_one_site()
     ensures { EventsStandAtOneSite }
+{}
+
+/// Where a condition has come out so, by how its comparisons did, what it finds nil was equal to `nil`; and what behind
+/// a row it finds to be an error was not.
+pub fn conditions_find_out()
+    ensures { ConditionsFindOut }
 {}

@@ -1,6 +1,6 @@
 -- Which functions of a package are known to call a parameter: when the function returns, its parameter at that position
 -- has been called. Only a cancel parameter with a name can be known so, of a function (no method, and none that is
--- called `init` or `_`) with a block and with not too many variables. The flag is kept if the function's paths keep it,
+-- called `init` or `_`) with a block of which the paths are followed. The flag is kept if the function's paths keep it,
 -- where its own calls rely on flags in turn. Flags are consistent if each of them is kept under all of them; recursion
 -- is trusted so, until a path breaks it. A package's flags are the most consistent flags.
 -- (This tool's rules; the documentation of `context`.)
@@ -12,7 +12,7 @@ use Rattle.meaning.specs.OuterBlocks.{is_init}
 use Rattle.meaning.specs.FunctionFacts.{cancel}
 use Rattle.meaning.specs.Mentions.{BodyPlace}
 use Rattle.meaning.specs.Uses.{Callee, Seen, facts_take}
-use Rattle.meaning.specs.BodyEvents.{Variable, own_parameter, variables_of, too_many_faults}
+use Rattle.meaning.specs.BodyEvents.{Variable, own_parameter, variables_of, unfollowed_faults}
 use Rattle.meaning_packages.specs.PathFaults.{paths_of, KeepsCall}
 use Rattle.meaning_packages.specs.Credits.{Credits, promises_in}
 use Rattle.meaning.specs.BodyEvents.{bodies_of}
@@ -47,7 +47,7 @@ pub record IsClaim (seen : Seen) (b : BodyPlace) (v : Variable) (name : List ℕ
   pub is_body : Contains (bodies_of seen) b
   pub is_of_function : is_function name b ≡ true
   pub is_cancel_parameter : facts_take cancel k (seen.known.functions name) ≡ true
-  pub are_few : too_many_faults (variables_of seen b.at) ≡ []
+  pub is_followed : unfollowed_faults seen b ≡ []
   pub is_of_body : Contains (variables_of seen b.at) v
   pub is_parameter : v.role ≡ own_parameter k
   pub is_cancel_variable : v.kind ≡ cancel

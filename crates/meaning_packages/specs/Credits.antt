@@ -1,9 +1,9 @@
 -- Which literals may be relied on for the variables that they capture. A literal that a group starts, or that is
 -- called under `defer`, is relied on for a cancel variable if each list that comes to one of its returns leaves the
 -- variable safe, and one under `defer` for a group if none leaves the group live. So a literal of which no return is
--- reached is relied on for all that it captures, and one with too many variables for nothing. A literal relies on
--- the literals in it, which begin after its `func`. Of functions nothing is asked: no literal passes a variable
--- that it captures.
+-- reached is relied on for all that it captures, and one with too many variables, or with a `goto`, for nothing. A
+-- literal relies on the literals in it, which begin after its `func`. Of functions nothing is asked: no literal passes
+-- a variable that it captures.
 -- (The Go specification, "Defer statements"; the documentation of `golang.org/x/sync/errgroup`.)
 use Rattle.std.specs.Prelude.{ℕ, ◌≡◌, ◌↔◌, ◌==◌, Bool, true, false, not, ◌&&◌, if◌then◌else◌, List, [], ◌∷◌, Option, Some, None, Contains, nat_lt}
 use Rattle.meaning.specs.Code.{Occurrence}
@@ -11,7 +11,7 @@ use Rattle.meaning.specs.FunctionFacts.{VariableKind, cancel, group}
 use Rattle.meaning.specs.Mentions.{BodyPlace}
 use Rattle.meaning.specs.Tracked.{live, idle}
 use Rattle.meaning.specs.Uses.{Callee, Handed, Event, Seen}
-use Rattle.meaning.specs.BodyEvents.{Variable, captured, bodies_of, variables_of, too_many_faults}
+use Rattle.meaning.specs.BodyEvents.{Variable, captured, bodies_of, variables_of, unfollowed_faults}
 use Rattle.meaning.specs.Classes.{Promises, CancelClass, unset, opened, safe, pending, GroupClass, unmade, in_state, awaited}
 use Rattle.meaning_packages.specs.PathFaults.{Paths, cancel_class, group_class, ComesToReturn, paths_of}
 
@@ -68,7 +68,7 @@ pub record IsCredited (seen : Seen) (credits : Credits) (literal number : ℕ) :
   pub body : BodyPlace
   pub variable : Variable
   pub is_there : body_at literal (bodies_of seen) ≡ Some body
-  pub are_few : too_many_faults (variables_of seen literal) ≡ []
+  pub is_followed : unfollowed_faults seen body ≡ []
   pub is_of_body : Contains (variables_of seen literal) variable
   pub is_captured : variable.role ≡ captured
   pub is_it : variable.number ≡ number

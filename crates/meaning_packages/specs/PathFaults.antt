@@ -1,7 +1,7 @@
 -- The faults of a body's paths, and of its passes. Each is a combination of a code, a place and the name of a
 -- variable. A path's fault is what some list of the body's events comes to, as `Reaches` of
 -- `meaning/specs/Lists.antt` says it; so statements that no list reaches have none, and of the paths of a body with
--- too many variables nothing is said.
+-- too many variables, or with variables and a `goto`, nothing is said.
 --  - A cancel variable is overwritten where a list comes to a binding of it with the variable open, or pending in a
 --    group that is not the body's own (one that it declares, and that is no parameter).
 --  - A group is overwritten where a list comes to a making of it with the group live.
@@ -9,10 +9,12 @@
 --    parameter, and does not hand on there, may not have been called; it may be pending in a group that some list, the
 --    same or another one, leaves live at that place.
 -- A pass of a cancel variable to a function of which nobody knows that it calls it is a fault wherever it stands, on a
--- path or not.
+-- path or not, in the first edition of the rules; in the second it is a read.
 -- (The documentation of `context` and `golang.org/x/sync/errgroup`.)
 use Rattle.std.specs.Prelude.{ℕ, ◌≡◌, ◌≢◌, ◌==◌, not, ◌&&◌, Bool, true, false, List, [], Contains, Some}
 use Rattle.std.specs.List.{list_any}
+use Rattle.tree.specs.declared.edition.Edition.{Edition}
+use Rattle.tree.specs.declared.edition.Edition.TheVariants.{First}
 use Rattle.tree.specs.Syntax.{Block}
 use Rattle.meaning.specs.Code.{Occurrence, Code}
 use Rattle.meaning.specs.Lists.{Reaches}
@@ -21,7 +23,7 @@ use Rattle.meaning.specs.FunctionFacts.{cancel, group}
 use Rattle.meaning.specs.Mentions.{BodyPlace}
 use Rattle.meaning.specs.Tracked.{GroupState, live}
 use Rattle.meaning.specs.Uses.{Callee, VariableAt, Handed, Event, obtain, clear, pass, defer_pass, make, return_event, Seen, is_group}
-use Rattle.meaning.specs.BodyEvents.{Variable, VariableRole, own_parameter, own_receiver, declared_in_body, captured, sites_of, events_at, variables_of, too_many_faults}
+use Rattle.meaning.specs.BodyEvents.{Variable, VariableRole, own_parameter, own_receiver, declared_in_body, captured, sites_of, events_at, variables_of, unfollowed_faults}
 use Rattle.meaning.specs.Classes.{Promises, CancelClass, unset, opened, safe, pending, entry_cancel, cancel_after, GroupClass, in_state, entry_group, group_after}
 
 -- what is said of a path or a pass; in a report these are LC04, LC05, LC07, LC08, LC10 and LC06
@@ -38,8 +40,10 @@ pub record PathFault : Type 0 where
   pub code : PathCode
   pub name : List ℕ
 
--- a body: its code, its variables, the events that stand at its sites, on a path or not, and what is relied on
+-- a body: the edition by which it is judged, its code, its variables, the events that stand at its sites, on a path or
+-- not, and what is relied on
 pub record Paths : Type 0 where
+  pub edition : Edition
   pub code : Code Event
   pub variables : List Variable
   pub events : ℕ → List Event
@@ -157,9 +161,10 @@ pub record KeepsCall (b : Paths) (v : Variable) : Type 0 where
       → IsLeft b v t o
       → ⊥
 
--- a pass, on a path or not
+-- a pass, on a path or not, in the first edition
 pub data IsPassFault (b : Paths) : PathFault → Type 0 where
   passes_on : (v : Variable) (u : VariableAt) (at : ℕ) (e : Event)
+      → b.edition ≡ First
       → Contains b.variables v
       → v.kind ≡ cancel
       → Contains (b.events at) e
@@ -174,16 +179,17 @@ block_of b = record { statements = b.statements; braces = b.braces }
 
 abbrev pub paths_of : Seen → Promises → BodyPlace → Paths
 paths_of seen promises b = record {
+  edition = seen.known.edition;
   code = body_code (sites_of seen b.at) (block_of b);
   variables = variables_of seen b.at;
   events = events_at seen b.at seen.marks;
   promises = promises;
 }
 
--- a body with too many variables has no paths, and its passes are judged all the same
+-- a body that is not followed has no paths, and its passes are judged all the same
 pub data IsFaultOf (seen : Seen) (promises : Promises) (b : BodyPlace) : PathFault → Type 0 where
   of_a_pass : (f : PathFault) → IsPassFault (paths_of seen promises b) f → IsFaultOf seen promises b f
   of_a_path : (f : PathFault)
-      → too_many_faults (variables_of seen b.at) ≡ []
+      → unfollowed_faults seen b ≡ []
       → IsPathFault (paths_of seen promises b) f
       → IsFaultOf seen promises b f

@@ -3,15 +3,16 @@ use Rattle.std.proofs.Common.{◌≡◌, ℕ, suc, ◌+◌, ◌<◌, ◌≤◌, 
 use Rattle.std.specs.Prelude.{slice_get}
 use Rattle.std.proofs.lemmas.List.{length-map}
 use Rattle.std.proofs.lemmas.Option.{same_Some, slice_get_within, get_or_from_slice_get}
-use Rattle.tree.specs.Syntax.{ImportSpec, SourceFile}
+use Rattle.tree.specs.Syntax.{Identifier, ImportSpec, SourceFile}
 use Rattle.meaning.specs.Uses.{Callee, Seen}
 use Rattle.meaning_packages.specs.CallsFlags.{FileWithCredits}
 use Rattle.report.specs.Entries.{Entry}
 use Rattle.meaning_reports.specs.Loaded.{Reading, has_tree, has_text_fault, has_tree_fault, LoadedPackage, NumberedTree, Tables, trees_from, numbered_trees, trees_of, known_in, seen_from, seen_files}
 use Rattle.meaning.specs.Tracked.{Known}
 use Rattle.meaning_reports.specs.WholeFaults.{ImportsAt, IsWholeFault, has_no_tokens, has_no_tree, has_two_functions, has_no_rank}
+use Rattle.meaning_reports.specs.DotImports.{IsLeftOut}
 use Rattle.meaning_reports.specs.PackageTables.{AreCredited, no_file, file_and}
-use Rattle.meaning_reports.specs.PackageReports.{IsFileFinding, outside_bodies, of_use, of_path, Rules, IsFindingBy, of_whole, of_import, of_files, SaysByPaths, by_paths}
+use Rattle.meaning_reports.specs.PackageReports.{IsFileFinding, outside_bodies, of_use, of_path, Rules, IsFindingBy, of_whole, of_import, of_dot, of_files, SaysByPaths, by_paths}
 use Rattle.meaning_reports.proofs.NumberedTrees.{file_of}
 use Rattle.meaning_reports.specs.EntryFiles.{IsOfFile, AreSaidOfFiles, EntriesAreOfFilesBy, EntriesAreOfFiles}
 
@@ -51,6 +52,11 @@ module _ (ps : List LoadedPackage) (i : ℕ) (p : LoadedPackage) (is : slice_get
       of_this im.importer file im.is_importer
       (subst (λ (n : ℕ). n < length im.importer.files) im.is_file (of_numbered im.importer im.tree im.is_tree))
 
+  of_dotted : (tables : Tables) (file : ℕ) (dot : Identifier) → (h : IsLeftOut ps tables i file dot) → file < length p.files
+  of_dotted tables file dot h =
+      of_this h.importer file h.is_importer
+      (subst (λ (n : ℕ). n < length h.importer.files) h.is_file (of_numbered h.importer h.tree h.is_tree))
+
   whole_within : (x : Entry) → IsWholeFault ps i x → x.file < length p.files
   whole_within x (has_no_tokens q file at why that there) = of_this q file that (slice_get_within q.files file (has_text_fault at why) there)
   whole_within x (has_no_tree q file at why that there) = of_this q file that (slice_get_within q.files file (has_tree_fault at why) there)
@@ -64,7 +70,8 @@ module _ (ps : List LoadedPackage) (i : ℕ) (p : LoadedPackage) (is : slice_get
 module _ (rules : Rules) (each : AreSaidOfFiles rules.says) where
   finding_within : (ps : List LoadedPackage) (tables : Tables) (i : ℕ) (x : Entry) → IsFindingBy rules ps tables i x → IsOfFile ps i x
   finding_within ps tables i x (of_whole fault) p is = whole_within ps i p is x fault
-  finding_within ps tables i x (of_import j number spec y none im found) p is = of_spec ps i p is j number spec im
+  finding_within ps tables i x (of_import j number spec y none im needed found) p is = of_spec ps i p is j number spec im
+  finding_within ps tables i x (of_dot file dot none out) p is = of_dotted ps i p is tables file dot out
   finding_within ps tables i x (of_files none said) p is = each ps tables i x none said p is
 
   pub entries_are_of_files_by : EntriesAreOfFilesBy rules

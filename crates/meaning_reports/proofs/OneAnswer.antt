@@ -88,7 +88,7 @@ module _ (seen : Seen) where
     body = h.body;
     variable = h.variable;
     is_there = h.is_there;
-    are_few = h.are_few;
+    is_followed = h.is_followed;
     is_of_body = h.is_of_body;
     is_captured = h.is_captured;
     is_it = h.is_it;

@@ -20,7 +20,11 @@ use Rattle.meaning_reports.proofs.ImportsOf.{has_path, no_place, in_lists, given
 use Rattle.meaning_reports.proofs.RanksGiven.{HasOrder, has_order}
 
 pub nothing_known : (t : PackageTable) → IsEmpty t → t ≡ no_table
-nothing_known t h = λ i. record { signatures = λ name. h.no_signature name i; calls = λ name k. h.no_flag name k i }
+nothing_known t h = λ i. record {
+  signatures = λ name. h.no_signature name i;
+  calls = λ name k. h.no_flag name k i;
+  is_told = h.not_told i;
+}
 
 both_empty : (t u : PackageTable) → IsEmpty t → IsEmpty u → t ≡ u
 both_empty t u h k = nothing_known t h ∙ sym (nothing_known u k)
@@ -35,13 +39,14 @@ module _ (are_flags : FlagsRule) (determined : AreDetermined are_flags) (ps : Li
       → IsTableBy are_flags ps other i p u
       → t ≡ u
   one_table same t u (empty x fault h) (empty y again k) = both_empty t u h k
-  one_table same t u (empty x fault h) (full flags none its signatures calls) = absurd (none x fault)
-  one_table same t u (full flags none its signatures calls) (empty x fault h) = absurd (none x fault)
-  one_table same t u (full flags none its signatures calls) (full more too_none others known kept) =
+  one_table same t u (empty x fault h) (full flags none its signatures calls told) = absurd (none x fault)
+  one_table same t u (full flags none its signatures calls told) (empty x fault h) = absurd (none x fault)
+  one_table same t u (full flags none its signatures calls told) (full more too_none others known kept told_too) =
       let same_flags = determined ps one other i p flags more is none (same none) its others in
       λ j. record {
         signatures = λ name. (signatures name ∙ sym (known name)) j;
         calls = λ name n. (calls name n ∙ (ap (λ (f : Flags). f name n) same_flags ∙ sym (kept name n))) j;
+        is_told = (told ∙ sym told_too) j;
       }
 
 module _ (are_flags : FlagsRule) (determined : AreDetermined are_flags) (declared : Tables) (ps : List LoadedPackage)
@@ -164,6 +169,7 @@ one_report_by rules determined ps one other h k = same_lists one other (h.is_as_
 abbrev pub seen_by : List LoadedPackage → LoadedPackage → Tables → List Seen
 seen_by ps p known =
     seen_from (λ number. record {
+      edition = p.edition;
       means = means_in ps p number;
       functions = signatures_of ps p;
       imported = λ path. (known path).signatures;

@@ -2,6 +2,8 @@
 pub mod Loaded
 pub mod WholeFaults
 pub mod PackageTables
+pub mod DotImports
+pub mod UsedImports
 pub mod PackageReports
 -- What is proved of them.
 pub mod OneReport

@@ -1,9 +1,10 @@
--- Packages as they were read: each has a path and files, and of each file there is a tree, or else why there is none
--- and where. What is known in a tree comes from all trees of its package, the names of all packages that were given,
--- and the tables of those that the package imports.
+-- Packages as they were read: each has a path, the edition by which it is judged, and files. Of each file there is a
+-- tree, or else why there is none and where. What is known in a tree comes from all trees of its package, the names of
+-- all packages that were given, and the tables of those that the package imports.
 use Rattle.std.specs.Prelude.{ℕ, ◌+◌, ◌≡◌, Bool, false, if◌then◌else◌, List, [], ◌∷◌, map, flat_map, Option, Some, None, slice_get}
 use Rattle.std.specs.List.{list_any}
 use Rattle.std.specs.Str.{bytes_eq}
+use Rattle.tree.specs.declared.edition.Edition.{Edition}
 use Rattle.tree.specs.Syntax.{ImportSpec, SourceFile}
 use Rattle.meaning.specs.OuterBlocks.{PackageNames, specs_of}
 use Rattle.meaning.specs.Declarations.{declaration_of_use}
@@ -25,6 +26,7 @@ pub data Reading : Type 0 where
 
 pub record LoadedPackage : Type 0 where
   pub path : List ℕ
+  pub edition : Edition
   pub files : List Reading
 
 -- no two packages have one path
@@ -90,16 +92,19 @@ means_in ps p number = declaration_of_use (trees_of p) (package_names ps) number
 
 -- what the signatures of its functions say
 abbrev pub signatures_of : List LoadedPackage → LoadedPackage → List ℕ → Option FunctionFacts
-signatures_of ps p = package_facts (means_in ps p) (trees_of p)
+signatures_of ps p = package_facts p.edition (means_in ps p) (trees_of p)
 
 -- what is known of the functions of a package: what their signatures say, and which parameters they are known to call
 pub record PackageTable : Type 0 where
   pub signatures : List ℕ → Option FunctionFacts
   pub calls : Flags
+  -- some function has a parameter or a result that is tracked; or the package has an entry among declared facts, be it
+  -- without a function
+  pub is_told : Bool
 
 -- nothing is known of any function
 abbrev pub no_table : PackageTable
-no_table = record { signatures = λ name. None; calls = λ name k. false }
+no_table = record { signatures = λ name. None; calls = λ name k. false; is_told = false }
 
 -- for each path the table of that package
 abbrev pub Tables : Type 0
@@ -124,6 +129,7 @@ imported_flags p tables path = (imported_tables p tables path).calls
 
 abbrev pub known_in : List LoadedPackage → Tables → LoadedPackage → ℕ → Known
 known_in ps tables p number = record {
+  edition = p.edition;
   means = means_in ps p number;
   functions = signatures_of ps p;
   imported = imported_signatures p tables;

@@ -1,12 +1,12 @@
 -- What the report says of a package: the faults of the whole package, or else each import of a given package that isn't
--- yes, and what the rules say of its files. The rules of paths say there the use faults of what stands in no body, and
--- the faults of each body: its use faults, those of its passes and those of its paths. A package is yes if there is
--- nothing to say of it.
+-- yes and that it needs, each import with a dot that is left out, and what the rules say of its files. The rules of
+-- paths say there the use faults of what stands in no body, and the faults of each body: its use faults, those of its
+-- passes and those of its paths. A package is yes if there is nothing to say of it.
 use Rattle.std.specs.Prelude.{ℕ, ◌≡◌, ◌↔◌, Bool, List, length, Some, slice_get, Contains}
 use Rattle.std.specs.List.{AllPairs}
-use Rattle.tree.specs.Syntax.{ImportSpec}
+use Rattle.tree.specs.Syntax.{Identifier, ImportSpec}
 use Rattle.meaning.specs.Mentions.{BodyPlace}
-use Rattle.meaning.specs.Uses.{Callee, UseFault, UseCode, recover_used, cancel_discarded, cancel_used_otherwise, group_used_otherwise, bound_again, too_many_variables}
+use Rattle.meaning.specs.Uses.{Callee, UseFault, UseCode, recover_used, goto_used, cancel_discarded, cancel_used_otherwise, group_used_otherwise, bound_again, too_many_variables}
 use Rattle.meaning.specs.BodyEvents.{outer_faults, body_faults}
 use Rattle.meaning_packages.specs.PathFaults.{PathFault, PathCode, overwritten, not_called, group_is_live, group_overwritten, left_to_live_group, passed_on, IsFaultOf}
 use Rattle.meaning_packages.specs.Credits.{promises_in}
@@ -14,10 +14,12 @@ use Rattle.meaning.specs.BodyEvents.{bodies_of}
 use Rattle.meaning_packages.specs.CallsFlags.{Flags, calls_by, FileWithCredits}
 use Rattle.report.specs.declared.codes.DiagnosticCode.{DiagnosticCode}
 use Rattle.report.specs.declared.codes.DiagnosticCode.TheVariants.{LeftOut, Discarded, Overwritten, NotCalled, CancelMisused, GroupIsLive, GroupOverwritten, GroupMisused, LeftToLiveGroup, BoundAgain, TooMany, ImportIsNotYes}
-use Rattle.report.specs.declared.codes.TreeFault.TheVariants.{Recover}
+use Rattle.report.specs.declared.codes.TreeFault.TheVariants.{Recover, Goto}
 use Rattle.report.specs.Entries.{Entry, Precedes}
 use Rattle.meaning_reports.specs.Loaded.{LoadedPackage, PackageTable, Tables, imported_flags}
 use Rattle.meaning_reports.specs.WholeFaults.{ImportsAt, import_entry, IsWholeFault, HasNoWholeFault}
+use Rattle.meaning_reports.specs.DotImports.{IsLeftOut, dot_entry}
+use Rattle.meaning_reports.specs.UsedImports.{IsNeeded}
 use Rattle.meaning_reports.specs.PackageTables.{FlagsRule, AreTablesBy, IsJudged, AreFlagsByPaths}
 
 -- By any rules
@@ -38,8 +40,13 @@ pub data IsFindingBy (rules : Rules) (ps : List LoadedPackage) (tables : Tables)
   of_import : {i : ℕ} (j number : ℕ) (spec : ImportSpec) (x : Entry)
       → HasNoWholeFault ps i
       → ImportsAt ps i j number spec
+      → IsNeeded ps tables i j spec.path
       → IsFindingBy rules ps tables j x
       → IsFindingBy rules ps tables i (import_entry number spec ImportIsNotYes)
+  of_dot : {i : ℕ} (file : ℕ) (dot : Identifier)
+      → HasNoWholeFault ps i
+      → IsLeftOut ps tables i file dot
+      → IsFindingBy rules ps tables i (dot_entry file dot)
   of_files : {i : ℕ} {x : Entry} → HasNoWholeFault ps i → rules.says ps tables i x → IsFindingBy rules ps tables i x
 
 -- nothing is to be said of the package
@@ -72,6 +79,7 @@ pub record IsReportBy (rules : Rules) (ps : List LoadedPackage) (report : List S
 
 abbrev pub use_code : UseCode → DiagnosticCode
 use_code recover_used = LeftOut Recover
+use_code goto_used = LeftOut Goto
 use_code cancel_discarded = Discarded
 use_code cancel_used_otherwise = CancelMisused
 use_code group_used_otherwise = GroupMisused

@@ -3,7 +3,7 @@
 use Rattle.std.proofs.Common.{◌≡◌, ℕ, List, [], ◌∷◌, ◌++◌, Contains}
 use Rattle.std.specs.Prelude.{◌-◌}
 use Rattle.meaning.specs.Mentions.{BodyPlace}
-use Rattle.tree.specs.Syntax.{Statement, statement_node, StatementForm, empty_statement, declaration_statement, labeled_statement, expression_statement, send_statement, increment_statement, decrement_statement, assignment, operator_assignment, define_statement, go_statement, defer_statement, return_statement, break_statement, continue_statement, block_statement, if_statement, for_statement, range_assignment, range_definition, switch_statement, type_switch_statement, select_statement, Statements, no_statement, statement_and, OptionalStatement, missing_statement, present_statement, CaseClauses, no_case, case_and, CommunicationClauses, no_communication, communication_and, Declaration, declaration_of, Specs, no_spec, value_and, type_and}
+use Rattle.tree.specs.Syntax.{Statement, statement_node, StatementForm, empty_statement, declaration_statement, labeled_statement, expression_statement, send_statement, increment_statement, decrement_statement, assignment, operator_assignment, define_statement, go_statement, defer_statement, return_statement, break_statement, continue_statement, goto_statement, fallthrough_statement, block_statement, if_statement, for_statement, range_assignment, range_definition, switch_statement, type_switch_statement, select_statement, Statements, no_statement, statement_and, OptionalStatement, missing_statement, present_statement, CaseClauses, no_case, case_and, CommunicationClauses, no_communication, communication_and, Declaration, declaration_of, Specs, no_spec, value_and, type_and}
 
 pub data CodeSite : Type 0 where
   asked_at : ℕ → CodeSite
@@ -22,7 +22,7 @@ AreDistinct (s ∷ ss) = ((t : CodeSite) → Contains ss t → place_of s ≡ pl
 abbrev pub asked_specs : Specs → List CodeSite
 asked_specs no_spec = []
 asked_specs (value_and ns t es span specs) = asked_at span.start ∷ asked_specs specs
-asked_specs (type_and n is_alias t span specs) = asked_at span.start ∷ asked_specs specs
+asked_specs (type_and n ps is_alias t span specs) = asked_at span.start ∷ asked_specs specs
 
 -- those of a declaration inside a function; its events stand where it begins
 abbrev pub asked_declaration : Declaration → List CodeSite
@@ -49,9 +49,13 @@ unfoldable mutual
   asked_form at (return_statement es) = unasked_at at ∷ []
   asked_form at (break_statement n) = asked_at at ∷ []
   asked_form at (continue_statement n) = asked_at at ∷ []
+  asked_form at (goto_statement n) = asked_at at ∷ []
+  asked_form at fallthrough_statement = asked_at at ∷ []
   asked_form at (block_statement ss braces) = asked_statements ss
   asked_form at (if_statement init has_semicolon c ss braces otherwise) =
-      asked_at at ∷ (asked_optional init ++ (asked_statements ss ++ asked_optional otherwise))
+      asked_at at
+      ∷ (asked_optional init ++ ((asked_at braces.start ∷ asked_statements ss)
+      ++ (asked_at (braces.end - 1) ∷ asked_optional otherwise)))
   asked_form at (for_statement init c post has_semicolons ss braces) =
       asked_at at ∷ ((asked_optional init ++ asked_optional post) ++ asked_statements ss)
   asked_form at (range_assignment ls e ss braces) = asked_at at ∷ asked_statements ss

@@ -4,9 +4,9 @@ use Rattle.std.specs.Prelude.{if◌then◌else◌}
 use Rattle.meaning.specs.Code.{Occurrence}
 use Rattle.meaning.specs.Lists.{Reaches}
 use Rattle.meaning.specs.FunctionFacts.{VariableKind, cancel, group}
-use Rattle.meaning.specs.Mentions.{BodyPlace, Row, Role, elsewhere, called, called_in_brackets, argument, returned, left, names_type, new_literal, parameter_pointer, Mention, Mark, mentions, defers_literal, returns, opens, closes}
+use Rattle.meaning.specs.Mentions.{BodyPlace, Row, Role, elsewhere, called, called_in_brackets, argument, returned, left, names_type, new_literal, parameter_pointer, Mention, Mark, mentions, defers_literal, returns, opens, closes, exposed, found_nil, found_error}
 use Rattle.meaning.specs.Tracked.{Known, variable_of, GroupState, LocalRole, parameter, receiver, variadic, result, in_block, Local}
-use Rattle.meaning.specs.Uses.{Seen, found, kind_of, tracked_kind, VariableAt, Callee, Event, other, obtain, clear, call, defer_call, pass, defer_pass, lend, start, try, wait, defer_wait, make, defer_literal, return_event, Binding, obtained, cleared, made, binding_at, binding_event, mention_outcome, binding_outcome, row_outcome, role_outcome, local_outcome, is_own, is_body, body_gives}
+use Rattle.meaning.specs.Uses.{Seen, found, kind_of, tracked_kind, VariableAt, Callee, Event, other, obtain, clear, call, defer_call, pass, defer_pass, lend, start, try, wait, defer_wait, make, defer_literal, return_event, Binding, obtained, cleared, made, binding_at, binding_event, mention_outcome, binding_outcome, row_outcome, role_outcome, local_outcome, is_own, is_body, body_gives, variable_outcome}
 use Rattle.meaning.specs.BodyEvents.{handed_on, mark_events}
 use Rattle.meaning.proofs.Membership.{contains_cases, contains_nil}
 use Rattle.meaning_packages.specs.PathFaults as faults
@@ -15,7 +15,7 @@ use Rattle.meaning_runs.specs.Bodies.{Body, code_of}
 use Rattle.meaning_runs.specs.EventSources.{HasSource, says_nothing, falls_off, of_mark, IsBound, BindingsAreOfLocals}
 use Rattle.meaning_runs.proofs.Places.{eqb_is}
 use Rattle.meaning_runs.proofs.EventSources.{events_have_sources}
-use Rattle.meaning_runs.proofs.MentionEvents.{is_use, mention_fits}
+use Rattle.meaning_runs.proofs.MentionEvents.{is_use, mention_fits, of_its_variable}
 
 -- an event that binds a cancel variable or a group, and where
 pub data Binds : Event → VariableAt → Type 0 where
@@ -96,6 +96,15 @@ bound_number known l m row (obtained k) u obtains = refl
 bound_number known l m row cleared u clears = refl
 bound_number known l m row (made state) u makes = refl
 
+-- what a mention binds its own variable gives
+pub of_variable : (seen : Seen) (bodies : List BodyPlace) (m : Mention) (e : Event) (u : VariableAt)
+    → Contains (mark_events seen bodies (mentions m)) e
+    → Binds e u
+    → Contains (variable_outcome seen bodies m).events e
+of_variable seen bodies m e u h binds =
+    of_its_variable seen bodies m e
+    (λ v same. no_binding (call v) u refl (subst (λ (x : Event). Binds x u) (sym same) binds)) h
+
 module _ (b : Body) (bodies : List BodyPlace) (here : is_body b.place.at bodies ≡ true) (m : Mention) (e : Event) (u : VariableAt) (binds : Binds e u) where
   module _ (l : Local) (is : found b.file (variable_of b.file.known m) ≡ Some l) where
     by_place : (own : Bool) (x : Event) → is_own l bodies ≡ own → (Binds x u → l.number ≡ u.number) → l.role ≡ in_block → Contains (if own then x ∷ [] else []) e → IsBound b u
@@ -128,6 +137,9 @@ module _ (b : Body) (bodies : List BodyPlace) (here : is_body b.place.at bodies 
     by_role : (r : Role) → Contains (role_outcome b.file l bodies m r).events e → IsBound b u
     by_role (left k row) h = by_row (kind_of b.file (Some l)) row (binding_at b.file row k) h
     by_role elsewhere h = absurd (mention_harmless b.file l (tracked_kind b.file (Some l)) bodies m e h u binds)
+    by_role exposed h = absurd (mention_harmless b.file l (tracked_kind b.file (Some l)) bodies m e h u binds)
+    by_role (found_nil nil) h = absurd (mention_harmless b.file l (tracked_kind b.file (Some l)) bodies m e h u binds)
+    by_role (found_error nil row) h = absurd (mention_harmless b.file l (tracked_kind b.file (Some l)) bodies m e h u binds)
     by_role (called c) h = absurd (mention_harmless b.file l (tracked_kind b.file (Some l)) bodies m e h u binds)
     by_role called_in_brackets h = absurd (mention_harmless b.file l (tracked_kind b.file (Some l)) bodies m e h u binds)
     by_role (argument k x c) h = absurd (mention_harmless b.file l (tracked_kind b.file (Some l)) bodies m e h u binds)
@@ -142,7 +154,7 @@ module _ (b : Body) (bodies : List BodyPlace) (here : is_body b.place.at bodies 
 
 by_mark : (b : Body) (bodies : List BodyPlace) (mark : Mark) (e : Event) (u : VariableAt) → is_body b.place.at bodies ≡ true → Contains (mark_events b.file bodies mark) e → Binds e u → IsBound b u
 by_mark b bodies (mentions m) e u here h binds =
-    by_found b bodies here m e u binds (found b.file (variable_of b.file.known m)) refl h
+    by_found b bodies here m e u binds (found b.file (variable_of b.file.known m)) refl (of_variable b.file bodies m e u h binds)
 by_mark b bodies (defers_literal site at) e u here h binds = absurd (single (defer_literal at) refl e h u binds)
 by_mark b bodies (returns at es) e u here h binds = absurd (single (return_event (handed_on b.file (body_gives b.file.known bodies) 0 es)) refl e h u binds)
 by_mark b bodies (opens x) e u here h binds = absurd (contains_nil e h)

@@ -4,10 +4,13 @@ use Rattle.std.specs.Prelude.{◌-◌}
 use Rattle.std.proofs.lemmas.List.Elements.{Contains-append_cases}
 use Rattle.tree.specs.declared.operator.DeclKeyword.{DeclKeyword}
 use Rattle.tree.specs.Syntax.{Parameters, Specs, no_spec, value_and, type_and, declaration_of, Block, Function, TopLevelDeclaration, function_declaration, general_declaration, ImportSpec, ImportDeclaration, SourceFile}
-use Rattle.meaning.specs.Mentions.{BodyPlace, Mark, mentions, defers_literal, returns, opens, closes, part_of, expressions_marks, optional_marks, signature_marks, statements_marks, receiver_marks, function_body, function_marks, outer_specs_marks, top_level_marks, top_levels_marks, file_marks}
+use Rattle.meaning.specs.Mentions.{BodyPlace, Mark, mentions, defers_literal, returns, opens, closes, part_of, expressions_marks, expression_marks, optional_marks, signature_marks, statements_marks, declared_elsewhere, type_parameters_marks, receiver_marks, function_body, function_marks, outer_specs_marks, top_level_marks, top_levels_marks, file_marks}
 use Rattle.meaning.specs.Tracked.{Placed, outer, placed}
+use Rattle.tree.specs.declared.edition.Edition.{Edition}
+use Rattle.meaning.specs.Cursor.{GoText, read_in}
+use Rattle.meaning.specs.Scopes.{parameters_named, named_in_types}
 use Rattle.meaning.specs.TreeOfText.{first_place, IsTreeOf}
-use Rattle.meaning.specs.Grammar.{as_type, as_expression, IsLast, SpellsSpecs, SpellsDeclaration, SpellsImportSpec, SpellsImportSpecs, SpellsOneImport, SpellsImports, SpellsReceiver, SpellsBody, SpellsFunction, SpellsTopLevel, SpellsTopLevels, SpellsFile}
+use Rattle.meaning.specs.Grammar.{as_type, as_expression, IsLast, type_parameters, SpellsTypeParameters, SpellsSpecs, SpellsDeclaration, SpellsImportSpec, SpellsImportSpecs, SpellsOneImport, SpellsImports, SpellsReceiver, SpellsBody, SpellsFunction, SpellsTopLevel, SpellsTopLevels, SpellsFile}
 use Rattle.meaning.proofs.Membership.{contains_nil, contains_here, contains_there, contains_cases}
 use Rattle.meaning.specs.BodyEvents.{opened_by, opened_in}
 use Rattle.meaning_runs.specs.BodyOffsets.{BodiesAreApart, BeginOnce, BodiesBeginOnce}
@@ -16,19 +19,20 @@ use Rattle.meaning_runs.proofs.BodyOffsetsWithin.{AllBefore, OpenOnce}
 use Rattle.meaning_runs.proofs.BodyOffsetsTokens.{tokens_ordered, tokens_under}
 use Rattle.meaning_runs.proofs.AskedSites.{CodeSite, unasked_at, asked_statements}
 use Rattle.meaning_runs.proofs.SitesWithin.{Sited, no_site, from_site}
-use Rattle.meaning_runs.proofs.BodyOffsetsRules.{Gives, both, behind, ending, given, spanned, loosely, gives_nothing, gives_never, gives_token, gives_chosen, gives_only_if, enclosed, gives_string, gives_semicolon, gives_identifier, gives_optional_identifier, gives_identifiers, moved, spanned_begun, unasked, foreign, past, simple, led, braced, bodied}
-use Rattle.meaning_runs.proofs.BodyOffsetsParts.{gives_perhaps, gives_expressions}
-use Rattle.meaning_runs.proofs.BodyOffsetsSpelled.{gives_keyword, no_expressions, last_gives, of_expression, of_each, of_optional, of_signature, of_items, of_statements}
+use Rattle.meaning_runs.proofs.BodyOffsetsRules.{Gives, both, behind, ending, given, spanned, loosely, gives_nothing, gives_never, gives_token, gives_chosen, gives_only_if, enclosed, gives_string, gives_semicolon, gives_identifier, gives_identifiers, moved, plain_before, spanned_begun, unasked, foreign, past, simple, led, braced, bodied}
+use Rattle.meaning_runs.proofs.BodyOffsetsParts.{names_around, gives_perhaps, gives_import_name, gives_type_parameters, gives_after_name, gives_expressions}
+use Rattle.meaning_runs.proofs.BodyOffsetsSpelled.{gives_keyword, no_parameters_marked, no_expressions, three_and_one, last_gives, of_expression, of_each, of_optional, of_signature, of_items, of_type_parameters, of_statements}
+use Rattle.meaning_runs.proofs.EditionMarks.{placed_among, same_opened}
 
 pub no_outer_specs : (specs : Specs) → IsLast specs → outer_specs_marks specs ≡ []
 no_outer_specs no_spec h = refl
 no_outer_specs (value_and ns t es span specs) h = absurd h
-no_outer_specs (type_and n is_alias t span specs) h = absurd h
+no_outer_specs (type_and n ps is_alias t span specs) h = absurd h
 
 abbrev block_sites : Block → List CodeSite
 block_sites b = unasked_at b.braces.start ∷ (asked_statements b.statements ++ unasked_at (b.braces.end - 1) ∷ [])
 
-module _ (text : List ℕ) where
+module _ (text : GoText) where
   outer_specs : (keyword : DeclKeyword) (is_grouped : Bool) (specs : Specs)
       → Gives false no_site [] (outer_specs_marks specs) (SpellsSpecs text keyword is_grouped specs)
   unfolding SpellsSpecs
@@ -42,17 +46,30 @@ module _ (text : List ℕ) where
       (gives_expressions text as_expression (part_of span.start) es (of_each text as_expression es)))))))))
       (gives_chosen is_grouped (behind gives_semicolon (outer_specs keyword true specs))
       (last_gives [] (outer_specs_marks specs) specs (λ h. refl) (no_outer_specs specs))))))
-  outer_specs keyword is_grouped (type_and n is_alias t span specs) =
-      given (loosely (both (spanned_begun (unasked (simple (behind (gives_identifier text n)
+  outer_specs keyword is_grouped (type_and n ps is_alias t span specs) =
+      moved (append_assoc (type_parameters_marks span.start ps) (expression_marks (part_of span.start) t) (outer_specs_marks specs))
+      (given (loosely (both (spanned_begun (unasked (simple (behind (gives_identifier text n)
+      (both (plain_before (declared_elsewhere span.start (parameters_named ps)) (names_around span.start (parameters_named ps))
+      (gives_after_name text.edition ps is_alias t (no_parameters_marked span.start ps) (of_type_parameters text true span.start ps)))
       (behind (gives_only_if is_alias (gives_token _))
-      (of_expression text as_type (part_of span.start) t))))))
+      (of_expression text as_type (part_of span.start) t)))))))
       (gives_chosen is_grouped (behind gives_semicolon (outer_specs keyword true specs))
-      (last_gives [] (outer_specs_marks specs) specs (λ h. refl) (no_outer_specs specs)))))
+      (last_gives [] (outer_specs_marks specs) specs (λ h. refl) (no_outer_specs specs))))))
+
+  -- the type parameters of a function
+  function_parameters : (allowed : Type 0) (site : ℕ) (ps : Parameters)
+      → Gives false (from_site site) [] (type_parameters_marks site ps)
+      (type_parameters allowed ps (SpellsTypeParameters text true ps))
+  function_parameters allowed site ps =
+      plain_before (declared_elsewhere site (parameters_named ps)) (names_around site (parameters_named ps))
+      (gives_type_parameters allowed ps (no_parameters_marked site ps) (of_type_parameters text true site ps))
 
   pub receiver : (site : ℕ) (ps : Option Parameters)
       → Gives false (from_site site) [] (receiver_marks site ps) (SpellsReceiver text ps)
   receiver site None = gives_nothing
-  receiver site (Some ps) = given (loosely (enclosed _ _ (of_items text true true site ps)))
+  receiver site (Some ps) =
+      given (plain_before (declared_elsewhere site (named_in_types ps)) (names_around site (named_in_types ps))
+      (loosely (enclosed _ _ (of_items text true true site ps))))
 
   block : (b : Block)
       → Gives true no_site (block_sites b) (statements_marks b.statements) (SpellsBody text (Some b))
@@ -64,13 +81,16 @@ module _ (text : List ℕ) where
   with_block f None =
       spanned_begun (unasked (led _ refl (past (both (receiver f.span.start f.receiver)
       (behind (gives_identifier text f.name)
-      (ending (of_signature text f.span.start f.signature) gives_nothing))))))
+      (both (function_parameters _ f.span.start f.type_parameters)
+      (ending (of_signature text f.span.start f.signature) gives_nothing)))))))
   with_block f (Some b) =
       bodied (function_body f b) refl
-      (moved (sym (append_assoc (receiver_marks f.span.start f.receiver) (signature_marks f.span.start f.signature) (statements_marks b.statements)))
+      (moved (sym (three_and_one (receiver_marks f.span.start f.receiver) (type_parameters_marks f.span.start f.type_parameters)
+      (signature_marks f.span.start f.signature) (statements_marks b.statements)))
       (both (past (receiver f.span.start f.receiver))
       (behind (gives_identifier text f.name)
-      (both (past (of_signature text f.span.start f.signature)) (foreign (block b))))))
+      (both (past (function_parameters _ f.span.start f.type_parameters))
+      (both (past (of_signature text f.span.start f.signature)) (foreign (block b)))))))
 
   pub top_level : (d : TopLevelDeclaration) → Gives false no_site [] (top_level_marks d) (SpellsTopLevel text d)
   unfolding SpellsDeclaration
@@ -85,7 +105,7 @@ module _ (text : List ℕ) where
   top_levels (d ∷ ds) = both (top_level d) (behind gives_semicolon (top_levels ds))
 
   pub import_spec : (i : ImportSpec) → Gives false no_site [] [] (SpellsImportSpec text i)
-  import_spec i = given (spanned (behind (gives_optional_identifier text i.name) (spanned gives_string)))
+  import_spec i = given (spanned (behind (gives_import_name text i.name) (spanned gives_string)))
 
   import_specs : (is : List ImportSpec) → Gives false no_site [] [] (SpellsImportSpecs text is)
   import_specs [] = gives_nothing
@@ -135,13 +155,17 @@ no_bodies_before : AllBefore 0 []
 no_bodies_before c h = absurd (contains_nil c h)
 
 pub bodies_are_apart : BodiesAreApart
-bodies_are_apart text tree t =
-    let g = whole_file text tree (first_place t.tokens) t.last 0 tt (tokens_ordered text t.tokens t.cut) t.spelled in
+bodies_are_apart edition text tree t =
+    let g = whole_file (read_in edition text) tree (first_place t.tokens) t.last 0 tt (tokens_ordered text t.tokens t.cut) t.spelled in
     let w = g.within in
+    let marks = file_marks tree in
+    let same_bodies = same_opened edition marks in
     record {
-      falling = w.falls [] tt no_bodies_before;
+      falling = λ p among. w.falls [] tt no_bodies_before p (placed_among edition marks p among);
       one_each = λ b c first second same.
-          w.one_each b c (opens_one (file_marks tree) b first) (opens_one (file_marks tree) c second) same;
+          let opens_b = opens_one marks b (subst (λ (bs : List BodyPlace). Contains bs b) same_bodies first) in
+          let opens_c = opens_one marks c (subst (λ (bs : List BodyPlace). Contains bs c) same_bodies second) in
+          w.one_each b c opens_b opens_c same;
     }
 
 -- the bodies that the marks open, wherever these stand
@@ -161,9 +185,9 @@ begin_once bodies (opens b ∷ ms) h = (
 begin_once bodies (closes ∷ ms) h = begin_once (outer bodies) ms h.1
 
 pub bodies_begin_once : BodiesBeginOnce
-bodies_begin_once text tree t =
-    let g = whole_file text tree (first_place t.tokens) t.last 0 tt (tokens_ordered text t.tokens t.cut) t.spelled in
-    begin_once [] (file_marks tree) g.within.once
+bodies_begin_once edition text tree t =
+    let g = whole_file (read_in edition text) tree (first_place t.tokens) t.last 0 tt (tokens_ordered text t.tokens t.cut) t.spelled in
+    subst BeginOnce (sym (same_opened edition (file_marks tree))) (begin_once [] (file_marks tree) g.within.once)
 
 -- the sites of a file whose tree is the tree of a text
 pub record AreSited (text : List ℕ) (tree : SourceFile) : Type 0 where
@@ -172,9 +196,9 @@ pub record AreSited (text : List ℕ) (tree : SourceFile) : Type 0 where
   pub sited : Sited no_site 0 end [] (file_marks tree)
   pub begun : (b : BodyPlace) → Contains (file_marks tree) (opens b) → b.at < end
 
-pub are_sited : (text : List ℕ) (tree : SourceFile) → IsTreeOf text tree → AreSited text tree
-are_sited text tree t =
-    let g = whole_file text tree (first_place t.tokens) t.last 0 tt (tokens_ordered text t.tokens t.cut) t.spelled in
+pub are_sited : (edition : Edition) (text : List ℕ) (tree : SourceFile) → IsTreeOf edition text tree → AreSited text tree
+are_sited edition text tree t =
+    let g = whole_file (read_in edition text) tree (first_place t.tokens) t.last 0 tt (tokens_ordered text t.tokens t.cut) t.spelled in
     let bounded = g.bounded (length text) (omega arith) (tokens_under text t.tokens t.cut) in
     record {
       end = g.hi;

@@ -2,21 +2,23 @@
 use Rattle.std.proofs.Common.{◌≡◌, ℕ, ◌+◌, Bool, true, false, List, [], ◌∷◌, ◌++◌, Option, Some, None, refl, sym, ap}
 use Rattle.std.specs.Prelude.{◌&&◌, if◌then◌else◌}
 use Rattle.lexer.specs.declared.token.TokenKind.TheVariants.{CaseKeyword}
+use Rattle.tree.specs.declared.edition.Edition.{Edition}
+use Rattle.tree.specs.declared.edition.Edition.TheVariants.{First, Second}
 use Rattle.tree.specs.declared.span.Span.{Span}
 use Rattle.tree.specs.declared.operator.BinaryOperator.{BinaryOperator}
 use Rattle.tree.specs.declared.operator.BinaryOperator.TheVariants.{Add, Subtract, Or, Xor, Multiply, Divide, Remainder, ShiftLeft, ShiftRight, And, AndNot}
 use Rattle.tree.specs.declared.operator.ChanDirection.{ChanDirection}
 use Rattle.tree.specs.declared.operator.ChanDirection.TheVariants.{Both, Send, Receive}
-use Rattle.tree.specs.Syntax.{Identifier, TypeName, Expression, expression_node, unary_expression, Expressions, no_expression, expression_and, OptionalExpression, missing_expression, present_expression, OptionalStatement, missing_statement, present_statement}
+use Rattle.tree.specs.Syntax.{Identifier, TypeName, Expression, expression_node, ExpressionForm, array_type, unary_expression, Expressions, no_expression, expression_and, OptionalExpression, missing_expression, present_expression, OptionalStatement, missing_statement, present_statement, Parameters, no_parameter, named_and, unnamed_and, name_alone_and}
 use Rattle.meaning.specs.Scopes.{is_blank}
-use Rattle.meaning.specs.Mentions.{Named, as_bare, as_named, as_bracketed, as_pointer, Row, CallPlace, nowhere, as_statement, only_value, return_item, deferred, Call, is_none_left, argument_use, Role, elsewhere, called, called_in_brackets, argument, left, new_literal, parameter_pointer, Mark, Spot, part_of, whole, mention, declaring, named_or, callee_or, addressed, argument_or, argument_at, new_literal_or, parameter_type_or, left_names, declared_elsewhere, guard_in_clause, expression_marks, expressions_marks, arguments_marks, items_marks, lefts_marks}
-use Rattle.meaning.specs.Cursor.{Rule, ◌⨾◌}
+use Rattle.meaning.specs.Mentions.{Named, as_bare, as_named, as_bracketed, as_pointer, Row, CallPlace, nowhere, as_statement, only_value, return_item, deferred, Call, is_none_left, argument_use, Role, called, called_in_brackets, argument, left, new_literal, parameter_pointer, Mark, Spot, part_of, whole, mention, declaring, named_or, callee_or, addressed, argument_or, argument_at, new_literal_or, parameter_type_or, left_names, declared_elsewhere, guard_in_clause, expression_marks, expressions_marks, arguments_marks, items_marks, lefts_marks, exposed, bare_within, ranged_marks}
+use Rattle.meaning.specs.Cursor.{GoText, Rule, ◌⨾◌}
 use Rattle.meaning.specs.OperatorTokens.{assign_operator}
-use Rattle.meaning.specs.Grammar.{Position, as_type, as_expression, as_value, as_element, end_of_name, end_of_type, channel, arguments, perhaps, elements, third_bound, guard_name, initial, range_left, case_head, communication_head, optional_tag, before_item, after_items, qualifier, type_name, SpellsExpression, SpellsExpressions, SpellsMore}
+use Rattle.meaning.specs.Grammar.{Position, as_type, as_expression, as_value, as_element, as_constraint, end_of_selector, end_of_name, end_of_type, channel, arguments, perhaps, elements, third_bound, guard_name, initial, range_left, case_head, communication_head, optional_tag, before_item, after_items, after_instance, type_parameters, parameters_stand, length_stands, no_type_parameters, after_type_name, qualifier, type_name, import_name, SpellsExpression, SpellsExpressions, SpellsMore}
 use Rattle.meaning_runs.proofs.AskedSites.{CodeSite, asked_at}
 use Rattle.meaning_runs.proofs.SitesWithin.{Around, no_site, from_site, behind_site}
 use Rattle.meaning_runs.proofs.SitesWithin.{AreMentions}
-use Rattle.meaning_runs.proofs.BodyOffsetsRules.{Gives, both, behind, ending, spanned, loosely, gives_nothing, gives_never, gives_not_before, gives_token, gives_optional, gives_only_if, gives_string, gives_semicolon, gives_identifier, moved, asked_so, replaced, beginning, unasked, foreign, past, led}
+use Rattle.meaning_runs.proofs.BodyOffsetsRules.{Gives, both, behind, ending, given, spanned, loosely, gives_one, gives_nothing, gives_never, gives_not_before, gives_token, gives_optional, gives_only_if, enclosed, gives_string, gives_semicolon, gives_identifier, moved, asked_so, replaced, beginning, unasked, foreign, past, led}
 
 pub named : (o : Option Named) (site : ℕ) (role : Role) {takes : Bool} {ms : List Mark} {rule : Rule}
     → Gives takes (from_site site) [] ms rule
@@ -69,12 +71,16 @@ pub names : (row : Row) (site k : ℕ) (ns : List Identifier) → AreMentions (f
 names row site k [] = tt
 names row site k (n ∷ ns) = (refl, names row site (k + 1) ns)
 
+pub names_around : (site : ℕ) (ns : List Identifier) → AreMentions (from_site site) (declared_elsewhere site ns)
+names_around site [] = tt
+names_around site (n ∷ ns) = (refl, names_around site ns)
+
 pub names_elsewhere : (site : ℕ) (ns : List Identifier) → AreMentions (behind_site site) (declared_elsewhere site ns)
 names_elsewhere site [] = tt
 names_elsewhere site (n ∷ ns) = (refl, names_elsewhere site ns)
 
 none_or_one : (b : Bool) (site : ℕ) (n : Identifier) (number : Option ℕ)
-    → AreMentions (behind_site site) (if b then [] else declaring site elsewhere n number ∷ [])
+    → AreMentions (behind_site site) (if b then [] else declaring site exposed n number ∷ [])
 none_or_one true site n number = tt
 none_or_one false site n number = (refl, tt)
 
@@ -84,17 +90,28 @@ guarded site None clause = tt
 guarded site (Some n) clause = none_or_one (is_blank n.text) site n (Some clause.start)
 
 -- small rules
-pub gives_end_of_name : {own : Around} (place : Position) → Gives false own [] [] (end_of_name place)
-gives_end_of_name as_type = gives_not_before _
-gives_end_of_name as_expression = gives_nothing
-gives_end_of_name as_value = gives_nothing
-gives_end_of_name as_element = gives_nothing
+pub gives_end_of_name : {own : Around} (edition : Edition) (place : Position)
+    → Gives false own [] [] (end_of_name edition place)
+gives_end_of_name edition as_type = behind (gives_not_before _) (gives_not_before _)
+gives_end_of_name edition as_expression = gives_nothing
+gives_end_of_name edition as_value = gives_nothing
+gives_end_of_name edition as_element = gives_nothing
+gives_end_of_name edition as_constraint = gives_nothing
+
+pub gives_end_of_selector : {own : Around} (edition : Edition) (place : Position)
+    → Gives false own [] [] (end_of_selector edition place)
+gives_end_of_selector edition as_type = gives_not_before _
+gives_end_of_selector edition as_expression = gives_nothing
+gives_end_of_selector edition as_value = gives_nothing
+gives_end_of_selector edition as_element = gives_nothing
+gives_end_of_selector edition as_constraint = gives_nothing
 
 pub gives_end_of_type : {own : Around} (place : Position) → Gives false own [] [] (end_of_type place)
 gives_end_of_type as_type = gives_nothing
 gives_end_of_type as_expression = gives_not_before _
 gives_end_of_type as_value = gives_not_before _
 gives_end_of_type as_element = gives_not_before _
+gives_end_of_type as_constraint = gives_not_before _
 
 pub gives_channel : {own : Around} (place : Position) (direction : ChanDirection)
     → Gives true own [] [] (channel place direction)
@@ -153,7 +170,7 @@ pub gives_third_bound : (e : OptionalExpression) {takes : Bool} {own : Around} {
 gives_third_bound missing_expression q h = moved (sym (q refl)) gives_nothing
 gives_third_bound (present_expression e) q h = loosely (behind (gives_token _) h)
 
-pub gives_guard_name : {own : Around} (text : List ℕ) (n : Option Identifier)
+pub gives_guard_name : {own : Around} (text : GoText) (n : Option Identifier)
     → Gives false own [] [] (guard_name text n)
 gives_guard_name text None = gives_nothing
 gives_guard_name text (Some n) = loosely (behind (gives_identifier text n) (gives_token _))
@@ -208,15 +225,65 @@ gives_assign_operator And = gives_token _
 gives_assign_operator AndNot = gives_token _
 gives_assign_operator op = gives_never
 
-gives_qualifier : {own : Around} (text : List ℕ) (n : Option Identifier) → Gives false own [] [] (qualifier text n)
+gives_qualifier : {own : Around} (text : GoText) (n : Option Identifier) → Gives false own [] [] (qualifier text n)
 gives_qualifier text None = gives_nothing
 gives_qualifier text (Some n) = loosely (behind (gives_identifier text n) (gives_token _))
 
-pub gives_type_name : {own : Around} (text : List ℕ) (n : TypeName) → Gives false own [] [] (type_name text n)
+pub gives_type_name : {own : Around} (text : GoText) (n : TypeName) → Gives false own [] [] (type_name text n)
 gives_type_name text n = spanned (behind (gives_qualifier text n.qualifier) (gives_identifier text n.name))
 
+pub gives_import_name : {own : Around} (text : GoText) (n : Option Identifier)
+    → Gives false own [] [] (import_name text n)
+gives_import_name text None = gives_nothing
+gives_import_name text (Some n) =
+    gives_one (loosely (gives_identifier text n)) (given (given (loosely (spanned (gives_token _)))))
+
+-- Instances and type parameters
+
+pub gives_after_instance : {own : Around} (es : Expressions) → Gives false own [] [] (after_instance es)
+gives_after_instance no_expression = gives_optional (gives_token _)
+gives_after_instance (expression_and e no_expression) = loosely (gives_token _)
+gives_after_instance (expression_and e (expression_and f es)) = gives_optional (gives_token _)
+
+gives_stand : {own : Around} (stand : Bool) → Gives false own [] [] (parameters_stand stand)
+gives_stand stand from to lo f o s = gives_nothing from to lo f o s.0
+
+gives_length : {own : Around} (form : ExpressionForm) → Gives false own [] [] (length_stands form)
+gives_length (array_type n t) = given (gives_stand false)
+gives_length form = gives_nothing
+
+gives_no_parameters : {own : Around} (edition : Edition) (is_alias : Bool) (t : Expression)
+    → Gives false own [] [] (no_type_parameters edition is_alias t)
+gives_no_parameters First is_alias t = gives_nothing
+gives_no_parameters Second true t = gives_nothing
+gives_no_parameters Second false (expression_node form span) = gives_length form
+
+-- where there are none, the list gives no mark
+module _ {takes : Bool} {own : Around} {ms : List Mark} {list : Rule} where
+  pub gives_type_parameters : (allowed : Type 0) (ps : Parameters)
+      → (ps ≡ no_parameter → ms ≡ [])
+      → Gives takes own [] ms list
+      → Gives false own [] ms (type_parameters allowed ps list)
+  gives_type_parameters allowed no_parameter q h = moved (sym (q refl)) gives_nothing
+  gives_type_parameters allowed (named_and n ellipsis t ps) q h = given (given (loosely (enclosed _ _ h)))
+  gives_type_parameters allowed (unnamed_and ellipsis t ps) q h = given (given (loosely (enclosed _ _ h)))
+  gives_type_parameters allowed (name_alone_and n ps) q h = given (given (loosely (enclosed _ _ h)))
+
+  pub gives_after_name : (edition : Edition) (ps : Parameters) (is_alias : Bool) (t : Expression)
+      → (ps ≡ no_parameter → ms ≡ [])
+      → Gives takes own [] ms list
+      → Gives false own [] ms (after_type_name edition ps is_alias t list)
+  gives_after_name edition no_parameter is_alias t q h =
+      moved (sym (q refl)) (gives_no_parameters edition is_alias t)
+  gives_after_name edition (named_and n ellipsis u ps) is_alias t q h =
+      behind (gives_one (gives_stand true) (given (gives_stand false))) (gives_type_parameters _ (named_and n ellipsis u ps) q h)
+  gives_after_name edition (unnamed_and ellipsis u ps) is_alias t q h =
+      behind (gives_one (gives_stand true) (given (gives_stand false))) (gives_type_parameters _ (unnamed_and ellipsis u ps) q h)
+  gives_after_name edition (name_alone_and n ps) is_alias t q h =
+      behind (gives_one (gives_stand true) (given (gives_stand false))) (gives_type_parameters _ (name_alone_and n ps) q h)
+
 -- lists of expressions of which each gives its marks
-module _ (text : List ℕ) (place : Position) where
+module _ (text : GoText) (place : Position) where
   abbrev pub EachGives : Expressions → Type 0
   EachGives no_expression = Unit {0}
   EachGives (expression_and e es) =
@@ -279,7 +346,8 @@ module _ (text : List ℕ) (place : Position) where
   more_lefts row site k no_expression h = gives_nothing
   more_lefts row site k (expression_and e es) h =
       loosely (behind (gives_token _)
-      (both (named (as_bare e) site (left k row) (h.0 (part_of site))) (more_lefts row site (k + 1) es h.1)))
+      (both (named (as_bare e) site (left k row) (named (bare_within e) site exposed (h.0 (part_of site))))
+      (more_lefts row site (k + 1) es h.1)))
 
   pub gives_lefts : (row : Row) (site k : ℕ) (es : Expressions)
       → EachGives es
@@ -287,4 +355,22 @@ module _ (text : List ℕ) (place : Position) where
   unfolding SpellsExpressions lefts_marks
   gives_lefts row site k no_expression h = gives_never
   gives_lefts row site k (expression_and e es) h =
-      both (named (as_bare e) site (left k row) (h.0 (part_of site))) (more_lefts row site (k + 1) es h.1)
+      both (named (as_bare e) site (left k row) (named (bare_within e) site exposed (h.0 (part_of site))))
+      (more_lefts row site (k + 1) es h.1)
+
+  more_ranged : (site : ℕ) (es : Expressions)
+      → EachGives es
+      → Gives false (from_site site) [] (ranged_marks site es) (SpellsMore text place es)
+  unfolding SpellsMore ranged_marks
+  more_ranged site no_expression h = gives_nothing
+  more_ranged site (expression_and e es) h =
+      loosely (behind (gives_token _)
+      (both (named (bare_within e) site exposed (h.0 (part_of site))) (more_ranged site es h.1)))
+
+  pub gives_ranged : (site : ℕ) (es : Expressions)
+      → EachGives es
+      → Gives true (from_site site) [] (ranged_marks site es) (SpellsExpressions text place es)
+  unfolding SpellsExpressions ranged_marks
+  gives_ranged site no_expression h = gives_never
+  gives_ranged site (expression_and e es) h =
+      both (named (bare_within e) site exposed (h.0 (part_of site))) (more_ranged site es h.1)

@@ -8,13 +8,13 @@ use Rattle.lexer.specs.declared.token.TokenKind.TheVariants.{FuncKeyword, Return
 use Rattle.tree.specs.declared.span.Span.{Span}
 use Rattle.tree.specs.Syntax.{Identifier, Expressions, StatementForm}
 use Rattle.meaning.specs.Mentions.{BodyPlace, LiteralUse, other_use, deferred_call, started_by, deferral, Mark, mentions, defers_literal, returns, opens, closes, in_body}
-use Rattle.meaning.specs.Cursor.{Cursor, Rule, ◌⨾◌, ◌⇒◌, nothing, never, one_of, optional, chosen, token, string_token, not_before, semicolon, TakesSemicolon, Semicolons, no_semicolon, semicolon_and, spanning, start_at, first_start, identifier, optional_identifier, more_identifiers, identifiers}
+use Rattle.meaning.specs.Cursor.{GoText, Cursor, Rule, ◌⨾◌, ◌⇒◌, nothing, never, one_of, optional, chosen, token, string_token, not_before, semicolon, TakesSemicolon, Semicolons, no_semicolon, semicolon_and, spanning, start_at, first_start, identifier, optional_identifier, more_identifiers, identifiers}
 use Rattle.meaning.specs.Grammar.{statement_start}
 use Rattle.meaning.proofs.Membership.{contains_nil, contains_here, contains_there}
 use Rattle.meaning_runs.proofs.AskedSites.{CodeSite, asked_at, unasked_at, asked_body}
 use Rattle.meaning_runs.proofs.BodyOffsetsWithin.{Within, IsPlain, no_marks, plain_and, wider, longer, both_within, turned_within, body_within}
 use Rattle.meaning_runs.proofs.BodyOffsetsTokens.{is_solid, Ordered, first_ordered, none_ordered, from_first, AreUnder}
-use Rattle.meaning_runs.proofs.SitesWithin.{Around, no_site, from_site, behind_site, Fits, still_fits, IsOwn, AreOwn, Sited, own_sited, wider_sited, longer_sited, both_sited, turned_sited, own_before, own_behind, foreign_sited, past_sited, unasked_sited, settled_sited, noted_sited, lone_sited, return_sited, body_sited}
+use Rattle.meaning_runs.proofs.SitesWithin.{Around, no_site, from_site, behind_site, Fits, still_fits, IsOwn, AreOwn, Sited, own_sited, wider_sited, longer_sited, both_sited, turned_sited, own_before, own_behind, foreign_sited, past_sited, unasked_sited, settled_sited, noted_sited, lone_sited, return_sited, body_sited, IsAskedMention, AreAskedMentions, mentions_before}
 use Rattle.meaning_runs.proofs.SitesWithin.{IsMention, AreMentions, mention_is_own, mentions_are_own}
 
 -- the next token stands where the tokens may begin that are left, or behind
@@ -268,21 +268,21 @@ gives_semicolons {own} lo o (semicolon_and t more) =
       bounded = λ n l u. let x = a.bounded n l u in b.bounded n x.0 x.1;
     }
 
-pub gives_identifier : {own : Around} (text : List ℕ) (n : Identifier) → Gives true own [] [] (identifier text n)
+pub gives_identifier : {own : Around} (text : GoText) (n : Identifier) → Gives true own [] [] (identifier text n)
 gives_identifier text n from to lo f o s = gives_token _ from to lo f o s.0.0
 
-pub gives_optional_identifier : {own : Around} (text : List ℕ) (n : Option Identifier)
+pub gives_optional_identifier : {own : Around} (text : GoText) (n : Option Identifier)
     → Gives false own [] [] (optional_identifier text n)
 gives_optional_identifier text None = gives_nothing
 gives_optional_identifier text (Some n) = loosely (gives_identifier text n)
 
-gives_more_identifiers : {own : Around} (text : List ℕ) (ns : List Identifier)
+gives_more_identifiers : {own : Around} (text : GoText) (ns : List Identifier)
     → Gives false own [] [] (more_identifiers text ns)
 gives_more_identifiers text [] = gives_nothing
 gives_more_identifiers text (n ∷ ns) =
     loosely (behind (gives_token _) (behind (gives_identifier text n) (gives_more_identifiers text ns)))
 
-pub gives_identifiers : {own : Around} (text : List ℕ) (ns : List Identifier)
+pub gives_identifiers : {own : Around} (text : GoText) (ns : List Identifier)
     → Gives true own [] [] (identifiers text ns)
 gives_identifiers text [] = gives_never
 gives_identifiers text (n ∷ ns) = behind (gives_identifier text n) (gives_more_identifiers text ns)
@@ -316,6 +316,17 @@ ArePlain (m ∷ ms) = IsPlain m × ArePlain ms
 all_plain : (own : Around) (ms : List Mark) → AreOwn own ms → ArePlain ms
 all_plain own [] h = tt
 all_plain own (m ∷ ms) h = (plain_own own m h.0, all_plain own ms h.1)
+
+one_asked_plain : (asks : List CodeSite) (m : Mark) → IsAskedMention asks m → IsPlain m
+one_asked_plain asks (mentions m) h = tt
+one_asked_plain asks (defers_literal site at) h = absurd h
+one_asked_plain asks (returns site es) h = absurd h
+one_asked_plain asks (opens b) h = absurd h
+one_asked_plain asks closes h = absurd h
+
+asked_plain : (asks : List CodeSite) (ms : List Mark) → AreAskedMentions asks ms → ArePlain ms
+asked_plain asks [] h = tt
+asked_plain asks (m ∷ ms) h = (one_asked_plain asks m h.0, asked_plain asks ms h.1)
 
 plain_within : {lo hi : ℕ} (ms : List Mark) → ArePlain ms → lo ≤ hi → Within lo hi ms
 plain_within [] h up = no_marks up
@@ -352,6 +363,22 @@ plain_before ns {own = own} {ms = ms} are h from to lo f o s =
       left = a.left;
       within = both_within (own_within own lo lo ns (mentions_are_own own ns are) (omega arith)) a.within;
       sited = own_before ns (mentions_are_own own ns are) a.within.goes_up a.sited;
+      has_bytes = a.has_bytes;
+      bounded = a.bounded;
+    }
+
+-- mentions at sites for which the part's code asks
+pub asked_first : (ns : List Mark) {takes : Bool} {own : Around} {asks : List CodeSite} {ms : List Mark} {rule : Rule}
+    → AreAskedMentions asks ns
+    → Gives takes own asks ms rule
+    → Gives takes own asks (ns ++ ms) rule
+asked_first ns {asks = asks} {ms = ms} are h from to lo f o s =
+    let a = h from to lo f o s in
+    record {
+      hi = a.hi;
+      left = a.left;
+      within = both_within (plain_within ns (asked_plain asks ns are) (omega arith)) a.within;
+      sited = mentions_before ns are a.sited;
       has_bytes = a.has_bytes;
       bounded = a.bounded;
     }
@@ -497,6 +524,12 @@ led {at} kind solid h from to lo f o s =
       bounded = λ n l u. let x = a.bounded n l u in b.bounded n x.0 x.1;
     }
 
+-- and one of that token alone
+pub lone : {at : ℕ} (kind : TokenKind)
+    → is_solid kind ≡ true
+    → Gives true no_site (asked_at at ∷ []) [] (beginning at (token kind))
+lone kind e from to lo f o s = led kind e gives_nothing from to lo f o ((to, s.0, refl), s.1)
+
 -- what begins with a token whose place is a site of the code for which it does not ask
 pub noted : {at : ℕ} (kind : TokenKind) {takes : Bool} {own : Around} {asks : List CodeSite} {ms : List Mark} {rule : Rule}
     → is_solid kind ≡ true
@@ -546,6 +579,39 @@ pub braced : {braces : Span} {takes : Bool} {asks : List CodeSite} {ms : List Ma
     (spanning braces (token LeftBrace ⨾ inner ⨾ token RightBrace))
 braced {ms = ms} h = λ from to lo f o s.
     noted LeftBrace refl (moved (append-nil ms) (both h (closed RightBrace refl))) from to lo f o
+    ((s.0.0, s.0.1, (s.0.2.0, s.0.2.1, (s.0.2.2, ap (λ (n : ℕ). n - 1) s.2))), s.1)
+
+-- a last token, for whose last byte these are asked
+closed_asked : {last : ℕ} (ns : List Mark) (kind : TokenKind)
+    → is_solid kind ≡ true
+    → AreMentions (from_site last) ns
+    → Gives false no_site (asked_at last ∷ []) ns (closing_at last kind)
+closed_asked {last} ns kind solid are from to lo f o s =
+    let first : Token = record { kind = kind; start = s.0.start; end = to.end } in
+    let h = first_ordered lo first to.left (subst (λ (l : List Token). Ordered lo l) s.0.taken o) in
+    let a : lo ≤ s.0.start = h.0.begins in
+    let b : s.0.start < to.end = h.0.takes solid in
+    let same : last ≡ to.end - 1 = s.1 in
+    let own = mentions_are_own (from_site last) ns are in
+    record {
+      hi = to.end;
+      left = h.1;
+      within = own_within (from_site last) lo to.end ns own (omega arith);
+      sited = settled_sited (λ y e. e) refl (omega arith) (omega arith) (omega arith)
+          (λ t none e. absurd (contains_nil t none)) (own_sited (from_site last) lo to.end ns own);
+      has_bytes = λ e. absurd (true≢false (sym e));
+      bounded = λ n l u. first_under n first to.left (subst (AreUnder n) s.0.taken u);
+    }
+
+-- a block of a branch: for both its braces is asked
+pub branched : {braces : Span} (ns ls : List Mark) {takes : Bool} {asks : List CodeSite} {ms : List Mark} {inner : Rule}
+    → AreMentions (behind_site braces.start) ns
+    → AreMentions (from_site (braces.end - 1)) ls
+    → Gives takes no_site asks ms inner
+    → Gives true no_site (asked_at braces.start ∷ (asks ++ asked_at (braces.end - 1) ∷ [])) (ns ++ (ms ++ ls))
+    (spanning braces (token LeftBrace ⨾ inner ⨾ token RightBrace))
+branched ns ls are last h = λ from to lo f o s.
+    led LeftBrace refl (plain_before ns are (foreign (both h (closed_asked ls RightBrace refl last)))) from to lo f o
     ((s.0.0, s.0.1, (s.0.2.0, s.0.2.1, (s.0.2.2, ap (λ (n : ℕ). n - 1) s.2))), s.1)
 
 pub returned : {at : ℕ} (es : Expressions) {takes : Bool} {ms : List Mark} {rule : Rule}

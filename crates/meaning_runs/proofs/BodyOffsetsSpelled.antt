@@ -1,28 +1,84 @@
 -- What is spelled gives the marks of its tree, whose bodies begin where its tokens stand.
-use Rattle.std.proofs.Common.{◌≡◌, ℕ, Bool, true, false, List, [], ◌∷◌, ◌++◌, Option, None, refl, sym, ap, ◌∙◌, append_assoc, append-nil}
-use Rattle.std.specs.Prelude.{◌&&◌, not}
+use Rattle.std.proofs.Common.{◌≡◌, ℕ, Bool, true, false, List, [], ◌∷◌, ◌++◌, Option, None, refl, sym, ap, ◌∙◌, append_assoc, append-nil, Contains, Some}
+use Rattle.std.specs.Prelude.{◌&&◌, not, ◌-◌}
 use Rattle.tree.specs.declared.span.Span.{Span}
 use Rattle.tree.specs.declared.operator.BasicLitKind.{BasicLitKind}
 use Rattle.tree.specs.declared.operator.BasicLitKind.TheVariants.{Number, Rune, InterpretedString, RawString}
 use Rattle.tree.specs.declared.operator.UnaryOperator.{UnaryOperator}
-use Rattle.tree.specs.declared.operator.UnaryOperator.TheVariants.{Plus, Negate, Not, Complement, Address, Receive}
+use Rattle.tree.specs.declared.operator.UnaryOperator.TheVariants.{Plus, Negate, Not, Complement, Address, Receive, Tilde}
 use Rattle.tree.specs.declared.operator.DeclKeyword.{DeclKeyword}
 use Rattle.tree.specs.declared.operator.DeclKeyword.TheVariants.{Const, Var, «Type» as type_keyword}
-use Rattle.tree.specs.Syntax.{Identifier, Expression, expression_node, ExpressionForm, name_expression, basic_literal, function_literal, composite_literal, literal_value, key_value, parenthesized, selector_expression, index_expression, slice_expression, type_assertion, call_expression, star_expression, unary_expression, binary_expression, array_type, ellipsis_array_type, slice_type, map_type, channel_type, function_type, struct_type, interface_type, Expressions, no_expression, expression_and, OptionalExpression, missing_expression, present_expression, Signature, signature_of, Parameters, no_parameter, named_and, unnamed_and, name_alone_and, Fields, no_field, fields_and, embedded_and, method_and, Statement, statement_node, StatementForm, empty_statement, declaration_statement, labeled_statement, expression_statement, send_statement, increment_statement, decrement_statement, assignment, operator_assignment, define_statement, go_statement, defer_statement, return_statement, break_statement, continue_statement, block_statement, if_statement, for_statement, range_assignment, range_definition, switch_statement, type_switch_statement, select_statement, Statements, no_statement, statement_and, OptionalStatement, missing_statement, present_statement, CaseClauses, no_case, case_and, CommunicationClauses, no_communication, communication_and, Declaration, declaration_of, Specs, no_spec, value_and, type_and}
-use Rattle.meaning.specs.Mentions.{bare, as_bare, as_named, as_new_literal, select_from, embedded, defines, assigns, declares, Standing, ordinary, first_of_for, communication, Row, nowhere, as_statement, deferred, place_in, Call, call_of, callee_use, elsewhere, names_type, Mark, Spot, part_of, whole, mention, declaring, number_of, name_role, literal_body, value_spot, left_names, declared_elsewhere, guard_in_clause, row_of, expression_marks, form_marks, expressions_marks, optional_marks, arguments_marks, items_marks, names_type_marks, signature_marks, parameters_marks, fields_marks, statement_marks, statement_form_marks, statements_marks, optional_statement_marks, cases_marks, communications_marks, declaration_marks, specs_marks}
-use Rattle.meaning.specs.Cursor.{Rule, ◌⇒◌, nothing, token, semicolons, spanning, word}
+use Rattle.tree.specs.Syntax.{Identifier, Expression, expression_node, ExpressionForm, name_expression, basic_literal, function_literal, composite_literal, literal_value, key_value, parenthesized, selector_expression, index_expression, instance_expression, slice_expression, type_assertion, call_expression, star_expression, unary_expression, binary_expression, array_type, ellipsis_array_type, slice_type, map_type, channel_type, function_type, struct_type, interface_type, Expressions, no_expression, expression_and, OptionalExpression, missing_expression, present_expression, Signature, signature_of, Parameters, no_parameter, named_and, unnamed_and, name_alone_and, Fields, no_field, fields_and, embedded_and, element_and, method_and, Statement, statement_node, StatementForm, empty_statement, declaration_statement, labeled_statement, expression_statement, send_statement, increment_statement, decrement_statement, assignment, operator_assignment, define_statement, go_statement, defer_statement, return_statement, break_statement, continue_statement, goto_statement, fallthrough_statement, block_statement, if_statement, for_statement, range_assignment, range_definition, switch_statement, type_switch_statement, select_statement, Statements, no_statement, statement_and, OptionalStatement, missing_statement, present_statement, CaseClauses, no_case, case_and, CommunicationClauses, no_communication, communication_and, Declaration, declaration_of, Specs, no_spec, value_and, type_and}
+use Rattle.meaning.specs.Mentions.{bare, as_bare, as_named, as_new_literal, select_from, embedded, defines, assigns, declares, Standing, ordinary, first_of_for, communication, Row, nowhere, as_statement, deferred, place_in, Call, call_of, callee_use, elsewhere, names_type, Mark, Spot, part_of, whole, mention, declaring, number_of, name_role, literal_body, value_spot, left_names, declared_elsewhere, guard_in_clause, row_of, expression_marks, form_marks, expressions_marks, optional_marks, arguments_marks, items_marks, names_type_marks, signature_marks, parameters_marks, fields_marks, statement_marks, statement_form_marks, statements_marks, optional_statement_marks, cases_marks, communications_marks, declaration_marks, specs_marks, exposed, addressed_within, ranged_marks, NilTest, nil_marks, nil_where, bare_within, error_where, error_marks, row_in, first_row, guard_marks, behind_row}
+use Rattle.meaning.specs.Scopes.{parameters_named}
+use Rattle.meaning.specs.Cursor.{GoText, Rule, ◌⇒◌, nothing, token, semicolons, spanning, word}
 use Rattle.meaning.specs.OperatorTokens.{literal_token, unary_token, keyword_token}
-use Rattle.meaning.specs.Grammar.{Position, as_type, as_expression, as_value, as_element, inside, of_struct, of_interface, Owner, IsMissing, IsLast, SpellsExpression, SpellsForm, SpellsExpressions, SpellsMore, SpellsOptional, SpellsSignature, SpellsResult, SpellsItems, SpellsFields, SpellsStatement, SpellsStatementForm, SpellsOptionalStatement, SpellsElse, SpellsStatements, SpellsCases, SpellsCommunications, SpellsDeclaration, SpellsSpecs}
-use Rattle.meaning_runs.proofs.AskedSites.{CodeSite, asked_specs, asked_declaration, asked_statement, asked_form, asked_optional, asked_statements, asked_cases, asked_communications}
+use Rattle.meaning.specs.Grammar.{Position, as_type, as_expression, as_value, as_element, as_constraint, inside, operand, element_place, of_struct, of_interface, Owner, IsMissing, IsLast, SpellsExpression, SpellsForm, SpellsExpressions, SpellsMore, SpellsOptional, SpellsSignature, SpellsResult, SpellsItems, SpellsTypeParameters, SpellsFields, SpellsStatement, SpellsStatementForm, SpellsOptionalStatement, SpellsElse, SpellsStatements, SpellsCases, SpellsCommunications, SpellsDeclaration, SpellsSpecs}
+use Rattle.meaning_runs.proofs.AskedSites.{CodeSite, asked_specs, asked_declaration, asked_statement, asked_form, asked_optional, asked_statements, asked_cases, asked_communications, asked_at}
 use Rattle.meaning_runs.proofs.BodyOffsetsTokens.{is_solid}
-use Rattle.meaning_runs.proofs.SitesWithin.{Around, no_site, from_site, behind_site}
-use Rattle.meaning_runs.proofs.BodyOffsetsRules.{Gives, both, turned, behind, ending, given, spanned, loosely, gives_nothing, gives_never, gives_not_before, gives_token, gives_chosen, gives_only_if, enclosed, gives_semicolon, gives_semicolons, gives_identifier, gives_optional_identifier, gives_identifiers, moved, asked_so, replaced, plain_before, plain_behind, statement_at, begun, given_begun, spanned_begun, foreign, past, simple, led, noted, braced, returned, bodied, whole_literal}
-use Rattle.meaning_runs.proofs.BodyOffsetsParts.{named, callee_named, newly, typed, names, names_elsewhere, guarded, gives_end_of_name, gives_end_of_type, gives_channel, gives_arguments, gives_perhaps, gives_elements, gives_range_left, clause, gives_third_bound, gives_guard_name, gives_initial, communication_clause, gives_tag, gives_before_item, gives_after_items, gives_assign_operator, gives_type_name, EachGives, gives_expressions, gives_argument_list, gives_items, gives_lefts}
+use Rattle.meaning_runs.proofs.SitesWithin.{Around, no_site, from_site, behind_site, AreMentions, AreAskedMentions}
+use Rattle.meaning_runs.proofs.BodyOffsetsRules.{Gives, both, turned, behind, ending, given, spanned, loosely, gives_nothing, gives_never, gives_not_before, gives_token, gives_chosen, gives_only_if, enclosed, gives_semicolon, gives_semicolons, gives_identifier, gives_optional_identifier, gives_identifiers, moved, asked_so, replaced, plain_before, plain_behind, statement_at, begun, given_begun, spanned_begun, foreign, past, simple, led, lone, noted, braced, returned, bodied, whole_literal, branched, asked_first}
+use Rattle.meaning_runs.proofs.BodyOffsetsParts.{named, callee_named, newly, typed, names, names_around, names_elsewhere, guarded, gives_end_of_name, gives_end_of_selector, gives_end_of_type, gives_channel, gives_arguments, gives_perhaps, gives_elements, gives_range_left, clause, gives_third_bound, gives_guard_name, gives_initial, communication_clause, gives_tag, gives_before_item, gives_after_items, gives_assign_operator, gives_type_name, gives_after_instance, gives_after_name, EachGives, gives_expressions, gives_argument_list, gives_items, gives_lefts, gives_ranged}
+use Rattle.meaning.proofs.Membership.{contains_here, contains_there}
+use Rattle.std.proofs.lemmas.List.Elements.{Contains-append_left, Contains-append_right}
 
 pub missing_gives_none : (site : ℕ) (e : OptionalExpression) → e ≡ missing_expression → optional_marks site e ≡ []
 unfolding optional_marks
 missing_gives_none site missing_expression q = refl
 missing_gives_none site (present_expression e) q = let bad : present_expression e ≡ missing_expression = q in cc
+
+one_behind : (q r : CodeSite) (qs rs : List CodeSite) → (q ∷ (qs ++ r ∷ [])) ++ rs ≡ (q ∷ qs) ++ (r ∷ rs)
+one_behind q r qs rs = ap (λ (l : List CodeSite). q ∷ l) (append_assoc qs (r ∷ []) rs)
+
+nil_behind : (site : ℕ) (ts : List NilTest) → AreMentions (behind_site site) (nil_marks site ts)
+nil_behind site [] = tt
+nil_behind site (t ∷ ts) = (refl, nil_behind site ts)
+
+nil_from : (site : ℕ) (ts : List NilTest) → AreMentions (from_site site) (nil_marks site ts)
+nil_from site [] = tt
+nil_from site (t ∷ ts) = (refl, nil_from site ts)
+
+-- behind a row the braces of an `if` are asked for
+errors_asked : (site : ℕ) (row : Row) (ts : List NilTest) (asks : List CodeSite) → Contains asks (asked_at site)
+    → AreAskedMentions asks (error_marks site row ts)
+errors_asked site row [] asks h = tt
+errors_asked site row (t ∷ ts) asks h = (h, errors_asked site row ts asks h)
+
+asked_mentions_both : (asks : List CodeSite) (ms ns : List Mark) → AreAskedMentions asks ms → AreAskedMentions asks ns
+    → AreAskedMentions asks (ms ++ ns)
+asked_mentions_both asks [] ns h k = k
+asked_mentions_both asks (m ∷ ms) ns h k = (h.0, asked_mentions_both asks ms ns h.1 k)
+
+guards_asked : (row : Option Row) (c : Expression) (braces : Span) (asks : List CodeSite)
+    → Contains asks (asked_at braces.start)
+    → Contains asks (asked_at (braces.end - 1))
+    → AreAskedMentions asks (guard_marks row c braces)
+guards_asked None c braces asks h k = tt
+guards_asked (Some row) c braces asks h k =
+    asked_mentions_both asks (error_marks braces.start row (error_where true c)) (error_marks (braces.end - 1) row (error_where false c))
+    (errors_asked braces.start row (error_where true c) asks h) (errors_asked (braces.end - 1) row (error_where false c) asks k)
+
+branches_asked : (row : Option Row) (c : Expression) (braces : Span) (qs rs : List CodeSite)
+    → AreAskedMentions ((asked_at braces.start ∷ qs) ++ (asked_at (braces.end - 1) ∷ rs)) (guard_marks row c braces)
+branches_asked row c braces qs rs =
+    let block = asked_at braces.start ∷ qs in
+    let past = asked_at (braces.end - 1) ∷ rs in
+    guards_asked row c braces (block ++ past) (contains_here (asked_at braces.start) (qs ++ past))
+    (Contains-append_right block past (asked_at (braces.end - 1)) (contains_here (asked_at (braces.end - 1)) rs))
+
+behind_asked : (row : Option Row) (ss : Statements) → AreAskedMentions (asked_statements ss) (behind_row row ss)
+unfolding asked_statements asked_statement asked_form asked_optional
+behind_asked row (statement_and (statement_node (if_statement missing_statement semicolon c ss braces other) span) rest) =
+    let block = asked_at braces.start ∷ asked_statements ss in
+    let past = asked_at (braces.end - 1) ∷ asked_optional other in
+    let own = asked_at span.start ∷ (block ++ past) in
+    guards_asked row c braces (own ++ asked_statements rest)
+    (Contains-append_left own (asked_statements rest) (asked_at braces.start)
+    (contains_there (asked_at span.start) (asked_at braces.start) (block ++ past) (contains_here (asked_at braces.start) _)))
+    (Contains-append_left own (asked_statements rest) (asked_at (braces.end - 1))
+    (contains_there (asked_at span.start) (asked_at (braces.end - 1)) (block ++ past)
+    (Contains-append_right block past (asked_at (braces.end - 1)) (contains_here (asked_at (braces.end - 1)) (asked_optional other)))))
+behind_asked row ss = tt
 
 missing_asks_none : (s : OptionalStatement) → s ≡ missing_statement → asked_optional s ≡ []
 unfolding asked_optional
@@ -35,6 +91,10 @@ missing_statement_gives_none standing missing_statement q = refl
 missing_statement_gives_none standing (present_statement s) q =
     let bad : present_statement s ≡ missing_statement = q in cc
 
+pub no_parameters_marked : (site : ℕ) (ps : Parameters) → ps ≡ no_parameter → parameters_marks false site ps ≡ []
+unfolding parameters_marks
+no_parameters_marked site ps e = ap (parameters_marks false site) e
+
 pub no_expressions : (spot : Spot) → expressions_marks spot no_expression ≡ []
 unfolding expressions_marks
 no_expressions spot = refl
@@ -43,11 +103,15 @@ pub no_arguments : (c : Option Call) (site k : ℕ) → arguments_marks c site k
 unfolding arguments_marks
 no_arguments c site k = refl
 
+pub no_ranged : (site : ℕ) → ranged_marks site no_expression ≡ []
+unfolding ranged_marks
+no_ranged site = refl
+
 pub no_items : (site k : ℕ) → items_marks site k no_expression ≡ []
 unfolding items_marks
 no_items site k = refl
 
-gives_word : {own : Around} (text name : List ℕ) → Gives true own [] [] (word text name)
+gives_word : {own : Around} (text : GoText) (name : List ℕ) → Gives true own [] [] (word text name)
 gives_word text name from to lo f o s = gives_token _ from to lo f o s.0
 
 gives_literal : {own : Around} (kind : BasicLitKind) → Gives true own [] [] (token (literal_token kind))
@@ -63,6 +127,7 @@ gives_unary Not = gives_token _
 gives_unary Complement = gives_token _
 gives_unary Address = gives_token _
 gives_unary Receive = gives_token _
+gives_unary Tilde = gives_token _
 
 pub gives_keyword : {own : Around} (keyword : DeclKeyword) → Gives true own [] [] (token (keyword_token keyword))
 gives_keyword Const = gives_token _
@@ -108,12 +173,12 @@ pub no_specs_left : (keyword : DeclKeyword) (at : ℕ) (specs : Specs) → IsLas
 unfolding specs_marks
 no_specs_left keyword at no_spec h = refl
 no_specs_left keyword at (value_and ns t es span specs) h = absurd h
-no_specs_left keyword at (type_and n is_alias t span specs) h = absurd h
+no_specs_left keyword at (type_and n ps is_alias t span specs) h = absurd h
 
 none_asked_left : (specs : Specs) → IsLast specs → asked_specs specs ≡ []
 none_asked_left no_spec h = refl
 none_asked_left (value_and ns t es span specs) h = absurd h
-none_asked_left (type_and n is_alias t span specs) h = absurd h
+none_asked_left (type_and n ps is_alias t span specs) h = absurd h
 
 pub last_gives : {own : Around} (asks : List CodeSite) (ms : List Mark) (specs : Specs)
     → (IsLast specs → asks ≡ [])
@@ -122,10 +187,10 @@ pub last_gives : {own : Around} (asks : List CodeSite) (ms : List Mark) (specs :
 last_gives asks ms specs q e = λ from to lo f o t.
     asked_so (sym (q t.0)) (moved (sym (e t.0)) gives_nothing) from to lo f o t.1
 
-module _ (text : List ℕ) where
+module _ (text : GoText) where
   mutual
     unfolding SpellsExpression SpellsForm SpellsExpressions SpellsMore SpellsOptional SpellsSignature SpellsResult
-        SpellsItems SpellsFields SpellsStatement SpellsStatementForm SpellsOptionalStatement SpellsElse SpellsStatements
+        SpellsItems SpellsTypeParameters SpellsFields SpellsStatement SpellsStatementForm SpellsOptionalStatement SpellsElse SpellsStatements
         SpellsCases SpellsCommunications SpellsDeclaration SpellsSpecs expression_marks form_marks optional_marks
         names_type_marks signature_marks parameters_marks fields_marks statement_marks statement_form_marks
         statements_marks optional_statement_marks cases_marks communications_marks declaration_marks specs_marks
@@ -139,7 +204,7 @@ module _ (text : List ℕ) where
         → Gives true (from_site spot.site) [] (form_marks spot span form) (spanning span (SpellsForm text place form))
     of_form place spot span (name_expression name) =
         spanned (replaced (mention spot.site (name_role spot.place) (bare name span.start)) refl
-        (behind (gives_word text name) (gives_end_of_name place)))
+        (behind (gives_word text name) (gives_end_of_name text.edition place)))
     of_form place spot span (basic_literal kind) = spanned (given (gives_literal kind))
     of_form place spot span (function_literal signature ss braces) = λ from to lo f o s.
         whole_literal (literal_body spot.literal span.start signature ss braces) spot.literal spot.site
@@ -162,10 +227,14 @@ module _ (text : List ℕ) where
         spanned (enclosed _ _ (of_expression (inside place) (part_of spot.site) e))
     of_form place spot span (selector_expression e n) =
         spanned (given (named (select_from (as_bare e) n) spot.site elsewhere
-        (ending (of_expression as_expression (part_of spot.site) e) (behind (gives_token _) (gives_identifier text n)))))
+        (ending (of_expression as_expression (part_of spot.site) e) (behind (gives_token _) (behind (gives_identifier text n) (gives_end_of_selector text.edition place))))))
     of_form place spot span (index_expression e i) =
         spanned (given (given (both (of_expression as_expression (part_of spot.site) e)
         (enclosed _ _ (of_expression as_expression (part_of spot.site) i)))))
+    of_form place spot span (instance_expression e es) =
+        spanned (given (given (given (both (of_expression as_expression (part_of spot.site) e)
+        (enclosed _ _ (ending (gives_expressions text as_expression (part_of spot.site) es (of_each as_expression es))
+        (gives_after_instance es)))))))
     of_form place spot span (slice_expression e low high most) =
         spanned (given (given (both (of_expression as_expression (part_of spot.site) e)
         (enclosed _ _ (both (of_optional as_expression spot.site low)
@@ -185,10 +254,11 @@ module _ (text : List ℕ) where
         spanned (given (behind (gives_token _) (of_expression (inside place) (part_of spot.site) e)))
     of_form place spot span (unary_expression op e) =
         spanned (given (given (newly spot.place spot.site (as_new_literal op e)
-        (behind (gives_unary op) (of_expression as_expression (part_of spot.site) e)))))
+        (named (addressed_within op e) spot.site exposed
+        (behind (gives_unary op) (of_expression as_expression (part_of spot.site) e))))))
     of_form place spot span (binary_expression op l r) =
-        spanned (given (given (both (of_expression as_expression (part_of spot.site) l)
-        (behind (gives_token _) (of_expression as_expression (part_of spot.site) r)))))
+        spanned (given (given (both (of_expression (operand place) (part_of spot.site) l)
+        (behind (gives_token _) (of_expression (operand place) (part_of spot.site) r)))))
     of_form place spot span (array_type n t) =
         spanned (both (enclosed _ _ (of_expression as_expression (part_of spot.site) n))
         (ending (of_expression as_type (part_of spot.site) t) (gives_end_of_type place)))
@@ -258,6 +328,16 @@ module _ (text : List ℕ) where
     of_items are_parameters first site (name_alone_and n ps) =
         behind (gives_before_item first) (behind (gives_identifier text n) (of_items are_parameters false site ps))
 
+    pub of_type_parameters : (first : Bool) (site : ℕ) (ps : Parameters)
+        → Gives false (from_site site) [] (parameters_marks false site ps) (SpellsTypeParameters text first ps)
+    of_type_parameters first site no_parameter = gives_after_items first
+    of_type_parameters first site (named_and n ellipsis t ps) =
+        given (given (behind (gives_before_item first) (behind (gives_identifier text n)
+        (both (typed false t site (of_expression as_constraint (part_of site) t)) (of_type_parameters false site ps)))))
+    of_type_parameters first site (unnamed_and ellipsis t ps) = gives_never
+    of_type_parameters first site (name_alone_and n ps) =
+        behind (gives_before_item first) (behind (gives_identifier text n) (of_type_parameters false site ps))
+
     of_fields : (owner : Owner) (site : ℕ) (fs : Fields)
         → Gives false (from_site site) [] (fields_marks site fs) (SpellsFields text owner fs)
     of_fields owner site no_field = gives_nothing
@@ -269,6 +349,10 @@ module _ (text : List ℕ) where
         given (plain_before (mention site elsewhere (embedded n) ∷ []) (refl, tt)
         (behind (spanned (behind (gives_only_if star (gives_token _))
         (behind (gives_type_name text n) (gives_tag tag))))
+        (behind gives_semicolon (of_fields owner site fs))))
+    of_fields owner site (element_and star t tag span fs) =
+        given (loosely (both (spanned (behind (gives_only_if star (gives_token _))
+        (ending (of_expression (element_place owner) (part_of site) t) (gives_tag tag))))
         (behind gives_semicolon (of_fields owner site fs))))
     of_fields owner site (method_and n signature span fs) =
         given (loosely (both (spanned (behind (gives_identifier text n) (of_signature site signature)))
@@ -292,9 +376,9 @@ module _ (text : List ℕ) where
         loosely (simple (both (of_expression as_expression (part_of at) c)
         (behind (gives_token _) (of_expression as_expression (part_of at) v))))
     of_statement_form standing at (increment_statement e) =
-        loosely (simple (ending (of_expression as_expression (part_of at) e) (gives_token _)))
+        loosely (simple (ending (named (bare_within e) at exposed (of_expression as_expression (part_of at) e)) (gives_token _)))
     of_statement_form standing at (decrement_statement e) =
-        loosely (simple (ending (of_expression as_expression (part_of at) e) (gives_token _)))
+        loosely (simple (ending (named (bare_within e) at exposed (of_expression as_expression (part_of at) e)) (gives_token _)))
     of_statement_form standing at (assignment ls rs) =
         loosely (simple (turned
         (gives_lefts text as_expression (row_of standing at (assigns ls) rs) at 0 ls (of_each as_expression ls))
@@ -302,7 +386,7 @@ module _ (text : List ℕ) where
         (gives_expressions text as_expression (value_spot (row_of standing at (assigns ls) rs) at) rs
         (of_each as_expression rs)))))
     of_statement_form standing at (operator_assignment op l r) =
-        loosely (simple (both (of_expression as_expression (part_of at) l)
+        loosely (simple (both (named (bare_within l) at exposed (of_expression as_expression (part_of at) l))
         (behind (gives_assign_operator op) (of_expression as_expression (part_of at) r))))
     of_statement_form standing at (define_statement ns rs) =
         loosely (simple (plain_behind (left_names (row_of standing at (defines ns) rs) at 0 ns)
@@ -319,6 +403,8 @@ module _ (text : List ℕ) where
         (gives_items text as_expression at 0 es (of_each as_expression es))))
     of_statement_form standing at (break_statement n) = loosely (led _ refl (gives_optional_identifier text n))
     of_statement_form standing at (continue_statement n) = loosely (led _ refl (gives_optional_identifier text n))
+    of_statement_form standing at (goto_statement n) = loosely (given_begun (led _ refl (gives_identifier text n)))
+    of_statement_form standing at fallthrough_statement = loosely (given_begun (lone _ refl))
     of_statement_form standing at (block_statement ss braces) =
         begun (loosely (spanned (enclosed _ _ (of_statements ss))))
     of_statement_form standing at (if_statement init has_semicolon c ss braces otherwise) =
@@ -326,7 +412,12 @@ module _ (text : List ℕ) where
         (both (gives_initial init has_semicolon (missing_statement_gives_none ordinary init) (missing_asks_none init)
         (foreign (of_optional_statement ordinary init)))
         (both (past (of_expression as_expression (part_of at) c))
-        (both (foreign (spanned (enclosed _ _ (of_statements ss)))) (foreign (of_else otherwise))))))))
+        (asked_first (guard_marks (first_row init) c braces)
+        (branches_asked (first_row init) c braces (asked_statements ss) (asked_optional otherwise))
+        (asked_so (one_behind (asked_at braces.start) (asked_at (braces.end - 1)) (asked_statements ss) (asked_optional otherwise))
+        (both (foreign (branched (nil_marks braces.start (nil_where true c)) (nil_marks (braces.end - 1) (nil_where false c))
+        (nil_behind braces.start (nil_where true c)) (nil_from (braces.end - 1) (nil_where false c)) (of_statements ss)))
+        (foreign (of_else otherwise))))))))))
     of_statement_form standing at (for_statement init c post has_semicolons ss braces) =
         moved (three_and_one (optional_statement_marks first_of_for init) (optional_marks at c)
         (optional_statement_marks ordinary post) (statements_marks ss))
@@ -339,8 +430,8 @@ module _ (text : List ℕ) where
         (foreign (spanned (enclosed _ _ (of_statements ss))))))))))
     of_statement_form standing at (range_assignment ls e ss braces) =
         loosely (given_begun (given_begun (led _ refl
-        (both (past (gives_range_left ls (expressions_marks (part_of at)) (no_expressions (part_of at))
-        (gives_expressions text as_expression (part_of at) ls (of_each as_expression ls))))
+        (both (past (gives_range_left ls (ranged_marks at) (no_ranged at)
+        (gives_ranged text as_expression at ls (of_each as_expression ls))))
         (behind (gives_token _) (both (past (of_expression as_expression (part_of at) e))
         (foreign (spanned (enclosed _ _ (of_statements ss))))))))))
     of_statement_form standing at (range_definition ns e ss braces) =
@@ -376,7 +467,8 @@ module _ (text : List ℕ) where
         → Gives false no_site (asked_statements ss) (statements_marks ss) (SpellsStatements text ss)
     of_statements no_statement = λ from to lo f o t. gives_semicolons lo o t
     of_statements (statement_and s ss) =
-        behind all_semicolons (both (given (of_statement ordinary s)) (behind gives_semicolon (of_statements ss)))
+        behind all_semicolons (both (given (of_statement ordinary s)) (behind gives_semicolon
+        (asked_first (behind_row (row_in s) ss) (behind_asked (row_in s) ss) (of_statements ss))))
 
     of_cases : (at : ℕ) (guard : Option Identifier) (cs : CaseClauses)
         → Gives false (behind_site at) (asked_cases cs) (cases_marks at guard cs) (SpellsCases text cs)
@@ -426,11 +518,17 @@ module _ (text : List ℕ) where
         (gives_chosen is_grouped (behind gives_semicolon (of_specs keyword true at specs))
         (last_gives (asked_specs specs) (specs_marks keyword at specs) specs (none_asked_left specs)
         λ h. no_specs_left keyword at specs h)))))
-    of_specs keyword is_grouped at (type_and n is_alias t span specs) =
-        given (loosely (both (spanned_begun (simple
-        (plain_before (declaring span.start elsewhere n (number_of n) ∷ []) (refl, tt)
+    of_specs keyword is_grouped at (type_and n ps is_alias t span specs) =
+        moved (ap (λ (l : List Mark). declaring span.start exposed n (number_of n) ∷ l)
+        (three_and_one (declared_elsewhere span.start (parameters_named ps)) (parameters_marks false span.start ps)
+        (expression_marks (part_of span.start) t) (specs_marks keyword at specs)))
+        (given (loosely (both (spanned_begun (simple
+        (plain_before (declaring span.start exposed n (number_of n) ∷ []) (refl, tt)
         (behind (gives_identifier text n)
-        (behind (gives_only_if is_alias (gives_token _)) (of_expression as_type (part_of span.start) t))))))
+        (plain_before (declared_elsewhere span.start (parameters_named ps)) (names_around span.start (parameters_named ps))
+        (both (gives_after_name text.edition ps is_alias t (no_parameters_marked span.start ps)
+        (of_type_parameters true span.start ps))
+        (behind (gives_only_if is_alias (gives_token _)) (of_expression as_type (part_of span.start) t))))))))
         (gives_chosen is_grouped (behind gives_semicolon (of_specs keyword true at specs))
         (last_gives (asked_specs specs) (specs_marks keyword at specs) specs (none_asked_left specs)
-        λ h. no_specs_left keyword at specs h))))
+        λ h. no_specs_left keyword at specs h)))))

@@ -11,16 +11,16 @@ use Rattle.meaning.specs.Lists.{Reaches}
 use Rattle.meaning.specs.Scopes.{is_blank}
 use Rattle.meaning.specs.Declarations.{Meaning}
 use Rattle.meaning.specs.FunctionFacts.{VariableKind}
-use Rattle.meaning.specs.Mentions.{Named, bare, as_bare, RowForm, defines, assigns, declares, Row, Role, elsewhere, called, called_in_brackets, argument, returned, left, names_type, new_literal, parameter_pointer, Mention, BodyPlace, Mark, mentions, defers_literal, returns, opens, closes}
+use Rattle.meaning.specs.Mentions.{Named, bare, as_bare, RowForm, defines, assigns, declares, Row, Role, elsewhere, called, called_in_brackets, argument, returned, left, names_type, new_literal, parameter_pointer, Mention, BodyPlace, Mark, mentions, defers_literal, returns, opens, closes, exposed, found_nil, found_error}
 use Rattle.meaning.specs.Tracked.{Known, Giving, local_meant_or, variable_of, declared_there, declared_by, blank_left, name_left, other_left, left_name, left_of_name, left_of_named, lefts_of_expressions, lefts_of, left_local, local_at, may_bind, row_giving, is_given, are_locals, obtains_there, row_obtains, row_makes, made_by_form, Placed, LocalRole, parameter, receiver, variadic, result, in_block, Local}
-use Rattle.meaning.specs.Uses.{Seen, found, kind_of, tracked_kind, VariableAt, Event, other, defer_literal, return_event, Binding, obtained, cleared, made, is_cancel, kind_at, row_binds, row_clears, made_binding, binding_at, binding_event, is_in_literal, fault_at, bound_again, UseFault, first_faults, type_faults, again_faults, binding_outcome, row_outcome, role_outcome, local_outcome, variable_outcome, is_own, is_body, body_gives}
+use Rattle.meaning.specs.Uses.{Seen, found, kind_of, tracked_kind, VariableAt, Event, other, defer_literal, return_event, Binding, obtained, cleared, made, is_cancel, kind_at, row_binds, row_clears, made_binding, binding_at, binding_event, is_in_literal, fault_at, bound_again, UseFault, first_faults, type_faults, again_faults, binding_outcome, row_outcome, role_outcome, local_outcome, variable_outcome, is_own, is_body, body_gives, mention_faults}
 use Rattle.meaning.specs.BodyEvents.{handed_on, mark_events, mark_faults, faults_of, variables_of, too_many_faults, body_faults}
 use Rattle.meaning.proofs.Membership.{contains_here, contains_cases, contains_nil}
 use Rattle.meaning_runs.specs.Bodies.{Body, code_of}
 use Rattle.meaning_runs.specs.World.{is_declaration}
 use Rattle.meaning_runs.specs.EventSources.{HasSource, says_nothing, falls_off, of_mark}
 use Rattle.meaning_runs.proofs.EventSources.{events_have_sources}
-use Rattle.meaning_runs.proofs.Bindings.{Binds, obtains, clears, makes, no_binding, single, mention_harmless}
+use Rattle.meaning_runs.proofs.Bindings.{Binds, obtains, clears, makes, no_binding, single, mention_harmless, of_variable}
 use Rattle.meaning_runs.proofs.OwnVariables.{find_is, found_is}
 use Rattle.meaning_runs.proofs.TrackedBindings.{each_of}
 use Rattle.meaning_runs.proofs.LeftSides.{Fits, Stands}
@@ -82,14 +82,14 @@ made_is_local seen row k binding e = by (may_bind row.standing row.form) (is_som
 
 bound_is_local : (seen : Seen) (row : Row) (k : ℕ) (binding : Binding) → binding_at seen row k ≡ Some binding → is_some (local_at seen.known row k) ≡ true
 bound_is_local seen row k binding e =
-    by (row_obtains seen.known row k) (row_binds seen row) (row_clears seen.known row && is_cancel (kind_at seen row k)) refl refl e
+    by (row_obtains seen.known row k) (row_binds seen row) (row_clears seen.known row k && is_cancel (kind_at seen row k)) refl refl e
   where
-    by : (o r x : Bool) → row_obtains seen.known row k ≡ o → (row_clears seen.known row && is_cancel (kind_at seen row k)) ≡ x
+    by : (o r x : Bool) → row_obtains seen.known row k ≡ o → (row_clears seen.known row k && is_cancel (kind_at seen row k)) ≡ x
         → (if o then if r then Some (obtained k) else None else if x then Some cleared else made_binding seen row (row_makes seen.known row k)) ≡ Some binding
         → is_some (local_at seen.known row k) ≡ true
     by true r x p q h = obtained_is_local seen.known row k (row_giving seen.known row) p
     by false r true p q h =
-        cancel_is_local seen (local_at seen.known row k) (and_parts (row_clears seen.known row) (is_cancel (kind_at seen row k)) q).1
+        cancel_is_local seen (local_at seen.known row k) (and_parts (row_clears seen.known row k) (is_cancel (kind_at seen row k)) q).1
     by false r false p q h = made_is_local seen row k binding h
 
 -- The number that a mention declares
@@ -172,6 +172,9 @@ module _ (seen : Seen) (bodies : List BodyPlace) (m : Mention) (e : Event) (u : 
     by_role : (r : Role) → Fits m.named m.declares r → IsWithout (role_outcome seen l bodies m r).faults → Contains (role_outcome seen l bodies m r).events e → IsOnce seen u l
     by_role (left k row) fits none h = by_row (kind_of seen (Some l)) row k (binding_at seen row k) fits refl none h
     by_role elsewhere fits none h = absurd (mention_harmless seen l (tracked_kind seen (Some l)) bodies m e h u binds)
+    by_role exposed fits none h = absurd (mention_harmless seen l (tracked_kind seen (Some l)) bodies m e h u binds)
+    by_role (found_nil nil) fits none h = absurd (mention_harmless seen l (tracked_kind seen (Some l)) bodies m e h u binds)
+    by_role (found_error nil row) fits none h = absurd (mention_harmless seen l (tracked_kind seen (Some l)) bodies m e h u binds)
     by_role (called c) fits none h = absurd (mention_harmless seen l (tracked_kind seen (Some l)) bodies m e h u binds)
     by_role called_in_brackets fits none h = absurd (mention_harmless seen l (tracked_kind seen (Some l)) bodies m e h u binds)
     by_role (argument k x c) fits none h = absurd (mention_harmless seen l (tracked_kind seen (Some l)) bodies m e h u binds)
@@ -187,7 +190,7 @@ module _ (seen : Seen) (bodies : List BodyPlace) (m : Mention) (e : Event) (u : 
 
 by_mark : (seen : Seen) (bodies : List BodyPlace) (mark : Mark) (e : Event) (u : VariableAt) → Stands mark → IsWithout (mark_faults seen bodies mark) → Contains (mark_events seen bodies mark) e → Binds e u → HasLocal seen u
 by_mark seen bodies (mentions m) e u fits none h binds =
-    by_found seen bodies m e u binds (found seen (variable_of seen.known m)) refl fits (λ x k. none x (Contains-append_left (variable_outcome seen bodies m).faults _ x k)) h
+    by_found seen bodies m e u binds (found seen (variable_of seen.known m)) refl fits (λ x k. none x (Contains-append_left (mention_faults seen bodies m) _ x (Contains-append_left (variable_outcome seen bodies m).faults _ x k))) (of_variable seen bodies m e u h binds)
 by_mark seen bodies (defers_literal site at) e u fits none h binds = absurd (single (defer_literal at) refl e h u binds)
 by_mark seen bodies (returns at es) e u fits none h binds = absurd (single (return_event (handed_on seen (body_gives seen.known bodies) 0 es)) refl e h u binds)
 by_mark seen bodies (opens x) e u fits none h binds = absurd (contains_nil e h)

@@ -9,7 +9,7 @@ use Rattle.meaning.specs.Uses.{Callee, VariableAt, Event}
 use Rattle.meaning.proofs.Membership.{contains_here, contains_there, contains_cases, contains_nil}
 use Rattle.meaning_runs.specs.Bodies.{Program, Body}
 use Rattle.meaning_runs.specs.World.{Value, nothing, cancel_function, Place, Store, put_at, IsAny, any_nothing, any_function, with_new, calling, ending, with_member, waiting_for, Given, Passing, Saved, saved_call, saved_pass, saved_literal, saved_wait, Frame, World, with_stack, in_cell, held, held_group, with_cells, bound_cell, binding, new_frame, nothing_around}
-use Rattle.meaning_runs.specs.Steps.{WasCalled, MayJoin, evaluating, lending, Obtains, new_one, earlier_one, none_at_all, Makes, zero_group, with_context, DeclaredIsTrue, at_code, IsOutsideCall, at_once, saved_before, Begins, of_function, of_none, Acts, moves_on, does_other, obtains_one, clears_one, calls_one, saves_call, makes_group, tries_nothing, ends_wait, saves_wait, evaluates, evaluates_deferred, lends, makes_call, calls_outside, saves_pass, saves_literal, comes_to_return, runs_call, runs_pass, runs_literal, runs_wait, returns_now, ChangesMembers, starts_member, starts_stranger, starts_outside, starts_beside, leaves_group, Surrounds, starts, evaluates_literal, starts_literal, makes_one, ends_one, calls_any, makes_outside, joins_outside, Step, of_goroutine, of_members, of_environment}
+use Rattle.meaning_runs.specs.Steps.{WasCalled, MayJoin, evaluating, lending, Obtains, new_one, earlier_one, none_at_all, Makes, zero_group, with_context, DeclaredIsTrue, at_code, IsOutsideCall, at_once, saved_before, Begins, of_function, of_none, Acts, moves_on, does_other, obtains_one, clears_one, calls_one, saves_call, makes_group, tries_nothing, ends_wait, saves_wait, evaluates, evaluates_deferred, lends, makes_call, calls_outside, saves_pass, saves_literal, comes_to_return, runs_call, runs_pass, runs_literal, runs_wait, returns_now, ChangesMembers, starts_member, starts_stranger, starts_outside, starts_beside, leaves_group, Surrounds, starts, evaluates_literal, starts_literal, makes_cells, makes_one, ends_one, calls_any, makes_outside, joins_outside, Step, of_goroutine, of_members, of_environment}
 use Rattle.meaning_runs.specs.Runs.{Run, no_step, step_more}
 use Rattle.meaning_runs.specs.Laws.{GoesTo, Leads, stays, one_more, LeadsTo}
 use Rattle.meaning_runs.specs.CallSteps.{CallsHaveSteps}
@@ -21,22 +21,22 @@ use Rattle.meaning_runs.proofs.Places.{called_it}
 -- What is kept
 
 -- values stay values of the world, for contexts stay
-still_any : (s after : Store) → s.context_count ≤ after.context_count → (x : Value) → IsAny s x → IsAny after x
+pub still_any : (s after : Store) → s.context_count ≤ after.context_count → (x : Value) → IsAny s x → IsAny after x
 still_any s after more nothing h = any_nothing
 still_any s after more (cancel_function a) (any_function l) = any_function (omega (arith, more, l))
 
 still_given : (s after : Store) → s.context_count ≤ after.context_count → (q : Passing) → IsGiven s q → IsGiven after q
 still_given s after more q h = record { any = λ x c. still_any s after more x.value (h.any x c); one = h.one; one_lent = h.one_lent }
 
-abbrev AreAny : Store → Type 0
+abbrev pub AreAny : Store → Type 0
 AreAny s = (k v : ℕ) → IsAny s (s.cells k v)
 
 -- the calls of a frame, under way and saved, give values of the world
-record AreGiven (s : Store) (waiting : Option Passing) (saved : List Saved) : Type 0 where
-  waits : (q : Passing) → waiting ≡ Some q → IsGiven s q
-  saves : (q : Passing) → Contains saved (saved_pass q) → IsGiven s q
+pub record AreGiven (s : Store) (waiting : Option Passing) (saved : List Saved) : Type 0 where
+  pub waits : (q : Passing) → waiting ≡ Some q → IsGiven s q
+  pub saves : (q : Passing) → Contains saved (saved_pass q) → IsGiven s q
 
-abbrev IsFull : Store → Frame → Type 0
+abbrev pub IsFull : Store → Frame → Type 0
 IsFull s f = AreGiven s f.waiting f.saved
 
 still_full : (s after : Store) → s.context_count ≤ after.context_count → (f : Frame) → IsFull s f → IsFull after f
@@ -45,9 +45,9 @@ still_full s after more f h = record {
   saves = λ q c. still_given s after more q (h.saves q c);
 }
 
-record AreKept (w : World) : Type 0 where
-  cells : AreAny w.store
-  full : (g : ℕ) (f : Frame) → Contains (w.stacks g) f → IsFull w.store f
+pub record AreKept (w : World) : Type 0 where
+  pub cells : AreAny w.store
+  pub full : (g : ℕ) (f : Frame) → Contains (w.stacks g) f → IsFull w.store f
 
 -- what a step of a frame comes to
 record Comes (s after : Store) (frames : List Frame) : Type 0 where
@@ -61,7 +61,7 @@ any_in_cell : (s : Store) → AreAny s → (v : ℕ) (o : Option ℕ) → IsAny 
 any_in_cell s h v None = any_nothing
 any_in_cell s h v (Some k) = h k v
 
-any_held : (s : Store) → AreAny s → (f : Frame) (v : ℕ) → IsAny s (held s f v)
+pub any_held : (s : Store) → AreAny s → (f : Frame) (v : ℕ) → IsAny s (held s f v)
 any_held s h f v = any_in_cell s h v (f.newest v)
 
 -- a change at one number keeps what holds at all
@@ -294,6 +294,10 @@ by_environment : (p : Program) (w next : World) → Surrounds p w next → AreKe
 by_environment p w next (starts g b values groups free of d foreign) k = started w g b nothing_around values groups foreign.any k
 by_environment p w next (evaluates_literal g f b c i) k = record { cells = k.cells; full = k.full }
 by_environment p w next (starts_literal g c values groups free h foreign) k = started w g c.literal c.newest values groups foreign.any k
+by_environment p w next (makes_cells values groups foreign) k = record {
+  cells = any_with_cells w.store values groups k.cells foreign.any;
+  full = λ g f c. still_full w.store (with_cells w.store values groups) (omega arith) f (k.full g f c);
+}
 by_environment p w next (makes_one parent earlier) k = stored w _ k (omega arith) refl
 by_environment p w next (ends_one a l) k = stored w _ k (omega arith) refl
 by_environment p w next (calls_any a l) k = stored w _ k (omega arith) refl
@@ -315,7 +319,7 @@ step_kept p w next (of_goroutine {f = f} {others = others} {after = after} {fram
 step_kept p w next (of_members c) k = by_members p w next c k
 step_kept p w next (of_environment s) k = by_environment p w next s k
 
-run_kept : (p : Program) (w : World) → Run p w → AreKept w
+pub run_kept : (p : Program) (w : World) → Run p w → AreKept w
 run_kept p w no_step = record { cells = λ k v. any_nothing; full = λ g f c. absurd (contains_nil f c) }
 run_kept p w (step_more {w = before} run step) = step_kept p before w step (run_kept p before run)
 

@@ -8,6 +8,7 @@ use Rattle.meaning.specs.Lists.{Reaches}
 use Rattle.meaning.specs.Uses.{Event, obtain, clear, make}
 use Rattle.meaning.specs.BodyEvents.{Variable}
 use Rattle.meaning.specs.Classes.{Promises}
+use Rattle.meaning_reports.specs.UsedImports.{passes, defers}
 use Rattle.meaning_runs.specs.Bodies.{Program, Body, IsOf, code_of, variables_in}
 use Rattle.meaning_runs.specs.World.{frame_at, Place, Store, Passing, Saved, saved_call, saved_literal, saved_pass, saved_wait, runs, exits, Frame, held, held_group, binds, new_frame, nothing_around}
 use Rattle.meaning_runs.specs.Steps.{Starts, IsAtEnd, at_code, with_function, evaluating, lending, Begins, of_function, of_none, Acts, moves_on, does_other, obtains_one, clears_one, calls_one, saves_call, makes_group, tries_nothing, ends_wait, saves_wait, evaluates, evaluates_deferred, lends, makes_call, calls_outside, saves_pass, saves_literal, comes_to_return, runs_call, runs_pass, runs_literal, runs_wait, returns_now}
@@ -194,10 +195,10 @@ module _ (p : Program) (used : BodiesAreWellUsed p) (kept : BodiesAreKept p) whe
           (cared_saving_wait it cared d)
       acts_cared (evaluates {u = u} {c = c} {position = position} {rest = rest} d joins) =
           one (evaluates d joins) (evaluating s f u.number c position false rest) (behind q d) (λ a x. x) (λ a x. x)
-          (cared_evaluating it cared u c position false d joins (λ relies v k. refl) (λ relies v k. refl))
+          (cared_evaluating it cared u c position false d joins (λ relies v k. refl) (λ relies v k. refl) passes)
       acts_cared (evaluates_deferred {u = u} {c = c} {position = position} {rest = rest} d joins) =
           one (evaluates_deferred d joins) (evaluating s f u.number c position true rest) (behind q d) (λ a x. x) (λ a x. x)
-          (cared_evaluating it cared u c position true d joins (λ relies v k. refl) (λ relies v k. refl))
+          (cared_evaluating it cared u c position true d joins (λ relies v k. refl) (λ relies v k. refl) defers)
       acts_cared (lends {v = v} {c = c} {position = position} {rest = rest} d joins) =
           one (lends d joins) (lending s f v c position rest) (behind q d) (λ a x. x) (λ a x. x)
           (cared_lending it cared d)

@@ -6,7 +6,7 @@ use Rattle.std.proofs.lemmas.Option.{none-some}
 use Rattle.meaning.specs.Code.{Code}
 use Rattle.meaning.specs.Tracked.{GroupState}
 use Rattle.meaning.specs.Uses.{Callee, VariableAt, Event, obtain, clear, make}
-use Rattle.meaning.specs.BodyEvents.{Variable, captured, is_parameter}
+use Rattle.meaning.specs.BodyEvents.{Variable, captured}
 use Rattle.meaning.specs.Classes.{Promises, unset, opened, safe, pending, change_cancel, GroupClass, in_state, change_group}
 use Rattle.meaning.proofs.Membership.{contains_nil, contains_there, contains_cases}
 use Rattle.meaning_packages.specs.PathFaults.{loses_cancel, is_lost, BindsCancel, obtains, clears, is_declared}

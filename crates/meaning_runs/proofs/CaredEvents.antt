@@ -11,6 +11,7 @@ use Rattle.meaning.specs.BodyEvents.{Variable}
 use Rattle.meaning.specs.Classes.{Promises, CancelClass, opened, safe, pending, left_to, started, change_cancel, GroupClass, in_state, awaited, at_work, at_rest, change_group}
 use Rattle.meaning.proofs.Membership.{contains_here, contains_there}
 use Rattle.meaning_packages.specs.PathFaults.{is_declared}
+use Rattle.meaning_reports.specs.UsedImports.{HandsTo}
 use Rattle.meaning_runs.specs.Bodies.{Program, Body, IsLiteralIn, variables_in}
 use Rattle.meaning_runs.specs.World.{nothing, cancel_function, nobody, Place, Store, MayEndWait, calling, waiting_for, Given, Lent, Passing, Closure, Saved, saved_call, saved_literal, saved_wait, runs, Frame, in_cell, held, held_group}
 use Rattle.meaning_runs.specs.Steps.{GoesOn, ComesTo, DoesNext, MayJoin, is_first, is_next, joining, evaluating, lending, at_code, Starts, by_start, by_try}
@@ -20,7 +21,8 @@ use Rattle.meaning_runs.proofs.CaredGoesOn.{LeftStill, left_same, none_left, lef
 use Rattle.meaning_runs.proofs.GroupClasses.{group_next, work_live, starting_change, named_so, named_otherwise}
 use Rattle.meaning_runs.proofs.GroupPaths.{is_made, made_works, still_works, group_class_of, IsWorking}
 use Rattle.meaning_runs.proofs.Holders.{Grows, IsHolder}
-use Rattle.meaning_runs.proofs.HolderFrames.{still_holds}
+use Rattle.meaning_runs.proofs.HandedEvents.{hands_there}
+use Rattle.meaning_runs.proofs.HolderFrames.{reached, still_holds}
 use Rattle.meaning_runs.proofs.HolderSteps.{captured_is_frozen, own_is_declared, held_in}
 use Rattle.meaning_runs.proofs.MadeGroups.{by_wait, by_literal, Nothing}
 use Rattle.meaning_runs.proofs.Places.{class_of, class_next, called_now, exits≢runs}
@@ -304,8 +306,9 @@ module _ {p : Program} {o : Origins} {s : Store} {place : Place} {q : Past} {f :
         → ((relies : Promises) (v : ℕ) (k : CancelClass)
         → change_cancel relies v e k ≡ cond ((u.number == v) && relies.calls callee position) safe k)
         → ((relies : Promises) (v : ℕ) (k : GroupClass) → change_group relies v e k ≡ k)
+        → HandsTo callee e
         → IsCared p o s Nothing (behind q d) (evaluating s f u.number callee position is_deferred rest)
-    cared_evaluating u callee position is_deferred d joins changes keeps =
+    cared_evaluating {e = e} {rest = rest} u callee position is_deferred d joins changes keeps hands =
         cared_event same_grows same_left d waiting f.saved (joins_on d callee is_deferred (x ∷ []) []) (λ y h. h)
         (λ relies v a up its h. safely same_grows same_left d waiting f.saved relies v a
         (by_number relies v a up (cases_eq u.number v.number) (cases_Bool (relies.calls callee position)))
@@ -330,7 +333,7 @@ module _ {p : Program} {o : Origins} {s : Store} {place : Place} {q : Past} {f :
             is_waiting joined x refl (joined_has f.waiting callee is_deferred x) (ap (held s f) same ∙ h)
             (subst (λ g. TakesUp p f.body g position)
             (sym (joined_callee f.waiting callee is_deferred position (x ∷ []) [] joins))
-            (up.functions callee position calls)))
+            (up.functions callee position (hands_there f.body it.is_of.is_body callee q.events (occurrence_of d) (reached p o s place q f it e rest d) hands) calls)))
         by_number relies v a up (inl same) (inr calls) = inl (λ k. changes relies v.number k
             ∙ ap (λ b. cond (b && relies.calls callee position) safe k) (eq-eqb u.number v.number same)
             ∙ ap (λ b. cond b safe k) calls)

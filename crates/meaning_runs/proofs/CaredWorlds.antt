@@ -10,7 +10,7 @@ use Rattle.meaning.specs.BodyEvents.{Variable}
 use Rattle.meaning.specs.Classes.{Promises}
 use Rattle.meaning_runs.specs.Bodies.{Program, Body, IsOf, variables_in, is_captured_by}
 use Rattle.meaning_runs.specs.World.{Value, cancel_function, nobody, outside, Store, put_at, with_new, calling, ending, with_group, with_member, with_cells, Frame, World, with_stack, in_cell, held, held_group, new_frame, nothing_around}
-use Rattle.meaning_runs.specs.Steps.{at_code, IsFree, Starts, StartsWork, ChangesMembers, starts_member, starts_stranger, starts_outside, starts_beside, leaves_group, Surrounds, starts, evaluates_literal, starts_literal, makes_one, ends_one, calls_any, makes_outside, joins_outside, Step, of_goroutine, of_members, of_environment}
+use Rattle.meaning_runs.specs.Steps.{at_code, IsFree, Starts, StartsWork, ChangesMembers, starts_member, starts_stranger, starts_outside, starts_beside, leaves_group, Surrounds, starts, evaluates_literal, starts_literal, makes_cells, makes_one, ends_one, calls_any, makes_outside, joins_outside, Step, of_goroutine, of_members, of_environment}
 use Rattle.meaning_runs.specs.Duties.{IsCreditedWith, AreTakenUp}
 use Rattle.meaning_runs.proofs.CaredActs.{BodiesAreKept, CaresWell, acts_roots, acts_left, acts_cared}
 use Rattle.meaning_runs.proofs.CaredBindings.{captured_no_parameter, cared_new}
@@ -167,7 +167,7 @@ module _ (p : Program) (used : BodiesAreWellUsed p) (kept : BodiesAreKept p) whe
         (λ x must. absurd (no_root_must x must)) (λ k c x ne e must. cared.roots k c x e must))
 
     -- a free goroutine begins
-    born : (g : ℕ) (b : Body) (values : ℕ → Value) (groups : ℕ → Option ℕ) (around : ℕ → Option ℕ) → IsFree w g
+    born : (g : ℕ) (b : Body) (values : ℕ → Value) (groups : ℕ → Option ℕ) (around : ℕ → Option ℕ) → w.stacks g ≡ []
         → IsOf p b
         → ((v k : ℕ) → around v ≡ Some k → k < w.store.cell_count)
         → ((v k : ℕ) → around v ≡ Some k → is_captured_by b v ≡ true → m.origins.is_frozen k ≡ true)
@@ -180,7 +180,10 @@ module _ (p : Program) (used : BodiesAreWellUsed p) (kept : BodiesAreKept p) whe
           (λ same. (cared_new p used m.origins w.store values groups b around of around_in around_once, tt));
       roots = λ k c a e must. at_stack (Goes w.store a) w.stacks m.pasts g stack pasts k
           (λ ne. cared.roots k c a e must)
-          (λ same. absurd (none-some c (sym free.is_no_member ∙ ap w.store.member (sym same) ∙ e)));
+          (λ same. elim (cared.roots k c a e must) [
+            | inl called ↦ inl called
+            | inr lowest ↦ absurd (subst (λ fs. LowestMust p fs (m.pasts k) a) (ap w.stacks same ∙ free) lowest)
+          ]);
     }
       where
         after_o : Origins
@@ -410,7 +413,11 @@ module _ (p : Program) (used : BodiesAreWellUsed p) (kept : BodiesAreKept p) whe
     environment_cared next (evaluates_literal g f b among escapes) = record { functions = cared.functions; roots = cared.roots }
     environment_cared next (starts_literal g c values groups free among foreign) =
         let its = held_there.escaped c among in
-        born g c.literal values groups c.newest free its.is_of its.cells_in its.cells_once
+        born g c.literal values groups c.newest free.has_no_frame its.is_of its.cells_in its.cells_once
+    environment_cared next (makes_cells values groups foreign) =
+        apart (with_block m.origins w.store.cell_count) (with_cells w.store values groups)
+        (block_grows nobody m.origins w.store values groups) (left_same (λ h. refl) (λ h. refl))
+        (λ k c a e must. cared.roots k c a e must)
     environment_cared next (makes_one parent earlier) = contexts_change (with_new w.store parent) (new_changes w.store parent)
     environment_cared next (ends_one a is) = contexts_change (ending w.store (Some a)) (ending_changes w.store (Some a))
     environment_cared next (calls_any a is) =

@@ -6,7 +6,7 @@ use Rattle.meaning.specs.Tracked.{GroupState}
 use Rattle.meaning.specs.Uses.{Callee}
 use Rattle.meaning_runs.specs.Bodies.{Program}
 use Rattle.meaning_runs.specs.World.{Value, nothing, cancel_function, Place, Store, put_at, ComesFrom, itself, made_from, IsDone, with_new, calling, ending, waiting_for, Frame, World, Passing}
-use Rattle.meaning_runs.specs.Steps.{Obtains, new_one, earlier_one, none_at_all, Makes, zero_group, with_context, Begins, of_function, of_none, Acts, moves_on, does_other, obtains_one, clears_one, calls_one, saves_call, makes_group, tries_nothing, ends_wait, saves_wait, evaluates, evaluates_deferred, lends, makes_call, calls_outside, saves_pass, saves_literal, comes_to_return, runs_call, runs_pass, runs_literal, runs_wait, returns_now, ChangesMembers, starts_member, starts_stranger, starts_outside, starts_beside, leaves_group, Surrounds, starts, evaluates_literal, starts_literal, makes_one, ends_one, calls_any, makes_outside, joins_outside, Step, of_goroutine, of_members, of_environment}
+use Rattle.meaning_runs.specs.Steps.{Obtains, new_one, earlier_one, none_at_all, Makes, zero_group, with_context, Begins, of_function, of_none, Acts, moves_on, does_other, obtains_one, clears_one, calls_one, saves_call, makes_group, tries_nothing, ends_wait, saves_wait, evaluates, evaluates_deferred, lends, makes_call, calls_outside, saves_pass, saves_literal, comes_to_return, runs_call, runs_pass, runs_literal, runs_wait, returns_now, ChangesMembers, starts_member, starts_stranger, starts_outside, starts_beside, leaves_group, Surrounds, starts, evaluates_literal, starts_literal, makes_cells, makes_one, ends_one, calls_any, makes_outside, joins_outside, Step, of_goroutine, of_members, of_environment}
 use Rattle.meaning_runs.specs.Runs.{Run, no_step, step_more}
 use Rattle.meaning_runs.specs.Laws.{ContextsAreSound}
 
@@ -139,6 +139,7 @@ surrounding_follows : (p : Program) (w next : World) → Surrounds p w next → 
 surrounding_follows p w next (starts g b values groups e i d foreign) h = same_contexts w.store _ h refl refl refl refl
 surrounding_follows p w next (evaluates_literal g f b c i) h = same_contexts w.store w.store h refl refl refl refl
 surrounding_follows p w next (starts_literal g c values groups e i foreign) h = same_contexts w.store _ h refl refl refl refl
+surrounding_follows p w next (makes_cells values groups foreign) h = same_contexts w.store _ h refl refl refl refl
 surrounding_follows p w next (makes_one parent earlier) h = after_new w.store parent h
 surrounding_follows p w next (ends_one x within) h = after_ending w.store (Some x) h
 surrounding_follows p w next (calls_any a within) h = after_calling w.store (cancel_function a) h

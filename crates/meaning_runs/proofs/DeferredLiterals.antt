@@ -2,7 +2,7 @@
 use Rattle.std.proofs.Common.{◌≡◌, ℕ, true, inl, inr, List, [], ◌∷◌, Contains, refl, sym, ap, ◌∙◌, subst}
 use Rattle.meaning.specs.Code.{Occurrence}
 use Rattle.meaning.specs.Lists.{Exit, Lists}
-use Rattle.meaning.specs.Mentions.{LiteralUse, deferred_call, BodyPlace, Mark, mentions, defers_literal, returns, opens, closes, file_marks}
+use Rattle.meaning.specs.Mentions.{LiteralUse, deferred_call, BodyPlace, Mark, mentions, defers_literal, returns, opens, closes, file_marks, marks_by}
 use Rattle.meaning.specs.Tracked.{Placed, placed}
 use Rattle.meaning.specs.Uses.{Seen, Handed, Event, other, defer_literal, return_event, is_body, body_gives}
 use Rattle.meaning.specs.BodyEvents.{handed_on, mark_events, sites_of}
@@ -99,8 +99,9 @@ module _ (b : Body) (form : AreInForm b.file.marks) where
 
 pub of_text_in_form : (b : Body) → IsOfText b → AreInForm b.file.marks
 of_text_in_form b text =
-    let same : b.file.marks ≡ placed [] (file_marks text.tree) = ap (λ (s : Seen). s.marks) text.is_file in
-    subst AreInForm (sym same) (in_form text.tree)
+    let marks = marks_by text.known.edition (file_marks text.tree) in
+    let same : b.file.marks ≡ placed [] marks = ap (λ (s : Seen). s.marks) text.is_file in
+    subst AreInForm (sym same) (in_form text.known.edition text.tree)
 
 pub deferred_literals_are_there : DeferredLiteralsAreThere
 deferred_literals_are_there b t x o at text lists among q =

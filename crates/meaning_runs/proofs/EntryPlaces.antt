@@ -8,7 +8,7 @@ use Rattle.std.proofs.lemmas.List.Elements.{Contains-append_cases, Contains-appe
 use Rattle.tree.specs.Syntax.{SourceFile}
 use Rattle.meaning.specs.Code.{Occurrence, Code, repeats}
 use Rattle.meaning.specs.Lists.{Exit, stopped, Lists, Reaches, not_begun, skipped, done, just_done, left, ends_in_first, goes_on, in_first, in_second, ends_in_turn, turns_again, arrives, passes}
-use Rattle.meaning.specs.Mentions.{BodyPlace, Mention, Mark, mentions, defers_literal, returns, opens, closes, file_marks}
+use Rattle.meaning.specs.Mentions.{BodyPlace, Mention, Mark, mentions, defers_literal, returns, opens, closes, file_marks, marks_by}
 use Rattle.meaning.specs.Tracked.{Known, placed}
 use Rattle.meaning.specs.TreeOfText.{IsTreeOf}
 use Rattle.meaning.specs.Uses.{Callee, Event, Seen}
@@ -22,7 +22,7 @@ use Rattle.report.specs.Entries.{Entry}
 use Rattle.meaning_reports.specs.Loaded.{Reading, has_tree, has_text_fault, has_tree_fault, LoadedPackage, NumberedTree, Tables, trees_from, trees_of, known_in, seen_from, seen_files}
 use Rattle.meaning_reports.specs.WholeFaults.{HasNoWholeFault, has_no_tokens, has_no_tree}
 use Rattle.meaning_reports.specs.PackageTables.{AreCredited, no_file, file_and}
-use Rattle.meaning_reports.specs.PackageReports.{IsFileFinding, outside_bodies, of_use, of_path, Rules, IsFindingBy, of_whole, of_import, of_files, SaysByPaths, by_paths}
+use Rattle.meaning_reports.specs.PackageReports.{IsFileFinding, outside_bodies, of_use, of_path, Rules, IsFindingBy, of_whole, of_import, of_dot, of_files, SaysByPaths, by_paths}
 use Rattle.meaning_runs.specs.FilePlaces.{AreTextsOf, StandsIn}
 use Rattle.meaning_runs.specs.EntryPlaces.{LieInFiles, EntriesLieInFilesBy, EntriesLieInFiles}
 use Rattle.meaning_runs.specs.OccurrencePlaces.{occurrences}
@@ -30,9 +30,11 @@ use Rattle.meaning_runs.proofs.LeftSides.{is_placed}
 use Rattle.meaning_packages.proofs.BodyPlaces.{placed_only}
 use Rattle.meaning_runs.proofs.BodyOffsets.{are_sited, opens_one}
 use Rattle.meaning_runs.proofs.OccurrencePlaces.{occurrences_lie_in_texts}
-use Rattle.meaning_runs.proofs.FilePlaces.{whole_places_lie_in_files}
+use Rattle.meaning_runs.proofs.PartSites.{jump_is_asked}
+use Rattle.meaning_runs.proofs.FilePlaces.{dot_in, whole_places_lie_in_files}
 use Rattle.meaning_runs.proofs.NamePlaces.{names_lie_in_texts}
 use Rattle.meaning_runs.proofs.FaultPlaces.{MarkStandsWithin, MarksStandWithin, FileStandsWithin, locals_lie, outer_faults_lie, body_faults_lie, fault_lies}
+use Rattle.meaning_runs.proofs.EditionMarks.{among_all, placed_among}
 
 -- Occurrences
 
@@ -75,10 +77,10 @@ pub record Stands (n : ℕ) (seen : Seen) : Type 0 where
       → Reaches (paths_of seen promises b).code t o
       → o.at ≤ n
 
-module _ (text : List ℕ) (tree : SourceFile) (known : Known) (is : IsTreeOf text tree) where
+module _ (text : List ℕ) (tree : SourceFile) (known : Known) (is : IsTreeOf known.edition text tree) where
   site_in : (m : Mention) → Contains (file_marks tree) (mentions m) → m.site ≤ length text
   site_in m among =
-      let file = are_sited text tree is in
+      let file = are_sited known.edition text tree is in
       let end = file.in_text in
       elim (file.sited.sites (mentions m) m.site among (eq-eqb m.site m.site refl)) [
         | inl none ↦ absurd none
@@ -86,21 +88,33 @@ module _ (text : List ℕ) (tree : SourceFile) (known : Known) (is : IsTreeOf te
       ]
 
   mark_in : (mark : Mark) → Contains (file_marks tree) mark → MarkStandsWithin (length text) mark
-  mark_in (mentions m) among = (site_in m among, names_lie_in_texts text tree (mentions m) is among)
+  mark_in (mentions m) among = (site_in m among, names_lie_in_texts known.edition text tree (mentions m) is among)
   mark_in (defers_literal site at) among = tt
   mark_in (returns at es) among = tt
-  mark_in (opens b) among = names_lie_in_texts text tree (opens b) is among
+  mark_in (opens b) among = (
+    names_lie_in_texts known.edition text tree (opens b) is among,
+    λ at jump.
+        let file = are_sited known.edition text tree is in
+        let end = file.in_text in
+        let low = (file.sited.asked at (inr record { body = b; opened = among; among = jump_is_asked b.statements at jump })).1 in
+        omega (arith, low, end),
+  )
   mark_in closes among = tt
 
-  marks_in : MarksStandWithin (length text) (placed [] (file_marks tree))
-  marks_in = record { each = λ p among. mark_in p.mark (is_placed [] (file_marks tree) p among) }
+  marks_in : MarksStandWithin (length text) (placed [] (marks_by known.edition (file_marks tree)))
+  marks_in = record {
+    each = λ p among.
+        mark_in p.mark (is_placed [] (file_marks tree) p (placed_among known.edition (file_marks tree) p among));
+  }
 
   file_stands : Stands (length text) (seen_file known tree)
   file_stands = record {
-    lies = record { marks = marks_in; locals = locals_lie (length text) known (placed [] (file_marks tree)) marks_in };
+    lies = record { marks = marks_in; locals = locals_lie (length text) known (placed [] (marks_by known.edition (file_marks tree))) marks_in };
     begun = λ b among.
-        let file = are_sited text tree is in
-        let low = file.begun b (opens_one (file_marks tree) b (placed_only (opened_in (placed [] (file_marks tree))) b among)) in
+        let file = are_sited known.edition text tree is in
+        let marks = marks_by known.edition (file_marks tree) in
+        let there = opens_one marks b (placed_only (opened_in (placed [] marks)) b among) in
+        let low = file.begun b (among_all known.edition (file_marks tree) (opens b) there) in
         let end = file.in_text in
         omega (arith, low, end);
     reached = λ promises b t o among reaches.
@@ -195,8 +209,9 @@ module _ (rules : Rules) (each : LieInFiles rules.says) where
       → (x : Entry) → IsFindingBy rules ps tables i x
       → StandsIn texts x
   stands ps tables i p texts is are x (of_whole fault) = whole_places_lie_in_files.of_whole ps i p texts x is are fault
-  stands ps tables i p texts is are x (of_import j number spec y none im found) =
+  stands ps tables i p texts is are x (of_import j number spec y none im needed found) =
       whole_places_lie_in_files.of_import ps i j number spec _ p texts is are im
+  stands ps tables i p texts is are x (of_dot file dot none out) = dot_in ps i p texts is are tables file dot out
   stands ps tables i p texts is are x (of_files none said) = each ps i p texts is are tables x none said
 
   pub entries_lie_in_files_by : EntriesLieInFilesBy rules

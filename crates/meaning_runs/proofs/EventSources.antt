@@ -1,11 +1,12 @@
 -- A property of all that the sites of a body give is one of each event that a list of the body's code has.
 use Rattle.std.proofs.Common.{◌≡◌, ℕ, ◌+◌, Bool, true, false, inl, inr, List, [], ◌∷◌, ◌++◌, Option, None, Contains, refl, subst}
-use Rattle.std.specs.Prelude.{◌&&◌, if◌then◌else◌}
+use Rattle.std.specs.Prelude.{◌&&◌, if◌then◌else◌, ◌-◌}
 use Rattle.std.proofs.lemmas.List.Elements.{Contains-append_cases, Contains-append_right}
-use Rattle.tree.specs.Syntax.{Statement, statement_node, StatementForm, empty_statement, declaration_statement, labeled_statement, expression_statement, send_statement, increment_statement, decrement_statement, assignment, operator_assignment, define_statement, go_statement, defer_statement, return_statement, break_statement, continue_statement, block_statement, if_statement, for_statement, range_assignment, range_definition, switch_statement, type_switch_statement, select_statement, Statements, no_statement, statement_and, OptionalStatement, missing_statement, present_statement, CaseClauses, no_case, case_and, CommunicationClauses, no_communication, communication_and, Declaration, declaration_of, Specs, no_spec, value_and, type_and, Block}
+use Rattle.tree.specs.Syntax.{Statement, statement_node, StatementForm, empty_statement, declaration_statement, labeled_statement, expression_statement, send_statement, increment_statement, decrement_statement, assignment, operator_assignment, define_statement, go_statement, defer_statement, return_statement, break_statement, continue_statement, goto_statement, fallthrough_statement, block_statement, if_statement, for_statement, range_assignment, range_definition, switch_statement, type_switch_statement, select_statement, Statements, no_statement, statement_and, OptionalStatement, missing_statement, present_statement, CaseClauses, no_case, case_and, CommunicationClauses, no_communication, communication_and, Declaration, declaration_of, Specs, no_spec, value_and, type_and, Block}
 use Rattle.meaning.specs.Code.{Occurrence, Way, Code, skip, does, leave, then_code, either, repeats, up_to, breaking, continuing}
 use Rattle.meaning.specs.Lists.{Exit, stopped, Lists, not_begun, skipped, done, just_done, left, ends_in_first, goes_on, in_first, in_second, ends_in_turn, turns_again, arrives, passes}
-use Rattle.meaning.specs.StatementCode.{Sites, stuck, up_to_labels, turns_end, loop, is_present, has_default, or_case, or_communication, or_past, or_other, in_order, site, spec_events, declaration_code, statement_code, form_code, optional_code, statements_code, cases_code, communications_code, body_code}
+use Rattle.meaning.specs.Jumps.{Part, declaration_part, return_part, goto_part, plain_part, parts_of, jumps_in}
+use Rattle.meaning.specs.StatementCode.{Sites, part_code, one_of, jumping_or, jumping_code, block_code, clauses_fall, up_to_falls, switch_code, stuck, up_to_labels, turns_end, loop, is_present, has_default, or_case, or_communication, or_past, or_other, in_order, site, spec_events, declaration_code, statement_code, form_code, optional_code, statements_code, cases_code, communications_code, body_code, branch, behind_events}
 use Rattle.meaning.specs.Tracked.{Placed}
 use Rattle.meaning.specs.Uses.{Seen, Event, is_body}
 use Rattle.meaning.specs.BodyEvents.{mark_events, is_site, events_at, sites_of}
@@ -64,6 +65,20 @@ module _ {E : Type 0} (P : E → Type 0) where
       let turn = then_code (turns_end ls body) post in
       labels breaking ls (repeats (then_code header (if may_end then either (leave (breaking None)) turn else turn))) (h, chosen may_end (either (leave (breaking None)) turn) turn (tt, (labels continuing ls body k, m)) (labels continuing ls body k, m))
 
+  falls_in : (ats : List ℕ) (c : Code E) → EachIn c → EachIn (up_to_falls ats c)
+  falls_in [] c h = h
+  falls_in (at ∷ ats) c h = falls_in ats c h
+
+  switched : (ls : List (List ℕ)) (ats : List ℕ) (header clauses : Code E) → EachIn header → EachIn clauses → EachIn (switch_code ls ats header clauses)
+  switched ls [] header clauses h k = (h, labels breaking ls clauses k)
+  switched ls (at ∷ ats) header clauses h k =
+      let turn = then_code header (then_code clauses (leave (breaking None))) in
+      labels breaking ls (repeats (up_to_falls (at ∷ ats) turn)) (falls_in (at ∷ ats) turn (h, (k, tt)))
+
+  or_jumping : (js : List ℕ) (c d : Code E) → EachIn c → EachIn d → EachIn (jumping_or js c d)
+  or_jumping [] c d h k = k
+  or_jumping (j ∷ js) c d h k = h
+
   past : (cs : CaseClauses) (c : Code E) → EachIn c → EachIn (or_past cs c)
   past no_case c h = tt
   past (case_and es ss span cs) c h = chosen (has_default (case_and es ss span cs)) c (either c skip) h (h, tt)
@@ -89,11 +104,18 @@ module _ {E : Type 0} (P : E → Type 0) where
     of_site : (at : ℕ) → EachIn (site sites at)
     of_site at = ordered at 0 (or_other sites (sites.events at)) (of_either (sites.events at) (given at))
 
+    of_branch : (brace : ℕ) (code : Code E) → EachIn code → EachIn (branch sites brace code)
+    of_branch brace code h = by (sites.events brace) (given brace)
+      where
+        by : (es : List E) → ((e : E) → Contains es e → P e) → EachIn (behind_events sites brace es code)
+        by [] all = h
+        by (e ∷ es) all = (ordered brace 0 (e ∷ es) all, h)
+
     of_specs : (specs : Specs) (e : E) → Contains (spec_events sites specs) e → P e
     of_specs no_spec e among = absurd (contains_nil e among)
     of_specs (value_and ns t es span specs) e among =
         elim (Contains-append_cases (or_other sites (sites.events span.start)) (spec_events sites specs) e among) [ inl h ↦ of_either (sites.events span.start) (given span.start) e h | inr h ↦ of_specs specs e h ]
-    of_specs (type_and n is_alias t span specs) e among =
+    of_specs (type_and n ps is_alias t span specs) e among =
         elim (Contains-append_cases (or_other sites (sites.events span.start)) (spec_events sites specs) e among) [ inl h ↦ of_either (sites.events span.start) (given span.start) e h | inr h ↦ of_specs specs e h ]
 
     of_declaration : (d : Declaration) → EachIn (declaration_code sites d)
@@ -123,9 +145,13 @@ module _ {E : Type 0} (P : E → Type 0) where
       of_form ls at (return_statement es) = (of_site at, tt)
       of_form ls at (break_statement n) = (of_site at, tt)
       of_form ls at (continue_statement n) = (of_site at, tt)
+      of_form ls at (goto_statement n) = (of_site at, tt)
+      of_form ls at fallthrough_statement = (of_site at, tt)
       of_form ls at (block_statement ss braces) = of_statements ss
       of_form ls at (if_statement init has_semicolon c ss braces otherwise) =
-          (of_optional init, (of_site at, (of_statements ss, of_optional otherwise)))
+          let block = of_branch braces.start (statements_code sites ss) (of_statements ss) in
+          let past = of_branch (braces.end - 1) (optional_code sites otherwise) (of_optional otherwise) in
+          (of_optional init, (of_site at, (block, past)))
       of_form ls at (for_statement init c post has_semicolons ss braces) =
           (of_optional init, looped ls (site sites at) (is_present c) (statements_code sites ss) (optional_code sites post) (of_site at) (of_statements ss) (of_optional post))
       of_form ls at (range_assignment l e ss braces) =
@@ -133,7 +159,7 @@ module _ {E : Type 0} (P : E → Type 0) where
       of_form ls at (range_definition ns e ss braces) =
           looped ls (site sites at) true (statements_code sites ss) skip (of_site at) (of_statements ss) tt
       of_form ls at (switch_statement init has_semicolon tag cs) =
-          (of_optional init, (of_site at, labels breaking ls (or_past cs (cases_code sites cs)) (past cs (cases_code sites cs) (of_cases cs))))
+          (of_optional init, switched ls (clauses_fall cs) (site sites at) (or_past cs (cases_code sites cs)) (of_site at) (past cs (cases_code sites cs) (of_cases cs)))
       of_form ls at (type_switch_statement init has_semicolon n e cs) =
           (of_optional init, (of_site at, labels breaking ls (or_past cs (cases_code sites cs)) (past cs (cases_code sites cs) (of_cases cs))))
       of_form ls at (select_statement cs) =
@@ -157,8 +183,23 @@ module _ {E : Type 0} (P : E → Type 0) where
       of_communications (communication_and c ss span cs) =
           next_communication (then_code (site sites span.start) (statements_code sites ss)) cs (communications_code sites cs) (of_site span.start, of_statements ss) (of_communications cs)
 
+    of_part : (p : Part) → EachIn (part_code sites p)
+    of_part (declaration_part d) = of_declaration d
+    of_part (return_part at) = (of_site at, tt)
+    of_part (goto_part at) = of_site at
+    of_part (plain_part at) = of_site at
+
+    of_parts : (ps : List Part) → EachIn (one_of sites ps)
+    of_parts [] = tt
+    of_parts (p ∷ ps) = (of_part p, of_parts ps)
+
+    of_block : (ss : Statements) → EachIn (block_code sites ss)
+    of_block ss =
+        or_jumping (jumps_in ss) (jumping_code sites (parts_of ss)) (statements_code sites ss)
+        (looped [] skip true (one_of sites (parts_of ss)) skip tt (of_parts (parts_of ss)) tt) (of_statements ss)
+
     pub of_body : (b : Block) → EachIn (body_code sites b)
-    of_body b = (nothing, (of_statements b.statements, at_end))
+    of_body b = (nothing, (of_block b.statements, at_end))
 
 -- the marks that give what stands at a site
 pub marked : (seen : Seen) (body : ℕ) (marks : List Placed) (at : ℕ) (e : Event)

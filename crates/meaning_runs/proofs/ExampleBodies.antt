@@ -3,27 +3,28 @@ use Rattle.std.proofs.Common.{◌≡◌, ℕ, true, false, List, [], ◌∷◌, 
 use Rattle.std.specs.Prelude.{codes}
 use Rattle.tree.specs.Syntax.{no_parameter, signature_of, expression_statement, no_statement, statement_and, Block, Function}
 use Rattle.meaning.specs.Code.{Occurrence, Code, skip, does, then_code}
-use Rattle.meaning.specs.Mentions.{BodyPlace, opens, deferred_call, literal_body, function_body, expression_marks, form_marks, expressions_marks, optional_marks, arguments_marks, items_marks, lefts_marks, names_type_marks, signature_marks, parameters_marks, fields_marks, statement_marks, statement_form_marks, statements_marks, optional_statement_marks, cases_marks, communications_marks, declaration_marks, specs_marks}
+use Rattle.meaning.specs.Mentions.{BodyPlace, opens, deferred_call, literal_body, function_body, expression_marks, form_marks, expressions_marks, optional_marks, arguments_marks, items_marks, lefts_marks, names_type_marks, signature_marks, parameters_marks, fields_marks, statement_marks, statement_form_marks, statements_marks, optional_statement_marks, cases_marks, communications_marks, declaration_marks, specs_marks, ranged_marks}
 use Rattle.meaning.specs.Scopes.{expression_names, expression_form_names, expressions_names, optional_names, signature_names, parameters_names, fields_names, statement_names, statement_form_names, statements_names, optional_statement_names, cases_names, communications_names, declaration_names, specs_names}
 use Rattle.meaning.specs.Declarations.{first_locals, innermost}
+use Rattle.meaning.specs.Jumps.{statement_parts, form_parts, parts_of, optional_parts, cases_parts, communications_parts}
 use Rattle.meaning.specs.StatementCode.{statement_code, form_code, optional_code, statements_code, cases_code, communications_code}
 use Rattle.meaning.specs.Tracked.{placed, locals_of}
 use Rattle.meaning.specs.Uses.{Seen, Event, other, obtain, call, defer_call, pass, defer_literal, return_event}
 use Rattle.meaning.specs.BodyEvents.{seen_file}
-use Rattle.imports.specs.Ranks.{ends}
 use Rattle.meaning_reports.specs.Loaded.{known_in}
 use Rattle.meaning_runs.specs.Bodies.{Body, IsOf, IsOutermost, IsLiteralIn, IsFunction, is_parameter_of, is_captured_by, code_of}
 use Rattle.meaning_runs.specs.Examples.{from_to, doing, call_at, file_with, loaded_with, program_with, saving, forgetting, passing, taking, deferring, overwriting}
 
 -- names, marks and code are seen through
 unfoldable pub seeing : Unit {0}
-unfolding expression_marks form_marks expressions_marks optional_marks arguments_marks items_marks lefts_marks
+unfolding expression_marks form_marks expressions_marks optional_marks arguments_marks items_marks lefts_marks ranged_marks
     names_type_marks signature_marks parameters_marks fields_marks statement_marks statement_form_marks
     statements_marks optional_statement_marks cases_marks communications_marks declaration_marks specs_marks
     expression_names expression_form_names expressions_names optional_names signature_names parameters_names
     fields_names statement_names statement_form_names statements_names optional_statement_names cases_names
     communications_names declaration_names specs_names first_locals innermost statement_code form_code
-    optional_code statements_code cases_code communications_code placed locals_of
+    optional_code statements_code cases_code communications_code statement_parts form_parts parts_of optional_parts
+    cases_parts communications_parts placed locals_of
 seeing = tt
 
 abbrev pub file_seen : List Function → Seen
@@ -78,7 +79,7 @@ unfolding seeing
 saving_is_of = record {
   loaded = loaded_with (saving ∷ []);
   is_package = refl;
-  is_below = ends;
+  is_run = refl;
   is_file = (0, omega arith, refl);
   is_body = (0, omega arith, refl);
 }
@@ -101,7 +102,7 @@ unfolding seeing
 forgetting_is_of = record {
   loaded = loaded_with (forgetting ∷ []);
   is_package = refl;
-  is_below = ends;
+  is_run = refl;
   is_file = (0, omega arith, refl);
   is_body = (0, omega arith, refl);
 }
@@ -124,7 +125,7 @@ unfolding seeing
 passing_is_of = record {
   loaded = loaded_with (passing ∷ taking ∷ []);
   is_package = refl;
-  is_below = ends;
+  is_run = refl;
   is_file = (0, omega arith, refl);
   is_body = (0, omega arith, refl);
 }
@@ -147,7 +148,7 @@ unfolding seeing
 deferring_is_of = record {
   loaded = loaded_with (deferring ∷ []);
   is_package = refl;
-  is_below = ends;
+  is_run = refl;
   is_file = (0, omega arith, refl);
   is_body = (0, omega arith, refl);
 }
@@ -175,7 +176,7 @@ taking_is_function = record {
   is_of = record {
     loaded = loaded_with both;
     is_package = refl;
-    is_below = ends;
+    is_run = refl;
     is_file = (0, omega arith, refl);
     is_body = (1, omega arith, refl);
   };
@@ -239,7 +240,7 @@ unfolding seeing
 overwriting_is_of = record {
   loaded = loaded_with (overwriting ∷ []);
   is_package = refl;
-  is_below = ends;
+  is_run = refl;
   is_file = (0, omega arith, refl);
   is_body = (0, omega arith, refl);
 }

@@ -33,7 +33,7 @@ abbrev pub begun : Body → World
 begun b = with_stack empty_world (with_cells empty_world.store (λ v. nothing) (λ v. None)) 0 (new_frame empty_world.store b nothing_around ∷ [])
 
 pub begins : (p : Program) (b : Body) → IsOf p b → IsOutermost b → Run p (begun b)
-begins p b h out = step_more no_step (of_environment (starts 0 b (λ v. nothing) (λ v. None) record { has_no_frame = refl; is_no_member = refl } h out (none_given empty_world.store)))
+begins p b h out = step_more no_step (of_environment (starts 0 b (λ v. nothing) (λ v. None) refl h out (none_given empty_world.store)))
 
 -- the one function that was obtained
 pub only_one : {A : Type 0} (x y : A) → Contains (x ∷ []) y → x ≡ y

@@ -1,7 +1,7 @@
 -- Where the marks of a file have their names within the first bytes of a text, its use faults stand there, and so do the
 -- faults of paths and passes at a name.
 use Rattle.std.proofs.Common.{◌≡◌, ℕ, zero, suc, ◌+◌, ◌≤◌, Bool, true, false, cond, inl, inr, List, [], ◌∷◌, ◌++◌, map, Option, Some, None, Contains, refl, sym, subst, true≢false}
-use Rattle.std.specs.Prelude.{◌&&◌, if◌then◌else◌, not, nat_le, option_map}
+use Rattle.std.specs.Prelude.{◌&&◌, if◌then◌else◌, not, nat_le, option_map, flat_map, codes}
 use Rattle.std.specs.List.{filter}
 use Rattle.std.proofs.lemmas.List.Elements.{Contains-append_cases, Contains-append_right}
 use Rattle.tree.specs.Syntax.{Identifier, Parameters, no_parameter, named_and, unnamed_and, name_alone_and, Signature, signature_of}
@@ -11,8 +11,9 @@ use Rattle.meaning.specs.Lists.{Reaches, stopped}
 use Rattle.meaning.specs.FunctionFacts.{VariableKind, TrackedType, kind_of_type, Item, alone, items_of, item_type}
 use Rattle.meaning.specs.Mentions.{BodyPlace, Mention, Mark, mentions, defers_literal, returns, opens, closes}
 use Rattle.meaning.specs.Tracked.{Known, Placed, LocalRole, parameter, receiver, result, Local, item_local, parameter_role, parameter_locals, receiver_locals, only_cancel, result_locals, receiver_items, signature_locals, body_locals, declared_by, declared_local, locals_there, locals_of}
-use Rattle.meaning.specs.Uses.{Seen, VariableAt, Event, defer_literal, return_event, found, tracked_kind, is_outside, is_body, body_gives, too_many_variables, bound_again, is_result, is_cancel, result_faults}
-use Rattle.meaning.specs.BodyEvents.{mark_faults, outer_faults_of, faults_of, handed_on, mark_events, events_at, sites_of, occurs_in, is_variable_of, lesser, occurrence, least, first_occurrence, VariableRole, own_parameter, own_receiver, declared_in_body, captured, Variable, role_in, first_in, variable_there, variable_found, variables_of, distinct, fault_after, is_cancel_variable, too_many_faults, body_faults, outer_faults}
+use Rattle.meaning.specs.Uses.{Seen, VariableAt, Event, defer_literal, return_event, found, tracked_kind, is_outside, is_body, body_gives, too_many_variables, goto_used, bound_again, fault_at, is_result, is_cancel, result_faults}
+use Rattle.meaning.specs.Jumps.{jumps_in}
+use Rattle.meaning.specs.BodyEvents.{has_variables, forbids_recover, mark_faults, outer_faults_of, faults_of, handed_on, mark_events, events_at, sites_of, occurs_in, is_variable_of, lesser, occurrence, least, first_occurrence, VariableRole, own_parameter, own_receiver, declared_in_body, captured, Variable, role_in, first_in, variable_there, variable_found, variables_of, distinct, fault_after, is_cancel_variable, too_many_faults, body_faults, outer_faults}
 use Rattle.meaning.specs.Classes.{Promises}
 use Rattle.meaning.proofs.Membership.{contains_nil, contains_here, contains_there, contains_cases}
 use Rattle.meaning_packages.specs.PathFaults.{PathFault, BindsCancel, obtains, clears, PassesOn, passes, defers, IsPathFault, loses_cancel, loses_group, returns_live, returns_open, returns_pending, IsPassFault, passes_on, block_of, paths_of, IsFaultOf, of_a_pass, of_a_path}
@@ -20,14 +21,15 @@ use Rattle.meaning_runs.specs.NamePlaces.{ParametersStandWithin, ReceiverStandsW
 use Rattle.meaning_runs.proofs.EventSources.{list_has, of_body, marked}
 use Rattle.meaning_runs.proofs.OwnVariables.{order_from, among_from, found_is}
 use Rattle.meaning_runs.proofs.NameParts.{NameIn}
-use Rattle.meaning_runs.proofs.MentionPlaces.{EventStandsWithin, EventsStandWithin, FaultsStandWithin, no_event, one_event, no_fault, one_fault, both_faults, faults_if, variable_lies, mention_faults_lie}
+use Rattle.meaning_runs.proofs.MentionPlaces.{EventStandsWithin, EventsStandWithin, FaultsStandWithin, no_event, one_event, no_fault, one_fault, both_faults, faults_if, variable_lies, mention_faults_lie, recover_faults_lie}
+use Rattle.meaning_runs.proofs.MentionEvents.{mention_events_fit}
 
 -- what the mark names stands there, and so does the site of a mention
 abbrev pub MarkStandsWithin : ℕ → Mark → Type 0
 MarkStandsWithin n (mentions m) = (m.site ≤ n) × StandsWithin n (mentions m)
 MarkStandsWithin n (defers_literal site at) = Unit {0}
 MarkStandsWithin n (returns at es) = Unit {0}
-MarkStandsWithin n (opens b) = StandsWithin n (opens b)
+MarkStandsWithin n (opens b) = StandsWithin n (opens b) × ((at : ℕ) → Contains (jumps_in b.statements) at → at ≤ n)
 MarkStandsWithin n closes = Unit {0}
 
 pub record MarksStandWithin (n : ℕ) (ps : List Placed) : Type 0 where
@@ -123,7 +125,7 @@ module _ (n : ℕ) where
   there_lie known bodies (mentions m) h = declared_lies known m h.1.0 bodies (declared_by known m)
   there_lie known bodies (defers_literal site at) h = no_local
   there_lie known bodies (returns at es) h = no_local
-  there_lie known bodies (opens b) h = body_locals_lie known b h
+  there_lie known bodies (opens b) h = body_locals_lie known b h.0
   there_lie known bodies closes h = no_local
 
   pub locals_lie : (known : Known) (ps : List Placed) → MarksStandWithin n ps → LocalsStandWithin n (locals_of known ps)
@@ -167,11 +169,22 @@ module _ (n : ℕ) (seen : Seen) (lies : FileStandsWithin n seen) where
       faults_if (is_result l.role && is_cancel (option_map kind_of_type l.typed))
       (both_faults (one_fault l.at bound_again l.name (h.each l (contains_here l ls))) rest) rest
 
+  jumps_lie : (js : List ℕ) → ((at : ℕ) → Contains js at → at ≤ n)
+      → FaultsStandWithin n (flat_map (λ at. fault_at at goto_used (codes "-")) js)
+  jumps_lie [] h = no_fault
+  jumps_lie (j ∷ js) h =
+      both_faults (one_fault j goto_used (codes "-") (h j (contains_here j js)))
+      (jumps_lie js λ at among. h at (contains_there j at js among))
+
   mark_lies : (bodies : List BodyPlace) (mark : Mark) → MarkStandsWithin n mark → FaultsStandWithin n (mark_faults seen bodies mark)
-  mark_lies bodies (mentions m) h = mention_faults_lie n seen bodies m h.1.0 h.0 h.1.1
+  mark_lies bodies (mentions m) h =
+      both_faults (mention_faults_lie n seen bodies m h.1.0 h.0 h.1.1)
+      (faults_if (forbids_recover seen.known.edition seen bodies) (recover_faults_lie n seen bodies m h.1.0) no_fault)
   mark_lies bodies (defers_literal site at) h = no_fault
   mark_lies bodies (returns at es) h = no_fault
-  mark_lies bodies (opens b) h = results_faults_lie (body_locals seen.known b) (body_locals_lie n seen.known b h)
+  mark_lies bodies (opens b) h =
+      both_faults (results_faults_lie (body_locals seen.known b) (body_locals_lie n seen.known b h.0))
+      (faults_if (has_variables seen b) (jumps_lie (jumps_in b.statements) h.1) no_fault)
   mark_lies bodies closes h = no_fault
 
   outer_lie : (ps : List Placed) → MarksStandWithin n ps → FaultsStandWithin n (outer_faults_of seen ps)
@@ -286,7 +299,9 @@ module _ (n : ℕ) (seen : Seen) (lies : FileStandsWithin n seen) where
   -- events
 
   given_lies : (bodies : List BodyPlace) (mark : Mark) → MarkStandsWithin n mark → EventsStandWithin n (mark_events seen bodies mark)
-  given_lies bodies (mentions m) h = (variable_lies n seen bodies m h.1.0).events
+  given_lies bodies (mentions m) h = record {
+    each = mention_events_fit (EventStandsWithin n) seen bodies m (λ v. tt) (variable_lies n seen bodies m h.1.0).events.each;
+  }
   given_lies bodies (defers_literal site at) h = one_event (defer_literal at) tt
   given_lies bodies (returns at es) h = one_event (return_event (handed_on seen (body_gives seen.known bodies) 0 es)) tt
   given_lies bodies (opens b) h = no_event
@@ -324,7 +339,7 @@ module _ (n : ℕ) (seen : Seen) (lies : FileStandsWithin n seen) where
     path_lies f (returns_pending v handed t o comes owes left) = stand t o comes.reaches
 
     pass_lies : (f : PathFault) → IsPassFault (paths_of seen promises b) f → f.at ≤ n
-    pass_lies f (passes_on v u at e is kind among passing same) = passes_low e u passing (event_lies b.at at e among)
+    pass_lies f (passes_on v u at e edition is kind among passing same) = passes_low e u passing (event_lies b.at at e among)
 
     pub fault_lies : (f : PathFault) → IsFaultOf seen promises b f → f.at ≤ n
     fault_lies f (of_a_pass g h) = pass_lies f h

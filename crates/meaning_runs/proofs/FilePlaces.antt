@@ -1,6 +1,6 @@
 -- The imports and the functions of the tree of a text have their places in the text, and so have the faults of whole
 -- packages.
-use Rattle.std.proofs.Common.{◌≡◌, ℕ, suc, ◌+◌, ◌≤◌, inl, inr, Bool, true, false, List, [], ◌∷◌, length, Some, Contains, option_map, refl, sym, ap, ◌∙◌, subst, arith}
+use Rattle.std.proofs.Common.{◌≡◌, ℕ, suc, ◌+◌, ◌≤◌, inl, inr, Bool, true, false, List, [], ◌∷◌, length, Option, Some, None, Contains, option_map, refl, sym, ap, ◌∙◌, subst, arith}
 use Rattle.std.specs.Prelude.{slice_get, if◌then◌else◌}
 use Rattle.std.proofs.lemmas.Option.{same_Some, slice_get_within, get_or_from_slice_get, slice_get-map}
 use Rattle.std.proofs.lemmas.List.Elements.{Contains-append_cases}
@@ -10,24 +10,32 @@ use Rattle.tree.specs.Syntax.{Identifier, ImportSpec, ImportDeclaration, Functio
 use Rattle.meaning.specs.Mentions.{Mark}
 use Rattle.meaning.specs.OuterBlocks.{specs_of, can_be_meant}
 use Rattle.meaning.specs.TwoFunctions.{FunctionName, function_names_in, function_names_from}
-use Rattle.meaning.specs.Cursor.{Cursor, Rule, chosen, token, string_token, start_at, first_start}
-use Rattle.meaning.specs.Grammar.{in_parentheses, SpellsImportSpec, SpellsImportSpecs, SpellsOneImport, SpellsImports, SpellsFunction, SpellsTopLevel, SpellsTopLevels}
+use Rattle.meaning.specs.Cursor.{GoText, read_in, Cursor, Rule, chosen, token, string_token, start_at, first_start}
+use Rattle.meaning.specs.Grammar.{in_parentheses, import_name, SpellsImportSpec, SpellsImportSpecs, SpellsOneImport, SpellsImports, SpellsFunction, SpellsTopLevel, SpellsTopLevels}
+use Rattle.tree.specs.declared.edition.Edition.{Edition}
 use Rattle.meaning.specs.TreeOfText.{first_place, IsTreeOf}
 use Rattle.meaning.proofs.Membership.{contains_nil, contains_cases, contains_here, contains_there}
 use Rattle.report.specs.declared.codes.DiagnosticCode.{DiagnosticCode}
 use Rattle.report.specs.Entries.{Entry}
-use Rattle.meaning_reports.specs.Loaded.{Reading, has_tree, has_text_fault, has_tree_fault, LoadedPackage, NumberedTree, numbered_trees, trees_of, imports_of}
+use Rattle.meaning_reports.specs.Loaded.{Reading, has_tree, has_text_fault, has_tree_fault, LoadedPackage, NumberedTree, Tables, numbered_trees, trees_of, imports_of}
 use Rattle.meaning_reports.specs.WholeFaults.{ImportsAt, import_entry, IsWholeFault, has_no_tokens, has_no_tree, has_two_functions, has_no_rank}
+use Rattle.meaning_reports.specs.DotImports.{IsLeftOut, dot_entry}
 use Rattle.meaning_reports.proofs.NumberedTrees.{file_of}
 use Rattle.meaning_runs.specs.FilePlaces.{Fits, AreTextsOf, StandsIn, WholePlacesLieInFiles}
 use Rattle.meaning_runs.proofs.AskedSites.{CodeSite}
 use Rattle.meaning_runs.proofs.SitesWithin.{no_site, from_site}
 use Rattle.meaning_runs.proofs.BodyOffsetsTokens.{Ordered, first_ordered, tokens_ordered, AreUnder, tokens_under}
-use Rattle.meaning_runs.proofs.BodyOffsetsRules.{Gives, gives_token, gives_semicolon, gives_identifier, gives_optional_identifier, first_under}
+use Rattle.meaning_runs.proofs.BodyOffsetsRules.{Gives, gives_token, gives_semicolon, gives_identifier, first_under}
+use Rattle.meaning_runs.proofs.BodyOffsetsParts.{gives_import_name}
 use Rattle.meaning_runs.proofs.BodyOffsets.{import_spec, imports, receiver, top_level}
 use Rattle.meaning_runs.proofs.KnownFlags.{second_among}
 
 -- Places among the tokens of a text
+
+-- the name begins there, if there is one
+abbrev NameIn : ℕ → Option Identifier → Type 0
+NameIn n None = Unit {0}
+NameIn n (Some name) = name.span.start ≤ n
 
 -- the tokens that are left stand in order, and end at the offset or before
 record IsIn (n : ℕ) (place : Cursor) : Type 0 where
@@ -61,27 +69,43 @@ module _ (n : ℕ) where
       let here : start_at from ≡ t.start = ap (λ (l : List Token). first_start from.end l) t.taken in
       omega (arith, ends, under, here)
 
+  name_begins_in : (text : GoText) (o : Option Identifier) (from to : Cursor) → IsIn n from → import_name text o from to
+      → NameIn n o
+  name_begins_in text None from to k s = tt
+  name_begins_in text (Some name) from to k (inl s) =
+      let low = begins_in _ from to k s.0.0 in
+      let same = s.1 in
+      omega (arith, low, same)
+  name_begins_in text (Some name) from to k (inr s) =
+      let low = begins_in _ from to k s.1.1.0 in
+      let same = s.1.1.1 in
+      omega (arith, low, same)
+
   string_begins_in : (from to : Cursor) → IsIn n from → string_token from to → start_at from ≤ n
   string_begins_in from to k (inl t) = begins_in _ from to k t
   string_begins_in from to k (inr t) = begins_in _ from to k t
 
-  module _ (text : List ℕ) where
+  module _ (text : GoText) where
     -- Imports
 
-    spec_in : (i : ImportSpec) (from to : Cursor) → IsIn n from → SpellsImportSpec text i from to → i.path_span.start ≤ n
+    -- its path stands there, and so does its name
+    abbrev SpecIn : ImportSpec → Type 0
+    SpecIn i = (i.path_span.start ≤ n) × NameIn n i.name
+
+    spec_in : (i : ImportSpec) (from to : Cursor) → IsIn n from → SpellsImportSpec text i from to → SpecIn i
     spec_in i from to k s =
         let opened = s.1.0 in
-        let here = goes (gives_optional_identifier text i.name) from opened.0 k opened.1 in
+        let here = goes (gives_import_name text i.name) from opened.0 k opened.1 in
         let low = string_begins_in opened.0 to here opened.2.0 in
         let same = opened.2.1 in
-        omega (arith, low, same)
+        (omega (arith, low, same), name_begins_in text i.name from opened.0 k opened.1)
 
     specs_in : (is : List ImportSpec) (from to : Cursor) → IsIn n from → SpellsImportSpecs text is from to
         → (i : ImportSpec) → Contains is i
-        → i.path_span.start ≤ n
+        → SpecIn i
     specs_in [] from to k s i h = absurd (contains_nil i h)
     specs_in (x ∷ is) from to k s i h = elim (contains_cases x i is h) [
-      | inl same ↦ subst (λ (y : ImportSpec). y.path_span.start ≤ n) same (spec_in x from s.0 k s.1)
+      | inl same ↦ subst (λ (y : ImportSpec). SpecIn y) same (spec_in x from s.0 k s.1)
       | inr later ↦
           let behind = goes (import_spec text x) from s.0 k s.1 in
           let next = goes gives_semicolon s.0 s.2.0 behind s.2.1 in
@@ -90,10 +114,10 @@ module _ (n : ℕ) where
 
     one_in : (is : List ImportSpec) (from to : Cursor) → IsIn n from → SpellsOneImport text is from to
         → (i : ImportSpec) → Contains is i
-        → i.path_span.start ≤ n
+        → SpecIn i
     one_in [] from to k s i h = absurd (contains_nil i h)
     one_in (x ∷ []) from to k s i h = elim (contains_cases x i [] h) [
-      | inl same ↦ subst (λ (y : ImportSpec). y.path_span.start ≤ n) same (spec_in x from to k s)
+      | inl same ↦ subst (λ (y : ImportSpec). SpecIn y) same (spec_in x from to k s)
       | inr none ↦ absurd (contains_nil i none)
     ]
     one_in (x ∷ y ∷ is) from to k s i h = absurd s
@@ -101,14 +125,14 @@ module _ (n : ℕ) where
     group_in : (b : Bool) (is : List ImportSpec) (from to : Cursor) → IsIn n from
         → chosen b (in_parentheses (SpellsImportSpecs text is)) (SpellsOneImport text is) from to
         → (i : ImportSpec) → Contains is i
-        → i.path_span.start ≤ n
+        → SpecIn i
     group_in true is from to k s i h =
         let inside = goes (gives_token _) from s.0 k s.1 in specs_in is s.0 s.2.0 inside s.2.1 i h
     group_in false is from to k s i h = one_in is from to k s i h
 
     imports_in : (ds : List ImportDeclaration) (from to : Cursor) → IsIn n from → SpellsImports text ds from to
         → (i : ImportSpec) → Contains (specs_of ds) i
-        → i.path_span.start ≤ n
+        → SpecIn i
     imports_in [] from to k s i h = absurd (contains_nil i h)
     imports_in (d ∷ ds) from to k s i h =
         let first = s.1.0 in
@@ -151,16 +175,18 @@ module _ (n : ℕ) where
 -- what is named in the tree of a text
 record LiesIn (text : List ℕ) (tree : SourceFile) : Type 0 where
   imports : (i : ImportSpec) → Contains (imports_of tree) i → i.path_span.start ≤ length text
+  names : (i : ImportSpec) (name : Identifier) → Contains (imports_of tree) i → i.name ≡ Some name → name.span.start ≤ length text
   functions : (f : Function) → Contains tree.declarations (function_declaration f) → f.name.span.start ≤ length text
 
-lies_in : (text : List ℕ) (tree : SourceFile) → IsTreeOf text tree → LiesIn text tree
-lies_in text tree t =
-    let n = length text in
+lies_in : (edition : Edition) (text : List ℕ) (tree : SourceFile) → IsTreeOf edition text tree → LiesIn text tree
+lies_in edition bytes tree t =
+    let n = length bytes in
+    let text : GoText = read_in edition bytes in
     let start : IsIn n (first_place t.tokens) = record {
       lo = 0;
-      ordered = tokens_ordered text t.tokens t.cut;
+      ordered = tokens_ordered bytes t.tokens t.cut;
       low = omega arith;
-      under = tokens_under text t.tokens t.cut;
+      under = tokens_under bytes t.tokens t.cut;
     } in
     let s = t.spelled.0 in
     let behind = goes n (gives_token _) (first_place t.tokens) s.0 start s.1 in
@@ -168,7 +194,9 @@ lies_in text tree t =
     let first = goes n gives_semicolon s.2.0 s.2.2.0 named s.2.2.1 in
     let later = goes n (imports text tree.imports) s.2.2.0 s.2.2.2.0 first s.2.2.2.1 in
     record {
-      imports = imports_in n text tree.imports s.2.2.0 s.2.2.2.0 first s.2.2.2.1;
+      imports = λ i among. (imports_in n text tree.imports s.2.2.0 s.2.2.2.0 first s.2.2.2.1 i among).0;
+      names = λ i name among is.
+          subst (NameIn n) is (imports_in n text tree.imports s.2.2.0 s.2.2.2.0 first s.2.2.2.1 i among).1;
       functions = functions_in n text tree.declarations s.2.2.2.0 t.last later s.2.2.2.2;
     }
 
@@ -228,7 +256,7 @@ named_among n (tree ∷ trees) e h =
 
 module _ (ps : List LoadedPackage) (i : ℕ) (p : LoadedPackage) (texts : List (List ℕ)) (is : slice_get ps i ≡ Some p) (are : AreTextsOf texts p) where
   text_of : (q : LoadedPackage) (n : ℕ) (file : Reading) → slice_get ps i ≡ Some q → slice_get q.files n ≡ Some file
-      → (text : List ℕ) × (slice_get texts n ≡ Some text) × Fits text file
+      → (text : List ℕ) × (slice_get texts n ≡ Some text) × Fits p.edition text file
   text_of q n file that there =
       are.each n file (subst (λ (r : LoadedPackage). slice_get r.files n ≡ Some file) (same_Some q p (sym that ∙ is)) there)
 
@@ -236,7 +264,13 @@ module _ (ps : List LoadedPackage) (i : ℕ) (p : LoadedPackage) (texts : List (
   import_in j file spec code im =
       let there = ap (slice_get im.importer.files) (sym im.is_file) ∙ file_of im.importer im.tree im.is_tree in
       let w = text_of im.importer file (has_tree im.tree.tree) im.is_importer there in
-      record { text = w.0; is_file = w.1; within = (lies_in w.0 im.tree.tree w.2).imports spec im.is_spec }
+      record { text = w.0; is_file = w.1; within = (lies_in p.edition w.0 im.tree.tree w.2).imports spec im.is_spec }
+
+  pub dot_in : (tables : Tables) (file : ℕ) (dot : Identifier) → IsLeftOut ps tables i file dot → StandsIn texts (dot_entry file dot)
+  dot_in tables file dot h =
+      let there = ap (slice_get h.importer.files) (sym h.is_file) ∙ file_of h.importer h.tree h.is_tree in
+      let w = text_of h.importer file (has_tree h.tree.tree) h.is_importer there in
+      record { text = w.0; is_file = w.1; within = (lies_in p.edition w.0 h.tree.tree w.2).names h.spec dot h.is_spec h.is_its }
 
   whole_in : (x : Entry) → IsWholeFault ps i x → StandsIn texts x
   whole_in x (has_no_tokens q file at why that there) =
@@ -258,7 +292,7 @@ module _ (ps : List LoadedPackage) (i : ℕ) (p : LoadedPackage) (texts : List (
         text = w.0;
         is_file = w.1;
         within = subst (λ (name : Identifier). name.span.start ≤ length w.0) function.same
-            ((lies_in w.0 tree.tree w.2).functions function.function function.is_there);
+            ((lies_in p.edition w.0 tree.tree w.2).functions function.function function.is_there);
       }
   whole_in x (has_no_rank j file spec none_above none im) = import_in j file spec _ im
 

@@ -6,7 +6,7 @@ use Rattle.meaning.specs.Uses.{Callee, Event}
 use Rattle.meaning.proofs.Membership.{contains_here}
 use Rattle.meaning_runs.specs.Bodies.{Program}
 use Rattle.meaning_runs.specs.World.{put_at, itself, held_group, new_frame, nothing_around, Value, nothing, cancel_function, any_nothing, outside_none, AreForeign, Place, Store, calling, ending, waiting_for, with_member, Frame, World, with_stack}
-use Rattle.meaning_runs.specs.Steps.{DoesNext, at_code, Starts, Obtains, new_one, earlier_one, none_at_all, Makes, zero_group, with_context, of_function, of_none, Acts, moves_on, does_other, obtains_one, clears_one, calls_one, saves_call, makes_group, tries_nothing, ends_wait, saves_wait, evaluates, evaluates_deferred, lends, makes_call, calls_outside, saves_pass, saves_literal, comes_to_return, runs_call, runs_pass, runs_literal, runs_wait, returns_now, IsFree, ChangesMembers, starts_member, starts_stranger, starts_outside, starts_beside, leaves_group, Surrounds, starts, evaluates_literal, starts_literal, makes_one, ends_one, calls_any, makes_outside, joins_outside, of_goroutine, of_members, of_environment}
+use Rattle.meaning_runs.specs.Steps.{DoesNext, at_code, Starts, Obtains, new_one, earlier_one, none_at_all, Makes, zero_group, with_context, of_function, of_none, Acts, moves_on, does_other, obtains_one, clears_one, calls_one, saves_call, makes_group, tries_nothing, ends_wait, saves_wait, evaluates, evaluates_deferred, lends, makes_call, calls_outside, saves_pass, saves_literal, comes_to_return, runs_call, runs_pass, runs_literal, runs_wait, returns_now, IsFree, ChangesMembers, starts_member, starts_stranger, starts_outside, starts_beside, leaves_group, Surrounds, starts, evaluates_literal, starts_literal, makes_cells, makes_one, ends_one, calls_any, makes_outside, joins_outside, of_goroutine, of_members, of_environment}
 use Rattle.meaning_runs.specs.Runs.{Run, no_step, step_more}
 use Rattle.meaning_runs.specs.Laws.{HasFreeGoroutine, IsThere, Joins, RunsLiteral, GoroutinesAreFree, GroupsGetMembers, MembersMayLeave, TheEnvironmentMay}
 use Rattle.meaning_runs.proofs.Contexts.{put_at-same, put_at-other}
@@ -111,6 +111,7 @@ by_environment : (p : Program) (w next : World) → Surrounds p w next → SomeA
 by_environment p w next (starts g b values groups free of d foreign) h = (_, stacked h.0 w _ g _ refl h.1)
 by_environment p w next (evaluates_literal g f b c i) h = (h.0, record { each = λ k l. record { has_no_frame = (h.1.each k l).has_no_frame; is_no_member = (h.1.each k l).is_no_member } })
 by_environment p w next (starts_literal g c values groups free i foreign) h = (_, stacked h.0 w _ g _ refl h.1)
+by_environment p w next (makes_cells values groups foreign) h = (_, stored h.0 w _ refl h.1)
 by_environment p w next (makes_one parent earlier) h = (_, stored h.0 w _ refl h.1)
 by_environment p w next (ends_one a l) h = (_, stored h.0 w _ refl h.1)
 by_environment p w next (calls_any a l) h = (_, stored h.0 w _ refl h.1)

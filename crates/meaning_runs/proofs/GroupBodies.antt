@@ -9,7 +9,6 @@ use Rattle.meaning.specs.Tracked.{idle, live}
 use Rattle.meaning.specs.Uses.{Seen, Event, Callee, other, obtain, call, defer_call, lend, start, try, wait, defer_wait, make, return_event}
 use Rattle.meaning.specs.BodyEvents.{seen_file, bodies_of}
 use Rattle.meaning.proofs.Membership.{contains_here}
-use Rattle.imports.specs.Ranks.{ends}
 use Rattle.meaning_reports.specs.Loaded.{known_in}
 use Rattle.meaning_runs.specs.Bodies.{Body, IsOf, IsOutermost, IsLiteralIn, Escapes, IsFunction, is_parameter_of, is_captured_by, code_of}
 use Rattle.meaning_runs.specs.Examples.{from_to}
@@ -42,7 +41,7 @@ started_literal group method from at end ss =
 -- Of a tree that is seen through these are told by the place of a mark.
 
 is_of_file : (fs : List Function) (f : Function) → Contains (bodies_of (file_of fs)) (place_of f) → IsOf (program_of fs) (body_among fs (place_of f))
-is_of_file fs f among = record { loaded = loaded_of fs; is_package = refl; is_below = ends; is_file = contains_here (file_of fs) []; is_body = among }
+is_of_file fs f among = record { loaded = loaded_of fs; is_package = refl; is_run = refl; is_file = contains_here (file_of fs) []; is_body = among }
 
 is_whole : (f : Function) → Contains (bodies_of (file_of (f ∷ []))) (place_of f) → IsOf (program_with f) (whole f)
 is_whole f = is_of_file (f ∷ []) f

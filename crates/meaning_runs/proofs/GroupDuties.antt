@@ -16,7 +16,7 @@ use Rattle.meaning_packages.specs.Credits.{Credits, AreFairCredits, is_safe, is_
 use Rattle.report.specs.Entries.{Entry}
 use Rattle.meaning_reports.specs.Loaded.{known_in, trees_of, seen_files}
 use Rattle.meaning_reports.specs.PackageReports.{IsFileFinding, outside_bodies, of_use}
-use Rattle.meaning_runs.specs.Bodies.{Program, Body, IsOf, code_of}
+use Rattle.meaning_runs.specs.Bodies.{Program, Body, IsRun, IsOf, code_of}
 use Rattle.meaning_runs.specs.BodyOffsets.{AreApart}
 use Rattle.meaning_runs.specs.World.{is_declaration}
 use Rattle.meaning_runs.specs.Promise.{HaveNoFindings}
@@ -33,7 +33,7 @@ use Rattle.meaning_runs.proofs.KnownFlags.{credited_fairly}
 use Rattle.meaning_runs.proofs.LeftSides.{left_sides_fit}
 use Rattle.meaning_runs.proofs.MarksBeside.{AreInForm, in_form}
 use Rattle.meaning_runs.proofs.Places.{class_of}
-use Rattle.meaning_runs.proofs.TrackedBindings.{of_tree}
+use Rattle.meaning_runs.proofs.TrackedBindings.{of_number}
 
 -- Variables that literals mention
 
@@ -105,10 +105,10 @@ pub record HasNothingSaid (calls : Callee → ℕ → Bool) (seen : Seen) : Type
   pub are_fair : AreFairCredits seen credits
   pub none : (x : Entry) → IsFileFinding calls number record { seen = seen; credits = credits } x → ⊥
 
-module _ (p : Program) (below : HaveNoFindings p) where
+module _ (p : Program) (none_found : HaveNoFindings p (IsRun p)) where
   pub nothing_said : (b : Body) (of : IsOf p b) → HasNothingSaid (calls_in p of.loaded) b.file
   nothing_said b of =
-      let h = below.of_package b.home of.loaded of.is_below of.is_package in
+      let h = none_found.of_package b.home of.loaded of.is_run of.is_package in
       let seens = seen_files p.packages p.tables of.loaded in
       let c = credited seens h.known.files b.file h.known.are_files of.is_file in
       let same : c.file ≡ record { seen = b.file; credits = c.file.credits } =
@@ -126,12 +126,12 @@ module _ (p : Program) (below : HaveNoFindings p) where
   pub well_used : AreOfTexts p → (b : Body) → IsOf p b → IsWellUsed b.file
   well_used texts b of =
       let said = nothing_said b of in
-      let w = of_tree (known_in p.packages p.tables of.loaded) 0 (trees_of of.loaded) b.file of.is_file in
-      let text = texts b.home of.loaded of.is_below of.is_package w.1 w.3 in
+      let w = of_number (known_in p.packages p.tables of.loaded) 0 (trees_of of.loaded) b.file of.is_file in
+      let text = texts b.home of.loaded of.is_run of.is_package w.1 w.3 in
       record {
-        apart = subst (λ (s : Seen). AreApart s.marks) w.2 (bodies_are_apart text.0 w.1 text.1);
-        form = subst (λ (s : Seen). AreInForm s.marks) w.2 (in_form w.1);
-        fits = λ mark h. left_sides_fit w.1 mark (subst (λ (s : Seen). Contains s.marks mark) (sym w.2) h);
+        apart = subst (λ (s : Seen). AreApart s.marks) w.2 (bodies_are_apart of.loaded.edition text.0 w.1 text.1);
+        form = subst (λ (s : Seen). AreInForm s.marks) w.2 (in_form of.loaded.edition w.1);
+        fits = λ mark h. left_sides_fit of.loaded.edition w.1 mark (subst (λ (s : Seen). Contains s.marks mark) (sym w.2) h);
         outside = λ x h. said.none _ (outside_bodies x h);
         inside = λ c among x h. said.none _ (of_use c x among h);
       }
@@ -147,9 +147,11 @@ module _ (p : Program) (below : HaveNoFindings p) where
   pub no_fault_there : (b : Body) (of : IsOf p b) → HasNoFaultThere b of
   no_fault_there b of =
       let said = nothing_said b of in
+      let w = of_number (known_in p.packages p.tables of.loaded) 0 (trees_of of.loaded) b.file of.is_file in
+      let form = subst (λ (s : Seen). AreInForm s.marks) w.2 (in_form of.loaded.edition w.1) in
       record {
         credits = said.credits;
         are_fair = said.are_fair;
         none = no_path_fault (calls_in p of.loaded) said.number record { seen = b.file; credits = said.credits } said.none
-            b.place of.is_body;
+            form b.place of.is_body;
       }

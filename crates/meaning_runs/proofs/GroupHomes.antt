@@ -11,7 +11,7 @@ use Rattle.std.proofs.lemmas.Option.{none-some, same_Some}
 use Rattle.meaning.specs.FunctionFacts.{group}
 use Rattle.meaning.specs.Mentions.{Named, starts_by, is_start, is_one, nowhere, Call, LiteralUse, other_use, deferred_call, started_by, argument_use, called, Mention, BodyPlace, mentions, opens, mention}
 use Rattle.meaning.specs.Tracked.{local_meant_or, variable_of, Placed, Local}
-use Rattle.meaning.specs.Uses.{Seen, found, tracked_kind, is_group, is_body, is_outside, is_of_local, is_deferred, is_started_by_it, is_member_of, are_members, literals_between, Event, start, try, UseFault, Outcome, allowed_if, is_free, only_argument, is_statement_place, is_statement_or_value, group_started, group_tried, group_awaited, group_limited, group_called, group_use, use_outcome, mention_outcome, role_outcome, local_outcome, variable_outcome}
+use Rattle.meaning.specs.Uses.{Seen, found, tracked_kind, is_group, is_body, is_outside, is_of_local, is_deferred, is_started_by_it, is_member_of, are_members, literals_between, Event, start, try, UseFault, Outcome, allowed_if, is_free, only_argument, is_statement_place, is_statement_or_value, group_started, group_tried, group_awaited, group_limited, group_called, group_use, use_outcome, mention_outcome, role_outcome, local_outcome, variable_outcome, mention_faults}
 use Rattle.meaning.specs.BodyEvents.{bodies_of, opened_in, mark_faults, outer_faults_of, outer_faults, faults_of, body_faults, variables_of, too_many_faults}
 use Rattle.meaning.proofs.Membership.{contains_here, contains_cases, contains_nil}
 use Rattle.meaning_packages.proofs.BodyPlaces.{placed_there}
@@ -294,7 +294,8 @@ module _ (seen : Seen) (well : IsWellUsed seen) where
       → Contains seen.marks record { mark = mentions m; bodies = bodies }
       → IsWithout (variable_outcome seen bodies m).faults
   no_use_fault m bodies among x h =
-      no_mark_fault _ among x (Contains-append_left (variable_outcome seen bodies m).faults _ x h)
+      no_mark_fault _ among x (Contains-append_left (mention_faults seen bodies m) _ x
+      (Contains-append_left (variable_outcome seen bodies m).faults _ x h))
 
   -- the mention that has the literal as its argument
   pub record IsStartedBy (b : BodyPlace) (around : List BodyPlace) (v : ℕ) : Type 0 where

@@ -11,7 +11,7 @@ use Rattle.meaning.specs.FunctionFacts.{VariableKind, cancel, group}
 use Rattle.meaning.specs.Tracked.{GroupState, idle, live}
 use Rattle.meaning.specs.Uses.{VariableAt, Handed, Event, other, obtain, clear, call, defer_call, pass, defer_pass, lend, start, try, wait, defer_wait, make, defer_literal, return_event, is_group}
 use Rattle.meaning.specs.BodyEvents.{Variable, VariableRole, own_parameter, own_receiver, declared_in_body, captured}
-use Rattle.meaning.specs.Classes.{Promises, opened, pending, entry_cancel, left_to, GroupClass, unmade, in_state, awaited, entry_group, at_work, at_rest, change_group, group_after}
+use Rattle.meaning.specs.Classes.{Promises, opened, pending, entry_cancel, GroupClass, unmade, in_state, awaited, entry_group, at_work, at_rest, change_group, group_after}
 use Rattle.meaning_packages.specs.PathFaults.{PathFault, IsPathFault, loses_cancel, returns_pending, BindsCancel, ComesToReturn, OwesCall, IsLeft, KeepsCall, paths_of, is_declared, is_lost, makes_it}
 use Rattle.meaning_runs.specs.Bodies.{Body, code_of, variables_in}
 use Rattle.meaning_runs.proofs.Captured.{any_there}

@@ -304,7 +304,7 @@ begun_with_group = with_stack (record empty_world { store = with_group empty_wor
 
 begins_with_group : Run (program_with leaving_to_parameter) begun_with_group
 begins_with_group =
-    step_more (step_more no_step (of_environment (makes_outside None tt))) (of_environment (starts 0 (whole leaving_to_parameter) (λ v. nothing) (λ v. Some 0) record { has_no_frame = refl; is_no_member = refl } leaving_to_parameter_is_of leaving_to_parameter_is_outermost record { any = λ v. any_nothing; foreign = λ v. outside_group refl }))
+    step_more (step_more no_step (of_environment (makes_outside None tt))) (of_environment (starts 0 (whole leaving_to_parameter) (λ v. nothing) (λ v. Some 0) refl leaving_to_parameter_is_of leaving_to_parameter_is_outermost record { any = λ v. any_nothing; foreign = λ v. outside_group refl }))
 
 -- what a parameter holds
 has_group : (b : Body) (v : ℕ) (s t : Store) (newest : ℕ → Option ℕ) (group : Option ℕ) → is_parameter_of b v ≡ true → newest v ≡ (new_frame t b nothing_around).newest v → s.holds t.cell_count v ≡ group → group_in_cell s v (newest v) ≡ group

@@ -3,19 +3,22 @@
 -- literal between it and the body that declares the group is started by the group too. Where it waits, each of these is
 -- called under `defer`; and a group is lent in the body that declares it.
 use Rattle.std.proofs.Common.{◌≡◌, ℕ, Bool, true, false, inl, inr, List, [], ◌∷◌, Option, Some, None, Contains, refl, sym, ap, ◌∙◌, subst}
-use Rattle.std.specs.Prelude.{◌==◌, ◌&&◌, ◌||◌, if◌then◌else◌, codes}
+use Rattle.std.specs.Prelude.{◌==◌, ◌&&◌, ◌||◌, if◌then◌else◌, codes, is_none}
 use Rattle.std.specs.List.{list_all, list_any}
 use Rattle.std.specs.Str.{bytes_eq}
 use Rattle.std.proofs.lemmas.Bool.{and_parts, and_from, or_left, or_right, false≢true}
 use Rattle.meaning.specs.FunctionFacts.{CancelType, cancel_type, group_type, VariableKind, cancel, group}
-use Rattle.meaning.specs.Mentions.{starts_by, is_start, BodyPlace, Row, Call, Role, elsewhere, called, called_in_brackets, argument, returned, left, names_type, new_literal, parameter_pointer, Mention, Mark, mentions, defers_literal, returns, opens, closes}
-use Rattle.meaning.specs.Tracked.{Known, variable_of, LocalRole, parameter, receiver, variadic, result, in_block, Local, Placed}
-use Rattle.meaning.specs.Uses.{Seen, found, kind_of, tracked_kind, VariableAt, Callee, Event, other, obtain, clear, call, defer_call, pass, defer_pass, lend, start, try, wait, defer_wait, make, defer_literal, return_event, Binding, obtained, cleared, made, binding_at, binding_event, allowed_if, either_use, variable_at, cancel_called, cancel_passed, cancel_use, group_started, group_tried, group_awaited, group_limited, group_called, group_lent, group_use, kind_use, use_outcome, mention_outcome, binding_outcome, row_outcome, role_outcome, local_outcome, is_own, is_body, has_no_argument, has_its_arguments, is_statement_place, is_deferred_place, takes, is_given_as, cancel_type_of, is_call_place, callee_of, body_gives, is_free, only_argument, is_member_of, are_members, literals_between, is_statement_or_value, is_item_place, is_deferred}
+use Rattle.meaning.specs.Mentions.{starts_by, is_start, BodyPlace, Row, Call, Role, elsewhere, called, called_in_brackets, argument, returned, left, names_type, new_literal, parameter_pointer, Mention, Mark, mentions, defers_literal, returns, opens, closes, exposed, found_nil, found_error}
+use Rattle.meaning.specs.Tracked.{Known, variable_of, LocalRole, parameter, receiver, variadic, result, in_block, Local, Placed, is_universe}
+use Rattle.meaning.specs.Uses.{Seen, found, kind_of, tracked_kind, VariableAt, Callee, Event, other, obtain, clear, call, defer_call, pass, defer_pass, lend, start, try, wait, defer_wait, make, defer_literal, return_event, Binding, obtained, cleared, made, binding_at, binding_event, allowed_if, either_use, variable_at, cancel_called, cancel_passed, cancel_use, group_started, group_tried, group_awaited, group_limited, group_called, group_lent, group_use, kind_use, use_outcome, mention_outcome, binding_outcome, row_outcome, role_outcome, local_outcome, is_own, is_body, has_no_argument, has_its_arguments, is_statement_place, is_deferred_place, takes, is_given_as, cancel_type_of, is_call_place, callee_of, body_gives, is_free, only_argument, is_member_of, are_members, literals_between, is_statement_or_value, is_item_place, is_deferred, cancel_use_by, is_read}
 use Rattle.meaning.specs.BodyEvents.{handed_on, mark_events}
 use Rattle.meaning.proofs.Membership.{contains_cases, contains_nil}
 use Rattle.meaning_runs.specs.Bodies.{Body}
 use Rattle.meaning_runs.specs.EventSources.{HasSource, says_nothing, falls_off, of_mark}
 use Rattle.meaning_runs.proofs.MarkForms.{literal_of}
+use Rattle.tree.specs.declared.edition.Edition.{Edition}
+use Rattle.tree.specs.declared.edition.Edition.TheVariants.{First, Second}
+use Rattle.meaning_runs.proofs.MentionEvents.{of_its_variable}
 
 -- the event is about a group: it starts work there, waits for it, or lends it
 abbrev pub is_about_group : Event → Bool
@@ -156,6 +159,13 @@ module _ (P : Event → Type 0) where
   cancel_use_so : (known : Known) (t : CancelType) (l : Local) (bodies : List BodyPlace) (m : Mention) (r : Role)
       → AllUseIf (cancel_use known t l bodies m r)
   cancel_use_so known t l bodies m elsewhere = tt
+  cancel_use_so known t l bodies m exposed = tt
+  cancel_use_so known t l bodies m (found_nil nil) = by (is_universe (known.means nil))
+    where
+      by : (b : Bool) → AllUse (if b then call l.number ∷ [] else [])
+      by true = foreign (call l.number) refl
+      by false = no_event
+  cancel_use_so known t l bodies m (found_error nil row) = no_event
   cancel_use_so known t l bodies m (called c) = cancel_called_use t l.number m.named.selected c
   cancel_use_so known t l bodies m called_in_brackets = tt
   cancel_use_so known t l bodies m (argument k b c) =
@@ -167,6 +177,14 @@ module _ (P : Event → Type 0) where
   cancel_use_so known t l bodies m (names_type row) = tt
   cancel_use_so known t l bodies m (new_literal row) = tt
   cancel_use_so known t l bodies m parameter_pointer = tt
+
+  cancel_use_by_so : (edition : Edition) (known : Known) (t : CancelType) (l : Local) (bodies : List BodyPlace)
+      (m : Mention) (r : Role)
+      → AllUseIf (cancel_use_by edition known t l bodies m r)
+  cancel_use_by_so First known t l bodies m r = cancel_use_so known t l bodies m r
+  cancel_use_by_so Second known t l bodies m r =
+      either_one (cancel_use known t l bodies m r) (allowed_if (is_read t r m.named.selected) [])
+      (cancel_use_so known t l bodies m r) (allowed (is_read t r m.named.selected) [] (λ e. no_event))
 
   -- Groups
 
@@ -232,6 +250,9 @@ module _ (P : Event → Type 0) where
     group_use_so : tracked_kind seen (Some l) ≡ Some group → (r : Role) → m.role ≡ r
         → AllUseIf (group_use seen l bodies m r)
     group_use_so is elsewhere q = tt
+    group_use_so is exposed q = tt
+    group_use_so is (found_nil nil) q = no_event
+    group_use_so is (found_error nil row) q = no_event
     group_use_so is (called c) q = group_called_use is m.named.selected refl c q
     group_use_so is called_in_brackets q = tt
     group_use_so is (argument k b c) q = group_lent_use is m.named.selected k c
@@ -243,7 +264,7 @@ module _ (P : Event → Type 0) where
 
     kind_use_so : (kind : VariableKind) → tracked_kind seen (Some l) ≡ Some kind
         → AllUseIf (kind_use seen l kind bodies m)
-    kind_use_so cancel is = cancel_use_so seen.known (cancel_type_of seen l) l bodies m m.role
+    kind_use_so cancel is = cancel_use_by_so seen.known.edition seen.known (cancel_type_of seen l) l bodies m m.role
     kind_use_so group is = group_use_so is m.role refl
 
     outcome_so : (kind : VariableKind) (o : Option (List Event)) → AllUseIf o → AllUse (use_outcome kind l m o).events
@@ -283,6 +304,9 @@ module _ (P : Event → Type 0) where
     role_so : (r : Role) → AllUse (role_outcome seen l bodies m r).events
     role_so (left k row) = row_so (kind_of seen (Some l)) row (binding_at seen row k)
     role_so elsewhere = mention_so
+    role_so exposed = mention_so
+    role_so (found_nil nil) = mention_so
+    role_so (found_error nil row) = mention_so
     role_so (called c) = mention_so
     role_so called_in_brackets = mention_so
     role_so (argument k x c) = mention_so
@@ -311,6 +335,9 @@ pub record HasGroupUse (b : Body) (e : Event) : Type 0 where
   pub is_mention : placed.mark ≡ mentions mention
   pub use_of : IsGroupUse b.file placed.bodies mention e
 
+about_no_call : (e : Event) (v : ℕ) → call v ≡ e → is_about_group e ≡ true → ⊥
+about_no_call e v same about = false≢true (ap is_about_group same ∙ about)
+
 by_mark : (b : Body) (p : Placed)
     → Contains b.file.marks p
     → is_body b.place.at p.bodies ≡ true
@@ -326,7 +353,8 @@ by_mark b p among here (mentions m) is e h about = record {
   is_of_file = among;
   stands_here = here;
   is_mention = is;
-  use_of = group_use_of b.file p.bodies m (found b.file (variable_of b.file.known m)) refl e h about;
+  use_of = group_use_of b.file p.bodies m (found b.file (variable_of b.file.known m)) refl e
+      (of_its_variable b.file p.bodies m e (λ v same. about_no_call e v same about) h) about;
 }
 by_mark b p among here (defers_literal site at) is e h about =
     absurd (foreign (λ x. ⊥) (defer_literal at) refl e h about)

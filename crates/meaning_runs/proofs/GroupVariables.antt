@@ -13,7 +13,7 @@ use Rattle.meaning.specs.Lists.{Exit, Lists, Reaches}
 use Rattle.meaning.specs.FunctionFacts.{group}
 use Rattle.meaning.specs.Mentions.{Named, is_start, is_one, CallPlace, Call, LiteralUse, other_use, deferred_call, started_by, argument_use, called, Mention, BodyPlace, mentions, opens}
 use Rattle.meaning.specs.Tracked.{local_meant_or, variable_of, Placed, outer, Local}
-use Rattle.meaning.specs.Uses.{Seen, found, VariableAt, Callee, Event, lend, defer_literal, is_body, is_own as is_own_of, is_of_local, is_deferred, is_deferred_use, is_member_of, literals_between}
+use Rattle.meaning.specs.Uses.{Seen, found, VariableAt, Callee, Event, lend, defer_literal, is_body, is_own as is_own_of, is_of_local, is_deferred, is_deferred_use, is_member_of, literals_between, variable_outcome, error_events}
 use Rattle.meaning.specs.BodyEvents.{Variable, captured, role_in, role_in_own, bodies_of, opened_in, is_declared_around, is_captured_there, is_variable_of, mark_events}
 use Rattle.meaning_packages.specs.CallsFlags.{has_name, is_function}
 use Rattle.meaning_packages.proofs.BodyPlaces.{placed_only}
@@ -35,6 +35,7 @@ use Rattle.meaning_runs.proofs.OwnVariables.{find_is, found_is, as_variable, is_
 use Rattle.meaning_runs.proofs.Places.{eqb_is}
 use Rattle.meaning_runs.proofs.StartedLiterals.{starts_about, IsStartOf, start_said, argument_there}
 use Rattle.meaning_runs.proofs.TrackedBindings.{is_tracked}
+use Rattle.std.proofs.lemmas.List.Elements.{Contains-append_left}
 
 -- Events
 
@@ -326,14 +327,14 @@ module _ (b : Body) (well : IsWellUsed b.file) (its : Contains (bodies_of b.file
       let literal = literal_of w.call in
       let same : (e : Event) → Starts e w.local.number literal → Starts e v (Some d.place.at) =
       λ e h. subst (λ k. Starts e k (Some d.place.at)) w.is_it (subst (λ k. Starts e w.local.number k) w.is_argument h) in
-      let started : (e : Event) → Contains (mark_events b.file around (mentions m)) e → Starts e w.local.number literal
+      let started : (e : Event) → Contains (variable_outcome b.file around m).events e → Starts e w.local.number literal
       → IsStarted d v =
       λ e there h. record {
         placed = record { mark = mentions m; bodies = around };
         event = e;
         is_of_file = w.is_there;
         stands_here = is.stands_in_it;
-        is_given = there;
+        is_given = Contains-append_left (variable_outcome b.file around m).events (error_events b.file m m.role) e there;
         starts_it = same e h;
       } in
       elim w.allowed.gives_it [ inl there ↦ started _ there by_start | inr there ↦ started _ there by_try ]

@@ -7,7 +7,7 @@ use Rattle.meaning.specs.Uses.{Event}
 use Rattle.meaning.proofs.Membership.{contains_nil, contains_here, contains_cases}
 use Rattle.meaning_runs.specs.Bodies.{Program, Body, IsOf, is_captured_by}
 use Rattle.meaning_runs.specs.World.{Value, cancel_function, nobody, outside, frame_at, Place, Store, put_at, with_new, calling, ending, with_group, IsOutside, outside_none, outside_group, with_member, with_cells, Lent, Passing, Saved, saved_pass, Frame, World, with_stack, group_in_cell, held_group, new_frame, nothing_around}
-use Rattle.meaning_runs.specs.Steps.{ComesTo, at_code, ComesToCall, at_once, saved_before, IsFree, StartsWork, ChangesMembers, starts_member, starts_stranger, starts_outside, starts_beside, leaves_group, Surrounds, starts, evaluates_literal, starts_literal, makes_one, ends_one, calls_any, makes_outside, joins_outside, Step, of_goroutine, of_members, of_environment}
+use Rattle.meaning_runs.specs.Steps.{ComesTo, at_code, ComesToCall, at_once, saved_before, IsFree, StartsWork, ChangesMembers, starts_member, starts_stranger, starts_outside, starts_beside, leaves_group, Surrounds, starts, evaluates_literal, starts_literal, makes_cells, makes_one, ends_one, calls_any, makes_outside, joins_outside, Step, of_goroutine, of_members, of_environment}
 use Rattle.meaning_runs.specs.Runs.{Run, no_step, step_more}
 use Rattle.meaning_runs.proofs.Contexts.{put_at-same, put_at-other}
 use Rattle.meaning_runs.proofs.GroupHomes.{home_in}
@@ -354,6 +354,9 @@ module _ (p : Program) (used : BodiesAreWellUsed p) where
       let apart = it.escaped c among in
       begun_held w m g c.literal values groups c.newest apart.is_of apart.cells_in apart.cells_once foreign.foreign
       (λ v a home e. absurd (none-some v (sym apart.has_no_home ∙ home))) it
+  environment_held w next m (makes_cells values groups foreign) it =
+      all_stand w m (with_block m.origins w.store.cell_count) (with_cells w.store values groups)
+      (block_grows nobody m.origins w.store values groups) (λ h a e. e) (block_known w.store values groups it.known) it
   environment_held w next m (makes_one parent earlier) it =
       contexts_held w m (with_new w.store parent) (new_changes w.store parent) it
   environment_held w next m (ends_one a is) it =

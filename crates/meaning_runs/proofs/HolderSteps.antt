@@ -1,5 +1,5 @@
 -- What the running frame of a goroutine does keeps who can start work in groups.
-use Rattle.std.proofs.Common.{◌≡◌, ℕ, suc, ◌+◌, ◌<◌, inl, inr, Bool, true, false, cond, List, [], ◌∷◌, ◌++◌, length, map, Option, Some, None, Contains, refl, sym, ap, ◌∙◌, subst, arith}
+use Rattle.std.proofs.Common.{◌≡◌, ℕ, suc, ◌<◌, inl, inr, Bool, true, false, cond, List, [], ◌∷◌, ◌++◌, length, map, Option, Some, None, Contains, refl, sym, ap, ◌∙◌, subst, arith}
 use Rattle.std.specs.Prelude.{◌==◌, ◌&&◌, slice_get}
 use Rattle.std.proofs.lemmas.Bool.{true≢false, false≢true, cases_Bool, and_from, eq-eqb}
 use Rattle.std.proofs.lemmas.Option.{none-some, same_Some}
@@ -10,7 +10,7 @@ use Rattle.meaning.specs.Uses.{Callee, VariableAt, Handed, Event, other, obtain,
 use Rattle.meaning.specs.BodyEvents.{Variable, bodies_of, opened_in}
 use Rattle.meaning.proofs.Membership.{contains_here, contains_there, contains_cases, contains_nil}
 use Rattle.meaning_packages.specs.PathFaults.{is_declared}
-use Rattle.meaning_runs.specs.Bodies.{Program, Body, IsLiteralIn, variables_in, is_parameter_of, is_captured_by, IsBelow, IsOf}
+use Rattle.meaning_runs.specs.Bodies.{Program, Body, IsLiteralIn, variables_in, is_parameter_of, is_captured_by, IsRun, IsOf}
 use Rattle.meaning_runs.specs.World.{Value, nothing, nobody, outside, frame_at, Place, Store, put_at, calling, with_group, IsOutside, outside_none, outside_group, waiting_for, with_cells, Given, Lent, Passing, Closure, Saved, saved_call, saved_pass, saved_literal, saved_wait, runs, exits, Frame, group_in_cell, held, held_group, is_declaration, cell_or, bound_cell, binding, binding_group, binds, new_frame, nothing_around}
 use Rattle.meaning_runs.specs.Steps.{ComesTo, DoesNext, at_code, Obtains, new_one, earlier_one, none_at_all, with_function, Makes, zero_group, with_context, MayJoin, is_first, is_next, joining, Fits, Begins, of_function, of_none, Acts, moves_on, does_other, obtains_one, clears_one, calls_one, saves_call, makes_group, tries_nothing, ends_wait, saves_wait, evaluates, evaluates_deferred, lends, makes_call, calls_outside, saves_pass, saves_literal, comes_to_return, runs_call, runs_pass, runs_literal, runs_wait, returns_now}
 use Rattle.meaning_runs.proofs.Bindings.{obtains, clears, makes}
@@ -46,7 +46,7 @@ literal_is_of p b literal of is =
     record {
       loaded = of.loaded;
       is_package = ap (slice_get p.packages) is.same_home ∙ of.is_package;
-      is_below = subst (λ n. IsBelow p n) (sym is.same_home) of.is_below;
+      is_run = subst (λ n. IsRun p n) (sym is.same_home) of.is_run;
       is_file = subst (λ f. Contains (seen_files p.packages p.tables of.loaded) f) (sym is.same_file) of.is_file;
       is_body = subst (λ (f : Seen). Contains (bodies_of f) literal.place) (sym is.same_file) (placed_there (opened_in b.file.marks) literal.place (opened_there b.file.marks is.mark literal.place is.is_of_file is.opens_it));
     }

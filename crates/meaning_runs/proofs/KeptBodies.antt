@@ -1,6 +1,6 @@
 -- Where nothing is to be said of any package that runs go through, all is there that the invariant asks of bodies.
 use Rattle.std.proofs.Common.{subst}
-use Rattle.meaning_runs.specs.Bodies.{Program}
+use Rattle.meaning_runs.specs.Bodies.{Program, IsRun}
 use Rattle.meaning_runs.specs.Promise.{AreWellKnown, HaveNoFindings}
 use Rattle.meaning_runs.proofs.Bindings.{binds_so}
 use Rattle.meaning_runs.proofs.CaredActs.{BodiesAreKept}
@@ -19,7 +19,7 @@ binds_its_own p = record {
       (bindings_are_own p b t o u of reached (binds_so o.event u binds));
 }
 
-pub bodies_are_kept : (p : Program) → AreWellKnown p → HaveNoFindings p → BodiesAreKept p
+pub bodies_are_kept : (p : Program) → AreWellKnown p → HaveNoFindings p (IsRun p) → BodiesAreKept p
 bodies_are_kept p known below = record {
   no_fault = no_fault_under p known below;
   called = called_under p known below;

@@ -9,7 +9,7 @@ use Rattle.meaning.specs.BodyEvents.{Variable}
 use Rattle.meaning_packages.specs.PathFaults.{KeepsCall, paths_of}
 use Rattle.meaning_packages.specs.Credits.{Credits, AreFairCredits, no_calls, promises_in}
 use Rattle.meaning_reports.specs.Loaded.{LoadedPackage}
-use Rattle.meaning_runs.specs.Bodies.{Program, Body, IsOf}
+use Rattle.meaning_runs.specs.Bodies.{Program, Body, IsRun, IsOf}
 use Rattle.meaning_runs.specs.Duties.{calls_in, IsCreditedWith, AreTakenUp, IsWaitingFor}
 use Rattle.meaning_runs.specs.Promise.{AreWellKnown, HaveNoFindings}
 use Rattle.meaning_runs.proofs.CaredFor.{IsCalledUnder, IsRelied, of_flag, of_credit}
@@ -35,7 +35,7 @@ credit_keeps b v c = record {
       safe≢pending _ left.left_to.number (is_safe_at_return b v c handed t o back) left.is_pending;
 }
 
-module _ (p : Program) (known : AreWellKnown p) (below : HaveNoFindings p) where
+module _ (p : Program) (known : AreWellKnown p) (below : HaveNoFindings p (IsRun p)) where
   pub are_well_used : BodiesAreWellUsed p
   are_well_used = bodies_are_well_used p (well_used p below known.of_texts)
 
@@ -57,7 +57,7 @@ module _ (p : Program) (known : AreWellKnown p) (below : HaveNoFindings p) where
   literals_alone b credits of fair =
       let apart = (well_used p below known.of_texts b of).apart in
       record {
-        functions = λ f k e. absurd (false≢true e);
+        functions = λ f k hands e. absurd (false≢true e);
         literals = literals_taken_up b apart credits fair no_calls;
         waits = literals_wait b apart credits fair no_calls;
       }

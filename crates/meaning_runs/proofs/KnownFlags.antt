@@ -15,11 +15,12 @@ use Rattle.meaning.specs.BodyEvents.{Variable, own_parameter}
 use Rattle.meaning.proofs.Membership.{contains_here, contains_there, contains_cases, contains_nil}
 use Rattle.meaning_packages.specs.Credits.{AreFairCredits}
 use Rattle.meaning_packages.specs.CallsFlags.{FileWithCredits, flag_of, is_function}
-use Rattle.imports.specs.Ranks.{Package, Imports, Chain, ends, goes_on}
+use Rattle.imports.specs.Ranks.{Package, Imports}
 use Rattle.meaning_reports.specs.Loaded.{LoadedPackage, NumberedTree, numbered_trees, trees_of, imported_paths, import_list, is_imported, no_table, PackageTable, imported_flags, known_in, seen_files}
+use Rattle.meaning_reports.specs.UsedImports.{HandsThere, Uses}
 use Rattle.meaning_reports.specs.WholeFaults.{HasNoWholeFault, has_two_functions}
 use Rattle.meaning_reports.proofs.ImportsOf.{has_path, list_item, in_lists, given_in_lists}
-use Rattle.meaning_runs.specs.Bodies.{Program, Body, IsBelow, IsOf, IsNamed}
+use Rattle.meaning_runs.specs.Bodies.{Program, Body, IsRun, IsOf, IsNamed}
 use Rattle.meaning_runs.specs.Promise.{AreFairlyCredited, no_file, file_and, AreWellKnown}
 use Rattle.meaning_runs.specs.Duties.{IsFlagged, TakesUp, calls_in}
 use Rattle.meaning_runs.proofs.NamedBodies.{AreApart, apart, one_body}
@@ -141,10 +142,6 @@ imports_first ps i q path is e f = record {
       f.first k w.0 w.1 (ap (λ (x : Package). x.path) w.2 ∙ same ∙ f.same);
 }
 
-one_more : {ps : List Package} {i j k : ℕ} → Chain ps i j → Imports ps j k → Chain ps i k
-one_more ends im = goes_on im ends
-one_more (goes_on first rest) im = goes_on first (one_more rest im)
-
 imported_by : (loaded : LoadedPackage) (tables : List ℕ → PackageTable) (path name : List ℕ) (k : ℕ) → imported_flags loaded tables path name k ≡ true → (is_imported loaded path ≡ true) × ((tables path).calls name k ≡ true)
 imported_by loaded tables path name k e = by (is_imported loaded path) refl e
   where
@@ -163,7 +160,7 @@ module _ (p : Program) (known : AreWellKnown p) where
     named : is_function name body.place ≡ true
     each : (c : Body) → IsOf p c → c.home ≡ i → is_function name c.place ≡ true → (v : Variable) × IsFlagged p c v × (v.role ≡ own_parameter k)
 
-  has_flag : (i : ℕ) (q : LoadedPackage) → IsBelow p i → slice_get p.packages i ≡ Some q → (name : List ℕ) (k : ℕ) → (p.tables q.path).calls name k ≡ true → HasFlag i name k
+  has_flag : (i : ℕ) (q : LoadedPackage) → IsRun p i → slice_get p.packages i ≡ Some q → (name : List ℕ) (k : ℕ) → (p.tables q.path).calls name k ≡ true → HasFlag i name k
   has_flag i q below is name k e =
       let w = known.of_package i q below is in
       let kept = w.are_flags.each name k e in
@@ -186,7 +183,7 @@ module _ (p : Program) (known : AreWellKnown p) where
       } in
       record {
         body = it;
-        of = record { loaded = q; is_package = is; is_below = below; is_file = there; is_body = kept.is_claim.is_body };
+        of = record { loaded = q; is_package = is; is_run = below; is_file = there; is_body = kept.is_claim.is_body };
         home = refl;
         named = kept.is_claim.is_of_function;
         each = λ c of home named.
@@ -197,10 +194,10 @@ module _ (p : Program) (known : AreWellKnown p) where
             (kept.variable, subst (λ x. IsFlagged p x kept.variable) is_it flag, kept.is_claim.is_parameter);
       }
 
-  module _ (b : Body) (loaded : LoadedPackage) (of : IsOf p b) (is : slice_get p.packages b.home ≡ Some loaded) (f : Callee) (k : ℕ) where
+  module _ (b : Body) (loaded : LoadedPackage) (of : IsOf p b) (is : slice_get p.packages b.home ≡ Some loaded) (f : Callee) (k : ℕ) (hands : HandsThere b.file f) where
     of_this : f.path ≡ None → (p.tables loaded.path).calls f.name k ≡ true → TakesUp p b f k
     of_this q e =
-        let h = has_flag b.home loaded of.is_below is f.name k e in
+        let h = has_flag b.home loaded of.is_run is f.name k e in
         record {
           each = λ c g. h.each c g.is_of (subst (λ o. IsNamed p b.home o c.home) q g.is_of_package) g.has_name;
           is_declared = λ no_body. absurd (no_body h.body record {
@@ -225,12 +222,26 @@ module _ (p : Program) (known : AreWellKnown p) where
     of_first path q im e (inr none) = of_declared path q e none
     of_first path q im e (inl first) =
         let flag : (other : LoadedPackage) → other.path ≡ path → (p.tables other.path).calls f.name k ≡ true = λ other same. subst (λ x. (p.tables x).calls f.name k ≡ true) (sym same) e in
-        let h = has_flag first.place first.found (one_more of.is_below (imports_first p.packages b.home loaded path is im first)) first.is_there f.name k (flag first.found first.same) in
+        let uses : Uses p.packages p.tables b.home first.place = record {
+          imported = first.found;
+          is_imported = first.is_there;
+          imports = imports_first p.packages b.home loaded path is im first;
+          is_used = record {
+            user = of.loaded;
+            file = b.file;
+            callee = f;
+            is_user = of.is_package;
+            is_file = of.is_file;
+            is_of_path = q ∙ (λ j. Some (sym first.same j));
+            hands = hands;
+          };
+        } in
+        let h = has_flag first.place first.found (known.are_closed b.home first.place of.is_run uses) first.is_there f.name k (flag first.found first.same) in
         let its : IsNamed p b.home (Some path) h.body.home = (first.found, ap (λ n. slice_get p.packages n) h.home ∙ first.is_there, first.same) in
         record {
           each = λ c g.
               let n = subst (λ o. IsNamed p b.home o c.home) q g.is_of_package in
-              (has_flag c.home n.0 g.is_of.is_below n.1 f.name k (flag n.0 n.2)).each c g.is_of refl g.has_name;
+              (has_flag c.home n.0 g.is_of.is_run n.1 f.name k (flag n.0 n.2)).each c g.is_of refl g.has_name;
           is_declared = λ no_body. absurd (no_body h.body record {
             is_of = h.of;
             is_of_package = subst (λ o. IsNamed p b.home o h.body.home) (sym q) its;
@@ -247,5 +258,5 @@ module _ (p : Program) (known : AreWellKnown p) where
     pub functions_taken_up_by : calls_in p loaded f k ≡ true → TakesUp p b f k
     functions_taken_up_by e = of_path f.path refl e
 
-pub functions_taken_up : (p : Program) (known : AreWellKnown p) (b : Body) (loaded : LoadedPackage) → IsOf p b → slice_get p.packages b.home ≡ Some loaded → (f : Callee) (k : ℕ) → calls_in p loaded f k ≡ true → TakesUp p b f k
-functions_taken_up p known b loaded of is f k e = functions_taken_up_by p known b loaded of is f k e
+pub functions_taken_up : (p : Program) (known : AreWellKnown p) (b : Body) (loaded : LoadedPackage) → IsOf p b → slice_get p.packages b.home ≡ Some loaded → (f : Callee) (k : ℕ) → HandsThere b.file f → calls_in p loaded f k ≡ true → TakesUp p b f k
+functions_taken_up p known b loaded of is f k hands e = functions_taken_up_by p known b loaded of is f k hands e

@@ -3,7 +3,7 @@ use Rattle.std.proofs.Common.{◌≡◌, ℕ, Bool, true, false, inl, inr, List,
 use Rattle.std.specs.Prelude.{◌&&◌, if◌then◌else◌}
 use Rattle.std.proofs.lemmas.List.Elements.{Contains-append_cases}
 use Rattle.tree.specs.Syntax.{Expressions}
-use Rattle.meaning.specs.Mentions.{BodyPlace, Mark, mentions, defers_literal, returns, opens, closes, file_marks}
+use Rattle.meaning.specs.Mentions.{BodyPlace, Mark, mentions, defers_literal, returns, opens, closes, file_marks, marks_by}
 use Rattle.meaning.specs.Tracked.{Placed, placed, outer}
 use Rattle.meaning.specs.Uses.{Seen, Event, defer_literal, is_body}
 use Rattle.meaning.specs.BodyEvents.{mark_events, is_site, events_at, sites_of}
@@ -19,6 +19,7 @@ use Rattle.meaning_runs.proofs.AskedSites.{asked_at, asked_statements}
 use Rattle.meaning_runs.proofs.SitesWithin.{MayFollow, ReturnsEnd}
 use Rattle.meaning_runs.proofs.BodyOffsets.{opens_one, are_sited}
 use Rattle.meaning_runs.proofs.LeavingLists.{IsLastReturn, quiet_before, body_lists_end}
+use Rattle.meaning_runs.proofs.EditionMarks.{among_all, returns_end}
 
 -- marks where they stand
 abbrev PlacedEnd : List Placed → Type 0
@@ -136,16 +137,19 @@ no_return_there marks s none closes among e = tt
 
 pub returns_are_last : ReturnsAreLast
 returns_are_last b t x text among lists =
-    let file = are_sited text.text text.tree text.is_tree in
-    let marks = file_marks text.tree in
+    let file = are_sited text.known.edition text.text text.tree text.is_tree in
+    let edition = text.known.edition in
+    let all = file_marks text.tree in
+    let marks = marks_by edition all in
     let same : b.file.marks ≡ placed [] marks = ap (λ (s : Seen). s.marks) text.is_file in
-    let opened = opens_one marks b.place (subst (λ (ps : List Placed). Contains (opened_in ps) b.place) same
-    (placed_only (opened_in b.file.marks) b.place among)) in
-    let ends = subst PlacedEnd (sym same) (placed_end [] marks file.sited.last) in
+    let opened = among_all edition all (opens b.place) (opens_one marks b.place
+    (subst (λ (ps : List Placed). Contains (opened_in ps) b.place) same
+    (placed_only (opened_in b.file.marks) b.place among))) in
+    let ends = subst PlacedEnd (sym same) (placed_end [] marks (returns_end edition all file.sited.last)) in
     let quiet = λ (s : ℕ) (asked : Contains
     (asked_statements b.place.statements) (asked_at s)). quiet_at b.file b.place.at s b.file.marks λ p there is.
     no_return_there marks s (λ es returned. file.sited.differ s es
-    (inr record { body = b.place; opened = opened; among = asked }) returned)
+    (inr record { body = b.place; opened = opened; among = asked }) (among_all edition all (returns s es) returned))
     p.mark (is_placed [] marks p (subst (λ (ps : List Placed). Contains ps p) same there)) is in
     body_lists_end (sites_of b.file b.place.at) refl (λ at. last_at b.file b.place.at at b.file.marks ends)
     (block_of b.place) t x quiet lists

@@ -1,15 +1,17 @@
 -- The lists of a code that leaves the body after each return: no event but the last is a return.
 use Rattle.std.proofs.Common.{◌≡◌, ◌≢◌, ℕ, ◌+◌, Bool, true, false, ◌⊎◌, inl, inr, List, [], ◌∷◌, ◌++◌, Option, None, Contains, refl, sym, ap, ◌∙◌, subst, append-nil}
-use Rattle.std.specs.Prelude.{if◌then◌else◌}
+use Rattle.std.specs.Prelude.{if◌then◌else◌, ◌-◌}
 use Rattle.std.proofs.lemmas.List.Elements.{Contains-append_cases, Contains-append_left, Contains-append_right}
-use Rattle.tree.specs.Syntax.{Statement, statement_node, StatementForm, empty_statement, declaration_statement, labeled_statement, expression_statement, send_statement, increment_statement, decrement_statement, assignment, operator_assignment, define_statement, go_statement, defer_statement, return_statement, break_statement, continue_statement, block_statement, if_statement, for_statement, range_assignment, range_definition, switch_statement, type_switch_statement, select_statement, Statements, no_statement, statement_and, OptionalStatement, missing_statement, present_statement, CaseClauses, no_case, case_and, CommunicationClauses, no_communication, communication_and, Declaration, declaration_of, Specs, no_spec, value_and, type_and, Block}
-use Rattle.meaning.specs.Code.{Occurrence, Way, returning, breaking, continuing, Code, skip, does, leave, then_code, either, repeats, up_to}
+use Rattle.tree.specs.Syntax.{Statement, statement_node, StatementForm, empty_statement, declaration_statement, labeled_statement, expression_statement, send_statement, increment_statement, decrement_statement, assignment, operator_assignment, define_statement, go_statement, defer_statement, return_statement, break_statement, continue_statement, goto_statement, fallthrough_statement, block_statement, if_statement, for_statement, range_assignment, range_definition, switch_statement, type_switch_statement, select_statement, Statements, no_statement, statement_and, OptionalStatement, missing_statement, present_statement, CaseClauses, no_case, case_and, CommunicationClauses, no_communication, communication_and, Declaration, declaration_of, Specs, no_spec, value_and, type_and, Block}
+use Rattle.meaning.specs.Code.{Occurrence, Way, returning, breaking, continuing, falling, Code, skip, does, leave, then_code, either, repeats, up_to}
 use Rattle.meaning.specs.Lists.{Exit, stopped, falls, leaves, Lists, not_begun, skipped, done, just_done, left, ends_in_first, goes_on, in_first, in_second, ends_in_turn, turns_again, arrives, passes}
-use Rattle.meaning.specs.StatementCode.{Sites, stuck, label_of, up_to_labels, breaks_end, turns_end, loop, is_present, has_default, or_case, or_communication, or_past, or_other, in_order, site, spec_events, declaration_code, statement_code, form_code, optional_code, statements_code, cases_code, communications_code, entry, last_return, body_code}
+use Rattle.meaning.specs.Jumps.{Part, declaration_part, return_part, goto_part, plain_part, parts_of, jumps_in}
+use Rattle.meaning.specs.StatementCode.{Sites, part_code, one_of, jumping_or, jumping_code, block_code, clauses_fall, up_to_falls, switch_code, stuck, label_of, up_to_labels, breaks_end, turns_end, loop, is_present, has_default, or_case, or_communication, or_past, or_other, in_order, site, spec_events, declaration_code, statement_code, form_code, optional_code, statements_code, cases_code, communications_code, entry, last_return, body_code, branch, behind_events}
 use Rattle.meaning.specs.Uses.{Event}
 use Rattle.meaning.proofs.Membership.{contains_nil, contains_here, contains_there, contains_cases}
 use Rattle.meaning_runs.specs.RunLists.{is_return, ReturnsComeLast}
 use Rattle.meaning_runs.proofs.MentionEvents.{AreQuiet}
+use Rattle.meaning_runs.proofs.PartSites.{StandsAt, AllStandAt, of_statements as parts_stand}
 use Rattle.meaning_runs.proofs.AskedSites.{CodeSite, asked_at, unasked_at, asked_specs, asked_declaration, asked_statement, asked_form, asked_optional, asked_statements, asked_cases, asked_communications}
 
 -- no event but the last one is a return
@@ -67,6 +69,7 @@ IsOpen falls = Unit {0}
 IsOpen (leaves returning) = ⊥
 IsOpen (leaves (breaking l)) = Unit {0}
 IsOpen (leaves (continuing l)) = Unit {0}
+IsOpen (leaves (falling at)) = Unit {0}
 
 -- Only the last event may be a return, and where the body may go on not even that one.
 record Ends (t : List (Occurrence Event)) (x : Exit) : Type 0 where
@@ -157,6 +160,27 @@ of_loop ls header may_end body post h k m =
     (of_turns (then_code header once)
     (of_both header once h
     (chosen may_end ending turn (of_either (leave (breaking None)) turn (of_leave (breaking None)) turning) turning)))
+
+of_falls : (ats : List ℕ) (c : Code Event) → AllEnd c → AllEnd (up_to_falls ats c)
+of_falls [] c h = h
+of_falls (at ∷ ats) c h = of_up_to (falling at) (up_to_falls ats c) tt (of_falls ats c h)
+
+of_switch : (ls : List (List ℕ)) (ats : List ℕ) (header clauses : Code Event)
+    → AllEnd header
+    → AllEnd clauses
+    → AllEnd (switch_code ls ats header clauses)
+of_switch ls [] header clauses h k = of_both header (breaks_end ls clauses) h (breaking_ends ls clauses k)
+of_switch ls (at ∷ ats) header clauses h k =
+    let end = then_code clauses (leave (breaking None)) in
+    let turn = up_to_falls (at ∷ ats) (then_code header end) in
+    breaking_ends ls (repeats turn)
+    (of_turns turn
+    (of_falls (at ∷ ats) (then_code header end)
+    (of_both header end h (of_both clauses (leave (breaking None)) k (of_leave (breaking None))))))
+
+or_jumping : (js : List ℕ) (c d : Code Event) → AllEnd c → AllEnd d → AllEnd (jumping_or js c d)
+or_jumping [] c d h k = k
+or_jumping (j ∷ js) c d h k = h
 
 of_past : (cs : CaseClauses) (c : Code Event) → AllEnd c → AllEnd (or_past cs c)
 of_past no_case c h = of_skip
@@ -321,10 +345,17 @@ module _ (sites : Sites Event) (other_is : is_return sites.other ≡ false) wher
       quiet_in_both (or_other sites (sites.events span.start)) (spec_events sites specs)
       (or_quiet (sites.events span.start) (first_quiet span.start (asked_specs specs) h))
       (of_specs specs (rest_quiet span.start (asked_specs specs) h))
-  of_specs (type_and n is_alias t span specs) h =
+  of_specs (type_and n ps is_alias t span specs) h =
       quiet_in_both (or_other sites (sites.events span.start)) (spec_events sites specs)
       (or_quiet (sites.events span.start) (first_quiet span.start (asked_specs specs) h))
       (of_specs specs (rest_quiet span.start (asked_specs specs) h))
+
+  of_branch : (brace : ℕ) (code : Code Event) → AreQuiet (sites.events brace) → AllEnd code → AllEnd (branch sites brace code)
+  of_branch brace code h k = by (sites.events brace) h
+    where
+      by : (es : List Event) → AreQuiet es → AllEnd (behind_events sites brace es code)
+      by [] quiet = k
+      by (e ∷ es) quiet = of_both (in_order sites brace 0 (e ∷ es)) code (of_order brace 0 (e ∷ es) quiet) k
 
   of_declaration : (d : Declaration) → AllQuiet (asked_declaration d) → AllEnd (declaration_code sites d)
   of_declaration (declaration_of keyword specs is_grouped span) h =
@@ -365,19 +396,29 @@ module _ (sites : Sites Event) (other_is : is_return sites.other ≡ false) wher
       of_form ls at (continue_statement n) h =
           of_both (site sites at) (leave (continuing (label_of n))) (of_site at (first_quiet at [] h))
           (of_leave (continuing (label_of n)))
+      of_form ls at (goto_statement n) h =
+          of_both (site sites at) stuck (of_site at (first_quiet at [] h)) of_stuck
+      of_form ls at fallthrough_statement h =
+          of_both (site sites at) (leave (falling at)) (of_site at (first_quiet at [] h)) (of_leave (falling at))
       of_form ls at (block_statement ss braces) h = of_statements ss h
       of_form ls at (if_statement init has_semicolon c ss braces otherwise) h =
-          let inner = asked_statements ss ++ asked_optional otherwise in
-          let q = first_quiet at (asked_optional init ++ inner) h in
-          let k = rest_quiet at (asked_optional init ++ inner) h in
-          let m = right_quiet (asked_optional init) inner k in
-          of_both (optional_code sites init)
-          (then_code (site sites at) (either (statements_code sites ss) (optional_code sites otherwise)))
-          (of_optional init (left_quiet (asked_optional init) inner k))
-          (of_both (site sites at) (either (statements_code sites ss) (optional_code sites otherwise)) (of_site at q)
-          (of_either (statements_code sites ss) (optional_code sites otherwise)
-          (of_statements ss (left_quiet (asked_statements ss) (asked_optional otherwise) m))
-          (of_optional otherwise (right_quiet (asked_statements ss) (asked_optional otherwise) m))))
+          let body = asked_at braces.start ∷ asked_statements ss in
+          let past = asked_at (braces.end - 1) ∷ asked_optional otherwise in
+          let q = first_quiet at (asked_optional init ++ (body ++ past)) h in
+          let k = rest_quiet at (asked_optional init ++ (body ++ past)) h in
+          let m = right_quiet (asked_optional init) (body ++ past) k in
+          let one = branch sites braces.start (statements_code sites ss) in
+          let other = branch sites (braces.end - 1) (optional_code sites otherwise) in
+          let own = left_quiet body past m in
+          let behind = right_quiet body past m in
+          of_both (optional_code sites init) (then_code (site sites at) (either one other))
+          (of_optional init (left_quiet (asked_optional init) (body ++ past) k))
+          (of_both (site sites at) (either one other) (of_site at q)
+          (of_either one other
+          (of_branch braces.start (statements_code sites ss) (first_quiet braces.start (asked_statements ss) own)
+          (of_statements ss (rest_quiet braces.start (asked_statements ss) own)))
+          (of_branch (braces.end - 1) (optional_code sites otherwise) (first_quiet (braces.end - 1) (asked_optional otherwise) behind)
+          (of_optional otherwise (rest_quiet (braces.end - 1) (asked_optional otherwise) behind)))))
       of_form ls at (for_statement init c post has_semicolons ss braces) h =
           let ends = asked_optional init ++ asked_optional post in
           let q = first_quiet at (ends ++ asked_statements ss) h in
@@ -400,12 +441,12 @@ module _ (sites : Sites Event) (other_is : is_return sites.other ≡ false) wher
           (of_statements ss (rest_quiet at (asked_statements ss) h)) of_skip
       of_form ls at (switch_statement init has_semicolon tag cs) h =
           let k = rest_quiet at (asked_optional init ++ asked_cases cs) h in
-          let inner = breaks_end ls (or_past cs (cases_code sites cs)) in
-          of_both (optional_code sites init) (then_code (site sites at) inner)
+          let clauses = or_past cs (cases_code sites cs) in
+          of_both (optional_code sites init) (switch_code ls (clauses_fall cs) (site sites at) clauses)
           (of_optional init (left_quiet (asked_optional init) (asked_cases cs) k))
-          (of_both (site sites at) inner (of_site at (first_quiet at (asked_optional init ++ asked_cases cs) h))
-          (breaking_ends ls (or_past cs (cases_code sites cs)) (of_past cs (cases_code sites cs)
-          (of_cases cs (right_quiet (asked_optional init) (asked_cases cs) k)))))
+          (of_switch ls (clauses_fall cs) (site sites at) clauses
+          (of_site at (first_quiet at (asked_optional init ++ asked_cases cs) h))
+          (of_past cs (cases_code sites cs) (of_cases cs (right_quiet (asked_optional init) (asked_cases cs) k))))
       of_form ls at (type_switch_statement init has_semicolon n e cs) h =
           let k = rest_quiet at (asked_optional init ++ asked_cases cs) h in
           let inner = breaks_end ls (or_past cs (cases_code sites cs)) in
@@ -454,10 +495,28 @@ module _ (sites : Sites Event) (other_is : is_return sites.other ≡ false) wher
           (of_statements ss (rest_quiet span.start (asked_statements ss) k)))
           (of_communications cs (right_quiet (asked_at span.start ∷ asked_statements ss) (asked_communications cs) h))
 
+    of_part : (asks : List CodeSite) → AllQuiet asks → (p : Part) → StandsAt asks p → AllEnd (part_code sites p)
+    of_part asks h (declaration_part d) k = of_declaration d (λ n among. h n (k (asked_at n) among))
+    of_part asks h (return_part at) k = of_return at (last at)
+    of_part asks h (goto_part at) k = of_site at (h at k)
+    of_part asks h (plain_part at) k = of_site at (h at k)
+
+    of_parts : (asks : List CodeSite) → AllQuiet asks → (ps : List Part) → AllStandAt asks ps → AllEnd (one_of sites ps)
+    of_parts asks h [] k = of_skip
+    of_parts asks h (p ∷ ps) k =
+        of_either (part_code sites p) (one_of sites ps) (of_part asks h p k.0) (of_parts asks h ps k.1)
+
+    of_block : (ss : Statements) → AllQuiet (asked_statements ss) → AllEnd (block_code sites ss)
+    of_block ss h =
+        or_jumping (jumps_in ss) (jumping_code sites (parts_of ss)) (statements_code sites ss)
+        (of_loop [] skip true (one_of sites (parts_of ss)) skip of_skip
+        (of_parts (asked_statements ss) h (parts_of ss) (parts_stand ss)) of_skip)
+        (of_statements ss h)
+
     -- the statements, and then the return at the body's end
     up_to_the_end : (b : Block) (t : List (Occurrence Event)) (x : Exit)
-        → AllEnd (statements_code sites b.statements)
-        → Lists (then_code (statements_code sites b.statements) (does (last_return sites b))) t x
+        → AllEnd (block_code sites b.statements)
+        → Lists (then_code (block_code sites b.statements) (does (last_return sites b))) t x
         → ReturnsComeLast t
     up_to_the_end b t x h not_begun = tt
     up_to_the_end b t x h (ends_in_first l n) = (h t x l).last
@@ -470,11 +529,11 @@ module _ (sites : Sites Event) (other_is : is_return sites.other ≡ false) wher
         → Lists (body_code sites b) t x
         → ReturnsComeLast t
     body_lists_end b t x h l =
-        elim (headed (entry sites b) (then_code (statements_code sites b.statements)
+        elim (headed (entry sites b) (then_code (block_code sites b.statements)
         (does (last_return sites b))) t x l) [
           | inl (inl q) ↦ none_last t q
           | inl (inr q) ↦ one_last (entry sites b) t q
           | inr w ↦ subst ReturnsComeLast (sym w.is_it)
               (one_more (entry sites b) w.rest other_is
-              (up_to_the_end b w.rest x (of_statements b.statements h) w.is_list))
+              (up_to_the_end b w.rest x (of_block b.statements h) w.is_list))
         ]

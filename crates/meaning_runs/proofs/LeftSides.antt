@@ -1,19 +1,24 @@
 -- A mention whose role is a left side of a row is what stands on that left side of the row.
 use Rattle.std.proofs.Common.{◌≡◌, ℕ, zero, suc, ◌+◌, Bool, true, false, inl, inr, List, [], ◌∷◌, ◌++◌, map, drop, Option, Some, None, Contains, refl, sym, ap, ◌∙◌, subst, arith}
-use Rattle.std.specs.Prelude.{◌&&◌, if◌then◌else◌, not, slice_get}
+use Rattle.std.specs.Prelude.{◌&&◌, if◌then◌else◌, not, slice_get, ◌-◌}
 use Rattle.std.proofs.lemmas.List.Elements.{Contains-append_cases}
 use Rattle.tree.specs.declared.operator.DeclKeyword.{DeclKeyword}
 use Rattle.tree.specs.declared.span.Span.{Span}
-use Rattle.tree.specs.Syntax.{Identifier, Expression, expression_node, ExpressionForm, name_expression, basic_literal, function_literal, composite_literal, literal_value, key_value, parenthesized, selector_expression, index_expression, slice_expression, type_assertion, call_expression, star_expression, unary_expression, binary_expression, array_type, ellipsis_array_type, slice_type, map_type, channel_type, function_type, struct_type, interface_type, Expressions, no_expression, expression_and, OptionalExpression, missing_expression, present_expression, Signature, signature_of, Parameters, no_parameter, named_and, unnamed_and, name_alone_and, Fields, no_field, fields_and, embedded_and, method_and, Statement, statement_node, StatementForm, empty_statement, declaration_statement, labeled_statement, expression_statement, send_statement, increment_statement, decrement_statement, assignment, operator_assignment, define_statement, go_statement, defer_statement, return_statement, break_statement, continue_statement, block_statement, if_statement, for_statement, range_assignment, range_definition, switch_statement, type_switch_statement, select_statement, Statements, no_statement, statement_and, OptionalStatement, missing_statement, present_statement, CaseClauses, no_case, case_and, CommunicationClauses, no_communication, communication_and, Declaration, declaration_of, Specs, no_spec, value_and, type_and, Block, Function, TopLevelDeclaration, function_declaration, general_declaration, SourceFile}
-use Rattle.meaning.specs.Scopes.{is_blank}
-use Rattle.meaning.specs.Mentions.{Named, bare, as_bare, as_named, as_bracketed, as_pointer, as_new_literal, select_from, embedded, defines, assigns, declares, Standing, ordinary, first_of_for, communication, Row, CallPlace, nowhere, as_statement, only_value, return_item, deferred, place_in, Call, call_of, is_none_left, LiteralUse, other_use, deferred_call, started_by, argument_use, callee_use, Role, elsewhere, called, called_in_brackets, argument, returned, left, names_type, new_literal, parameter_pointer, BodyPlace, Mark, mentions, defers_literal, returns, opens, closes, Spot, part_of, whole, mention, declaring, number_of, name_role, named_or, callee_or, addressed, argument_or, argument_at, new_literal_or, deferral, literal_body, in_body, parameter_type_or, value_spot, left_names, declared_elsewhere, guard_in_clause, row_of, expression_marks, form_marks, expressions_marks, optional_marks, arguments_marks, items_marks, lefts_marks, names_type_marks, signature_marks, parameters_marks, fields_marks, statement_marks, statement_form_marks, statements_marks, optional_statement_marks, cases_marks, communications_marks, declaration_marks, specs_marks, receiver_marks, function_body, function_types_marks, function_marks, outer_specs_marks, top_level_marks, top_levels_marks, file_marks}
+use Rattle.tree.specs.Syntax.{Identifier, Expression, expression_node, ExpressionForm, name_expression, basic_literal, function_literal, composite_literal, literal_value, key_value, parenthesized, selector_expression, index_expression, instance_expression, slice_expression, type_assertion, call_expression, star_expression, unary_expression, binary_expression, array_type, ellipsis_array_type, slice_type, map_type, channel_type, function_type, struct_type, interface_type, Expressions, no_expression, expression_and, OptionalExpression, missing_expression, present_expression, Signature, signature_of, Parameters, no_parameter, named_and, unnamed_and, name_alone_and, Fields, no_field, fields_and, embedded_and, element_and, method_and, Statement, statement_node, StatementForm, empty_statement, declaration_statement, labeled_statement, expression_statement, send_statement, increment_statement, decrement_statement, assignment, operator_assignment, define_statement, go_statement, defer_statement, return_statement, break_statement, continue_statement, goto_statement, fallthrough_statement, block_statement, if_statement, for_statement, range_assignment, range_definition, switch_statement, type_switch_statement, select_statement, Statements, no_statement, statement_and, OptionalStatement, missing_statement, present_statement, CaseClauses, no_case, case_and, CommunicationClauses, no_communication, communication_and, Declaration, declaration_of, Specs, no_spec, value_and, type_and, Block, Function, TopLevelDeclaration, function_declaration, general_declaration, SourceFile}
+use Rattle.meaning.specs.Scopes.{is_blank, parameters_named, named_in_types}
+use Rattle.meaning.specs.Mentions.{Named, bare, as_bare, as_named, as_bracketed, as_pointer, as_new_literal, select_from, embedded, defines, assigns, declares, Standing, ordinary, first_of_for, communication, Row, CallPlace, nowhere, as_statement, only_value, return_item, deferred, place_in, Call, call_of, is_none_left, LiteralUse, other_use, deferred_call, started_by, argument_use, callee_use, Role, elsewhere, called, called_in_brackets, argument, returned, left, names_type, new_literal, parameter_pointer, BodyPlace, Mark, mentions, defers_literal, returns, opens, closes, Spot, part_of, whole, mention, declaring, number_of, name_role, named_or, callee_or, addressed, argument_or, argument_at, new_literal_or, deferral, literal_body, in_body, parameter_type_or, value_spot, left_names, declared_elsewhere, guard_in_clause, row_of, expression_marks, form_marks, expressions_marks, optional_marks, arguments_marks, items_marks, lefts_marks, names_type_marks, signature_marks, parameters_marks, fields_marks, statement_marks, statement_form_marks, statements_marks, optional_statement_marks, cases_marks, communications_marks, declaration_marks, specs_marks, type_parameters_marks, receiver_marks, function_body, function_types_marks, function_marks, outer_specs_marks, top_level_marks, top_levels_marks, file_marks, exposed, addressed_within, bare_within, ranged_marks, found_nil, NilTest, nil_marks, nil_where, found_error, error_where, error_marks, row_in, first_row, guard_marks, behind_row, marks_by}
 use Rattle.meaning.specs.Tracked.{left_name, left_of_name, left_of_named, lefts_of_expressions, lefts_of, Placed, placed, outer}
 use Rattle.meaning.proofs.Membership.{contains_here, contains_there, contains_cases, contains_nil}
+use Rattle.tree.specs.declared.edition.Edition.{Edition}
+use Rattle.meaning_runs.proofs.EditionMarks.{placed_among}
 
 -- the name with what it declares is the left side that the role says
 abbrev pub Fits : Named → Option ℕ → Role → Type 0
 Fits n declared (left k row) = slice_get (lefts_of row.form) k ≡ Some (left_name n declared)
 Fits n declared elsewhere = Unit {0}
+Fits n declared exposed = Unit {0}
+Fits n declared (found_nil nil) = Unit {0}
+Fits n declared (found_error nil row) = Unit {0}
 Fits n declared (called c) = Unit {0}
 Fits n declared called_in_brackets = Unit {0}
 Fits n declared (argument k has_address c) = Unit {0}
@@ -139,15 +144,34 @@ names row site k (n ∷ ns) e =
 names_elsewhere : (site : ℕ) (ns : List Identifier) → AllStand (declared_elsewhere site ns)
 names_elsewhere site [] = none
 names_elsewhere site (n ∷ ns) =
-    and_then (declaring site elsewhere n (number_of n)) (declared_elsewhere site ns) tt (names_elsewhere site ns)
+    and_then (declaring site exposed n (number_of n)) (declared_elsewhere site ns) tt (names_elsewhere site ns)
+
+nil_stand : (site : ℕ) (ts : List NilTest) → AllStand (nil_marks site ts)
+nil_stand site [] = none
+nil_stand site (t ∷ ts) = and_then (mention site (found_nil t.nil) t.named) (nil_marks site ts) tt (nil_stand site ts)
+
+error_stand : (site : ℕ) (row : Row) (ts : List NilTest) → AllStand (error_marks site row ts)
+error_stand site row [] = none
+error_stand site row (t ∷ ts) =
+    and_then (mention site (found_error t.nil row) t.named) (error_marks site row ts) tt (error_stand site row ts)
+
+guard_stand : (row : Option Row) (c : Expression) (braces : Span) → AllStand (guard_marks row c braces)
+guard_stand None c braces = none
+guard_stand (Some row) c braces =
+    both (error_stand braces.start row (error_where true c)) (error_stand (braces.end - 1) row (error_where false c))
+
+behind_stand : (row : Option Row) (ss : Statements) → AllStand (behind_row row ss)
+behind_stand row (statement_and (statement_node (if_statement missing_statement semicolon c ss braces other) span) rest) =
+    guard_stand row c braces
+behind_stand row ss = none
 
 guarded : (site : ℕ) (n : Option Identifier) (clause : Span) → AllStand (guard_in_clause site n clause)
 guarded site None clause = none
 guarded site (Some n) clause =
-    chosen (is_blank n.text) none (only (declaring site elsewhere n (Some clause.start)) tt)
+    chosen (is_blank n.text) none (only (declaring site exposed n (Some clause.start)) tt)
 
 mutual
-  unfolding expression_marks form_marks expressions_marks optional_marks arguments_marks items_marks lefts_marks names_type_marks signature_marks parameters_marks fields_marks statement_marks statement_form_marks statements_marks optional_statement_marks cases_marks communications_marks declaration_marks specs_marks
+  unfolding expression_marks form_marks expressions_marks optional_marks arguments_marks items_marks lefts_marks ranged_marks names_type_marks signature_marks parameters_marks fields_marks statement_marks statement_form_marks statements_marks optional_statement_marks cases_marks communications_marks declaration_marks specs_marks
 
   of_expression : (spot : Spot) (e : Expression) → AllStand (expression_marks spot e)
   of_expression spot (expression_node form span) = of_form spot span form
@@ -168,6 +192,8 @@ mutual
       named (select_from (as_bare e) n) spot.site elsewhere (λ m q. tt) (of_expression (part_of spot.site) e)
   of_form spot span (index_expression e i) =
       both (of_expression (part_of spot.site) e) (of_expression (part_of spot.site) i)
+  of_form spot span (instance_expression e es) =
+      both (of_expression (part_of spot.site) e) (of_expressions (part_of spot.site) es)
   of_form spot span (slice_expression e low high most) =
       both (of_expression (part_of spot.site) e) (both (of_optional spot.site low) (both (of_optional spot.site high) (of_optional spot.site most)))
   of_form spot span (type_assertion e t) =
@@ -176,7 +202,8 @@ mutual
       both (callee_named (call_of spot.place e es ellipsis) spot.site e (of_expression record { place = nowhere; literal = callee_use spot.place; site = spot.site } e)) (of_arguments (call_of spot.place e es ellipsis) spot.site 0 es)
   of_form spot span (star_expression e) = of_expression (part_of spot.site) e
   of_form spot span (unary_expression op e) =
-      newly spot.place spot.site (as_new_literal op e) (of_expression (part_of spot.site) e)
+      newly spot.place spot.site (as_new_literal op e)
+      (named (addressed_within op e) spot.site exposed (λ n q. tt) (of_expression (part_of spot.site) e))
   of_form spot span (binary_expression op l r) =
       both (of_expression (part_of spot.site) l) (of_expression (part_of spot.site) r)
   of_form spot span (array_type n t) =
@@ -208,10 +235,15 @@ mutual
   of_items site k (expression_and e es) =
       both (of_expression (whole (return_item k) site) e) (of_items site (k + 1) es)
 
+  of_ranged : (site : ℕ) (es : Expressions) → AllStand (ranged_marks site es)
+  of_ranged site no_expression = none
+  of_ranged site (expression_and e es) =
+      both (named (bare_within e) site exposed (λ n q. tt) (of_expression (part_of site) e)) (of_ranged site es)
+
   of_lefts : (row : Row) (site k : ℕ) (es : Expressions) → drop k (lefts_of row.form) ≡ lefts_of_expressions es → AllStand (lefts_marks row site k es)
   of_lefts row site k no_expression q = none
   of_lefts row site k (expression_and e es) q =
-      both (named (as_bare e) site (left k row) (λ n is. at_place k (lefts_of row.form) (left_of_named (as_bare e)) (lefts_of_expressions es) q ∙ ap (λ o. Some (left_of_named o)) is) (of_expression (part_of site) e)) (of_lefts row site (k + 1) es (next_place k (lefts_of row.form) (left_of_named (as_bare e)) (lefts_of_expressions es) q))
+      both (named (as_bare e) site (left k row) (λ n is. at_place k (lefts_of row.form) (left_of_named (as_bare e)) (lefts_of_expressions es) q ∙ ap (λ o. Some (left_of_named o)) is) (named (bare_within e) site exposed (λ n q. tt) (of_expression (part_of site) e))) (of_lefts row site (k + 1) es (next_place k (lefts_of row.form) (left_of_named (as_bare e)) (lefts_of_expressions es) q))
 
   of_names_type : (row : Row) (site : ℕ) (t : OptionalExpression) → AllStand (names_type_marks row site t)
   of_names_type row site missing_expression = none
@@ -234,6 +266,7 @@ mutual
   of_fields site (fields_and ns t tag span fs) = both (of_expression (part_of site) t) (of_fields site fs)
   of_fields site (embedded_and star n tag span fs) =
       and_then (mention site elsewhere (embedded n)) (fields_marks site fs) tt (of_fields site fs)
+  of_fields site (element_and star t tag span fs) = both (of_expression (part_of site) t) (of_fields site fs)
   of_fields site (method_and n signature span fs) = both (of_signature site signature) (of_fields site fs)
 
   of_statement : (standing : Standing) (s : Statement) → AllStand (statement_marks standing s)
@@ -247,12 +280,14 @@ mutual
       of_expression (whole (place_in standing as_statement) at) e
   of_statement_form standing at (send_statement c v) =
       both (of_expression (part_of at) c) (of_expression (part_of at) v)
-  of_statement_form standing at (increment_statement e) = of_expression (part_of at) e
-  of_statement_form standing at (decrement_statement e) = of_expression (part_of at) e
+  of_statement_form standing at (increment_statement e) =
+      named (bare_within e) at exposed (λ n q. tt) (of_expression (part_of at) e)
+  of_statement_form standing at (decrement_statement e) =
+      named (bare_within e) at exposed (λ n q. tt) (of_expression (part_of at) e)
   of_statement_form standing at (assignment ls rs) =
       both (of_expressions (value_spot (row_of standing at (assigns ls) rs) at) rs) (of_lefts (row_of standing at (assigns ls) rs) at 0 ls refl)
   of_statement_form standing at (operator_assignment op l r) =
-      both (of_expression (part_of at) l) (of_expression (part_of at) r)
+      both (named (bare_within l) at exposed (λ n q. tt) (of_expression (part_of at) l)) (of_expression (part_of at) r)
   of_statement_form standing at (define_statement ns rs) =
       both (of_expressions (value_spot (row_of standing at (defines ns) rs) at) rs) (names (row_of standing at (defines ns) rs) at 0 ns refl)
   of_statement_form standing at (go_statement e) = of_expression (part_of at) e
@@ -260,13 +295,18 @@ mutual
   of_statement_form standing at (return_statement es) = both (of_items at 0 es) (only (returns at es) tt)
   of_statement_form standing at (break_statement n) = none
   of_statement_form standing at (continue_statement n) = none
+  of_statement_form standing at (goto_statement n) = none
+  of_statement_form standing at fallthrough_statement = none
   of_statement_form standing at (block_statement ss braces) = of_statements ss
   of_statement_form standing at (if_statement init has_semicolon c ss braces otherwise) =
-      both (of_optional_statement ordinary init) (both (of_expression (part_of at) c) (both (of_statements ss) (of_optional_statement ordinary otherwise)))
+      both (of_optional_statement ordinary init) (both (of_expression (part_of at) c)
+      (both (guard_stand (first_row init) c braces)
+      (both (both (nil_stand braces.start (nil_where true c)) (both (of_statements ss)
+      (nil_stand (braces.end - 1) (nil_where false c)))) (of_optional_statement ordinary otherwise))))
   of_statement_form standing at (for_statement init c post has_semicolons ss braces) =
       both (of_optional_statement first_of_for init) (both (of_optional at c) (both (of_optional_statement ordinary post) (of_statements ss)))
   of_statement_form standing at (range_assignment ls e ss braces) =
-      both (of_expressions (part_of at) ls) (both (of_expression (part_of at) e) (of_statements ss))
+      both (of_ranged at ls) (both (of_expression (part_of at) e) (of_statements ss))
   of_statement_form standing at (range_definition ns e ss braces) =
       both (of_expression (part_of at) e) (both (names_elsewhere at ns) (of_statements ss))
   of_statement_form standing at (switch_statement init has_semicolon tag cs) =
@@ -277,7 +317,7 @@ mutual
 
   of_statements : (ss : Statements) → AllStand (statements_marks ss)
   of_statements no_statement = none
-  of_statements (statement_and s ss) = both (of_statement ordinary s) (of_statements ss)
+  of_statements (statement_and s ss) = both (of_statement ordinary s) (both (behind_stand (row_in s) ss) (of_statements ss))
 
   of_optional_statement : (standing : Standing) (s : OptionalStatement) → AllStand (optional_statement_marks standing s)
   of_optional_statement standing missing_statement = none
@@ -300,22 +340,32 @@ mutual
   of_specs keyword at no_spec = none
   of_specs keyword at (value_and ns t es span specs) =
       both (of_names_type (row_of ordinary at (declares keyword ns t) es) span.start t) (both (of_expressions (value_spot (row_of ordinary at (declares keyword ns t) es) span.start) es) (both (names (row_of ordinary at (declares keyword ns t) es) span.start 0 ns refl) (of_specs keyword at specs)))
-  of_specs keyword at (type_and n is_alias t span specs) =
-      and_then (declaring span.start elsewhere n (number_of n)) (expression_marks (part_of span.start) t ++ specs_marks keyword at specs) tt (both (of_expression (part_of span.start) t) (of_specs keyword at specs))
+  of_specs keyword at (type_and n ps is_alias t span specs) =
+      and_then (declaring span.start exposed n (number_of n))
+      (declared_elsewhere span.start (parameters_named ps)
+      ++ (parameters_marks false span.start ps ++ (expression_marks (part_of span.start) t ++ specs_marks keyword at specs)))
+      tt
+      (both (names_elsewhere span.start (parameters_named ps))
+      (both (of_parameters false span.start ps) (both (of_expression (part_of span.start) t) (of_specs keyword at specs))))
 
 of_receiver : (site : ℕ) (ps : Option Parameters) → AllStand (receiver_marks site ps)
 of_receiver site None = none
-of_receiver site (Some ps) = of_parameters true site ps
+of_receiver site (Some ps) = both (names_elsewhere site (named_in_types ps)) (of_parameters true site ps)
+
+of_type_parameters : (site : ℕ) (ps : Parameters) → AllStand (type_parameters_marks site ps)
+of_type_parameters site ps = both (names_elsewhere site (parameters_named ps)) (of_parameters false site ps)
 
 pub of_types : (f : Function) → AllStand (function_types_marks f)
-of_types f = both (of_receiver f.span.start f.receiver) (of_signature f.span.start f.signature)
+of_types f =
+    both (of_receiver f.span.start f.receiver)
+    (both (of_type_parameters f.span.start f.type_parameters) (of_signature f.span.start f.signature))
 
 pub of_outer_specs : (specs : Specs) → AllStand (outer_specs_marks specs)
 of_outer_specs no_spec = none
 of_outer_specs (value_and ns t es span specs) =
     both (of_optional span.start t) (both (of_expressions (part_of span.start) es) (of_outer_specs specs))
-of_outer_specs (type_and n is_alias t span specs) =
-    both (of_expression (part_of span.start) t) (of_outer_specs specs)
+of_outer_specs (type_and n ps is_alias t span specs) =
+    both (of_type_parameters span.start ps) (both (of_expression (part_of span.start) t) (of_outer_specs specs))
 
 pub of_block : (f : Function) (b : Block) → AllStand ((function_types_marks f ++ statements_marks b.statements) ++ closes ∷ [])
 of_block f b = both (both (of_types f) (of_statements b.statements)) (only closes tt)
@@ -363,5 +413,9 @@ is_placed bodies (opens b ∷ ms) p h = elim (contains_cases _ p (placed (b ∷ 
 is_placed bodies (closes ∷ ms) p h = contains_there closes p.mark ms (is_placed (outer bodies) ms p h)
 
 -- of each mark of a file
-pub left_sides_fit : (file : SourceFile) (p : Placed) → Contains (placed [] (file_marks file)) p → Stands p.mark
-left_sides_fit file p h = of_top_levels file.declarations p.mark (is_placed [] (file_marks file) p h)
+pub left_sides_fit : (edition : Edition) (file : SourceFile) (p : Placed)
+    → Contains (placed [] (marks_by edition (file_marks file))) p
+    → Stands p.mark
+left_sides_fit edition file p h =
+    of_top_levels file.declarations p.mark
+    (is_placed [] (file_marks file) p (placed_among edition (file_marks file) p h))

@@ -2,6 +2,7 @@ mod Adequacy
 mod Simulation
 mod ExampleBodies
 mod EachStep
+mod NothingCalled
 mod Contexts
 mod FreeGoroutines
 mod Places
@@ -18,7 +19,12 @@ pub mod BodyOffsets
 mod QuietPromise
 pub mod PackageYes
 mod ExampleRuns
+mod EditionExamples
+mod Writes
+mod EditionRuns
 pub mod EventSources
+pub mod HandedEvents
+pub mod HandedNames
 pub mod MentionEvents
 mod Bindings
 pub mod OwnVariables
@@ -28,6 +34,7 @@ mod BoundOnce
 mod OwnNumbers
 mod LeftSides
 pub mod NamedBodies
+mod NamedOutermost
 mod FilePlaces
 mod NameRules
 mod NameParts
@@ -41,8 +48,10 @@ mod TrackedBindings
 mod LeavingLists
 mod LastReturns
 pub mod OccurrencePlaces
+pub mod PartSites
 mod DeferredLiterals
 pub mod MarkForms
+mod EditionMarks
 mod MarksBeside
 pub mod GroupUses
 mod StartedLiterals
@@ -92,3 +101,9 @@ mod MadeGroupCalls
 mod MadeGroupActs
 mod MadeGroupStarts
 mod MadeGroupWorlds
+mod Shown
+mod ShownCells
+mod ShownActs
+mod ShownSteps
+mod HiddenSteps
+mod ShownRuns

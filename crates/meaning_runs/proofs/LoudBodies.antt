@@ -5,7 +5,6 @@ use Rattle.tree.specs.Syntax.{no_parameter, signature_of, expression_statement, 
 use Rattle.meaning.specs.Code.{Code, returning, skip, does, leave, then_code, either}
 use Rattle.meaning.specs.Mentions.{BodyPlace, opens, deferred_call, literal_body}
 use Rattle.meaning.specs.Uses.{Event, other, call, defer_pass, defer_literal, return_event}
-use Rattle.imports.specs.Ranks.{ends}
 use Rattle.meaning_runs.specs.Bodies.{IsOf, IsOutermost, IsLiteralIn, IsFunction, code_of}
 use Rattle.meaning_runs.specs.Examples.{from_to, doing, call_at, loaded_with, program_with, passing}
 use Rattle.meaning_runs.specs.LoudReturns.{test_at, ignoring, ignoring_at, deferring_pass, deferring_nothing, deferring_branch, using, branching, returning_early}
@@ -38,7 +37,7 @@ unfolding seeing
 passing_is_of = record {
   loaded = loaded_with (both);
   is_package = refl;
-  is_below = ends;
+  is_run = refl;
   is_file = (0, omega arith, refl);
   is_body = (0, omega arith, refl);
 }
@@ -62,7 +61,7 @@ ignoring_is_function = record {
   is_of = record {
     loaded = loaded_with both;
     is_package = refl;
-    is_below = ends;
+    is_run = refl;
     is_file = (0, omega arith, refl);
     is_body = (1, omega arith, refl);
   };
@@ -79,7 +78,7 @@ unfolding seeing
 using_is_of = record {
   loaded = loaded_with (using ∷ []);
   is_package = refl;
-  is_below = ends;
+  is_run = refl;
   is_file = (0, omega arith, refl);
   is_body = (0, omega arith, refl);
 }
@@ -102,7 +101,7 @@ unfolding seeing
 branching_is_of = record {
   loaded = loaded_with (branching ∷ []);
   is_package = refl;
-  is_below = ends;
+  is_run = refl;
   is_file = (0, omega arith, refl);
   is_body = (0, omega arith, refl);
 }
@@ -125,7 +124,7 @@ unfolding seeing
 returning_early_is_of = record {
   loaded = loaded_with (returning_early ∷ []);
   is_package = refl;
-  is_below = ends;
+  is_run = refl;
   is_file = (0, omega arith, refl);
   is_body = (0, omega arith, refl);
 }
@@ -148,7 +147,7 @@ unfolding seeing
 deferring_nothing_is_of = record {
   loaded = loaded_with (deferring_nothing ∷ []);
   is_package = refl;
-  is_below = ends;
+  is_run = refl;
   is_file = (0, omega arith, refl);
   is_body = (0, omega arith, refl);
 }
@@ -171,7 +170,7 @@ unfolding seeing
 deferring_branch_is_of = record {
   loaded = loaded_with (deferring_branch ∷ []);
   is_package = refl;
-  is_below = ends;
+  is_run = refl;
   is_file = (0, omega arith, refl);
   is_body = (0, omega arith, refl);
 }
@@ -242,7 +241,7 @@ unfolding seeing
 deferring_pass_is_of = record {
   loaded = loaded_with both_deferred;
   is_package = refl;
-  is_below = ends;
+  is_run = refl;
   is_file = (0, omega arith, refl);
   is_body = (0, omega arith, refl);
 }
@@ -266,7 +265,7 @@ ignoring_later_is_function = record {
   is_of = record {
     loaded = loaded_with both_deferred;
     is_package = refl;
-    is_below = ends;
+    is_run = refl;
     is_file = (0, omega arith, refl);
     is_body = (1, omega arith, refl);
   };

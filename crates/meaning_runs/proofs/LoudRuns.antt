@@ -28,7 +28,7 @@ loud_of p w f run at end home obtained none uncalled =
     (w, f, record { run = run; is_returning = record { goroutine = 0; others = []; is_running = at; is_at_end = end }; is_of_package = home; owed = 0; owes = owes_first f obtained none }, λ q. contains_nil 0 (subst (λ l. Contains l 0) uncalled (q.called 0 (owes_first f obtained none))))
 
 -- The frame has obtained its function, and stands before what comes then.
-abbrev standing : Body → Code Event → (ℕ → Option ℕ) → Frame
+abbrev pub standing : Body → Code Event → (ℕ → Option ℕ) → Frame
 standing b c newest = record {
   body = b;
   stage = runs c;
@@ -40,17 +40,17 @@ standing b c newest = record {
   handed_on = [];
 }
 
-record Stands (p : Program) (b : Body) (c : Code Event) : Type 0 where
-  world : World
-  newest : ℕ → Option ℕ
-  run : Run p world
-  is_running : world.stacks 0 ≡ standing b c newest ∷ []
-  has_cell : newest 61 ≡ Some 1
-  holds_it : world.store.cells 1 61 ≡ cancel_function 0
-  none_called : world.store.called ≡ []
-  has_context : 0 < world.store.context_count
+pub record Stands (p : Program) (b : Body) (c : Code Event) : Type 0 where
+  pub world : World
+  pub newest : ℕ → Option ℕ
+  pub run : Run p world
+  pub is_running : world.stacks 0 ≡ standing b c newest ∷ []
+  pub has_cell : newest 61 ≡ Some 1
+  pub holds_it : world.store.cells 1 61 ≡ cancel_function 0
+  pub none_called : world.store.called ≡ []
+  pub has_context : 0 < world.store.context_count
 
-obtained_one : (p : Program) (b : Body) (rest : Code Event) (end : ℕ) → IsOf p b → IsOutermost b → code_of b ≡ then_code (does (event_at 55 other)) (then_code (then_code (one (event_at 58 obtains)) rest) (does (event_at end (return_event [])))) → Stands p b (then_code rest (does (event_at end (return_event []))))
+pub obtained_one : (p : Program) (b : Body) (rest : Code Event) (end : ℕ) → IsOf p b → IsOutermost b → code_of b ≡ then_code (does (event_at 55 other)) (then_code (then_code (one (event_at 58 obtains)) rest) (does (event_at end (return_event [])))) → Stands p b (then_code rest (does (event_at end (return_event []))))
 obtained_one p b rest end of out is =
     let r1 = act _ _ _ _ _ _ (begins p b of out) refl (does_other (next_at _ 55 other _ _ (ap runs is) (first_moves happens) refl)) in
     let r2 = act _ _ _ _ _ _ r1 refl (moves_on (goes _ _ _ _ refl first_is_done)) in

@@ -4,7 +4,6 @@ use Rattle.std.proofs.Common.{◌≡◌, ℕ, Bool, false, inl, inr, List, [], �
 use Rattle.std.specs.Prelude.{◌==◌}
 use Rattle.std.proofs.lemmas.Option.{same_Some}
 use Rattle.meaning.specs.Code.{Code}
-use Rattle.meaning.specs.FunctionFacts.{group}
 use Rattle.meaning.specs.Tracked.{live}
 use Rattle.meaning.specs.Uses.{Callee, Handed, Event, lend, return_event}
 use Rattle.meaning.specs.BodyEvents.{Variable}

@@ -8,7 +8,7 @@ use Rattle.meaning.specs.Uses.{Event}
 use Rattle.meaning.proofs.Membership.{contains_here, contains_nil}
 use Rattle.meaning_runs.specs.Bodies.{Program, Body}
 use Rattle.meaning_runs.specs.World.{Value, cancel_function, Maker, nobody, outside, frame_at, Place, Store, put_at, with_new, calling, ending, with_group, HasNoMember, with_member, with_cells, Lent, Passing, Saved, saved_pass, Frame, World, new_frame, nothing_around}
-use Rattle.meaning_runs.specs.Steps.{ComesToCall, at_once, saved_before, StartsWork, ChangesMembers, starts_member, starts_stranger, starts_outside, starts_beside, leaves_group, Surrounds, starts, evaluates_literal, starts_literal, makes_one, ends_one, calls_any, makes_outside, joins_outside, Step, of_goroutine, of_members, of_environment, at_code}
+use Rattle.meaning_runs.specs.Steps.{ComesToCall, at_once, saved_before, StartsWork, ChangesMembers, starts_member, starts_stranger, starts_outside, starts_beside, leaves_group, Surrounds, starts, evaluates_literal, starts_literal, makes_cells, makes_one, ends_one, calls_any, makes_outside, joins_outside, Step, of_goroutine, of_members, of_environment, at_code}
 use Rattle.meaning_runs.specs.Runs.{Run, no_step, step_more}
 use Rattle.meaning_runs.proofs.Contexts.{put_at-same, put_at-other}
 use Rattle.meaning_runs.proofs.OwnBindings.{BindsItsOwn}
@@ -224,6 +224,9 @@ module _ (p : Program) (used : BodiesAreWellUsed p) (binds_own : BindsItsOwn p) 
     environment_seen next (evaluates_literal g f b among escapes) = seen
     environment_seen next (starts_literal g c values groups free among foreign) =
         begun_seen g c.literal values groups c.newest (held.escaped c among).cells_in (λ u x i. outside_is w.store (groups u) x (foreign.foreign u) i)
+    environment_seen next (makes_cells values groups foreign) = λ k.
+        stands p nobody m.origins (with_block m.origins w.store.cell_count) w.store (with_cells w.store values groups) k (w.stacks k) (m.pasts k)
+        (block_grows nobody m.origins w.store values groups) (λ i. frame-nobody (k, i)) (λ a i e none. none) (λ a i e. e) (held.holders k) (seen k)
     environment_seen next (makes_one parent earlier) = contexts_seen (with_new w.store parent) (new_changes w.store parent)
     environment_seen next (ends_one a is) = contexts_seen (ending w.store (Some a)) (ending_changes w.store (Some a))
     environment_seen next (calls_any a is) =

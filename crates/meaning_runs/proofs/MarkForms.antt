@@ -2,12 +2,12 @@
 -- argument, returns, and bodies, of which one that is called under `defer` is marked so behind it. Outside all bodies no
 -- call stands as a whole, and no literal is called under `defer`. So what holds of these forms holds of all marks.
 use Rattle.std.proofs.Common.{◌≡◌, ℕ, ◌+◌, Bool, true, false, List, [], ◌∷◌, ◌++◌, Option, Some, None, refl, sym, ap, ◌∙◌, subst, append-nil}
-use Rattle.std.specs.Prelude.{◌&&◌, ◌||◌, not, if◌then◌else◌, is_some, option_map}
+use Rattle.std.specs.Prelude.{◌&&◌, ◌||◌, not, if◌then◌else◌, is_some, option_map, ◌-◌}
 use Rattle.tree.specs.declared.operator.DeclKeyword.{DeclKeyword}
 use Rattle.tree.specs.declared.span.Span.{Span}
-use Rattle.tree.specs.Syntax.{Identifier, Expression, expression_node, ExpressionForm, name_expression, basic_literal, function_literal, composite_literal, literal_value, key_value, parenthesized, selector_expression, index_expression, slice_expression, type_assertion, call_expression, star_expression, unary_expression, binary_expression, array_type, ellipsis_array_type, slice_type, map_type, channel_type, function_type, struct_type, interface_type, Expressions, no_expression, expression_and, OptionalExpression, missing_expression, present_expression, Signature, signature_of, Parameters, no_parameter, named_and, unnamed_and, name_alone_and, Fields, no_field, fields_and, embedded_and, method_and, Statement, statement_node, StatementForm, empty_statement, declaration_statement, labeled_statement, expression_statement, send_statement, increment_statement, decrement_statement, assignment, operator_assignment, define_statement, go_statement, defer_statement, return_statement, break_statement, continue_statement, block_statement, if_statement, for_statement, range_assignment, range_definition, switch_statement, type_switch_statement, select_statement, Statements, no_statement, statement_and, OptionalStatement, missing_statement, present_statement, CaseClauses, no_case, case_and, CommunicationClauses, no_communication, communication_and, Declaration, declaration_of, Specs, no_spec, value_and, type_and, Block, Function, TopLevelDeclaration, function_declaration, general_declaration, SourceFile}
-use Rattle.meaning.specs.Scopes.{is_blank}
-use Rattle.meaning.specs.Mentions.{Named, as_bare, as_named, as_bracketed, as_pointer, as_new_literal, select_from, defines, assigns, declares, Standing, ordinary, first_of_for, communication, Row, CallPlace, nowhere, as_statement, only_value, return_item, deferred, place_in, Call, is_one, is_none_left, is_start, LiteralUse, other_use, deferred_call, started_by, argument_use, callee_use, Role, elsewhere, called, called_in_brackets, argument, left, names_type, new_literal, parameter_pointer, Mention, BodyPlace, Mark, mentions, defers_literal, returns, Spot, part_of, whole, mention, name_role, named_or, callee_or, addressed, argument_or, argument_at, new_literal_or, deferral, literal_body, in_body, parameter_type_or, value_spot, left_names, declared_elsewhere, guard_in_clause, row_of, expression_marks, form_marks, expressions_marks, optional_marks, arguments_marks, items_marks, lefts_marks, names_type_marks, signature_marks, parameters_marks, fields_marks, statement_marks, statement_form_marks, statements_marks, optional_statement_marks, cases_marks, communications_marks, declaration_marks, specs_marks, receiver_marks, function_body, function_types_marks, function_marks, outer_specs_marks, top_level_marks, top_levels_marks, file_marks}
+use Rattle.tree.specs.Syntax.{Identifier, Expression, expression_node, ExpressionForm, name_expression, basic_literal, function_literal, composite_literal, literal_value, key_value, parenthesized, selector_expression, index_expression, instance_expression, slice_expression, type_assertion, call_expression, star_expression, unary_expression, binary_expression, array_type, ellipsis_array_type, slice_type, map_type, channel_type, function_type, struct_type, interface_type, Expressions, no_expression, expression_and, OptionalExpression, missing_expression, present_expression, Signature, signature_of, Parameters, no_parameter, named_and, unnamed_and, name_alone_and, Fields, no_field, fields_and, embedded_and, element_and, method_and, Statement, statement_node, StatementForm, empty_statement, declaration_statement, labeled_statement, expression_statement, send_statement, increment_statement, decrement_statement, assignment, operator_assignment, define_statement, go_statement, defer_statement, return_statement, break_statement, continue_statement, goto_statement, fallthrough_statement, block_statement, if_statement, for_statement, range_assignment, range_definition, switch_statement, type_switch_statement, select_statement, Statements, no_statement, statement_and, OptionalStatement, missing_statement, present_statement, CaseClauses, no_case, case_and, CommunicationClauses, no_communication, communication_and, Declaration, declaration_of, Specs, no_spec, value_and, type_and, Block, Function, TopLevelDeclaration, function_declaration, general_declaration, SourceFile}
+use Rattle.meaning.specs.Scopes.{is_blank, parameters_named, named_in_types}
+use Rattle.meaning.specs.Mentions.{Named, as_bare, as_named, as_bracketed, as_pointer, as_new_literal, select_from, defines, assigns, declares, Standing, ordinary, first_of_for, communication, Row, CallPlace, nowhere, as_statement, only_value, return_item, deferred, place_in, Call, is_one, is_none_left, is_start, LiteralUse, other_use, deferred_call, started_by, argument_use, callee_use, Role, elsewhere, called, called_in_brackets, argument, left, names_type, new_literal, parameter_pointer, Mention, BodyPlace, Mark, mentions, defers_literal, returns, Spot, part_of, whole, mention, name_role, named_or, callee_or, addressed, argument_or, argument_at, new_literal_or, deferral, literal_body, in_body, parameter_type_or, value_spot, left_names, declared_elsewhere, guard_in_clause, row_of, expression_marks, form_marks, expressions_marks, optional_marks, arguments_marks, items_marks, lefts_marks, names_type_marks, signature_marks, parameters_marks, fields_marks, statement_marks, statement_form_marks, statements_marks, optional_statement_marks, cases_marks, communications_marks, declaration_marks, specs_marks, type_parameters_marks, receiver_marks, function_body, function_types_marks, function_marks, outer_specs_marks, top_level_marks, top_levels_marks, file_marks, exposed, addressed_within, bare_within, ranged_marks, NilTest, nil_marks, nil_where, error_where, error_marks, row_in, first_row, guard_marks, behind_row}
 use Rattle.meaning.specs.Uses.{literal_at, only_argument, started_literal, is_deferred_use}
 
 -- The forms
@@ -114,6 +114,24 @@ names row site k (n ∷ ns) = both_parts (a_mention _ refl) (names row site (k +
 names_elsewhere : {i : Bool} (site : ℕ) (ns : List Identifier) → AreMade i (declared_elsewhere site ns)
 names_elsewhere site [] = no_mark
 names_elsewhere site (n ∷ ns) = both_parts (a_mention _ refl) (names_elsewhere site ns) refl
+
+nil_made : {i : Bool} (site : ℕ) (ts : List NilTest) → AreMade i (nil_marks site ts)
+nil_made site [] = no_mark
+nil_made site (t ∷ ts) = both_parts (a_mention _ refl) (nil_made site ts) refl
+
+error_made : {i : Bool} (site : ℕ) (row : Row) (ts : List NilTest) → AreMade i (error_marks site row ts)
+error_made site row [] = no_mark
+error_made site row (t ∷ ts) = both_parts (a_mention _ refl) (error_made site row ts) refl
+
+guard_made : {i : Bool} (row : Option Row) (c : Expression) (braces : Span) → AreMade i (guard_marks row c braces)
+guard_made None c braces = no_mark
+guard_made (Some row) c braces =
+    both (error_made braces.start row (error_where true c)) (error_made (braces.end - 1) row (error_where false c))
+
+behind_made : {i : Bool} (row : Option Row) (ss : Statements) → AreMade i (behind_row row ss)
+behind_made row (statement_and (statement_node (if_statement missing_statement semicolon c ss braces other) span) rest) =
+    guard_made row c braces
+behind_made row ss = no_mark
 
 guarded : {i : Bool} (site : ℕ) (n : Option Identifier) (clause : Span) → AreMade i (guard_in_clause site n clause)
 guarded site None clause = no_mark
@@ -301,7 +319,7 @@ call_made i place site none (Some n) e (expression_and a (expression_and b es)) 
     both_parts (a_call site c refl none) (arguments (Some c) (several c (has_literal all) refl)) refl
 
 mutual
-  unfolding expression_marks form_marks expressions_marks optional_marks arguments_marks items_marks lefts_marks names_type_marks signature_marks parameters_marks fields_marks statement_marks statement_form_marks statements_marks optional_statement_marks cases_marks communications_marks declaration_marks specs_marks
+  unfolding expression_marks form_marks expressions_marks optional_marks arguments_marks items_marks lefts_marks ranged_marks names_type_marks signature_marks parameters_marks fields_marks statement_marks statement_form_marks statements_marks optional_statement_marks cases_marks communications_marks declaration_marks specs_marks
 
   pub of_expression : (i : Bool) (spot : Spot) (e : Expression)
       → Fits i spot (is_literal e)
@@ -332,6 +350,9 @@ mutual
   of_form i spot span (index_expression e k) fits =
       both (of_expression i (part_of spot.site) e (free i spot.site (is_literal e)))
       (of_expression i (part_of spot.site) k (free i spot.site (is_literal k)))
+  of_form i spot span (instance_expression e es) fits =
+      both (of_expression i (part_of spot.site) e (free i spot.site (is_literal e)))
+      (of_expressions i (part_of spot.site) es (free i spot.site (has_literal es)))
   of_form i spot span (slice_expression e low high most) fits =
       both (of_expression i (part_of spot.site) e (free i spot.site (is_literal e)))
       (both (of_optional i spot.site low) (both (of_optional i spot.site high) (of_optional i spot.site most)))
@@ -347,7 +368,8 @@ mutual
       of_expression i (part_of spot.site) e (free i spot.site (is_literal e))
   of_form i spot span (unary_expression op e) fits =
       newly spot.place spot.site (as_new_literal op e)
-      (of_expression i (part_of spot.site) e (free i spot.site (is_literal e)))
+      (named (addressed_within op e) spot.site exposed refl
+      (of_expression i (part_of spot.site) e (free i spot.site (is_literal e))))
   of_form i spot span (binary_expression op l r) fits =
       both (of_expression i (part_of spot.site) l (free i spot.site (is_literal l)))
       (of_expression i (part_of spot.site) r (free i spot.site (is_literal r)))
@@ -408,8 +430,15 @@ mutual
   of_lefts : (row : Row) (site k : ℕ) (es : Expressions) → AreMade true (lefts_marks row site k es)
   of_lefts row site k no_expression = no_mark
   of_lefts row site k (expression_and e es) =
-      both (named (as_bare e) site (left k row) refl (of_expression true (part_of site) e (free true site (is_literal e))))
+      both (named (as_bare e) site (left k row) refl (named (bare_within e) site exposed refl
+      (of_expression true (part_of site) e (free true site (is_literal e)))))
       (of_lefts row site (k + 1) es)
+
+  of_ranged : (site : ℕ) (es : Expressions) → AreMade true (ranged_marks site es)
+  of_ranged site no_expression = no_mark
+  of_ranged site (expression_and e es) =
+      both (named (bare_within e) site exposed refl (of_expression true (part_of site) e (free true site (is_literal e))))
+      (of_ranged site es)
 
   of_names_type : (row : Row) (site : ℕ) (t : OptionalExpression) → AreMade true (names_type_marks row site t)
   of_names_type row site missing_expression = no_mark
@@ -435,6 +464,8 @@ mutual
   of_fields i site (fields_and ns t tag span fs) =
       both (of_expression i (part_of site) t (free i site (is_literal t))) (of_fields i site fs)
   of_fields i site (embedded_and star n tag span fs) = both_parts (a_mention _ refl) (of_fields i site fs) refl
+  of_fields i site (element_and star t tag span fs) =
+      both (of_expression i (part_of site) t (free i site (is_literal t))) (of_fields i site fs)
   of_fields i site (method_and n signature span fs) = both (of_signature i site signature) (of_fields i site fs)
 
   of_statement : (standing : Standing) (s : Statement) → AreMade true (statement_marks standing s)
@@ -452,13 +483,13 @@ mutual
       both (of_expression true (part_of at) c (free true at (is_literal c)))
       (of_expression true (part_of at) v (free true at (is_literal v)))
   of_statement_form standing at (increment_statement e) =
-      of_expression true (part_of at) e (free true at (is_literal e))
+      named (bare_within e) at exposed refl (of_expression true (part_of at) e (free true at (is_literal e)))
   of_statement_form standing at (decrement_statement e) =
-      of_expression true (part_of at) e (free true at (is_literal e))
+      named (bare_within e) at exposed refl (of_expression true (part_of at) e (free true at (is_literal e)))
   of_statement_form standing at (assignment ls rs) =
       both (of_values (row_of standing at (assigns ls) rs) at rs) (of_lefts (row_of standing at (assigns ls) rs) at 0 ls)
   of_statement_form standing at (operator_assignment op l r) =
-      both (of_expression true (part_of at) l (free true at (is_literal l)))
+      both (named (bare_within l) at exposed refl (of_expression true (part_of at) l (free true at (is_literal l))))
       (of_expression true (part_of at) r (free true at (is_literal r)))
   of_statement_form standing at (define_statement ns rs) =
       both (of_values (row_of standing at (defines ns) rs) at rs) (names (row_of standing at (defines ns) rs) at 0 ns)
@@ -468,16 +499,19 @@ mutual
   of_statement_form standing at (return_statement es) = both (of_items at 0 es) (a_return at es)
   of_statement_form standing at (break_statement n) = no_mark
   of_statement_form standing at (continue_statement n) = no_mark
+  of_statement_form standing at (goto_statement n) = no_mark
+  of_statement_form standing at fallthrough_statement = no_mark
   of_statement_form standing at (block_statement ss braces) = of_statements ss
   of_statement_form standing at (if_statement init has_semicolon c ss braces otherwise) =
       both (of_optional_statement ordinary init) (both (of_expression true (part_of at) c (free true at (is_literal c)))
-      (both (of_statements ss) (of_optional_statement ordinary otherwise)))
+      (both (guard_made (first_row init) c braces)
+      (both (both (nil_made braces.start (nil_where true c)) (both (of_statements ss)
+      (nil_made (braces.end - 1) (nil_where false c)))) (of_optional_statement ordinary otherwise))))
   of_statement_form standing at (for_statement init c post has_semicolons ss braces) =
       both (of_optional_statement first_of_for init) (both (of_optional true at c)
       (both (of_optional_statement ordinary post) (of_statements ss)))
   of_statement_form standing at (range_assignment ls e ss braces) =
-      both (of_expressions true (part_of at) ls (free true at (has_literal ls)))
-      (both (of_expression true (part_of at) e (free true at (is_literal e))) (of_statements ss))
+      both (of_ranged at ls) (both (of_expression true (part_of at) e (free true at (is_literal e))) (of_statements ss))
   of_statement_form standing at (range_definition ns e ss braces) =
       both (of_expression true (part_of at) e (free true at (is_literal e)))
       (both (names_elsewhere at ns) (of_statements ss))
@@ -497,7 +531,7 @@ mutual
 
   pub of_statements : (ss : Statements) → AreMade true (statements_marks ss)
   of_statements no_statement = no_mark
-  of_statements (statement_and s ss) = both (of_statement ordinary s) (of_statements ss)
+  of_statements (statement_and s ss) = both (of_statement ordinary s) (both (behind_made (row_in s) ss) (of_statements ss))
 
   of_optional_statement : (standing : Standing) (s : OptionalStatement)
       → AreMade true (optional_statement_marks standing s)
@@ -524,19 +558,26 @@ mutual
       both (of_names_type (row_of ordinary at (declares keyword ns t) es) span.start t)
       (both (of_values (row_of ordinary at (declares keyword ns t) es) span.start es)
       (both (names (row_of ordinary at (declares keyword ns t) es) span.start 0 ns) (of_specs keyword at specs)))
-  of_specs keyword at (type_and n is_alias t span specs) =
+  of_specs keyword at (type_and n ps is_alias t span specs) =
       both_parts (a_mention _ refl)
-      (both (of_expression true (part_of span.start) t (free true span.start (is_literal t))) (of_specs keyword at specs))
+      (both (names_elsewhere span.start (parameters_named ps))
+      (both (of_parameters true false span.start ps)
+      (both (of_expression true (part_of span.start) t (free true span.start (is_literal t))) (of_specs keyword at specs))))
       refl
 
 -- A file
 
 pub of_receiver : (i : Bool) (site : ℕ) (ps : Option Parameters) → AreMade i (receiver_marks site ps)
 of_receiver i site None = no_mark
-of_receiver i site (Some ps) = of_parameters i true site ps
+of_receiver i site (Some ps) = both (names_elsewhere site (named_in_types ps)) (of_parameters i true site ps)
+
+of_type_parameters : (i : Bool) (site : ℕ) (ps : Parameters) → AreMade i (type_parameters_marks site ps)
+of_type_parameters i site ps = both (names_elsewhere site (parameters_named ps)) (of_parameters i false site ps)
 
 pub of_types : (i : Bool) (f : Function) → AreMade i (function_types_marks f)
-of_types i f = both (of_receiver i f.span.start f.receiver) (of_signature i f.span.start f.signature)
+of_types i f =
+    both (of_receiver i f.span.start f.receiver)
+    (both (of_type_parameters i f.span.start f.type_parameters) (of_signature i f.span.start f.signature))
 
 of_function : (f : Function) (b : Option Block) → AreMade false (function_marks f b)
 of_function f None = of_types false f
@@ -547,8 +588,9 @@ of_outer_specs no_spec = no_mark
 of_outer_specs (value_and ns t es span specs) =
     both (of_optional false span.start t)
     (both (of_expressions false (part_of span.start) es (free false span.start (has_literal es))) (of_outer_specs specs))
-of_outer_specs (type_and n is_alias t span specs) =
-    both (of_expression false (part_of span.start) t (free false span.start (is_literal t))) (of_outer_specs specs)
+of_outer_specs (type_and n ps is_alias t span specs) =
+    both (of_type_parameters false span.start ps)
+    (both (of_expression false (part_of span.start) t (free false span.start (is_literal t))) (of_outer_specs specs))
 
 pub of_top_level : (d : TopLevelDeclaration) → AreMade false (top_level_marks d)
 of_top_level (function_declaration f) = of_function f f.body

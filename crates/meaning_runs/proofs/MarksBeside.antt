@@ -6,13 +6,15 @@ use Rattle.std.proofs.lemmas.Bool.{false≢true}
 use Rattle.std.proofs.lemmas.List.Elements.{Contains-append_cases, Contains-append_left, Contains-append_right}
 use Rattle.std.proofs.lemmas.Option.{none-some, same_Some}
 use Rattle.tree.specs.Syntax.{Expressions, SourceFile}
-use Rattle.meaning.specs.Mentions.{nowhere, Call, LiteralUse, deferred_call, argument_use, called, Mention, BodyPlace, Mark, mentions, defers_literal, returns, opens, closes, mention, in_body, file_marks}
+use Rattle.meaning.specs.Mentions.{nowhere, Call, LiteralUse, deferred_call, argument_use, called, Mention, BodyPlace, Mark, mentions, defers_literal, returns, opens, closes, mention, in_body, file_marks, marks_by}
 use Rattle.meaning.specs.Tracked.{Placed, placed, outer}
 use Rattle.meaning.specs.Uses.{is_deferred_use}
 use Rattle.meaning.specs.BodyEvents.{opened_by, opened_in}
 use Rattle.meaning.proofs.Membership.{contains_nil, contains_here, contains_there, contains_cases}
 use Rattle.meaning_runs.proofs.BodyOffsetsWithin.{Splits, placed_nil, split_both, split_body, body_placed}
-use Rattle.meaning_runs.proofs.MarkForms.{is_call, is_started, literal_of, argument_is_not_deferred, AreMade, no_mark, both_parts, a_mention, a_call, a_call_with, a_return, a_body, a_deferred_body, of_file}
+use Rattle.meaning_runs.proofs.MarkForms.{is_call, is_started, literal_of, argument_is_not_deferred, AreMade, no_mark, both_parts, a_mention, a_call, a_call_with, a_return, a_body, a_deferred_body}
+use Rattle.tree.specs.declared.edition.Edition.{Edition}
+use Rattle.meaning_runs.proofs.EditionMarks.{file_made}
 
 -- among these marks one opens a literal at the offset, straight in these bodies, and it is used so
 pub record OpensLiteral (marks : List Placed) (bodies : List BodyPlace) (at : ℕ) (used : LiteralUse) : Type 0 where
@@ -130,7 +132,7 @@ mention_splits : (bodies : List BodyPlace) (m : Mention) (ms : List Mark)
 mention_splits bodies m ms h =
     first_splits bodies (mentions m) record { mark = mentions m; bodies = bodies } ms (mention_placed bodies m) h
 
-splits : {i : Bool} (ms : List Mark) → AreMade i ms → (bodies : List BodyPlace) → Splits bodies ms
+pub splits : {i : Bool} (ms : List Mark) → AreMade i ms → (bodies : List BodyPlace) → Splits bodies ms
 splits ms no_mark bodies = none_splits bodies
 splits ms (both_parts {xs = xs} {ys = ys} h k e) bodies =
     subst (Splits bodies) (sym e) (split_both bodies xs ys (splits xs h bodies) (splits ys k bodies))
@@ -425,11 +427,14 @@ ends_not : (b : BodyPlace) (around bs : List BodyPlace) → bs ≡ [] → EndsWi
 ends_not b around bs e all_of_them = not_empty b around e
 ends_not b around bs e (one_more {c = c} {bs = rest} h) = not_empty c rest e
 
-pub in_form : (file : SourceFile) → AreInForm (placed [] (file_marks file))
-in_form file = record {
-  beside = beside (file_marks file) (of_file file) [] (λ q. refl);
-  begun = λ p b around there ends. elim (begun (file_marks file) (of_file file) [] p b around there ends) [
-    | inl none ↦ absurd (ends_not b around [] refl none)
-    | inr h ↦ h
-  ];
-}
+pub in_form : (edition : Edition) (file : SourceFile) → AreInForm (placed [] (marks_by edition (file_marks file)))
+in_form edition file =
+    let marks = marks_by edition (file_marks file) in
+    let made = file_made edition file in
+    record {
+      beside = beside marks made [] (λ q. refl);
+      begun = λ p b around there ends. elim (begun marks made [] p b around there ends) [
+        | inl none ↦ absurd (ends_not b around [] refl none)
+        | inr h ↦ h
+      ];
+    }

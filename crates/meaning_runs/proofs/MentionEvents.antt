@@ -1,16 +1,20 @@
 -- The events of a mention: what holds of each call, pass, loan, start, try and wait holds of all that a mention gives
 -- which binds nothing. A local is passed on in the body that declares it alone. No mention gives a return or a literal
 -- under `defer`.
-use Rattle.std.proofs.Common.{◌≡◌, ℕ, Bool, true, false, inl, inr, List, [], ◌∷◌, Option, Some, None, Contains, refl, sym, subst, ◌∙◌}
-use Rattle.std.specs.Prelude.{◌&&◌, ◌||◌, if◌then◌else◌, codes}
+use Rattle.std.proofs.Common.{◌≡◌, ℕ, Bool, true, false, inl, inr, List, [], ◌∷◌, Option, Some, None, Contains, refl, sym, subst, ◌∙◌, ◌++◌}
+use Rattle.std.specs.Prelude.{◌&&◌, ◌||◌, if◌then◌else◌, codes, is_none, map}
 use Rattle.std.specs.List.{list_all}
 use Rattle.std.specs.Str.{bytes_eq}
 use Rattle.meaning.specs.FunctionFacts.{CancelType, cancel_type, group_type, VariableKind, cancel, group}
-use Rattle.meaning.specs.Mentions.{BodyPlace, Row, Call, Role, elsewhere, called, called_in_brackets, argument, returned, left, names_type, new_literal, parameter_pointer, Mention}
-use Rattle.meaning.specs.Tracked.{Known, variable_of, LocalRole, parameter, receiver, variadic, result, in_block, Local}
-use Rattle.meaning.specs.Uses.{Seen, found, kind_of, tracked_kind, Event, other, obtain, clear, call, defer_call, pass, defer_pass, lend, start, try, wait, defer_wait, make, defer_literal, return_event, Binding, obtained, cleared, made, binding_at, binding_event, allowed_if, either_use, variable_at, cancel_called, cancel_passed, cancel_use, group_started, group_tried, group_awaited, group_limited, group_called, group_lent, group_use, kind_use, use_outcome, mention_outcome, binding_outcome, row_outcome, role_outcome, local_outcome, variable_outcome, is_own, has_no_argument, has_its_arguments, is_statement_place, is_deferred_place, takes, is_given_as, cancel_type_of, is_call_place, callee_of, body_gives, is_free, only_argument, started_literal, are_members, literals_between, is_statement_or_value, is_item_place, is_deferred}
+use Rattle.meaning.specs.Mentions.{BodyPlace, Row, Call, Role, elsewhere, called, called_in_brackets, argument, returned, left, names_type, new_literal, parameter_pointer, Mention, exposed, found_nil, found_error, mentions}
+use Rattle.meaning.specs.Tracked.{Known, variable_of, LocalRole, parameter, receiver, variadic, result, in_block, Local, is_universe}
+use Rattle.meaning.specs.Uses.{Seen, found, kind_of, tracked_kind, Event, other, obtain, clear, call, defer_call, pass, defer_pass, lend, start, try, wait, defer_wait, make, defer_literal, return_event, Binding, obtained, cleared, made, binding_at, binding_event, allowed_if, either_use, variable_at, cancel_called, cancel_passed, cancel_use, group_started, group_tried, group_awaited, group_limited, group_called, group_lent, group_use, kind_use, use_outcome, mention_outcome, binding_outcome, row_outcome, role_outcome, local_outcome, variable_outcome, is_own, has_no_argument, has_its_arguments, is_statement_place, is_deferred_place, takes, is_given_as, cancel_type_of, is_call_place, callee_of, body_gives, is_free, only_argument, started_literal, are_members, literals_between, is_statement_or_value, is_item_place, is_deferred, cancel_use_by, is_read, error_events, lost_to}
 use Rattle.meaning.proofs.Membership.{contains_cases, contains_nil}
 use Rattle.meaning_runs.specs.RunLists.{is_return}
+use Rattle.tree.specs.declared.edition.Edition.{Edition}
+use Rattle.tree.specs.declared.edition.Edition.TheVariants.{First, Second}
+use Rattle.meaning.specs.BodyEvents.{mark_events}
+use Rattle.std.proofs.lemmas.List.Elements.{Contains-append_cases}
 
 -- what a mention of a cancel variable gives that binds nothing
 abbrev pub is_cancel_use : Event → Bool
@@ -93,7 +97,7 @@ module _ (P : Event → Type 0) where
   AllFit es = (e : Event) → Contains es e → P e
 
   -- so it does where the mention is allowed
-  abbrev AllFitIf : Option (List Event) → Type 0
+  abbrev pub AllFitIf : Option (List Event) → Type 0
   AllFitIf None = Unit {0}
   AllFitIf (Some es) = AllFit es
 
@@ -104,7 +108,7 @@ module _ (P : Event → Type 0) where
   one_fits x p e h =
       elim (contains_cases x e [] h) [ inl same ↦ subst P same p | inr n ↦ absurd (contains_nil e n) ]
 
-  allowed : (b : Bool) (es : List Event) → AllFit es → AllFitIf (allowed_if b es)
+  pub allowed : (b : Bool) (es : List Event) → AllFit es → AllFitIf (allowed_if b es)
   allowed true es h = h
   allowed false es h = tt
 
@@ -112,17 +116,17 @@ module _ (P : Event → Type 0) where
   one_of None k h m = m
   one_of (Some es) k h m = h
 
-  one_allowed : (b c : Bool) (x y : Event) → P x → P y
+  pub one_allowed : (b c : Bool) (x y : Event) → P x → P y
       → AllFitIf (either_use (allowed_if b (x ∷ [])) (allowed_if c (y ∷ [])))
   one_allowed b c x y p q =
       one_of (allowed_if b (x ∷ [])) (allowed_if c (y ∷ [])) (allowed b (x ∷ []) (one_fits x p))
       (allowed c (y ∷ []) (one_fits y q))
 
-  if_so : (b : Bool) (o k : Option (List Event)) → AllFitIf o → AllFitIf k → AllFitIf (if b then o else k)
+  pub if_so : (b : Bool) (o k : Option (List Event)) → AllFitIf o → AllFitIf k → AllFitIf (if b then o else k)
   if_so true o k h m = h
   if_so false o k h m = m
 
-  use_outcome_fits : (kind : VariableKind) (l : Local) (m : Mention) (o : Option (List Event)) → AllFitIf o
+  pub use_outcome_fits : (kind : VariableKind) (l : Local) (m : Mention) (o : Option (List Event)) → AllFitIf o
       → AllFit (use_outcome kind l m o).events
   use_outcome_fits kind l m None h = none_given
   use_outcome_fits kind l m (Some es) h = h
@@ -159,6 +163,13 @@ module _ (P : Event → Type 0) where
     cancel_use_fits : (known : Known) (t : CancelType) (m : Mention) (r : Role)
         → AllFitIf (cancel_use known t l bodies m r)
     cancel_use_fits known t m elsewhere = tt
+    cancel_use_fits known t m exposed = tt
+    cancel_use_fits known t m (found_nil nil) = by (is_universe (known.means nil))
+      where
+        by : (b : Bool) → AllFit (if b then call l.number ∷ [] else [])
+        by true = one_fits (call l.number) (called_fits (call l.number) refl refl)
+        by false = none_given
+    cancel_use_fits known t m (found_error nil row) = none_given
     cancel_use_fits known t m (called c) = cancel_called_fits t m.named.selected c
     cancel_use_fits known t m called_in_brackets = tt
     cancel_use_fits known t m (argument k b c) = by (is_own l bodies) refl
@@ -173,6 +184,13 @@ module _ (P : Event → Type 0) where
     cancel_use_fits known t m (names_type row) = tt
     cancel_use_fits known t m (new_literal row) = tt
     cancel_use_fits known t m parameter_pointer = tt
+
+    cancel_use_by_fits : (edition : Edition) (known : Known) (t : CancelType) (m : Mention) (r : Role)
+        → AllFitIf (cancel_use_by edition known t l bodies m r)
+    cancel_use_by_fits First known t m r = cancel_use_fits known t m r
+    cancel_use_by_fits Second known t m r =
+        one_of (cancel_use known t l bodies m r) (allowed_if (is_read t r m.named.selected) [])
+        (cancel_use_fits known t m r) (allowed (is_read t r m.named.selected) [] none_given)
 
   module _ (bodies : List BodyPlace) (l : Local)
       (fits : (e : Event) → is_use e ≡ true → PassesOwn bodies l e → P e) where
@@ -215,6 +233,9 @@ module _ (P : Event → Type 0) where
 
     group_use_fits : (seen : Seen) (m : Mention) (r : Role) → AllFitIf (group_use seen l bodies m r)
     group_use_fits seen m elsewhere = tt
+    group_use_fits seen m exposed = tt
+    group_use_fits seen m (found_nil nil) = none_given
+    group_use_fits seen m (found_error nil row) = none_given
     group_use_fits seen m (called c) = group_called_fits seen m.named.selected c
     group_use_fits seen m called_in_brackets = tt
     group_use_fits seen m (argument k b c) = group_lent_fits seen.known m.named.selected k c
@@ -226,7 +247,7 @@ module _ (P : Event → Type 0) where
 
     kind_use_fits : (seen : Seen) (kind : VariableKind) (m : Mention) → AllFitIf (kind_use seen l kind bodies m)
     kind_use_fits seen cancel m =
-        cancel_use_fits bodies l (λ e h own. fits e (cancel_use_is_use e h) own) seen.known (cancel_type_of seen l) m m.role
+        cancel_use_by_fits bodies l (λ e h own. fits e (cancel_use_is_use e h) own) seen.known.edition seen.known (cancel_type_of seen l) m m.role
     kind_use_fits seen group m = group_use_fits seen m m.role
 
     pub mention_fits : (seen : Seen) (kind : Option VariableKind) (m : Mention)
@@ -278,6 +299,9 @@ module _ (P : Event → Type 0) where
     role_fits : (seen : Seen) (m : Mention) (r : Role) → AllFit (role_outcome seen l bodies m r).events
     role_fits seen m (left k row) = row_fits seen (kind_of seen (Some l)) m row (binding_at seen row k)
     role_fits seen m elsewhere = unbound_fits seen m
+    role_fits seen m exposed = unbound_fits seen m
+    role_fits seen m (found_nil nil) = unbound_fits seen m
+    role_fits seen m (found_error nil row) = unbound_fits seen m
     role_fits seen m (called c) = unbound_fits seen m
     role_fits seen m called_in_brackets = unbound_fits seen m
     role_fits seen m (argument k x c) = unbound_fits seen m
@@ -298,6 +322,54 @@ module _ (P : Event → Type 0) where
       → P e)
       → AllFit (variable_outcome seen bodies m).events
   variable_fits seen bodies m fits = local_fits seen bodies m (found seen (variable_of seen.known m)) fits
+
+  -- behind a giver with an error, calls alone
+  calls_fit : ((v : ℕ) → P (call v)) → (vs : List ℕ) → AllFit (map call vs)
+  calls_fit fits [] = none_given
+  calls_fit fits (v ∷ vs) = λ e h. elim (contains_cases (call v) e (map call vs) h) [
+    | inl same ↦ subst P same (fits v)
+    | inr rest ↦ calls_fit fits vs e rest
+  ]
+
+  error_fits : (seen : Seen) (m : Mention) (r : Role) → ((v : ℕ) → P (call v)) → AllFit (error_events seen m r)
+  error_fits seen m (found_error nil row) fits = by (is_universe (seen.known.means nil))
+    where
+      by : (b : Bool) → AllFit (if b then map call (lost_to seen row (variable_of seen.known m)) else [])
+      by true = calls_fit fits (lost_to seen row (variable_of seen.known m))
+      by false = none_given
+  error_fits seen m elsewhere fits = none_given
+  error_fits seen m exposed fits = none_given
+  error_fits seen m (found_nil nil) fits = none_given
+  error_fits seen m (called c) fits = none_given
+  error_fits seen m called_in_brackets fits = none_given
+  error_fits seen m (argument k x c) fits = none_given
+  error_fits seen m (returned k) fits = none_given
+  error_fits seen m (left k row) fits = none_given
+  error_fits seen m (names_type row) fits = none_given
+  error_fits seen m (new_literal row) fits = none_given
+  error_fits seen m parameter_pointer fits = none_given
+
+  -- all that a mention gives
+  pub mention_events_fit : (seen : Seen) (bodies : List BodyPlace) (m : Mention)
+      → ((v : ℕ) → P (call v))
+      → AllFit (variable_outcome seen bodies m).events
+      → AllFit (mark_events seen bodies (mentions m))
+  mention_events_fit seen bodies m calls fits e h =
+      elim (Contains-append_cases (variable_outcome seen bodies m).events (error_events seen m m.role) e h) [
+        | inl own ↦ fits e own
+        | inr lost ↦ error_fits seen m m.role calls e lost
+      ]
+
+-- what is no call is given by the mention's own variable
+pub of_its_variable : (seen : Seen) (bodies : List BodyPlace) (m : Mention) (e : Event)
+    → ((v : ℕ) → call v ≡ e → ⊥)
+    → Contains (mark_events seen bodies (mentions m)) e
+    → Contains (variable_outcome seen bodies m).events e
+of_its_variable seen bodies m e none h =
+    elim (Contains-append_cases (variable_outcome seen bodies m).events (error_events seen m m.role) e h) [
+      | inl own ↦ own
+      | inr lost ↦ absurd (error_fits (λ x. x ≡ e → ⊥) seen m m.role none e lost refl)
+    ]
 
 -- No returns, and no literals under `defer`
 
@@ -323,9 +395,10 @@ told_is_no_return (defer_literal at) h = refl
 told_is_no_return (return_event handed) h = let bad : false ≡ true = h in cc
 
 pub mentions_are_quiet : (seen : Seen) (bodies : List BodyPlace) (m : Mention)
-    → AreQuiet (variable_outcome seen bodies m).events
+    → AreQuiet (mark_events seen bodies (mentions m))
 mentions_are_quiet seen bodies m =
-    variable_fits (λ e. is_return e ≡ false) seen bodies m λ l is e told own. told_is_no_return e told
+    mention_events_fit (λ e. is_return e ≡ false) seen bodies m (λ v. refl)
+    (variable_fits (λ e. is_return e ≡ false) seen bodies m λ l is e told own. told_is_no_return e told)
 
 -- it saves the call of a literal
 abbrev is_deferral : Event → Bool
@@ -350,10 +423,11 @@ told_is_no_deferral (defer_literal at) h = let bad : false ≡ true = h in cc
 told_is_no_deferral (return_event handed) h = refl
 
 pub mentions_defer_no_literal : (seen : Seen) (bodies : List BodyPlace) (m : Mention) (at : ℕ)
-    → Contains (variable_outcome seen bodies m).events (defer_literal at)
+    → Contains (mark_events seen bodies (mentions m)) (defer_literal at)
     → ⊥
 mentions_defer_no_literal seen bodies m at h =
     let bad : true ≡ false =
-    variable_fits (λ e. is_deferral e ≡ false) seen bodies m (λ l is e told own. told_is_no_deferral e told)
+    mention_events_fit (λ e. is_deferral e ≡ false) seen bodies m (λ v. refl)
+    (variable_fits (λ e. is_deferral e ≡ false) seen bodies m (λ l is e told own. told_is_no_deferral e told))
     (defer_literal at) h in
     cc

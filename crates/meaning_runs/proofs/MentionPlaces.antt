@@ -1,16 +1,18 @@
 -- What a mention gives stands where its name stands, at its site, or at the statement of its row: its faults, and the
 -- events with an offset.
 use Rattle.std.proofs.Common.{ℕ, ◌≤◌, Bool, true, false, inl, inr, List, [], ◌∷◌, ◌++◌, Option, Some, None, Contains, subst}
-use Rattle.std.specs.Prelude.{◌&&◌, ◌||◌, if◌then◌else◌, not, is_some, codes}
+use Rattle.std.specs.Prelude.{◌&&◌, ◌||◌, if◌then◌else◌, not, is_some, codes, is_none}
 use Rattle.std.specs.List.{list_all}
 use Rattle.std.specs.Str.{bytes_eq}
 use Rattle.std.proofs.lemmas.List.Elements.{Contains-append_cases}
 use Rattle.meaning.specs.FunctionFacts.{CancelType, is_same_type, cancel_type, group_type, VariableKind, cancel, group, errgroup_path, is_import}
-use Rattle.meaning.specs.Mentions.{BodyPlace, Standing, ordinary, first_of_for, communication, Row, Call, CallPlace, nowhere, as_statement, only_value, return_item, deferred, Role, elsewhere, called, called_in_brackets, argument, returned, left, names_type, new_literal, parameter_pointer, Mention}
-use Rattle.meaning.specs.Tracked.{is_universe, variable_of, declared_by, is_maker, Giving, giving_of, row_giving, are_locals, LocalRole, parameter, receiver, variadic, result, in_block, Local}
-use Rattle.meaning.specs.Uses.{Seen, found, kind_of, tracked_kind, last_name, Event, other, obtain, clear, call, defer_call, pass, defer_pass, lend, start, try, wait, defer_wait, make, defer_literal, return_event, Binding, obtained, cleared, made, binding_at, binding_event, row_binds, allowed_if, either_use, variable_at, cancel_called, cancel_passed, cancel_use, only_argument, group_started, group_tried, group_awaited, group_limited, group_called, group_lent, group_use, is_own, body_gives, has_no_argument, has_its_arguments, is_statement_place, is_deferred_place, is_item_place, is_statement_or_value, is_call_place, takes, is_given_as, cancel_type_of, type_from, callee_of, is_free, started_literal, are_members, literals_between, is_deferred, UseCode, recover_used, cancel_discarded, cancel_used_otherwise, group_used_otherwise, bound_again, UseFault, fault_at, otherwise, Outcome, if_not, again_faults, type_faults, first_faults, binding_outcome, use_outcome, kind_use, mention_outcome, row_outcome, role_outcome, local_outcome, variable_outcome, last_fault, has_blank, row_call_faults, hands_on, call_faults, giving_role_faults, giving_faults, is_made_or_parameter, mention_faults, is_in_literal}
+use Rattle.meaning.specs.Mentions.{BodyPlace, Standing, ordinary, first_of_for, communication, Row, Call, CallPlace, nowhere, as_statement, only_value, return_item, deferred, Role, elsewhere, called, called_in_brackets, argument, returned, left, names_type, new_literal, parameter_pointer, Mention, exposed, found_nil, found_error}
+use Rattle.meaning.specs.Tracked.{is_universe, variable_of, declared_by, Giving, giving_of, row_giving, are_locals, LocalRole, parameter, receiver, variadic, result, in_block, Local}
+use Rattle.meaning.specs.Uses.{Seen, found, kind_of, tracked_kind, last_name, Event, other, obtain, clear, call, defer_call, pass, defer_pass, lend, start, try, wait, defer_wait, make, defer_literal, return_event, Binding, obtained, cleared, made, binding_at, binding_event, row_binds, allowed_if, either_use, variable_at, cancel_called, cancel_passed, cancel_use, only_argument, group_started, group_tried, group_awaited, group_limited, group_called, group_lent, group_use, is_own, body_gives, has_no_argument, has_its_arguments, is_statement_place, is_deferred_place, is_item_place, is_statement_or_value, is_call_place, takes, is_given_as, cancel_type_of, type_from, callee_of, is_free, started_literal, are_members, literals_between, is_deferred, UseCode, recover_used, cancel_discarded, cancel_used_otherwise, group_used_otherwise, bound_again, UseFault, fault_at, otherwise, Outcome, if_not, again_faults, type_faults, first_faults, binding_outcome, use_outcome, kind_use, mention_outcome, row_outcome, role_outcome, local_outcome, variable_outcome, last_fault, has_blank, row_call_faults, hands_on, call_faults, is_only_called, giving_role_faults, giving_faults, is_made_or_parameter, recover_faults, mention_faults, is_in_literal, cancel_use_by, is_read}
 use Rattle.meaning.proofs.Membership.{contains_nil, contains_cases}
-use Rattle.meaning_runs.specs.NamePlaces.{PlaceStandsWithin, RoleStandsWithin}
+use Rattle.meaning_runs.specs.NamePlaces.{PlaceStandsWithin, RoleStandsWithin, PlaceStandsWithin, RoleStandsWithin}
+use Rattle.tree.specs.declared.edition.Edition.{Edition}
+use Rattle.tree.specs.declared.edition.Edition.TheVariants.{First, Second}
 
 -- the offset of an event, where it has one
 abbrev pub EventStandsWithin : ℕ → Event → Type 0
@@ -122,8 +124,15 @@ module _ (n : ℕ) where
     passed_lies None k true c = tt
     passed_lies (Some name) k b c = tt
 
+    called_if : (b : Bool) → EventsStandWithin n (if b then call l.number ∷ [] else [])
+    called_if true = one_event (call l.number) tt
+    called_if false = no_event
+
     cancel_lies : (r : Role) → EventsLieIf n (cancel_use seen.known its_type l bodies m r)
     cancel_lies elsewhere = tt
+    cancel_lies exposed = tt
+    cancel_lies (found_nil nil) = called_if (is_universe (seen.known.means nil))
+    cancel_lies (found_error nil row) = no_event
     cancel_lies (called c) = called_lies m.named.selected c
     cancel_lies called_in_brackets = tt
     cancel_lies (argument k b c) =
@@ -168,6 +177,9 @@ module _ (n : ℕ) where
 
     group_lies : (r : Role) → EventsLieIf n (group_use seen l bodies m r)
     group_lies elsewhere = tt
+    group_lies exposed = tt
+    group_lies (found_nil nil) = no_event
+    group_lies (found_error nil row) = no_event
     group_lies (called c) = group_called_lies m.named.selected c
     group_lies called_in_brackets = tt
     group_lies (argument k b c) = lent_lies m.named.selected k c
@@ -178,7 +190,13 @@ module _ (n : ℕ) where
     group_lies parameter_pointer = tt
 
     kind_lies : (kind : VariableKind) → EventsLieIf n (kind_use seen l kind bodies m)
-    kind_lies cancel = cancel_lies m.role
+    kind_lies cancel = by seen.known.edition m.role
+      where
+        by : (edition : Edition) (r : Role) → EventsLieIf n (cancel_use_by edition seen.known its_type l bodies m r)
+        by First r = cancel_lies r
+        by Second r =
+            one_of (cancel_use seen.known its_type l bodies m r) (allowed_if (is_read its_type r m.named.selected) [])
+            (cancel_lies r) (allowed (is_read its_type r m.named.selected) [] no_event)
     kind_lies group = group_lies m.role
 
     use_lies : (kind : VariableKind) (o : Option (List Event)) → EventsLieIf n o → OutcomeStandsWithin n (use_outcome kind l m o)
@@ -242,6 +260,9 @@ module _ (n : ℕ) where
     role_lies : (r : Role) → OutcomeStandsWithin n (role_outcome seen l bodies m r)
     role_lies (left k row) = row_lies (kind_of seen (Some l)) row (binding_at seen row k)
     role_lies elsewhere = unbound_lies (tracked_kind seen (Some l))
+    role_lies exposed = unbound_lies (tracked_kind seen (Some l))
+    role_lies (found_nil nil) = unbound_lies (tracked_kind seen (Some l))
+    role_lies (found_error nil row) = unbound_lies (tracked_kind seen (Some l))
     role_lies (called c) = unbound_lies (tracked_kind seen (Some l))
     role_lies called_in_brackets = unbound_lies (tracked_kind seen (Some l))
     role_lies (argument k x c) = unbound_lies (tracked_kind seen (Some l))
@@ -277,13 +298,16 @@ module _ (n : ℕ) where
         not_if (hands_on (body_gives seen.known bodies) k g) (last_lies cancel_used_otherwise)
     call_lies g deferred site h = last_lies cancel_used_otherwise
 
-    maker_lies : FaultsStandWithin n (if is_maker seen.known m.named then last_fault cancel_used_otherwise m.named else [])
-    maker_lies = faults_if (is_maker seen.known m.named) (last_lies cancel_used_otherwise) no_fault
+    maker_lies : FaultsStandWithin n (if is_only_called seen.known.edition seen.known m.named then last_fault cancel_used_otherwise m.named else [])
+    maker_lies = faults_if (is_only_called seen.known.edition seen.known m.named) (last_lies cancel_used_otherwise) no_fault
 
     giving_role_lies : (g : Giving) (r : Role) → m.site ≤ n → RoleStandsWithin n r → FaultsStandWithin n (giving_role_faults seen bodies m g r)
     giving_role_lies g (called c) site h = call_lies g c.place site h
     giving_role_lies g called_in_brackets site h = last_lies cancel_used_otherwise
     giving_role_lies g elsewhere site h = maker_lies
+    giving_role_lies g exposed site h = maker_lies
+    giving_role_lies g (found_nil nil) site h = maker_lies
+    giving_role_lies g (found_error nil row) site h = maker_lies
     giving_role_lies g (argument k x c) site h = maker_lies
     giving_role_lies g (returned k) site h = maker_lies
     giving_role_lies g (left k row) site h = maker_lies
@@ -300,8 +324,10 @@ module _ (n : ℕ) where
     mention_faults_lie site h =
         both_faults variable_lies.faults
         (both_faults (giving_lies (giving_of seen.known m.named) site h)
-        (both_faults
         (faults_if (is_import errgroup_path (seen.known.means m.named.at))
-        (not_if (is_made_or_parameter seen m m.role) (last_lies group_used_otherwise)) no_fault)
-        (faults_if (bytes_eq m.named.name (codes "recover") && is_universe (seen.known.means m.named.at))
-        (one_fault m.named.at recover_used (codes "-") low) no_fault)))
+        (not_if (is_made_or_parameter seen m m.role) (last_lies group_used_otherwise)) no_fault))
+
+    pub recover_faults_lie : FaultsStandWithin n (recover_faults seen.known m)
+    recover_faults_lie =
+        faults_if (bytes_eq m.named.name (codes "recover") && is_universe (seen.known.means m.named.at))
+        (one_fault m.named.at recover_used (codes "-") low) no_fault

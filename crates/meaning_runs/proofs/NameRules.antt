@@ -8,7 +8,7 @@ use Rattle.lexer.specs.declared.token.TokenKind.TheVariants.{Semicolon}
 use Rattle.tree.specs.declared.span.Span.{Span}
 use Rattle.tree.specs.Syntax.{Identifier}
 use Rattle.meaning.specs.Mentions.{Mark}
-use Rattle.meaning.specs.Cursor.{Cursor, Rule, ◌⨾◌, ◌⇒◌, nothing, never, one_of, optional, chosen, only_if, token, string_token, not_before, semicolon, TakesSemicolon, Semicolons, no_semicolon, semicolon_and, semicolons, spanning, start_at, first_start, word, identifier, optional_identifier, more_identifiers, identifiers}
+use Rattle.meaning.specs.Cursor.{GoText, Cursor, Rule, ◌⨾◌, ◌⇒◌, nothing, never, one_of, optional, chosen, only_if, token, string_token, not_before, semicolon, TakesSemicolon, Semicolons, no_semicolon, semicolon_and, semicolons, spanning, start_at, first_start, word, identifier, optional_identifier, more_identifiers, identifiers}
 use Rattle.meaning.proofs.Membership.{contains_nil, contains_here, contains_there, contains_cases}
 use Rattle.meaning_runs.specs.NamePlaces.{StandsWithin}
 
@@ -177,7 +177,7 @@ module _ {n : ℕ} where
   pub keeps_semicolons : Keeps n semicolons
   keeps_semicolons from to k s = record { inside = keeps_each_semicolon k s; holds = tt }
 
-  module _ (text : List ℕ) where
+  module _ (text : GoText) where
     pub keeps_word : (name : List ℕ) → Keeps n (word text name)
     keeps_word name from to k s = keeps_token _ from to k s.0
 

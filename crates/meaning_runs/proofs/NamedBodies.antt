@@ -10,7 +10,7 @@ use Rattle.tree.specs.Syntax.{Block, Function, TopLevelDeclaration, function_dec
 use Rattle.meaning.specs.Scopes.{is_blank}
 use Rattle.meaning.specs.OuterBlocks.{is_init, can_be_meant}
 use Rattle.meaning.specs.TwoFunctions.{FunctionName, function_names_in, function_names_from, is_called_before, second_after}
-use Rattle.meaning.specs.Mentions.{BodyPlace, opens, closes, function_body, function_types_marks, function_marks, statements_marks, top_level_marks, top_levels_marks, file_marks}
+use Rattle.meaning.specs.Mentions.{BodyPlace, opens, closes, function_body, function_types_marks, function_marks, statements_marks, top_level_marks, top_levels_marks, file_marks, marks_by}
 use Rattle.meaning.specs.Tracked.{Known, placed}
 use Rattle.meaning.specs.Uses.{Seen}
 use Rattle.meaning.specs.BodyEvents.{seen_file}
@@ -21,6 +21,7 @@ use Rattle.meaning_packages.specs.CallsFlags.{has_name, is_function}
 use Rattle.meaning_reports.specs.Loaded.{seen_from}
 use Rattle.meaning_runs.proofs.BodyOffsets.{opened_there}
 use Rattle.meaning_runs.proofs.LeftSides.{of_types, of_block, of_outer_specs, is_placed}
+use Rattle.meaning_runs.proofs.EditionMarks.{among_all}
 
 -- Bodies and the functions that they are of
 
@@ -40,7 +41,7 @@ later d ds b h = record {
   is_it = h.is_it;
 }
 
-opens_one : (b c : BodyPlace) → opens b ≡ opens c → b ≡ c
+pub opens_one : (b c : BodyPlace) → opens b ≡ opens c → b ≡ c
 opens_one b c e = cc
 
 module _ (b : BodyPlace) (named : b.name ≡ None → ⊥) where
@@ -77,7 +78,7 @@ record OfName (ds : List TopLevelDeclaration) (name : List ℕ) (b : BodyPlace) 
   is_meant : can_be_meant of.function ≡ true
   has_name : of.function.name.text ≡ name
 
-named_so : (name : List ℕ) (b : BodyPlace) → is_function name b ≡ true → b.name ≡ None → ⊥
+pub named_so : (name : List ℕ) (b : BodyPlace) → is_function name b ≡ true → b.name ≡ None → ⊥
 named_so name b e none =
     let parts = and_parts (is_none b.receiver) (has_name name b.name) e in
     let bad : false ≡ true = sym (ap (has_name name) none) ∙ parts.1 in
@@ -85,8 +86,10 @@ named_so name b e none =
 
 of_name : (known : Known) (file : SourceFile) (name : List ℕ) (b : BodyPlace) → Contains (bodies_of (seen_file known file)) b → is_function name b ≡ true → OfName file.declarations name b
 of_name known file name b h e =
-    let w = opened_there (placed [] (file_marks file)) b (placed_only (opened_in (placed [] (file_marks file))) b h) in
-    let among = subst (λ m. Contains (file_marks file) m) w.2 (is_placed [] (file_marks file) w.0 w.1) in
+    let marks = marks_by known.edition (file_marks file) in
+    let w = opened_there (placed [] marks) b (placed_only (opened_in (placed [] marks)) b h) in
+    let there = subst (λ m. Contains marks m) w.2 (is_placed [] marks w.0 w.1) in
+    let among = among_all known.edition (file_marks file) (opens b) there in
     let of = of_some_function b (named_so name b e) file.declarations among in
     let its : is_function name (function_body of.function of.block) ≡ true = ap (is_function name) of.is_it ∙ e in
     let parts = and_parts (is_none of.function.receiver) (has_name name (Some of.function.name)) its in

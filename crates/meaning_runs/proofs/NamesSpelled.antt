@@ -1,16 +1,17 @@
 -- What is spelled within a text has its names there: of expressions, signatures and statements.
 use Rattle.std.proofs.Common.{◌≡◌, ℕ, ◌≤◌, Bool, true, false, List, [], ◌++◌, Option, None, sym, subst, arith, append_assoc, append-nil}
-use Rattle.std.specs.Prelude.{◌&&◌, not}
+use Rattle.std.specs.Prelude.{◌&&◌, not, ◌-◌}
 use Rattle.tree.specs.declared.span.Span.{Span}
 use Rattle.tree.specs.declared.operator.DeclKeyword.{DeclKeyword}
-use Rattle.tree.specs.Syntax.{Identifier, Expression, expression_node, ExpressionForm, name_expression, basic_literal, function_literal, composite_literal, literal_value, key_value, parenthesized, selector_expression, index_expression, slice_expression, type_assertion, call_expression, star_expression, unary_expression, binary_expression, array_type, ellipsis_array_type, slice_type, map_type, channel_type, function_type, struct_type, interface_type, Expressions, no_expression, expression_and, OptionalExpression, missing_expression, present_expression, Signature, signature_of, Parameters, no_parameter, named_and, unnamed_and, name_alone_and, Fields, no_field, fields_and, embedded_and, method_and, Statement, statement_node, StatementForm, empty_statement, declaration_statement, labeled_statement, expression_statement, send_statement, increment_statement, decrement_statement, assignment, operator_assignment, define_statement, go_statement, defer_statement, return_statement, break_statement, continue_statement, block_statement, if_statement, for_statement, range_assignment, range_definition, switch_statement, type_switch_statement, select_statement, Statements, no_statement, statement_and, OptionalStatement, missing_statement, present_statement, CaseClauses, no_case, case_and, CommunicationClauses, no_communication, communication_and, Declaration, declaration_of, Specs, no_spec, value_and, type_and}
-use Rattle.meaning.specs.Mentions.{as_named, as_new_literal, embedded, defines, assigns, declares, Standing, ordinary, first_of_for, communication, Row, nowhere, as_statement, deferred, place_in, call_of, callee_use, elsewhere, names_type, Mark, returns, Spot, part_of, whole, mention, literal_body, value_spot, row_of, expression_marks, form_marks, expressions_marks, optional_marks, arguments_marks, items_marks, names_type_marks, signature_marks, parameters_marks, fields_marks, statement_marks, statement_form_marks, statements_marks, optional_statement_marks, cases_marks, communications_marks, declaration_marks, specs_marks}
-use Rattle.meaning.specs.Cursor.{Cursor, Rule, ◌⇒◌, nothing, spanning}
-use Rattle.meaning.specs.Grammar.{Position, as_type, as_expression, as_value, as_element, inside, statement_start, of_struct, of_interface, Owner, IsMissing, IsLast, SpellsExpression, SpellsForm, SpellsExpressions, SpellsMore, SpellsOptional, SpellsSignature, SpellsResult, SpellsItems, SpellsFields, SpellsStatement, SpellsStatementForm, SpellsOptionalStatement, SpellsElse, SpellsStatements, SpellsCases, SpellsCommunications, SpellsDeclaration, SpellsSpecs}
+use Rattle.tree.specs.Syntax.{Identifier, Expression, expression_node, ExpressionForm, name_expression, basic_literal, function_literal, composite_literal, literal_value, key_value, parenthesized, selector_expression, index_expression, instance_expression, slice_expression, type_assertion, call_expression, star_expression, unary_expression, binary_expression, array_type, ellipsis_array_type, slice_type, map_type, channel_type, function_type, struct_type, interface_type, Expressions, no_expression, expression_and, OptionalExpression, missing_expression, present_expression, Signature, signature_of, Parameters, no_parameter, named_and, unnamed_and, name_alone_and, Fields, no_field, fields_and, embedded_and, element_and, method_and, Statement, statement_node, StatementForm, empty_statement, declaration_statement, labeled_statement, expression_statement, send_statement, increment_statement, decrement_statement, assignment, operator_assignment, define_statement, go_statement, defer_statement, return_statement, break_statement, continue_statement, goto_statement, fallthrough_statement, block_statement, if_statement, for_statement, range_assignment, range_definition, switch_statement, type_switch_statement, select_statement, Statements, no_statement, statement_and, OptionalStatement, missing_statement, present_statement, CaseClauses, no_case, case_and, CommunicationClauses, no_communication, communication_and, Declaration, declaration_of, Specs, no_spec, value_and, type_and}
+use Rattle.meaning.specs.Mentions.{as_named, as_new_literal, embedded, defines, assigns, declares, Standing, ordinary, first_of_for, communication, Row, nowhere, as_statement, deferred, place_in, call_of, callee_use, elsewhere, names_type, Mark, returns, Spot, part_of, whole, mention, literal_body, value_spot, row_of, expression_marks, form_marks, expressions_marks, optional_marks, arguments_marks, items_marks, names_type_marks, signature_marks, parameters_marks, fields_marks, statement_marks, statement_form_marks, statements_marks, optional_statement_marks, cases_marks, communications_marks, declaration_marks, specs_marks, exposed, addressed_within, ranged_marks, row_in, first_row}
+use Rattle.meaning.specs.Scopes.{parameters_named}
+use Rattle.meaning.specs.Cursor.{GoText, Cursor, Rule, ◌⇒◌, nothing, spanning}
+use Rattle.meaning.specs.Grammar.{Position, as_type, as_expression, as_value, as_element, as_constraint, inside, operand, element_place, statement_start, of_struct, of_interface, Owner, IsMissing, IsLast, SpellsExpression, SpellsForm, SpellsExpressions, SpellsMore, SpellsOptional, SpellsSignature, SpellsResult, SpellsItems, SpellsTypeParameters, SpellsFields, SpellsStatement, SpellsStatementForm, SpellsOptionalStatement, SpellsElse, SpellsStatements, SpellsCases, SpellsCommunications, SpellsDeclaration, SpellsSpecs}
 use Rattle.meaning_runs.specs.NamePlaces.{PlaceStandsWithin, ParametersStandWithin, SignatureStandsWithin}
-use Rattle.meaning_runs.proofs.NameRules.{IsInside, Says, AllStandWithin, none_lie, lie_and, one_lies, both_lie, start_in, says_nothing, keeps_nothing, says_never, keeps_not_before, keeps_token, says_both, behind, ending, knowing, says_chosen, so, given, spanned, spanned_at, keeps_only_if, enclosed, keeps_semicolon, keeps_semicolons, keeps_word, says_identifier, keeps_optional_identifier, says_identifiers, both, turned, moved, no_marks}
-use Rattle.meaning_runs.proofs.NameParts.{name_there, new_there, in_place, selected, callee_by, newly, typed, role_of_name, value_place, statement_place, names_lie, elsewhere_lie, NameIn, guard_lies, deferral_lies, body_lies, keeps_end_of_name, keeps_end_of_type, keeps_channel, keeps_assign_operator, keeps_tag, keeps_before_item, keeps_after_items, says_type_name, says_guard_name, says_arguments, says_perhaps, says_elements, says_range_left, says_case_head, says_third_bound, says_initial, says_communication, EachSays, says_expressions, says_argument_list, says_items, says_lefts}
-use Rattle.meaning_runs.proofs.BodyOffsetsSpelled.{missing_gives_none, missing_statement_gives_none, no_expressions, no_arguments, no_items, three_and_one, no_specs_left}
+use Rattle.meaning_runs.proofs.NameRules.{IsInside, Says, AllStandWithin, EachIn, none_lie, lie_and, one_lies, both_lie, start_in, says_nothing, keeps_nothing, says_never, keeps_not_before, keeps_token, says_both, behind, ending, knowing, says_chosen, so, given, spanned, spanned_at, keeps_only_if, enclosed, keeps_semicolon, keeps_semicolons, keeps_word, says_identifier, keeps_optional_identifier, says_identifiers, both, turned, moved, no_marks, keeps}
+use Rattle.meaning_runs.proofs.NameParts.{name_there, new_there, in_place, selected, callee_by, newly, typed, role_of_name, value_place, statement_place, names_lie, elsewhere_lie, NameIn, guard_lies, deferral_lies, body_lies, keeps_end_of_name, keeps_end_of_selector, keeps_end_of_type, keeps_channel, keeps_assign_operator, keeps_tag, keeps_before_item, keeps_after_items, says_type_name, keeps_after_instance, says_after_name, says_guard_name, says_arguments, says_perhaps, says_elements, says_range_left, says_case_head, says_third_bound, says_initial, says_communication, EachSays, says_expressions, says_argument_list, says_items, says_lefts, addressed_within_there, says_ranged, nil_lie, exposed_in, row_guard_lies, behind_lies}
+use Rattle.meaning_runs.proofs.BodyOffsetsSpelled.{missing_gives_none, missing_statement_gives_none, no_expressions, no_arguments, no_items, three_and_one, no_specs_left, no_ranged}
 
 -- a statement begins there
 statement_in : (n : ℕ) (form : StatementForm) (from : Cursor) → IsInside n from → statement_start form from ≤ n
@@ -38,14 +39,21 @@ module _ (n : ℕ) where
   none_behind site ps e =
       subst (λ (qs : Parameters). AllStandWithin n (parameters_marks false site qs) × ParametersStandWithin n qs) (sym e) (none_lie, tt)
 
+  pub no_parameters_lie : (site : ℕ) (ps : Parameters) → ps ≡ no_parameter
+      → AllStandWithin n (parameters_marks false site ps) × EachIn n (parameters_named ps)
+  unfolding parameters_marks
+  no_parameters_lie site ps e =
+      subst (λ (qs : Parameters). AllStandWithin n (parameters_marks false site qs) × EachIn n (parameters_named qs)) (sym e)
+      (none_lie, tt)
+
   alone : (site : ℕ) (t : Expression) (ps : Parameters) → ps ≡ no_parameter → AllStandWithin n (expression_marks (part_of site) t)
       → AllStandWithin n (expression_marks (part_of site) t ++ parameters_marks false site ps) × ParametersStandWithin n ps
   alone site t ps e h = let rest = none_behind site ps e in (both_lie h rest.0, rest.1)
 
-module _ (text : List ℕ) (n : ℕ) where
+module _ (text : GoText) (n : ℕ) where
   mutual
     unfolding SpellsExpression SpellsForm SpellsExpressions SpellsMore SpellsOptional SpellsSignature SpellsResult
-        SpellsItems SpellsFields SpellsStatement SpellsStatementForm SpellsOptionalStatement SpellsElse SpellsStatements
+        SpellsItems SpellsTypeParameters SpellsFields SpellsStatement SpellsStatementForm SpellsOptionalStatement SpellsElse SpellsStatements
         SpellsCases SpellsCommunications SpellsDeclaration SpellsSpecs expression_marks form_marks optional_marks
         names_type_marks signature_marks parameters_marks fields_marks statement_marks statement_form_marks
         statements_marks optional_statement_marks cases_marks communications_marks declaration_marks specs_marks
@@ -58,7 +66,7 @@ module _ (text : List ℕ) (n : ℕ) where
         → Says n (AllStandWithin n (form_marks spot span form)) (spanning span (SpellsForm text place form))
     of_form place spot span (name_expression name) low =
         spanned_at λ here. so (λ w. one_lies _ (here, role_of_name n spot.place))
-        (behind (keeps_word text name) (keeps_end_of_name place))
+        (behind (keeps_word text name) (keeps_end_of_name text.edition place))
     of_form place spot span (basic_literal kind) low = spanned (given (no_marks (keeps_token _)))
     of_form place spot span (function_literal signature ss braces) low =
         spanned (given (behind (keeps_token _)
@@ -80,10 +88,14 @@ module _ (text : List ℕ) (n : ℕ) where
         spanned (enclosed _ _ (of_expression (inside place) (part_of spot.site) e tt))
     of_form place spot span (selector_expression e m) low =
         spanned (given (so (selected spot e m)
-        (ending (of_expression as_expression (part_of spot.site) e tt) (behind (keeps_token _) (says_identifier text m)))))
+        (ending (of_expression as_expression (part_of spot.site) e tt) (behind (keeps_token _) (behind (says_identifier text m) (keeps_end_of_selector text.edition place))))))
     of_form place spot span (index_expression e i) low =
         spanned (given (given (both (of_expression as_expression (part_of spot.site) e tt)
         (enclosed _ _ (of_expression as_expression (part_of spot.site) i tt)))))
+    of_form place spot span (instance_expression e es) low =
+        spanned (given (given (given (both (of_expression as_expression (part_of spot.site) e tt)
+        (enclosed _ _ (ending (says_expressions n text as_expression (part_of spot.site) es tt (of_each as_expression es))
+        (keeps_after_instance es)))))))
     of_form place spot span (slice_expression e first last most) low =
         spanned (given (given (both (of_expression as_expression (part_of spot.site) e tt)
         (enclosed _ _ (both (of_optional as_expression spot.site first)
@@ -103,11 +115,12 @@ module _ (text : List ℕ) (n : ℕ) where
     of_form place spot span (star_expression e) low =
         spanned (given (behind (keeps_token _) (of_expression (inside place) (part_of spot.site) e tt)))
     of_form place spot span (unary_expression op e) low =
-        spanned (given (given (so (λ w. newly spot.place spot.site (as_new_literal op e) (new_there (part_of spot.site) op e w) w)
+        spanned (given (given (so (λ w. newly spot.place spot.site (as_new_literal op e) (new_there (part_of spot.site) op e w)
+        (in_place (addressed_within op e) spot.site exposed (addressed_within_there (part_of spot.site) op e w) tt w))
         (behind (keeps_token _) (of_expression as_expression (part_of spot.site) e tt)))))
     of_form place spot span (binary_expression op l r) low =
-        spanned (given (given (both (of_expression as_expression (part_of spot.site) l tt)
-        (behind (keeps_token _) (of_expression as_expression (part_of spot.site) r tt)))))
+        spanned (given (given (both (of_expression (operand place) (part_of spot.site) l tt)
+        (behind (keeps_token _) (of_expression (operand place) (part_of spot.site) r tt)))))
     of_form place spot span (array_type size t) low =
         spanned (both (enclosed _ _ (of_expression as_expression (part_of spot.site) size tt))
         (ending (of_expression as_type (part_of spot.site) t tt) (keeps_end_of_type place)))
@@ -180,6 +193,20 @@ module _ (text : List ℕ) (n : ℕ) where
         behind (keeps_before_item first) (so (λ w. (w.1.0, (w.0, w.1.1)))
         (says_both (says_identifier text name) (of_items are_parameters false site ps)))
 
+    pub of_type_parameters : (first : Bool) (site : ℕ) (ps : Parameters)
+        → Says n (AllStandWithin n (parameters_marks false site ps) × EachIn n (parameters_named ps))
+        (SpellsTypeParameters text first ps)
+    of_type_parameters first site no_parameter = so (λ w. (none_lie, tt)) (keeps_after_items first)
+    of_type_parameters first site (named_and name ellipsis t ps) =
+        given (given (behind (keeps_before_item first)
+        (so (λ w. (both_lie (typed false (part_of site) t site w.1.0) w.1.1.0, (w.0, w.1.1.1)))
+        (says_both (says_identifier text name)
+        (says_both (of_expression as_constraint (part_of site) t tt) (of_type_parameters false site ps))))))
+    of_type_parameters first site (unnamed_and ellipsis t ps) = says_never
+    of_type_parameters first site (name_alone_and name ps) =
+        behind (keeps_before_item first) (so (λ w. (w.1.0, (w.0, w.1.1)))
+        (says_both (says_identifier text name) (of_type_parameters false site ps)))
+
     of_fields : (owner : Owner) (site : ℕ) (fs : Fields)
         → Says n (AllStandWithin n (fields_marks site fs)) (SpellsFields text owner fs)
     of_fields owner site no_field = says_nothing none_lie
@@ -191,6 +218,10 @@ module _ (text : List ℕ) (n : ℕ) where
         given (so (λ w. lie_and (mention site elsewhere (embedded name)) _ (w.0, tt) w.1)
         (says_both (spanned (behind (keeps_only_if star (keeps_token _)) (ending (says_type_name text name) (keeps_tag tag))))
         (behind keeps_semicolon (of_fields owner site fs))))
+    of_fields owner site (element_and star t tag span fs) =
+        given (both (spanned (behind (keeps_only_if star (keeps_token _))
+        (ending (of_expression (element_place owner) (part_of site) t tt) (keeps_tag tag))))
+        (behind keeps_semicolon (of_fields owner site fs)))
     of_fields owner site (method_and name signature span fs) =
         given (both (spanned (behind (says_identifier text name) (so (λ w. w.0) (of_signature site signature))))
         (behind keeps_semicolon (of_fields owner site fs)))
@@ -214,16 +245,16 @@ module _ (text : List ℕ) (n : ℕ) where
         both (of_expression as_expression (part_of at) c tt)
         (behind (keeps_token _) (of_expression as_expression (part_of at) v tt))
     of_statement_form standing at (increment_statement e) low =
-        ending (of_expression as_expression (part_of at) e tt) (keeps_token _)
+        ending (so (exposed_in (part_of at) e) (of_expression as_expression (part_of at) e tt)) (keeps_token _)
     of_statement_form standing at (decrement_statement e) low =
-        ending (of_expression as_expression (part_of at) e tt) (keeps_token _)
+        ending (so (exposed_in (part_of at) e) (of_expression as_expression (part_of at) e tt)) (keeps_token _)
     of_statement_form standing at (assignment ls rs) low =
         turned (says_lefts n text as_expression (row_of standing at (assigns ls) rs) at 0 ls (of_each as_expression ls))
         (behind (keeps_token _)
         (says_expressions n text as_expression (value_spot (row_of standing at (assigns ls) rs) at) rs
         (value_place (row_of standing at (assigns ls) rs) low) (of_each as_expression rs)))
     of_statement_form standing at (operator_assignment op l r) low =
-        both (of_expression as_expression (part_of at) l tt)
+        both (so (exposed_in (part_of at) l) (of_expression as_expression (part_of at) l tt))
         (behind (keeps_assign_operator op) (of_expression as_expression (part_of at) r tt))
     of_statement_form standing at (define_statement names rs) low =
         turned (so (names_lie (row_of standing at (defines names) rs) at 0 names) (says_identifiers text names))
@@ -242,12 +273,18 @@ module _ (text : List ℕ) (n : ℕ) where
         no_marks (behind (keeps_token _) (keeps_optional_identifier text name))
     of_statement_form standing at (continue_statement name) low =
         no_marks (behind (keeps_token _) (keeps_optional_identifier text name))
+    of_statement_form standing at (goto_statement name) low =
+        given (no_marks (keeps (behind (keeps_token _) (says_identifier text name))))
+    of_statement_form standing at fallthrough_statement low = given (no_marks (keeps_token _))
     of_statement_form standing at (block_statement ss braces) low = spanned (enclosed _ _ (of_statements ss))
     of_statement_form standing at (if_statement init has_semicolon c ss braces otherwise) low =
         given (given (behind (keeps_token _)
         (both (says_initial init has_semicolon (missing_statement_gives_none ordinary init) (of_optional_statement ordinary init))
-        (both (of_expression as_expression (part_of at) c tt)
-        (both (spanned (enclosed _ _ (of_statements ss))) (of_else otherwise))))))
+        (so (λ w. both_lie w.0 (both_lie (row_guard_lies (part_of at) (first_row init) c braces w.0)
+        (both_lie (both_lie (nil_lie (part_of at) braces.start true c w.0)
+        (both_lie w.1.0 (nil_lie (part_of at) (braces.end - 1) false c w.0))) w.1.1)))
+        (says_both (of_expression as_expression (part_of at) c tt)
+        (says_both (spanned (enclosed _ _ (of_statements ss))) (of_else otherwise)))))))
     of_statement_form standing at (for_statement init c post has_semicolons ss braces) low =
         moved (three_and_one (optional_statement_marks first_of_for init) (optional_marks at c)
         (optional_statement_marks ordinary post) (statements_marks ss))
@@ -259,8 +296,8 @@ module _ (text : List ℕ) (n : ℕ) where
         (spanned (enclosed _ _ (of_statements ss))))))))
     of_statement_form standing at (range_assignment ls e ss braces) low =
         given (given (behind (keeps_token _)
-        (both (says_range_left ls (expressions_marks (part_of at)) (no_expressions (part_of at))
-        (says_expressions n text as_expression (part_of at) ls tt (of_each as_expression ls)))
+        (both (says_range_left ls (ranged_marks at) (no_ranged at)
+        (says_ranged n text as_expression at ls (of_each as_expression ls)))
         (behind (keeps_token _) (both (of_expression as_expression (part_of at) e tt)
         (spanned (enclosed _ _ (of_statements ss))))))))
     of_statement_form standing at (range_definition names e ss braces) low =
@@ -292,7 +329,8 @@ module _ (text : List ℕ) (n : ℕ) where
     pub of_statements : (ss : Statements) → Says n (AllStandWithin n (statements_marks ss)) (SpellsStatements text ss)
     of_statements no_statement = no_marks keeps_semicolons
     of_statements (statement_and s ss) =
-        behind keeps_semicolons (both (given (of_statement ordinary s)) (behind keeps_semicolon (of_statements ss)))
+        behind keeps_semicolons (both (given (of_statement ordinary s)) (behind keeps_semicolon
+        (so (λ w. both_lie (behind_lies (row_in s) ss w) w) (of_statements ss))))
 
     of_cases : (at : ℕ) (guard : Option Identifier) → NameIn n guard → (cs : CaseClauses)
         → Says n (AllStandWithin n (cases_marks at guard cs)) (SpellsCases text cs)
@@ -333,9 +371,12 @@ module _ (text : List ℕ) (n : ℕ) where
         (value_place row low) (of_each as_expression es)))))))
         (says_chosen is_grouped (behind keeps_semicolon (of_specs keyword true at low specs))
         (says_last n (specs_marks keyword at specs) specs λ h. no_specs_left keyword at specs h))))
-    of_specs keyword is_grouped at low (type_and name is_alias t span specs) =
-        given (so (λ w. lie_and _ _ (w.0.0, tt) (both_lie w.0.1 w.1))
+    of_specs keyword is_grouped at low (type_and name ps is_alias t span specs) =
+        given (so (λ w. lie_and _ _ (w.0.0, tt) (both_lie (elsewhere_lie span.start (parameters_named ps) w.0.1.0.1)
+        (both_lie w.0.1.0.0 (both_lie w.0.1.1 w.1))))
         (says_both (spanned (says_both (says_identifier text name)
-        (behind (keeps_only_if is_alias (keeps_token _)) (of_expression as_type (part_of span.start) t tt))))
+        (says_both (says_after_name text.edition ps is_alias t (no_parameters_lie n span.start ps)
+        (of_type_parameters true span.start ps))
+        (behind (keeps_only_if is_alias (keeps_token _)) (of_expression as_type (part_of span.start) t tt)))))
         (says_chosen is_grouped (behind keeps_semicolon (of_specs keyword true at low specs))
         (says_last n (specs_marks keyword at specs) specs λ h. no_specs_left keyword at specs h))))

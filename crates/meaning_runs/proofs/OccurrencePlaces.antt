@@ -4,10 +4,11 @@ use Rattle.std.proofs.Common.{◌≡◌, ℕ, zero, suc, ◌+◌, ◌≤◌, inl
 use Rattle.std.specs.Prelude.{◌-◌, if◌then◌else◌, slice_get}
 use Rattle.std.proofs.lemmas.Option.{slice_get_within, get_or_from_slice_get}
 use Rattle.std.proofs.lemmas.List.Elements.{Contains-append_left, Contains-append_right, Contains-append_cases}
-use Rattle.tree.specs.Syntax.{Statement, statement_node, StatementForm, empty_statement, declaration_statement, labeled_statement, expression_statement, send_statement, increment_statement, decrement_statement, assignment, operator_assignment, define_statement, go_statement, defer_statement, return_statement, break_statement, continue_statement, block_statement, if_statement, for_statement, range_assignment, range_definition, switch_statement, type_switch_statement, select_statement, Statements, no_statement, statement_and, OptionalStatement, missing_statement, present_statement, CaseClauses, no_case, case_and, CommunicationClauses, no_communication, communication_and, Declaration, declaration_of}
+use Rattle.tree.specs.Syntax.{Statement, statement_node, StatementForm, empty_statement, declaration_statement, labeled_statement, expression_statement, send_statement, increment_statement, decrement_statement, assignment, operator_assignment, define_statement, go_statement, defer_statement, return_statement, break_statement, continue_statement, goto_statement, fallthrough_statement, block_statement, if_statement, for_statement, range_assignment, range_definition, switch_statement, type_switch_statement, select_statement, Statements, no_statement, statement_and, OptionalStatement, missing_statement, present_statement, CaseClauses, no_case, case_and, CommunicationClauses, no_communication, communication_and, Declaration, declaration_of}
 use Rattle.meaning.specs.Code.{Occurrence, Way, breaking, continuing, Code, skip, leave, then_code, either}
-use Rattle.meaning.specs.StatementCode.{Sites, up_to_labels, breaks_end, turns_end, loop, is_present, has_default, or_case, or_communication, or_past, stuck, or_other, in_order, site, spec_events, declaration_code, statement_code, form_code, optional_code, statements_code, cases_code, communications_code, entry, last_return, body_code}
-use Rattle.meaning.specs.Mentions.{BodyPlace, file_marks}
+use Rattle.meaning.specs.Jumps.{Part, plain_part, statement_parts, form_parts, parts_of, optional_parts, cases_parts, communications_parts, jumps_in}
+use Rattle.meaning.specs.StatementCode.{Sites, is_present, part_code, one_of, jumping_or, jumping_code, block_code, clauses_fall, up_to_falls, switch_code, up_to_labels, breaks_end, turns_end, loop, has_default, or_case, or_communication, or_past, stuck, or_other, in_order, site, spec_events, declaration_code, statement_code, form_code, optional_code, statements_code, cases_code, communications_code, entry, last_return, body_code, branch, behind_events}
+use Rattle.meaning.specs.Mentions.{BodyPlace, file_marks, marks_by, opens}
 use Rattle.meaning.specs.Tracked.{placed}
 use Rattle.meaning.specs.BodyEvents.{opened_in}
 use Rattle.meaning_packages.proofs.BodyPlaces.{placed_only}
@@ -17,6 +18,7 @@ use Rattle.meaning_runs.specs.OccurrencePlaces.{occurrences, OccurrencesHavePlac
 use Rattle.meaning_runs.proofs.AskedSites.{CodeSite, asked_at, unasked_at, place_of, AreDistinct, asked_specs, asked_declaration, asked_statement, asked_form, asked_optional, asked_statements, asked_cases, asked_communications, asked_body}
 use Rattle.meaning_runs.proofs.SitesWithin.{distinct_both}
 use Rattle.meaning_runs.proofs.BodyOffsets.{opens_one, are_sited}
+use Rattle.meaning_runs.proofs.EditionMarks.{among_all}
 
 -- Sites
 
@@ -81,6 +83,55 @@ module _ {E : Type 0} where
     ],
     apart_both xs ys h.1 k λ o p c d. across o p (contains_there x o xs c) d,
   )
+
+  -- each of the first is one of the second, and no two are at one place where no two of the second are
+  record Fewer (xs ys : List (Occurrence E)) : Type 0 where
+    among : (o : Occurrence E) → Contains xs o → Contains ys o
+    apart : AreApart ys → AreApart xs
+
+  all_of : (xs : List (Occurrence E)) → Fewer xs xs
+  all_of xs = record { among = λ o h. h; apart = λ h. h }
+
+  equal_then : {xs ys zs : List (Occurrence E)} → xs ≡ ys → Fewer ys zs → Fewer xs zs
+  equal_then {zs = zs} e h = subst (λ (os : List (Occurrence E)). Fewer os zs) (sym e) h
+
+  then_equal : {xs ys zs : List (Occurrence E)} → Fewer xs ys → ys ≡ zs → Fewer xs zs
+  then_equal {xs} h e = subst (λ (os : List (Occurrence E)). Fewer xs os) e h
+
+  apart_parts : (xs ys : List (Occurrence E)) → AreApart (xs ++ ys)
+      → AreApart xs × AreApart ys
+      × ((o p : Occurrence E) → Contains xs o → Contains ys p → o.at ≡ p.at → o.order ≡ p.order → ⊥)
+  apart_parts [] ys h = (tt, h, λ o p c d. absurd (contains_nil o c))
+  apart_parts (x ∷ xs) ys h =
+      let rest = apart_parts xs ys h.1 in (
+        (λ p c. h.0 p (Contains-append_left xs ys p c), rest.0),
+        rest.1,
+        λ o p c d at order. elim (contains_cases x o xs c) [
+          | inl same ↦ h.0 p (Contains-append_right xs ys p d) (ap (λ (y : Occurrence E). y.at) same ∙ at)
+              (ap (λ (y : Occurrence E). y.order) same ∙ order)
+          | inr later ↦ rest.2 o p later d at order
+        ],
+      )
+
+  fewer_both : (xs ys us vs : List (Occurrence E)) → Fewer xs ys → Fewer us vs → Fewer (xs ++ us) (ys ++ vs)
+  fewer_both xs ys us vs h k = record {
+    among = λ o c. elim (Contains-append_cases xs us o c) [
+      | inl first ↦ Contains-append_left ys vs o (h.among o first)
+      | inr second ↦ Contains-append_right ys vs o (k.among o second)
+    ];
+    apart = λ all.
+        let parts = apart_parts ys vs all in
+        apart_both xs us (h.apart parts.0) (k.apart parts.1) λ o p c d. parts.2 o p (h.among o c) (k.among p d);
+  }
+
+  among_more : (xs ys more : List (Occurrence E)) → Fewer xs ys → Fewer xs (ys ++ more)
+  among_more xs ys more h = record {
+    among = λ o c. Contains-append_left ys more o (h.among o c);
+    apart = λ all. h.apart (apart_parts ys more all).0;
+  }
+
+  fewer_stand : (xs ys : List (Occurrence E)) (ts : List CodeSite) → Fewer xs ys → Stand ys ts → Stand xs ts
+  fewer_stand xs ys ts h s = record { inside = λ o c. s.inside o (h.among o c); apart = h.apart s.apart }
 
   none_stand : (ts : List CodeSite) → Stand {E = E} [] ts
   none_stand ts = record { inside = λ o none. absurd (contains_nil o none); apart = tt }
@@ -159,6 +210,40 @@ module _ {E : Type 0} where
       by true = ap (λ (os : List (Occurrence E)). os ++ occurrences header) (append-nil (occurrences post ++ occurrences (turns_end ls body)) ∙ turn)
       by false = ap (λ (os : List (Occurrence E)). os ++ occurrences header) turn
 
+  falls_end_nothing : (ats : List ℕ) (c : Code E) → occurrences (up_to_falls ats c) ≡ occurrences c
+  falls_end_nothing [] c = refl
+  falls_end_nothing (at ∷ ats) c = falls_end_nothing ats c
+
+  switched_occurrences : (ls : List (List ℕ)) (ats : List ℕ) (header clauses : Code E)
+      → occurrences (switch_code ls ats header clauses) ≡ occurrences clauses ++ occurrences header
+  switched_occurrences ls [] header clauses =
+      ap (λ (os : List (Occurrence E)). os ++ occurrences header) (labels_end_nothing breaking ls clauses)
+  switched_occurrences ls (at ∷ ats) header clauses =
+      labels_end_nothing breaking ls _
+      ∙ falls_end_nothing (at ∷ ats) (then_code header (then_code clauses (leave (breaking None))))
+
+  past_occurrences : (cs : CaseClauses) (code : Code E) → (cs ≡ no_case → occurrences code ≡ [])
+      → occurrences (or_past cs code) ≡ occurrences code
+  past_occurrences no_case code none = sym (none refl)
+  past_occurrences (case_and es ss span cs) code none = by (has_default (case_and es ss span cs))
+    where
+      by : (b : Bool) → occurrences (if b then code else either code skip) ≡ occurrences code
+      by true = refl
+      by false = refl
+
+  clause_occurrences : (cs : CaseClauses) (first rest : Code E) → (cs ≡ no_case → occurrences rest ≡ [])
+      → occurrences (or_case first cs rest) ≡ occurrences rest ++ occurrences first
+  clause_occurrences no_case first rest none =
+      ap (λ (os : List (Occurrence E)). os ++ occurrences first) (sym (none refl))
+  clause_occurrences (case_and es ss span cs) first rest none = refl
+
+  communication_occurrences : (cs : CommunicationClauses) (first rest : Code E)
+      → (cs ≡ no_communication → occurrences rest ≡ [])
+      → occurrences (or_communication first cs rest) ≡ occurrences rest ++ occurrences first
+  communication_occurrences no_communication first rest none =
+      ap (λ (os : List (Occurrence E)). os ++ occurrences first) (sym (none refl))
+  communication_occurrences (communication_and c ss span cs) first rest none = refl
+
   perhaps_past : (cs : CaseClauses) (code : Code E) (ts : List CodeSite) → Stand (occurrences code) ts
       → Stand (occurrences (or_past cs code)) ts
   perhaps_past no_case code ts h = none_stand ts
@@ -208,6 +293,17 @@ module _ {E : Type 0} (sites : Sites E) where
   of_site : (at : ℕ) → Stand (occurrences (site sites at)) (asked_at at ∷ [])
   of_site at = of_order (asked_at at) (or_other sites (sites.events at))
 
+  of_branch : (brace : ℕ) (code : Code E) (ts : List CodeSite) → AreDistinct (asked_at brace ∷ ts)
+      → Stand (occurrences code) ts
+      → Stand (occurrences (branch sites brace code)) (asked_at brace ∷ ts)
+  of_branch brace code ts h k = by (sites.events brace)
+    where
+      by : (es : List E) → Stand (occurrences (behind_events sites brace es code)) (asked_at brace ∷ ts)
+      by [] = wider_stand (occurrences code) ts (asked_at brace ∷ ts) (λ t c. contains_there (asked_at brace) t ts c) k
+      by (e ∷ es) =
+          both (occurrences (in_order sites brace 0 (e ∷ es))) (occurrences code) (asked_at brace ∷ []) ts h
+          (of_order (asked_at brace) (e ∷ es)) k
+
   of_declaration : (d : Declaration) → Stand (occurrences (declaration_code sites d)) (asked_declaration d)
   of_declaration (declaration_of keyword specs is_grouped span) =
       wider_stand _ (unasked_at span.start ∷ []) (unasked_at span.start ∷ asked_specs specs)
@@ -224,6 +320,19 @@ module _ {E : Type 0} (sites : Sites E) where
       (sym (looped ls (site sites at) true (statements_code sites ss) skip))
       (both (occurrences (site sites at)) (occurrences (statements_code sites ss)) (asked_at at ∷ []) (asked_statements ss)
       h (of_site at) k)
+
+  falling_switch : (ls : List (List ℕ)) (ats : List ℕ) (at : ℕ) (init : OptionalStatement) (cs : CaseClauses)
+      → AreDistinct (asked_at at ∷ (asked_optional init ++ asked_cases cs))
+      → Stand (occurrences (optional_code sites init)) (asked_optional init)
+      → Stand (occurrences (cases_code sites cs)) (asked_cases cs)
+      → Stand (occurrences (then_code (optional_code sites init) (switch_code ls ats (site sites at) (or_past cs (cases_code sites cs)))))
+      (asked_at at ∷ (asked_optional init ++ asked_cases cs))
+  falling_switch ls ats at init cs h first k =
+      subst (λ (l : List (Occurrence E)). Stand (l ++ occurrences (optional_code sites init)) (asked_at at ∷ (asked_optional init ++ asked_cases cs)))
+      (sym (switched_occurrences ls ats (site sites at) (or_past cs (cases_code sites cs))))
+      (headed (asked_at at) (occurrences (site sites at)) (occurrences (optional_code sites init))
+      (occurrences (or_past cs (cases_code sites cs))) (asked_optional init) (asked_cases cs) h
+      (of_site at) first (perhaps_past cs (cases_code sites cs) (asked_cases cs) k))
 
   switched : (ls : List (List ℕ)) (at : ℕ) (init : OptionalStatement) (cs : CaseClauses)
       → AreDistinct (asked_at at ∷ (asked_optional init ++ asked_cases cs))
@@ -295,17 +404,24 @@ module _ {E : Type 0} (sites : Sites E) where
     of_form ls at (return_statement es) h = of_order (unasked_at at) (or_other sites (sites.events at))
     of_form ls at (break_statement n) h = of_site at
     of_form ls at (continue_statement n) h = of_site at
+    of_form ls at (goto_statement n) h = of_site at
+    of_form ls at fallthrough_statement h = of_site at
     of_form ls at (block_statement ss braces) h = of_statements ss h
     of_form ls at (if_statement init has_semicolon c ss braces otherwise) h =
         let first = asked_optional init in
-        let body = asked_statements ss in
-        let last = asked_optional otherwise in
+        let body = asked_at braces.start ∷ asked_statements ss in
+        let last = asked_at (braces.end - 1) ∷ asked_optional otherwise in
         let inner = right_distinct first (body ++ last) h.1 in
+        let own = left_distinct body last inner in
+        let past = right_distinct body last inner in
+        let one = branch sites braces.start (statements_code sites ss) in
+        let other = branch sites (braces.end - 1) (optional_code sites otherwise) in
         headed (asked_at at) (occurrences (site sites at)) (occurrences (optional_code sites init))
-        (occurrences (optional_code sites otherwise) ++ occurrences (statements_code sites ss)) first (body ++ last) h
+        (occurrences other ++ occurrences one) first (body ++ last) h
         (of_site at) (of_optional init (left_distinct first (body ++ last) h.1))
-        (both (occurrences (statements_code sites ss)) (occurrences (optional_code sites otherwise)) body last inner
-        (of_statements ss (left_distinct body last inner)) (of_optional otherwise (right_distinct body last inner)))
+        (both (occurrences one) (occurrences other) body last inner
+        (of_branch braces.start (statements_code sites ss) (asked_statements ss) own (of_statements ss own.1))
+        (of_branch (braces.end - 1) (optional_code sites otherwise) (asked_optional otherwise) past (of_optional otherwise past.1)))
     of_form ls at (for_statement init c post has_semicolons ss braces) h =
         let first = asked_optional init in
         let last = asked_optional post in
@@ -326,7 +442,7 @@ module _ {E : Type 0} (sites : Sites E) where
     of_form ls at (range_assignment left e ss braces) h = ranged ls at ss h (of_statements ss h.1)
     of_form ls at (range_definition ns e ss braces) h = ranged ls at ss h (of_statements ss h.1)
     of_form ls at (switch_statement init has_semicolon tag cs) h =
-        switched ls at init cs h (of_optional init (left_distinct (asked_optional init) (asked_cases cs) h.1))
+        falling_switch ls (clauses_fall cs) at init cs h (of_optional init (left_distinct (asked_optional init) (asked_cases cs) h.1))
         (of_cases cs (right_distinct (asked_optional init) (asked_cases cs) h.1))
     of_form ls at (type_switch_statement init has_semicolon n e cs) h =
         switched ls at init cs h (of_optional init (left_distinct (asked_optional init) (asked_cases cs) h.1))
@@ -369,14 +485,176 @@ module _ {E : Type 0} (sites : Sites E) where
         (of_statements ss (left_distinct own (asked_communications cs) h).1))
         (of_communications cs (right_distinct own (asked_communications cs) h))
 
+  -- The parts of statements, in any order, are occurrences of the statements, but for those at the braces of an `if`.
+
+  parts_both : (ps qs : List Part)
+      → occurrences (one_of sites (ps ++ qs)) ≡ occurrences (one_of sites qs) ++ occurrences (one_of sites ps)
+  parts_both [] qs = sym (append-nil (occurrences (one_of sites qs)))
+  parts_both (p ∷ ps) qs =
+      ap (λ (os : List (Occurrence E)). os ++ occurrences (part_code sites p)) (parts_both ps qs)
+      ∙ append_assoc (occurrences (one_of sites qs)) (occurrences (one_of sites ps)) (occurrences (part_code sites p))
+
+  -- of two parts of a statement, each of which is so
+  same_both : (ps qs : List Part) (a b : Code E)
+      → Fewer (occurrences (one_of sites ps)) (occurrences a)
+      → Fewer (occurrences (one_of sites qs)) (occurrences b)
+      → Fewer (occurrences (one_of sites (ps ++ qs))) (occurrences (then_code a b))
+  same_both ps qs a b h k =
+      equal_then (parts_both ps qs)
+      (fewer_both (occurrences (one_of sites qs)) (occurrences b) (occurrences (one_of sites ps)) (occurrences a) k h)
+
+  -- with a header before it
+  behind_header : (at : ℕ) (xs ys : List (Occurrence E)) → Fewer xs ys
+      → Fewer (xs ++ occurrences (site sites at)) (ys ++ occurrences (site sites at))
+  behind_header at xs ys h =
+      fewer_both xs ys (occurrences (site sites at)) (occurrences (site sites at)) h (all_of (occurrences (site sites at)))
+
+  in_branch : (brace : ℕ) (xs : List (Occurrence E)) (code : Code E) → Fewer xs (occurrences code)
+      → Fewer xs (occurrences (branch sites brace code))
+  in_branch brace xs code h = by (sites.events brace)
+    where
+      by : (es : List E) → Fewer xs (occurrences (behind_events sites brace es code))
+      by [] = h
+      by (e ∷ es) = among_more xs (occurrences code) (occurrences (in_order sites brace 0 (e ∷ es))) h
+
+  no_clauses : (cs : CaseClauses) → cs ≡ no_case → occurrences (cases_code sites cs) ≡ []
+  unfolding cases_code
+  no_clauses no_case e = refl
+  no_clauses (case_and es ss span cs) e = let bad : case_and es ss span cs ≡ no_case = e in cc
+
+  no_communications : (cs : CommunicationClauses)
+      → cs ≡ no_communication → occurrences (communications_code sites cs) ≡ []
+  unfolding communications_code
+  no_communications no_communication e = refl
+  no_communications (communication_and c ss span cs) e =
+      let bad : communication_and c ss span cs ≡ no_communication = e in cc
+
+  mutual
+    unfolding statement_code form_code optional_code statements_code cases_code communications_code parts_of
+        statement_parts form_parts optional_parts cases_parts communications_parts
+
+    same_statement : (ls : List (List ℕ)) (s : Statement)
+        → Fewer (occurrences (one_of sites (statement_parts s))) (occurrences (statement_code sites ls s))
+    same_statement ls (statement_node form span) = same_form ls span.start form
+
+    same_form : (ls : List (List ℕ)) (at : ℕ) (form : StatementForm)
+        → Fewer (occurrences (one_of sites (form_parts at form))) (occurrences (form_code sites ls at form))
+    same_form ls at empty_statement = all_of _
+    same_form ls at (declaration_statement d) = all_of _
+    same_form ls at (labeled_statement n s) = same_statement (n.text ∷ ls) s
+    same_form ls at (expression_statement e) = by (sites.panics at)
+      where
+        by : (b : Bool)
+            → Fewer (occurrences (site sites at)) (occurrences (if b then then_code (site sites at) stuck else site sites at))
+        by true = all_of (occurrences (site sites at))
+        by false = all_of (occurrences (site sites at))
+    same_form ls at (send_statement c v) = all_of _
+    same_form ls at (increment_statement e) = all_of _
+    same_form ls at (decrement_statement e) = all_of _
+    same_form ls at (assignment left right) = all_of _
+    same_form ls at (operator_assignment op l r) = all_of _
+    same_form ls at (define_statement ns right) = all_of _
+    same_form ls at (go_statement e) = all_of _
+    same_form ls at (defer_statement e) = all_of _
+    same_form ls at (return_statement es) = all_of _
+    same_form ls at (break_statement n) = all_of _
+    same_form ls at (continue_statement n) = all_of _
+    same_form ls at (goto_statement n) = all_of _
+    same_form ls at fallthrough_statement = all_of _
+    same_form ls at (block_statement ss braces) = same_statements ss
+    same_form ls at (if_statement init has_semicolon c ss braces otherwise) =
+        same_both (optional_parts init) (plain_part at ∷ (parts_of ss ++ optional_parts otherwise)) (optional_code sites init)
+        (then_code (site sites at) (either (branch sites braces.start (statements_code sites ss))
+        (branch sites (braces.end - 1) (optional_code sites otherwise)))) (same_optional init)
+        (behind_header at _ _
+        (same_both (parts_of ss) (optional_parts otherwise) (branch sites braces.start (statements_code sites ss))
+        (branch sites (braces.end - 1) (optional_code sites otherwise))
+        (in_branch braces.start _ (statements_code sites ss) (same_statements ss))
+        (in_branch (braces.end - 1) _ (optional_code sites otherwise) (same_optional otherwise))))
+    same_form ls at (for_statement init c post has_semicolons ss braces) =
+        same_both (optional_parts init) (plain_part at ∷ (parts_of ss ++ optional_parts post)) (optional_code sites init)
+        (loop ls (site sites at) (is_present c) (statements_code sites ss) (optional_code sites post)) (same_optional init)
+        (then_equal (behind_header at _ _
+        (same_both (parts_of ss) (optional_parts post) (statements_code sites ss) (optional_code sites post)
+        (same_statements ss) (same_optional post)))
+        (sym (looped ls (site sites at) (is_present c) (statements_code sites ss) (optional_code sites post))))
+    same_form ls at (range_assignment left e ss braces) =
+        then_equal (behind_header at _ _ (same_statements ss))
+        (sym (looped ls (site sites at) true (statements_code sites ss) skip))
+    same_form ls at (range_definition ns e ss braces) =
+        then_equal (behind_header at _ _ (same_statements ss))
+        (sym (looped ls (site sites at) true (statements_code sites ss) skip))
+    same_form ls at (switch_statement init has_semicolon tag cs) =
+        same_both (optional_parts init) (plain_part at ∷ cases_parts cs) (optional_code sites init)
+        (switch_code ls (clauses_fall cs) (site sites at) (or_past cs (cases_code sites cs))) (same_optional init)
+        (then_equal (behind_header at _ _
+        (then_equal (same_cases cs) (sym (past_occurrences cs (cases_code sites cs) (no_clauses cs)))))
+        (sym (switched_occurrences ls (clauses_fall cs) (site sites at) (or_past cs (cases_code sites cs)))))
+    same_form ls at (type_switch_statement init has_semicolon n e cs) =
+        same_both (optional_parts init) (plain_part at ∷ cases_parts cs) (optional_code sites init)
+        (then_code (site sites at) (breaks_end ls (or_past cs (cases_code sites cs)))) (same_optional init)
+        (behind_header at _ _
+        (then_equal (same_cases cs) (sym (past_occurrences cs (cases_code sites cs) (no_clauses cs))
+        ∙ sym (labels_end_nothing breaking ls (or_past cs (cases_code sites cs))))))
+    same_form ls at (select_statement cs) =
+        behind_header at _ _
+        (then_equal (same_communications cs) (sym (labels_end_nothing breaking ls (communications_code sites cs))))
+
+    same_optional : (s : OptionalStatement)
+        → Fewer (occurrences (one_of sites (optional_parts s))) (occurrences (optional_code sites s))
+    same_optional missing_statement = all_of _
+    same_optional (present_statement s) = same_statement [] s
+
+    same_statements : (ss : Statements)
+        → Fewer (occurrences (one_of sites (parts_of ss))) (occurrences (statements_code sites ss))
+    same_statements no_statement = all_of _
+    same_statements (statement_and s ss) =
+        same_both (statement_parts s) (parts_of ss) (statement_code sites [] s) (statements_code sites ss)
+        (same_statement [] s) (same_statements ss)
+
+    same_cases : (cs : CaseClauses)
+        → Fewer (occurrences (one_of sites (cases_parts cs))) (occurrences (cases_code sites cs))
+    same_cases no_case = all_of _
+    same_cases (case_and es ss span cs) =
+        then_equal (behind_header span.start _ _
+        (same_both (parts_of ss) (cases_parts cs) (statements_code sites ss) (cases_code sites cs) (same_statements ss)
+        (same_cases cs)))
+        (append_assoc (occurrences (cases_code sites cs)) (occurrences (statements_code sites ss)) (occurrences (site sites span.start))
+        ∙ sym (clause_occurrences cs (then_code (site sites span.start) (statements_code sites ss)) (cases_code sites cs)
+        (no_clauses cs)))
+
+    same_communications : (cs : CommunicationClauses)
+        → Fewer (occurrences (one_of sites (communications_parts cs))) (occurrences (communications_code sites cs))
+    same_communications no_communication = all_of _
+    same_communications (communication_and c ss span cs) =
+        then_equal (behind_header span.start _ _
+        (same_both (parts_of ss) (communications_parts cs) (statements_code sites ss) (communications_code sites cs)
+        (same_statements ss) (same_communications cs)))
+        (append_assoc (occurrences (communications_code sites cs)) (occurrences (statements_code sites ss)) (occurrences (site sites span.start))
+        ∙ sym (communication_occurrences cs (then_code (site sites span.start) (statements_code sites ss))
+        (communications_code sites cs) (no_communications cs)))
+
+  of_block : (ss : Statements) → Fewer (occurrences (block_code sites ss)) (occurrences (statements_code sites ss))
+  of_block ss =
+      by (jumps_in ss)
+      (equal_then (looped [] skip true (one_of sites (parts_of ss)) skip ∙ append-nil (occurrences (one_of sites (parts_of ss))))
+      (same_statements ss))
+    where
+      by : (js : List ℕ) → Fewer (occurrences (jumping_code sites (parts_of ss))) (occurrences (statements_code sites ss))
+          → Fewer (occurrences (jumping_or js (jumping_code sites (parts_of ss)) (statements_code sites ss)))
+          (occurrences (statements_code sites ss))
+      by [] same = all_of (occurrences (statements_code sites ss))
+      by (j ∷ js) same = same
+
   of_body : (b : BodyPlace) → AreDistinct (asked_body b) → Stand (occurrences (body_code sites (block_of b))) (asked_body b)
   of_body b h =
       let body = asked_statements b.statements in
       let last = unasked_at (b.braces.end - 1) ∷ [] in
-      both (entry sites (block_of b) ∷ []) ((last_return sites (block_of b) ∷ []) ++ occurrences (statements_code sites b.statements))
+      both (entry sites (block_of b) ∷ []) ((last_return sites (block_of b) ∷ []) ++ occurrences (block_code sites b.statements))
       (unasked_at b.braces.start ∷ []) (body ++ last) h (alone (entry sites (block_of b)) (unasked_at b.braces.start) refl)
-      (both (occurrences (statements_code sites b.statements)) (last_return sites (block_of b) ∷ []) body last h.1
-      (of_statements b.statements (left_distinct body last h.1))
+      (both (occurrences (block_code sites b.statements)) (last_return sites (block_of b) ∷ []) body last h.1
+      (fewer_stand (occurrences (block_code sites b.statements)) (occurrences (statements_code sites b.statements)) body
+      (of_block b.statements) (of_statements b.statements (left_distinct body last h.1)))
       (alone (last_return sites (block_of b)) (unasked_at (b.braces.end - 1)) refl))
 
 -- Numbers
@@ -402,16 +680,18 @@ one_number (x ∷ os) h (suc i) (suc j) o p is that at order = ap suc (one_numbe
 
 pub occurrences_have_places : (E : Type 0) → OccurrencesHavePlaces E
 occurrences_have_places E text tree known b sites is_tree among =
-    let marks = file_marks tree in
-    let opened = opens_one marks b (placed_only (opened_in (placed [] marks)) b among) in
-    let distinct = ((are_sited text tree is_tree).sited.bodies b opened).0 in
+    let marks = marks_by known.edition (file_marks tree) in
+    let opened = among_all known.edition (file_marks tree) (opens b)
+    (opens_one marks b (placed_only (opened_in (placed [] marks)) b among)) in
+    let distinct = ((are_sited known.edition text tree is_tree).sited.bodies b opened).0 in
     record { one_each = one_number (occurrences (body_code sites (block_of b))) (of_body sites b distinct).apart }
 
 pub occurrences_lie_in_texts : (E : Type 0) → OccurrencesLieInTexts E
 occurrences_lie_in_texts E text tree known b sites o is_tree among there =
-    let marks = file_marks tree in
-    let opened = opens_one marks b (placed_only (opened_in (placed [] marks)) b among) in
-    let file = are_sited text tree is_tree in
+    let marks = marks_by known.edition (file_marks tree) in
+    let opened = among_all known.edition (file_marks tree) (opens b)
+    (opens_one marks b (placed_only (opened_in (placed [] marks)) b among)) in
+    let file = are_sited known.edition text tree is_tree in
     let of = file.sited.bodies b opened in
     let at = (of_body sites b of.0).inside o there in
     let before = of.1 at.0 at.1 in

@@ -6,7 +6,7 @@ use Rattle.meaning.specs.Code.{Occurrence, Code}
 use Rattle.meaning.specs.Uses.{Event}
 use Rattle.meaning_runs.specs.Bodies.{Program, Body, is_parameter_of}
 use Rattle.meaning_runs.specs.World.{Value, nothing, Place, Maker, nobody, frame_at, Store, put_at, Passing, Frame, World, in_cell, group_in_cell, bound_cell, with_member, nothing_around, empty_world}
-use Rattle.meaning_runs.specs.Steps.{ComesTo, Begins, of_function, of_none, Acts, moves_on, does_other, obtains_one, clears_one, calls_one, saves_call, makes_group, tries_nothing, ends_wait, saves_wait, evaluates, evaluates_deferred, lends, makes_call, calls_outside, saves_pass, saves_literal, comes_to_return, runs_call, runs_pass, runs_literal, runs_wait, returns_now, ChangesMembers, starts_member, starts_stranger, starts_outside, starts_beside, leaves_group, Surrounds, starts, evaluates_literal, starts_literal, makes_one, ends_one, calls_any, makes_outside, joins_outside, Step, of_goroutine, of_members, of_environment}
+use Rattle.meaning_runs.specs.Steps.{ComesTo, Begins, of_function, of_none, Acts, moves_on, does_other, obtains_one, clears_one, calls_one, saves_call, makes_group, tries_nothing, ends_wait, saves_wait, evaluates, evaluates_deferred, lends, makes_call, calls_outside, saves_pass, saves_literal, comes_to_return, runs_call, runs_pass, runs_literal, runs_wait, returns_now, ChangesMembers, starts_member, starts_stranger, starts_outside, starts_beside, leaves_group, Surrounds, starts, evaluates_literal, starts_literal, makes_cells, makes_one, ends_one, calls_any, makes_outside, joins_outside, Step, of_goroutine, of_members, of_environment}
 use Rattle.meaning_runs.specs.Runs.{Run, no_step, step_more}
 use Rattle.meaning_runs.proofs.GroupDuties.{is_mentioned}
 
@@ -208,6 +208,8 @@ module _ {p : Program} {w : World} where
   memory_of_environment (evaluates_literal g f b among escapes) m = m
   memory_of_environment (starts_literal g c values groups free among foreign) m =
       memory_of_start w.store g c.literal values groups c.newest m
+  memory_of_environment (makes_cells values groups foreign) m =
+      record m { origins = with_block m.origins w.store.cell_count }
   memory_of_environment (makes_one parent earlier) m = m
   memory_of_environment (ends_one a is) m = m
   memory_of_environment (calls_any a is) m = m

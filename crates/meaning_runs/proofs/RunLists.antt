@@ -19,7 +19,7 @@ use Rattle.meaning_runs.proofs.FreeGoroutines.{acting_members, calling_members, 
 use Rattle.meaning_runs.proofs.Places.{calling_count, called_it}
 use Rattle.std.proofs.lemmas.Bool.{cases_eq}
 use Rattle.meaning.specs.Tracked.{GroupState, idle, live}
-use Rattle.meaning_runs.proofs.TrackedBindings.{of_tree}
+use Rattle.meaning_runs.proofs.TrackedBindings.{of_number}
 use Rattle.meaning_runs.proofs.LastReturns.{returns_are_last}
 use Rattle.meaning_runs.proofs.DeferredLiterals.{deferred_literals_are_there}
 use Rattle.meaning_runs.proofs.StartedLiterals.{started_literals_are_there}
@@ -455,7 +455,7 @@ module _ (p : Program) (b : Body) where
   began : IsOf p b → IsOutermost b → ComesSoFar (is_parameter_of b) true [] (code_of b)
   began of out = record {
     world = _;
-    run = step_more (step_more no_step (of_environment (makes_outside None tt))) (of_environment (starts 0 b (λ v. nothing) (λ v. Some 0) record { has_no_frame = refl; is_no_member = refl } of out record { any = λ v. any_nothing; foreign = λ v. outside_group refl }));
+    run = step_more (step_more no_step (of_environment (makes_outside None tt))) (of_environment (starts 0 b (λ v. nothing) (λ v. Some 0) refl of out record { any = λ v. any_nothing; foreign = λ v. outside_group refl }));
     newest = _;
     saved = [];
     obtained = [];
@@ -495,9 +495,15 @@ lists_are_run p b t x of out lists each groups waits last =
 
 pub bodies_are_of_texts : BodiesAreOfTexts
 bodies_are_of_texts p b of texts =
-    let found = of_tree (known_in p.packages p.tables of.loaded) 0 (trees_of of.loaded) b.file of.is_file in
+    let found = of_number (known_in p.packages p.tables of.loaded) 0 (trees_of of.loaded) b.file of.is_file in
     let of_text = texts found.1 found.3 in
-    record { text = of_text.0; tree = found.1; known = found.0; is_tree = of_text.1; is_file = sym found.2 }
+    record {
+      text = of_text.0;
+      tree = found.1;
+      known = known_in p.packages p.tables of.loaded found.0;
+      is_tree = of_text.1;
+      is_file = sym found.2;
+    }
 
 runnable_of_text : (p : Program) (b : Body) (e : Event)
     → ((at : ℕ) → e ≡ defer_literal at → IsThere b (Some at))

@@ -180,6 +180,76 @@ longer_sited up w = record {
   bodies = w.bodies;
 }
 
+-- Mentions at sites that the code asks for
+
+-- a mention at one of these
+abbrev pub IsAskedMention : List CodeSite → Mark → Type 0
+IsAskedMention asks (mentions m) = Contains asks (asked_at m.site)
+IsAskedMention asks mark = ⊥
+
+abbrev pub AreAskedMentions : List CodeSite → List Mark → Type 0
+AreAskedMentions asks [] = Unit {0}
+AreAskedMentions asks (m ∷ ms) = IsAskedMention asks m × AreAskedMentions asks ms
+
+asked_mention : (asks : List CodeSite) (ms : List Mark) (m : Mark) → AreAskedMentions asks ms → Contains ms m → IsAskedMention asks m
+asked_mention asks [] m h among = absurd (contains_nil m among)
+asked_mention asks (n ∷ ms) m h among = elim (contains_cases n m ms among) [
+  | inl e ↦ subst (λ (x : Mark). IsAskedMention asks x) e h.0
+  | inr rest ↦ asked_mention asks ms m h.1 rest
+]
+
+asked_site : (asks : List CodeSite) (m : Mark) (s : ℕ) → IsAskedMention asks m → is_site m s ≡ true → Contains asks (asked_at s)
+asked_site asks (mentions m) s h e = subst (λ (n : ℕ). Contains asks (asked_at n)) (eqb_is m.site s e) h
+asked_site asks (defers_literal site at) s h e = absurd h
+asked_site asks (returns site es) s h e = absurd h
+asked_site asks (opens b) s h e = absurd h
+asked_site asks closes s h e = absurd h
+
+asked_follows : (asks : List CodeSite) (m n : Mark) → IsAskedMention asks m → MayFollow m n
+asked_follows asks (mentions m) n h = tt
+asked_follows asks (defers_literal site at) n h = tt
+asked_follows asks (returns site es) n h = absurd h
+asked_follows asks (opens b) n h = absurd h
+asked_follows asks closes n h = absurd h
+
+asked_end : (asks : List CodeSite) (ns ms : List Mark) → AreAskedMentions asks ns → ReturnsEnd ms → ReturnsEnd (ns ++ ms)
+asked_end asks [] ms h k = k
+asked_end asks (n ∷ ns) ms h k = (λ m among. asked_follows asks n m h.0, asked_end asks ns ms h.1 k)
+
+pub mentions_before : {own : Around} {lo hi : ℕ} {asks : List CodeSite} {ms : List Mark} (ns : List Mark)
+    → AreAskedMentions asks ns
+    → Sited own lo hi asks ms
+    → Sited own lo hi asks (ns ++ ms)
+mentions_before {asks = asks} {ms = ms} ns are w = record {
+  sites = λ m s among e. elim (Contains-append_cases ns ms m among) [
+    | inl x ↦ inr (w.stands (asked_at s) (asked_site asks m s (asked_mention asks ns m are x) e))
+    | inr x ↦ w.sites m s x e
+  ];
+  returning = λ s es among. elim (Contains-append_cases ns ms (returns s es) among) [
+    | inl x ↦ absurd (asked_mention asks ns (returns s es) are x)
+    | inr x ↦ w.returning s es x
+  ];
+  asked = λ s k. w.asked s (behind s k);
+  differ = λ s es k among. elim (Contains-append_cases ns ms (returns s es) among) [
+    | inl x ↦ asked_mention asks ns (returns s es) are x
+    | inr x ↦ w.differ s es (behind s k) x
+  ];
+  last = asked_end asks ns ms are w.last;
+  stands = w.stands;
+  distinct = w.distinct;
+  bodies = λ b among. elim (Contains-append_cases ns ms (opens b) among) [
+    | inl x ↦ absurd (asked_mention asks ns (opens b) are x)
+    | inr x ↦ w.bodies b x
+  ];
+}
+  where
+    behind : (s : ℕ) → IsAsked asks (ns ++ ms) s → IsAsked asks ms s
+    behind s (inl h) = inl h
+    behind s (inr o) = elim (Contains-append_cases ns ms (opens o.body) o.opened) [
+      | inl x ↦ absurd (asked_mention asks ns (opens o.body) are x)
+      | inr x ↦ inr record { body = o.body; opened = x; among = o.among }
+    ]
+
 -- Two parts
 
 asked_of_both : (qs rs : List CodeSite) (ms ns : List Mark) (s : ℕ)

@@ -1,17 +1,17 @@
 -- What an event binds is a local of the kind cancel, so that it is tracked as a cancel variable where it stands in a
 -- block: what a row obtains or clears on a left side is of that kind, and the mention is what stands there.
 use Rattle.std.proofs.Common.{◌≡◌, ℕ, zero, suc, ◌+◌, Bool, true, false, inl, inr, List, [], ◌∷◌, Option, Some, None, Contains, refl, sym, ap, ◌∙◌, subst}
-use Rattle.std.specs.Prelude.{◌==◌, ◌&&◌, ◌||◌, if◌then◌else◌, is_some, slice_get}
+use Rattle.std.specs.Prelude.{◌==◌, ◌&&◌, ◌||◌, if◌then◌else◌, is_some, slice_get, length}
 use Rattle.std.specs.List.{list_all}
 use Rattle.std.proofs.lemmas.Option.{same_Some}
 use Rattle.tree.specs.declared.operator.DeclKeyword.TheVariants.{Const, Var, «Type» as type_keyword}
-use Rattle.tree.specs.Syntax.{SourceFile}
+use Rattle.tree.specs.Syntax.{SourceFile, Expressions, no_expression, expression_and, OptionalExpression, missing_expression, present_expression}
 use Rattle.meaning.specs.Scopes.{is_blank}
 use Rattle.meaning.specs.Code.{Occurrence}
 use Rattle.meaning.specs.Lists.{Reaches}
 use Rattle.meaning.specs.FunctionFacts.{VariableKind, cancel, group, CancelResult}
-use Rattle.meaning.specs.Mentions.{Named, RowForm, defines, assigns, declares, Row, Role, elsewhere, called, called_in_brackets, argument, returned, left, names_type, new_literal, parameter_pointer, Mention, BodyPlace, Mark, mentions, defers_literal, returns, opens, closes}
-use Rattle.meaning.specs.Tracked.{Known, Giving, Left, local_at, lefts_of, may_bind, if_first, made_by_form, blank_left, name_left, left_name, left_local, local_meant_or, variable_of, is_given, are_locals, row_giving, obtains_there, row_obtains, GroupState, row_makes, Placed, LocalRole, parameter, receiver, variadic, result, in_block, Local, kind_of_local}
+use Rattle.meaning.specs.Mentions.{Named, RowForm, defines, assigns, declares, Row, Role, elsewhere, called, called_in_brackets, argument, returned, left, names_type, new_literal, parameter_pointer, Mention, BodyPlace, Mark, mentions, defers_literal, returns, opens, closes, exposed, found_nil, found_error, is_none_left}
+use Rattle.meaning.specs.Tracked.{Known, Giving, Left, local_at, lefts_of, may_bind, if_first, made_by_form, blank_left, name_left, left_name, left_local, local_meant_or, variable_of, is_given, are_locals, row_giving, obtains_there, row_obtains, GroupState, row_makes, Placed, LocalRole, parameter, receiver, variadic, result, in_block, Local, kind_of_local, made_by_type, made_by_pair}
 use Rattle.meaning.specs.Uses.{Seen, is_group, is_group_or_none, found, kind_of, may_be_tracked, tracked_kind, VariableAt, Event, other, defer_literal, return_event, Binding, obtained, cleared, made, is_cancel, kind_at, are_cancels, row_binds, row_clears, are_groups, is_second_free, made_binding, binding_at, binding_event, binding_outcome, row_outcome, role_outcome, local_outcome, is_own, body_gives}
 use Rattle.meaning.specs.BodyEvents.{handed_on, mark_events, seen_file}
 use Rattle.meaning.proofs.Membership.{contains_here, contains_there, contains_cases, contains_nil}
@@ -21,9 +21,10 @@ use Rattle.meaning_runs.specs.Bodies.{Program, Body, IsOf, code_of}
 use Rattle.meaning_runs.specs.EventSources.{HasSource, says_nothing, falls_off, of_mark, IsBound, BindingsAreTracked}
 use Rattle.meaning_runs.proofs.Places.{eqb_is}
 use Rattle.meaning_runs.proofs.EventSources.{events_have_sources}
-use Rattle.meaning_runs.proofs.Bindings.{Binds, binds_so, kind_bound, bound_number, no_binding, single, mention_harmless}
+use Rattle.meaning_runs.proofs.Bindings.{Binds, binds_so, kind_bound, bound_number, no_binding, single, mention_harmless, of_variable}
 use Rattle.meaning_runs.proofs.OwnVariables.{found_is}
 use Rattle.meaning_runs.proofs.LeftSides.{Fits, Stands, left_sides_fit}
+use Rattle.meaning.specs.OuterBlocks.{or_else}
 
 -- tests of two parts
 first_part : (b c : Bool) → (b && c) ≡ true → b ≡ true
@@ -90,11 +91,27 @@ each_made seen lefts k h e = by (slice_get lefts k) refl e
     by (Some l) is q =
         local (left_local seen.known (Some l)) q (all_at (λ x. is_group_or_none seen (left_local seen.known (Some x))) lefts k l h is)
 
+-- each name of a `var` without values, and the first name of one with values
+by_values : (seen : Seen) (row : Row) (k : ℕ) (state : GroupState) (t : OptionalExpression) (es : Expressions)
+    (pair : Option GroupState)
+    → is_some (local_at seen.known row k) ≡ true
+    → or_else (made_by_type seen.known t es) (if_first k pair) ≡ Some state
+    → (if is_none_left es then list_all (λ l. is_group_or_none seen (left_local seen.known (Some l))) (lefts_of row.form)
+    else is_group (kind_at seen row 0)) ≡ true
+    → is_group (kind_at seen row k) ≡ true
+by_values seen row k state t no_expression pair local made_there groups =
+    each_made seen (lefts_of row.form) k groups local
+by_values seen row k state missing_expression (expression_and e es) pair local made_there groups =
+    first_made seen row k pair state made_there groups
+by_values seen row k state (present_expression t) (expression_and e es) pair local made_there groups =
+    first_made seen row k pair state made_there groups
+
 made_so : (seen : Seen) (row : Row) (k : ℕ) (state : GroupState) (form : RowForm) → row.form ≡ form → is_some (local_at seen.known row k) ≡ true → made_by_form seen.known row k form ≡ Some state → are_groups seen row form ≡ true → is_group (kind_at seen row k) ≡ true
 made_so seen row k state (defines ns) q local made_there groups = first_made seen row k _ state made_there groups
 made_so seen row k state (assigns ls) q local made_there groups = first_made seen row k _ state made_there groups
 made_so seen row k state (declares Const ns t) q local made_there groups = let bad : None ≡ Some state = made_there in cc
-made_so seen row k state (declares Var ns t) q local made_there groups = each_made seen (lefts_of row.form) k groups local
+made_so seen row k state (declares Var ns t) q local made_there groups =
+    by_values seen row k state t row.values (made_by_pair seen.known.edition seen.known row (length ns) t) local made_there groups
 made_so seen row k state (declares type_keyword ns t) q local made_there groups =
     let bad : None ≡ Some state = made_there in cc
 
@@ -125,21 +142,21 @@ obtained_is_cancel seen row k (Some g) o c =
     each_of (λ j. is_cancel (kind_at seen row j)) g.gives k (first_part (is_given k g.gives) (are_locals seen.known row g.gives) o) c
 
 -- what a row binds on its left side k is of that kind
-left_is_of_kind : (seen : Seen) (row : Row) (k : ℕ) (binding : Binding) → binding_at seen row k ≡ Some binding → kind_at seen row k ≡ Some (kind_of_binding binding)
+pub left_is_of_kind : (seen : Seen) (row : Row) (k : ℕ) (binding : Binding) → binding_at seen row k ≡ Some binding → kind_at seen row k ≡ Some (kind_of_binding binding)
 left_is_of_kind seen row k binding e =
-    by (row_obtains seen.known row k) (row_binds seen row) (row_clears seen.known row && is_cancel (kind_at seen row k)) refl refl refl e
+    by (row_obtains seen.known row k) (row_binds seen row) (row_clears seen.known row k && is_cancel (kind_at seen row k)) refl refl refl e
   where
     of_cancel : (one : Binding) → kind_of_binding one ≡ cancel → Some one ≡ Some binding → is_cancel (kind_at seen row k) ≡ true → kind_at seen row k ≡ Some (kind_of_binding binding)
     of_cancel one is h c =
         is_cancel_kind (kind_at seen row k) c ∙ ap Some (sym is) ∙ ap (λ x. Some (kind_of_binding x)) (same_Some one binding h)
 
-    by : (o r x : Bool) → row_obtains seen.known row k ≡ o → row_binds seen row ≡ r → (row_clears seen.known row && is_cancel (kind_at seen row k)) ≡ x
+    by : (o r x : Bool) → row_obtains seen.known row k ≡ o → row_binds seen row ≡ r → (row_clears seen.known row k && is_cancel (kind_at seen row k)) ≡ x
         → (if o then if r then Some (obtained k) else None else if x then Some cleared else made_binding seen row (row_makes seen.known row k)) ≡ Some binding
         → kind_at seen row k ≡ Some (kind_of_binding binding)
     by true true x p q s h = of_cancel (obtained k) refl h (obtained_is_cancel seen row k (row_giving seen.known row) p q)
     by true false x p q s h = let bad : None ≡ Some binding = h in cc
     by false r true p q s h =
-        of_cancel cleared refl h (second_part (row_clears seen.known row) (is_cancel (kind_at seen row k)) s)
+        of_cancel cleared refl h (second_part (row_clears seen.known row k) (is_cancel (kind_at seen row k)) s)
     by false r false p q s h = made_is_group seen row k (row_makes seen.known row k) binding refl h
 
 -- a blank name is of no local
@@ -150,7 +167,7 @@ of_name : (known : Known) (n : Named) (declared : Option ℕ) → is_blank n.nam
 of_name known n declared q = ap (λ b. left_local known (Some (if b then blank_left else name_left n declared))) q
 
 -- the mention is what stands on the left side
-mention_is_of_kind : (seen : Seen) (m : Mention) (row : Row) (k : ℕ) (l : Local) (kind : VariableKind) → Fits m.named m.declares (left k row) → found seen (variable_of seen.known m) ≡ Some l → kind_at seen row k ≡ Some kind → kind_of seen (Some l) ≡ Some kind
+pub mention_is_of_kind : (seen : Seen) (m : Mention) (row : Row) (k : ℕ) (l : Local) (kind : VariableKind) → Fits m.named m.declares (left k row) → found seen (variable_of seen.known m) ≡ Some l → kind_at seen row k ≡ Some kind → kind_of seen (Some l) ≡ Some kind
 mention_is_of_kind seen m row k l kind fits is c =
     by (is_blank m.named.name) refl (subst (λ o. kind_of seen (found seen (left_local seen.known o)) ≡ Some kind) fits c)
   where
@@ -197,6 +214,9 @@ module _ (seen : Seen) (bodies : List BodyPlace) (m : Mention) (e : Event) (u : 
     by_role : (r : Role) → Fits m.named m.declares r → Contains (role_outcome seen l bodies m r).events e → IsOfKind seen e u l
     by_role (left k row) fits h = by_row (kind_of seen (Some l)) row k (binding_at seen row k) fits refl h
     by_role elsewhere fits h = absurd (mention_harmless seen l (tracked_kind seen (Some l)) bodies m e h u binds)
+    by_role exposed fits h = absurd (mention_harmless seen l (tracked_kind seen (Some l)) bodies m e h u binds)
+    by_role (found_nil nil) fits h = absurd (mention_harmless seen l (tracked_kind seen (Some l)) bodies m e h u binds)
+    by_role (found_error nil row) fits h = absurd (mention_harmless seen l (tracked_kind seen (Some l)) bodies m e h u binds)
     by_role (called c) fits h = absurd (mention_harmless seen l (tracked_kind seen (Some l)) bodies m e h u binds)
     by_role called_in_brackets fits h = absurd (mention_harmless seen l (tracked_kind seen (Some l)) bodies m e h u binds)
     by_role (argument k x c) fits h = absurd (mention_harmless seen l (tracked_kind seen (Some l)) bodies m e h u binds)
@@ -211,23 +231,27 @@ module _ (seen : Seen) (bodies : List BodyPlace) (m : Mention) (e : Event) (u : 
 
 by_mark : (seen : Seen) (bodies : List BodyPlace) (mark : Mark) (e : Event) (u : VariableAt) → Stands mark → Contains (mark_events seen bodies mark) e → Binds e u → (m : Mention) × HasKind seen m e u
 by_mark seen bodies (mentions m) e u fits h binds =
-    (m, by_found seen bodies m e u binds (found seen (variable_of seen.known m)) refl fits h)
+    (m, by_found seen bodies m e u binds (found seen (variable_of seen.known m)) refl fits (of_variable seen bodies m e u h binds))
 by_mark seen bodies (defers_literal site at) e u fits h binds = absurd (single (defer_literal at) refl e h u binds)
 by_mark seen bodies (returns at es) e u fits h binds = absurd (single (return_event (handed_on seen (body_gives seen.known bodies) 0 es)) refl e h u binds)
 by_mark seen bodies (opens x) e u fits h binds = absurd (contains_nil e h)
 by_mark seen bodies closes e u fits h binds = absurd (contains_nil e h)
 
--- the file of a body is a tree with what is known in it
-pub of_tree : (known : ℕ → Known) (n : ℕ) (trees : List SourceFile) (seen : Seen) → Contains (seen_from known n trees) seen → (k : Known) × (tree : SourceFile) × (seen_file k tree ≡ seen) × Contains trees tree
-of_tree known n [] seen h = absurd (contains_nil seen h)
-of_tree known n (tree ∷ trees) seen h =
+-- the file of a body is a tree with what is known in the tree of its number
+pub of_number : (known : ℕ → Known) (n : ℕ) (trees : List SourceFile) (seen : Seen) → Contains (seen_from known n trees) seen
+    → (number : ℕ) × (tree : SourceFile) × (seen_file (known number) tree ≡ seen) × Contains trees tree
+of_number known n [] seen h = absurd (contains_nil seen h)
+of_number known n (tree ∷ trees) seen h =
     elim (contains_cases (seen_file (known n) tree) seen (seen_from known (n + 1) trees) h) [
-      | inl q ↦ (known n, tree, q, contains_here tree trees)
-      | inr r ↦ let w = of_tree known (n + 1) trees seen r in (w.0, w.1, w.2, contains_there tree w.1 trees w.3)
+      | inl q ↦ (n, tree, q, contains_here tree trees)
+      | inr r ↦ let w = of_number known (n + 1) trees seen r in (w.0, w.1, w.2, contains_there tree w.1 trees w.3)
     ]
 
+pub of_tree : (known : ℕ → Known) (n : ℕ) (trees : List SourceFile) (seen : Seen) → Contains (seen_from known n trees) seen → (k : Known) × (tree : SourceFile) × (seen_file k tree ≡ seen) × Contains trees tree
+of_tree known n trees seen h = let w = of_number known n trees seen h in (known w.0, w.1, w.2, w.3)
+
 marks_stand : (seen : Seen) (k : Known) (tree : SourceFile) → seen_file k tree ≡ seen → (mark : Placed) → Contains seen.marks mark → Stands mark.mark
-marks_stand seen k tree q mark h = left_sides_fit tree mark (subst (λ (s : Seen). Contains s.marks mark) (sym q) h)
+marks_stand seen k tree q mark h = left_sides_fit k.edition tree mark (subst (λ (s : Seen). Contains s.marks mark) (sym q) h)
 
 by_source : (b : Body) (e : Event) (u : VariableAt) → ((mark : Placed) → Contains b.file.marks mark → Stands mark.mark) → HasSource b e → Binds e u → (m : Mention) × HasKind b.file m e u
 by_source b e u stand says_nothing binds = absurd (no_binding other u refl binds)

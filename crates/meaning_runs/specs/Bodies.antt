@@ -1,5 +1,5 @@
--- The bodies that a run goes through: those of the functions, methods and literals of a package, and of all given
--- packages that it imports, at once or through others.
+-- The bodies that a run goes through: those of the functions, methods and literals of the packages that were given, or
+-- of some of them.
 -- (The Go specification, "Import declarations", "Function declarations", "Function literals", "Calls".)
 use Rattle.std.specs.Prelude.{ℕ, ◌≡◌, ◌==◌, ◌&&◌, Bool, true, false, List, [], Option, Some, None, slice_get, Contains}
 use Rattle.std.specs.List.{list_any}
@@ -16,16 +16,21 @@ use Rattle.imports.specs.Ranks.{Chain}
 use Rattle.meaning_reports.specs.Loaded.{LoadedPackage, Tables, import_list, seen_files}
 
 -- The packages that were given, what is known of functions (which tells what variables their callers track), what is
--- declared of packages that were not given, which is taken for true, and the place of the one that is looked at.
+-- declared of packages that were not given, which is taken for true, the place of the one that is looked at, and the
+-- places of those whose bodies run. What others do, the environment does.
 pub record Program : Type 0 where
   pub packages : List LoadedPackage
   pub tables : Tables
   pub declared : Tables
   pub looked_at : ℕ
+  pub are_run : ℕ → Bool
 
 -- it is the place of the package that is looked at, or of one that this imports, at once or through others
 abbrev pub IsBelow : Program → ℕ → Type 0
 IsBelow p home = Chain (import_list p.packages) p.looked_at home
+
+abbrev pub IsRun : Program → ℕ → Type 0
+IsRun p home = p.are_run home ≡ true
 
 -- a body, the file in which it stands, and the place of its package
 pub record Body : Type 0 where
@@ -36,7 +41,7 @@ pub record Body : Type 0 where
 pub record IsOf (p : Program) (b : Body) : Type 0 where
   pub loaded : LoadedPackage
   pub is_package : slice_get p.packages b.home ≡ Some loaded
-  pub is_below : IsBelow p b.home
+  pub is_run : IsRun p b.home
   pub is_file : Contains (seen_files p.packages p.tables loaded) b.file
   pub is_body : Contains (bodies_of b.file) b.place
 

@@ -2,9 +2,13 @@
 -- give, so that they always begin; and a function without a body may start work in its groups, and comes back.
 -- (The Go specification, "Calls", "Defer statements".)
 use Rattle.std.specs.Prelude.{◌≡◌, ℕ, true, false, List, [], ◌∷◌, Some, None, Contains}
-use Rattle.meaning.specs.Code.{Code}
-use Rattle.meaning.specs.Uses.{Event}
-use Rattle.meaning_runs.specs.Bodies.{Program, Body, IsFunction}
+use Rattle.meaning.specs.Code.{Occurrence, Code}
+use Rattle.meaning.specs.Lists.{Reaches}
+use Rattle.meaning.specs.Uses.{Callee, Event}
+use Rattle.meaning_reports.specs.Loaded.{HaveDistinctPaths}
+use Rattle.meaning_reports.specs.UsedImports.{HandsTo}
+use Rattle.meaning_runs.specs.Bodies.{Program, Body, IsRun, IsOf, IsNamed, IsFunction, code_of}
+use Rattle.meaning_runs.specs.Promise.{AreClosed}
 use Rattle.meaning_runs.specs.World.{Lent, Passing, Saved, saved_pass, Frame, World, new_frame, nothing_around}
 use Rattle.meaning_runs.specs.Steps.{IsUnderWay, RunsSaved, HasNoBody, IsOutsideCall}
 use Rattle.meaning_runs.specs.Runs.{Run}
@@ -56,3 +60,16 @@ CallsHaveSteps = (p : Program) (w : World) (g : ℕ) (f : Frame) (others : List 
     → Run p w
     → w.stacks g ≡ f ∷ others
     → CallsGoOn p w g f others
+
+-- A body that runs go through hands cancel functions and groups to functions of packages that runs go through too, or
+-- of none that was given. So no function of a given package is taken for one without a body because its package belongs
+-- to the environment, and of such functions nothing is assumed.
+abbrev pub HandsStayTrusted : Type 0
+HandsStayTrusted = (p : Program) (b : Body) (t : List (Occurrence Event)) (o : Occurrence Event) (f : Callee) (home : ℕ)
+    → HaveDistinctPaths p.packages
+    → AreClosed p
+    → IsOf p b
+    → Reaches (code_of b) t o
+    → HandsTo f o.event
+    → IsNamed p b.home f.path home
+    → IsRun p home

@@ -8,6 +8,7 @@ use Rattle.meaning_packages.specs.PathFaults.{paths_of, KeepsCall}
 use Rattle.meaning_packages.specs.Credits.{Credits, AreFairCredits, Settles, no_calls, promises_in}
 use Rattle.meaning_packages.specs.CallsFlags.{is_function, calls_by}
 use Rattle.meaning_reports.specs.Loaded.{LoadedPackage, imported_flags}
+use Rattle.meaning_reports.specs.UsedImports.{HandsThere}
 use Rattle.meaning_runs.specs.Bodies.{Program, Body, variables_in, IsLiteralIn, IsFunction}
 use Rattle.meaning_runs.specs.Steps.{HasNoBody, is_declared_to_call}
 
@@ -55,9 +56,10 @@ pub record TakesUp (p : Program) (b : Body) (f : Callee) (k : ℕ) : Type 0 wher
   pub each : (c : Body) → IsFunction p b f c → (v : Variable) × IsFlagged p c v × (v.role ≡ own_parameter k)
   pub is_declared : HasNoBody p b f → is_declared_to_call p f k ≡ true
 
--- what is relied on of functions and of literals in the body holds of them
+-- What is relied on of functions and of literals in the body holds of them: of the functions to which a body of its
+-- file passes something, since of others nothing has to hold.
 pub record AreTakenUp (p : Program) (b : Body) (relies : Promises) : Type 0 where
-  pub functions : (f : Callee) (k : ℕ) → relies.calls f k ≡ true → TakesUp p b f k
+  pub functions : (f : Callee) (k : ℕ) → HandsThere b.file f → relies.calls f k ≡ true → TakesUp p b f k
   pub literals : (v : Variable) (literal : Body)
       → Contains (variables_in b) v
       → v.kind ≡ cancel

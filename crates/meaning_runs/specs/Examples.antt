@@ -1,6 +1,7 @@
 -- Packages to try runs on: the trees of the texts above them. Each text stands after the lines `package a`, an empty
 -- one, `import "context"` and an empty one, so that `func` begins at offset 29.
-use Rattle.std.specs.Prelude.{ℕ, ◌+◌, false, List, [], ◌∷◌, None, Some, length, map, codes}
+use Rattle.std.specs.Prelude.{ℕ, ◌+◌, true, false, List, [], ◌∷◌, None, Some, length, map, codes}
+use Rattle.tree.specs.declared.edition.Edition.TheVariants.{First}
 use Rattle.tree.specs.Syntax.{Expression, function_literal, selector_expression, call_expression, no_expression, expression_and, no_parameter, named_and, signature_of, Statement, expression_statement, assignment, define_statement, defer_statement, Statements, no_statement, statement_and, Function, function_declaration, SourceFile}
 pub use Rattle.meaning.specs.TreeExamples.{from_to, node, doing, name, use_of}
 use Rattle.meaning_reports.specs.Loaded.{has_tree, LoadedPackage, no_tables}
@@ -35,6 +36,7 @@ abbrev pub function_to : ℕ → Statements → Function
 function_to end ss = record {
   receiver = None;
   name = name (codes "f") 34;
+  type_parameters = no_parameter;
   signature =
       signature_of (named_and (name (codes "p") 36) false (of_context (codes "Context") 38) no_parameter) no_parameter
       false;
@@ -59,10 +61,16 @@ file_with fs = record {
 
 -- a package of one file with these functions
 abbrev pub loaded_with : List Function → LoadedPackage
-loaded_with fs = record { path = codes "a"; files = has_tree (file_with fs) ∷ [] }
+loaded_with fs = record { path = codes "a"; edition = First; files = has_tree (file_with fs) ∷ [] }
 
 abbrev pub program_with : List Function → Program
-program_with fs = record { packages = loaded_with fs ∷ []; tables = no_tables; declared = no_tables; looked_at = 0 }
+program_with fs = record {
+  packages = loaded_with fs ∷ [];
+  tables = no_tables;
+  declared = no_tables;
+  looked_at = 0;
+  are_run = λ home. true;
+}
 
 -- the call is saved for the return:
 --     func f(p context.Context) {
@@ -106,6 +114,7 @@ abbrev pub taking : Function
 taking = record {
   receiver = None;
   name = name (codes "g") 112;
+  type_parameters = no_parameter;
   signature =
       signature_of (named_and (name (codes "c") 114) false (of_context (codes "CancelFunc") 116) no_parameter)
       no_parameter false;

@@ -1,6 +1,7 @@
 -- Where the faults of whole packages stand, and what is said of imports: at an offset of their file's text, or at its
 -- end, where the trees are those of the texts and each other fault lies in its text.
 use Rattle.std.specs.Prelude.{ℕ, ◌≡◌, ◌≤◌, List, length, Some, slice_get}
+use Rattle.tree.specs.declared.edition.Edition.{Edition}
 use Rattle.tree.specs.Syntax.{ImportSpec}
 use Rattle.meaning.specs.TreeOfText.{IsTreeOf}
 use Rattle.report.specs.declared.codes.DiagnosticCode.{DiagnosticCode}
@@ -8,16 +9,16 @@ use Rattle.report.specs.Entries.{Entry}
 use Rattle.meaning_reports.specs.Loaded.{Reading, has_tree, has_text_fault, has_tree_fault, LoadedPackage}
 use Rattle.meaning_reports.specs.WholeFaults.{ImportsAt, import_entry, IsWholeFault}
 
--- the file can have that text
-abbrev pub Fits : List ℕ → Reading → Type 0
-Fits text (has_tree tree) = IsTreeOf text tree
-Fits text (has_text_fault at why) = at ≤ length text
-Fits text (has_tree_fault at why) = at ≤ length text
+-- the file can have that text, in the edition
+abbrev pub Fits : Edition → List ℕ → Reading → Type 0
+Fits edition text (has_tree tree) = IsTreeOf edition text tree
+Fits edition text (has_text_fault at why) = at ≤ length text
+Fits edition text (has_tree_fault at why) = at ≤ length text
 
 -- the texts of the package's files
 pub record AreTextsOf (texts : List (List ℕ)) (p : LoadedPackage) : Type 0 where
   pub each : (n : ℕ) (file : Reading) → slice_get p.files n ≡ Some file
-      → (text : List ℕ) × (slice_get texts n ≡ Some text) × Fits text file
+      → (text : List ℕ) × (slice_get texts n ≡ Some text) × Fits p.edition text file
 
 -- the entry stands in one of the texts
 pub record StandsIn (texts : List (List ℕ)) (x : Entry) : Type 0 where

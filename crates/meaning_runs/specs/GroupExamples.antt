@@ -8,6 +8,7 @@
 --     )
 --
 use Rattle.std.specs.Prelude.{ℕ, ◌+◌, false, true, List, [], ◌∷◌, None, Some, length, map, codes}
+use Rattle.tree.specs.declared.edition.Edition.TheVariants.{First}
 use Rattle.tree.specs.declared.operator.BinaryOperator.TheVariants.{NotEqual}
 use Rattle.tree.specs.declared.operator.DeclKeyword.TheVariants.{Var}
 use Rattle.tree.specs.declared.operator.UnaryOperator.TheVariants.{Address}
@@ -101,6 +102,7 @@ abbrev pub function_between : Parameters → Parameters → ℕ → ℕ → Stat
 function_between more results from end ss = record {
   receiver = None;
   name = name (codes "f") 69;
+  type_parameters = no_parameter;
   signature = signature_of (named_and (name (codes "p") 71) false (of_context (codes "Context") 73) more) results false;
   body = Some record { statements = ss; braces = from_to from end };
   span = from_to 64 end;
@@ -134,10 +136,16 @@ file_with fs = record {
 
 -- a package of one file with these functions
 abbrev pub loaded_of : List Function → LoadedPackage
-loaded_of fs = record { path = codes "a"; files = has_tree (file_with fs) ∷ [] }
+loaded_of fs = record { path = codes "a"; edition = First; files = has_tree (file_with fs) ∷ [] }
 
 abbrev pub program_of : List Function → Program
-program_of fs = record { packages = loaded_of fs ∷ []; tables = no_tables; declared = no_tables; looked_at = 0 }
+program_of fs = record {
+  packages = loaded_of fs ∷ [];
+  tables = no_tables;
+  declared = no_tables;
+  looked_at = 0;
+  are_run = λ home. true;
+}
 
 -- one with this function alone
 abbrev pub program_with : Function → Program
@@ -380,6 +388,7 @@ abbrev pub starting_there : Function
 starting_there = record {
   receiver = None;
   name = name (codes "helper") 134;
+  type_parameters = no_parameter;
   signature =
       signature_of (named_and (name (codes "g") 141) false (group_pointer_at 143) no_parameter) no_parameter false;
   body =

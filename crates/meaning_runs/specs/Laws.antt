@@ -3,7 +3,7 @@ use Rattle.std.specs.Prelude.{◌≡◌, ℕ, ◌<◌, List, [], ◌∷◌, Opti
 use Rattle.meaning.specs.Code.{Code}
 use Rattle.meaning.specs.Uses.{Event, other, obtain, clear, call, defer_call, pass, defer_pass, lend, start, try, wait, defer_wait, make, defer_literal, return_event}
 use Rattle.meaning_runs.specs.Bodies.{Program, Body, IsOf, IsOutermost, IsLiteralIn, Escapes}
-use Rattle.meaning_runs.specs.World.{Value, outside, ComesFrom, IsDone, with_new, MayEndWait, AreForeign, Closure, Saved, saved_call, saved_literal, saved_wait, Store, Stage, runs, exits, Frame, held_group, World, new_frame, nothing_around}
+use Rattle.meaning_runs.specs.World.{Value, outside, ComesFrom, IsDone, with_new, MayEndWait, AreForeign, Closure, Saved, saved_call, saved_literal, saved_wait, Store, Stage, runs, exits, Frame, held_group, World, new_frame, nothing_around, nothing, held, with_stack}
 use Rattle.meaning_runs.specs.Steps.{GoesOn, DoesNext, RunsSaved, IsAtEnd, at_code, IsFree, Starts, Step}
 use Rattle.meaning_runs.specs.Runs.{Run}
 
@@ -90,6 +90,16 @@ FramesHaveSteps = (p : Program) (w : World) (g : ℕ) (f : Frame) (others : List
     → w.stacks g ≡ f ∷ others
     → FramesGoOn p w g f others
 
+-- A call of a variable that holds no function goes past it, and all else is as it was. So it is where a condition has
+-- found the variable nil.
+abbrev pub CallsOfNothingDoNothing : Type 0
+CallsOfNothingDoNothing = (p : Program) (w : World) (g : ℕ) (f : Frame) (others : List Frame) (v : ℕ)
+    (rest : Code Event)
+    → w.stacks g ≡ f ∷ others
+    → DoesNext f (call v) rest
+    → held w.store f v ≡ nothing
+    → Step p w (with_stack w w.store g (at_code f rest ∷ others))
+
 -- Members, in every world of a run
 
 -- some goroutine is free
@@ -150,7 +160,7 @@ MembersMayLeave = (p : Program) (w : World) (g group : ℕ)
 -- known.
 pub record EnvironmentMay (p : Program) (w : World) : Type 0 where
   pub call_any : (g : ℕ) (b : Body) (values : ℕ → Value) (groups : ℕ → Option ℕ)
-      → IsFree w g
+      → w.stacks g ≡ []
       → IsOf p b
       → IsOutermost b
       → AreForeign w.store values groups

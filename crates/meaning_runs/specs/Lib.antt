@@ -6,6 +6,9 @@ pub mod Steps
 pub mod Runs
 pub mod Promise
 pub mod PackageYes
+-- What else a yes says.
+pub mod YesBesideOthers
+pub mod YesBelow
 -- What shows that they aren't empty, and leave nothing out.
 pub mod Laws
 pub mod CallSteps
@@ -21,6 +24,8 @@ pub mod GroupExamples
 pub mod Returns
 pub mod LoudReturns
 pub mod GroupReturns
+pub mod EditionReturns
+pub mod Writes
 -- What serves the proofs.
 pub mod EventSources
 pub mod BodyOffsets

@@ -14,6 +14,7 @@ abbrev pub ignoring_at : ℕ → Function
 ignoring_at at = record {
   receiver = None;
   name = name (codes "g") (at + 5);
+  type_parameters = no_parameter;
   signature =
       signature_of
       (named_and (name (codes "c") (at + 7)) false (of_context (codes "CancelFunc") (at + 9)) no_parameter)

@@ -3,8 +3,9 @@
 -- receiver, the parameters and the results of each body.
 -- (The Go specification, "Lexical elements", "Function declarations".)
 use Rattle.std.specs.Prelude.{ℕ, ◌≤◌, List, Option, Some, None, Contains, length}
+use Rattle.tree.specs.declared.edition.Edition.{Edition}
 use Rattle.tree.specs.Syntax.{Parameters, no_parameter, named_and, unnamed_and, name_alone_and, Signature, signature_of, SourceFile}
-use Rattle.meaning.specs.Mentions.{CallPlace, nowhere, as_statement, only_value, return_item, deferred, Role, elsewhere, called, called_in_brackets, argument, returned, left, names_type, new_literal, parameter_pointer, Mark, mentions, defers_literal, returns, opens, closes, file_marks}
+use Rattle.meaning.specs.Mentions.{CallPlace, nowhere, as_statement, only_value, return_item, deferred, Role, elsewhere, called, called_in_brackets, argument, returned, left, names_type, new_literal, parameter_pointer, Mark, mentions, defers_literal, returns, opens, closes, file_marks, exposed, found_nil, found_error}
 use Rattle.meaning.specs.TreeOfText.{IsTreeOf}
 
 -- the statement of the row whose only value stands there
@@ -17,6 +18,9 @@ PlaceStandsWithin n deferred = Unit {0}
 
 abbrev pub RoleStandsWithin : ℕ → Role → Type 0
 RoleStandsWithin n elsewhere = Unit {0}
+RoleStandsWithin n exposed = Unit {0}
+RoleStandsWithin n (found_nil nil) = Unit {0}
+RoleStandsWithin n (found_error nil row) = Unit {0}
 RoleStandsWithin n (called c) = PlaceStandsWithin n c.place
 RoleStandsWithin n called_in_brackets = Unit {0}
 RoleStandsWithin n (argument k has_address c) = Unit {0}
@@ -48,7 +52,7 @@ StandsWithin n (opens b) = ReceiverStandsWithin n b.receiver × SignatureStandsW
 StandsWithin n closes = Unit {0}
 
 abbrev pub NamesLieInTexts : Type 0
-NamesLieInTexts = (text : List ℕ) (tree : SourceFile) (m : Mark)
-    → IsTreeOf text tree
+NamesLieInTexts = (edition : Edition) (text : List ℕ) (tree : SourceFile) (m : Mark)
+    → IsTreeOf edition text tree
     → Contains (file_marks tree) m
     → StandsWithin (length text) m

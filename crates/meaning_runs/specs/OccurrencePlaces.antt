@@ -34,7 +34,7 @@ pub record HavePlaces {E : Type 0} (os : List (Occurrence E)) : Type 0 where
 -- so it is of each body of the tree of a text, whatever its sites give
 abbrev pub OccurrencesHavePlaces : Type 0 → Type 0
 OccurrencesHavePlaces E = (text : List ℕ) (tree : SourceFile) (known : Known) (b : BodyPlace) (sites : Sites E)
-    → IsTreeOf text tree
+    → IsTreeOf known.edition text tree
     → Contains (bodies_of (seen_file known tree)) b
     → HavePlaces (occurrences (body_code sites (block_of b)))
 
@@ -42,7 +42,7 @@ OccurrencesHavePlaces E = (text : List ℕ) (tree : SourceFile) (known : Known) 
 abbrev pub OccurrencesLieInTexts : Type 0 → Type 0
 OccurrencesLieInTexts E = (text : List ℕ) (tree : SourceFile) (known : Known) (b : BodyPlace) (sites : Sites E)
     (o : Occurrence E)
-    → IsTreeOf text tree
+    → IsTreeOf known.edition text tree
     → Contains (bodies_of (seen_file known tree)) b
     → Contains (occurrences (body_code sites (block_of b))) o
     → o.at < length text

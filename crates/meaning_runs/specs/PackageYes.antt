@@ -1,11 +1,12 @@
--- The promise, said of a report of packages: under the tables of the report, a package of which the report says nothing
--- is quiet, in every run in which what is declared of packages that were not given is true.
-use Rattle.std.specs.Prelude.{◌≡◌, ℕ, List, [], Some, slice_get}
-use Rattle.meaning_reports.specs.Loaded.{LoadedPackage, Tables}
+-- The promise, said of a report of packages: whatever packages are given, all of them run, and under the tables of the
+-- report each return of a frame of a package of which the report says nothing is quiet, in every run in which what is
+-- declared of packages that were not given is true.
+use Rattle.std.specs.Prelude.{◌≡◌, ℕ, true, List, [], Some, slice_get}
+use Rattle.meaning_reports.specs.Loaded.{LoadedPackage, HaveDistinctPaths, Tables}
 use Rattle.meaning_reports.specs.PackageReports.{Rules, Said, IsReportBy, by_paths}
-use Rattle.meaning_runs.specs.Bodies.{Program, IsBelow}
+use Rattle.meaning_runs.specs.Bodies.{Program, IsRun}
 use Rattle.meaning_runs.specs.Runs.{IsQuietProgram}
-use Rattle.meaning_runs.specs.Promise.{AreTreesOfTexts, HaveNoFindings}
+use Rattle.meaning_runs.specs.Promise.{AreTreesOfTexts}
 
 -- the report has the package at that place, and nothing is said of it
 pub record IsYesIn (ps : List LoadedPackage) (report : List Said) (i : ℕ) : Type 0 where
@@ -15,33 +16,29 @@ pub record IsYesIn (ps : List LoadedPackage) (report : List Said) (i : ℕ) : Ty
   pub is_said : slice_get report i ≡ Some said
   pub is_yes : said.entries ≡ []
 
--- These packages, what these tables know of functions, what is declared of packages that are not among these, and the
--- package at that place, which is looked at.
+-- These packages, of which all run, what these tables know of functions, what is declared of packages that are not
+-- among these, and the package at that place, which is looked at.
 abbrev pub program_of : List LoadedPackage → Tables → Tables → ℕ → Program
-program_of ps tables declared i = record { packages = ps; tables = tables; declared = declared; looked_at = i }
+program_of ps tables declared i = record {
+  packages = ps;
+  tables = tables;
+  declared = declared;
+  looked_at = i;
+  are_run = λ home. true;
+}
 
 -- the trees of the packages that runs go through are those of texts
 abbrev pub AreOfTexts : Program → Type 0
-AreOfTexts p = (i : ℕ) (q : LoadedPackage) → IsBelow p i → slice_get p.packages i ≡ Some q → AreTreesOfTexts q
+AreOfTexts p = (i : ℕ) (q : LoadedPackage) → IsRun p i → slice_get p.packages i ≡ Some q → AreTreesOfTexts q
 
 abbrev pub YesOfAPackageIsQuietBy : Rules → Type 0
 YesOfAPackageIsQuietBy rules = (ps : List LoadedPackage) (report : List Said) (i : ℕ)
     → (is_report : IsReportBy rules ps report)
     → IsYesIn ps report i
+    → HaveDistinctPaths ps
     → AreOfTexts (program_of ps is_report.tables rules.declared i)
     → IsQuietProgram (program_of ps is_report.tables rules.declared i)
 
 -- whatever is declared
 abbrev pub YesOfAPackageIsQuiet : Type 0
 YesOfAPackageIsQuiet = (declared : Tables) → YesOfAPackageIsQuietBy (by_paths declared)
-
--- A yes is one of each given package below too: an import that isn't yes would be said. So none of these has a finding.
-abbrev pub YesIsOfAllBelowBy : Rules → Type 0
-YesIsOfAllBelowBy rules = (ps : List LoadedPackage) (report : List Said) (i : ℕ)
-    → (is_report : IsReportBy rules ps report)
-    → IsYesIn ps report i
-    → AreOfTexts (program_of ps is_report.tables rules.declared i)
-    → HaveNoFindings (program_of ps is_report.tables rules.declared i)
-
-abbrev pub YesIsOfAllBelow : Type 0
-YesIsOfAllBelow = (declared : Tables) → YesIsOfAllBelowBy (by_paths declared)

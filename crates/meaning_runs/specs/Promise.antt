@@ -1,18 +1,24 @@
--- What a yes promises: where nothing is to be said of the files of a package, nor of any given package below it, each
--- return of a frame of the package is quiet, in every run. It is enough that tables are consistent and credits fair, of
--- this package and of those below it: they need not be the most consistent flags, or full credits.
-use Rattle.std.specs.Prelude.{◌≡◌, ℕ, List, [], ◌∷◌, Some, slice_get, Contains}
+-- What a yes promises: where nothing is to be said of the files of some packages, and among these is each given package
+-- to whose functions one of them passes a cancel function or lends a group, each return of a frame of these packages is
+-- quiet, in every run. Of other given packages nothing is asked, and they run too. It is enough that tables are
+-- consistent and credits fair, of these packages: they need not be the most consistent flags, or full credits.
+use Rattle.std.specs.Prelude.{◌≡◌, ℕ, true, List, [], ◌∷◌, Some, slice_get, Contains}
 use Rattle.tree.specs.Syntax.{SourceFile}
 use Rattle.meaning.specs.TreeOfText.{IsTreeOf}
 use Rattle.meaning.specs.Uses.{Seen}
 use Rattle.meaning_packages.specs.Credits.{AreFairCredits}
 use Rattle.meaning_packages.specs.CallsFlags.{FileWithCredits, calls_by, AreConsistent}
 use Rattle.report.specs.Entries.{Entry}
-use Rattle.meaning_reports.specs.Loaded.{LoadedPackage, Tables, imported_flags, signatures_of, trees_of, seen_files}
+use Rattle.meaning_reports.specs.Loaded.{LoadedPackage, HaveDistinctPaths, Tables, imported_flags, signatures_of, trees_of, seen_files}
 use Rattle.meaning_reports.specs.WholeFaults.{HasNoWholeFault}
+use Rattle.meaning_reports.specs.UsedImports.{Uses}
 use Rattle.meaning_reports.specs.PackageReports.{IsFileFinding}
-use Rattle.meaning_runs.specs.Bodies.{Program, IsBelow}
+use Rattle.meaning_runs.specs.Bodies.{Program, IsRun}
 use Rattle.meaning_runs.specs.Runs.{IsQuietProgram}
+
+-- To whose functions those that run pass a cancel variable or lend a group, these run too.
+abbrev pub AreClosed : Program → Type 0
+AreClosed p = (i j : ℕ) → IsRun p i → Uses p.packages p.tables i j → IsRun p j
 
 -- each file with fair credits
 pub data AreFairlyCredited : List Seen → List FileWithCredits → Type 0 where
@@ -34,15 +40,18 @@ pub record IsWellKnown (ps : List LoadedPackage) (tables : Tables) (i : ℕ) (p 
 
 -- Each tree is that of a text, so that no two of its names or bodies stand at one offset.
 abbrev pub AreTreesOfTexts : LoadedPackage → Type 0
-AreTreesOfTexts q = (tree : SourceFile) → Contains (trees_of q) tree → (text : List ℕ) × IsTreeOf text tree
+AreTreesOfTexts q =
+    (tree : SourceFile) → Contains (trees_of q) tree → (text : List ℕ) × IsTreeOf q.edition text tree
 
--- so it is of each package that runs go through; of packages that were not given is known what is declared of them
+-- So it is of each package that runs, and these use none but such. Of packages that were not given is known what is
+-- declared of them.
 pub record AreWellKnown (p : Program) : Type 0 where
+  pub are_closed : AreClosed p
   pub of_package : (i : ℕ) (q : LoadedPackage)
-      → IsBelow p i
+      → IsRun p i
       → slice_get p.packages i ≡ Some q
       → IsWellKnown p.packages p.tables i q
-  pub of_texts : (i : ℕ) (q : LoadedPackage) → IsBelow p i → slice_get p.packages i ≡ Some q → AreTreesOfTexts q
+  pub of_texts : (i : ℕ) (q : LoadedPackage) → IsRun p i → slice_get p.packages i ≡ Some q → AreTreesOfTexts q
   pub of_others : (path : List ℕ)
       → ((i : ℕ) (q : LoadedPackage) → slice_get p.packages i ≡ Some q → q.path ≡ path → ⊥)
       → p.tables path ≡ p.declared path
@@ -56,14 +65,28 @@ pub record IsWithoutFinding (ps : List LoadedPackage) (tables : Tables) (i : ℕ
       → IsFileFinding (calls_by (tables q.path).calls (imported_flags q tables)) number file x
       → ⊥
 
--- So it is of each package that runs go through, and not of the one alone that is looked at. This is what error groups
--- ask for: a package below that makes a group again, while its work goes on, keeps a flag for a call that its member
--- has yet to make.
-pub record HaveNoFindings (p : Program) : Type 0 where
+-- So it is of each of these packages, and not of the one alone that is looked at. This is what error groups ask for: a
+-- package to whose function a cancel function is passed, and which makes a group again while its work goes on, keeps a
+-- flag for a call that its member has yet to make.
+pub record HaveNoFindings (p : Program) (IsOne : ℕ → Type 0) : Type 0 where
   pub of_package : (i : ℕ) (q : LoadedPackage)
-      → IsBelow p i
+      → IsOne i
       → slice_get p.packages i ≡ Some q
       → IsWithoutFinding p.packages p.tables i q
 
+-- Where only such packages run, and all others belong to the environment, each return is quiet.
 abbrev pub YesIsQuiet : Type 0
-YesIsQuiet = (p : Program) → AreWellKnown p → HaveNoFindings p → IsQuietProgram p
+YesIsQuiet = (p : Program) → AreWellKnown p → HaveNoFindings p (IsRun p) → IsQuietProgram p
+
+-- the same, where all given packages run
+abbrev pub all_run : Program → Program
+all_run p = record p { are_run = λ home. true }
+
+-- So it is where all given packages run, if the one that is looked at is among these.
+abbrev pub YesIsQuietInAll : Type 0
+YesIsQuietInAll = (p : Program)
+    → HaveDistinctPaths p.packages
+    → AreWellKnown p
+    → HaveNoFindings p (IsRun p)
+    → IsRun p p.looked_at
+    → IsQuietProgram (all_run p)

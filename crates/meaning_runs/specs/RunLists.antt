@@ -176,7 +176,7 @@ pub record IsOfText (b : Body) : Type 0 where
   pub text : List ℕ
   pub tree : SourceFile
   pub known : Known
-  pub is_tree : IsTreeOf text tree
+  pub is_tree : IsTreeOf known.edition text tree
   pub is_file : b.file ≡ seen_file known tree
 
 -- So it is of each body of a package whose trees are those of texts, as the promise asks for.

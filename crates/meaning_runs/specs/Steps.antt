@@ -201,6 +201,12 @@ pub data Acts (p : Program) (s : Store) (place : Place) (f : Frame) : Store → 
   clears_one : {u : VariableAt} {rest : Code Event}
       → DoesNext f (clear u) rest
       → Acts p s place f (binding s f u nothing) (at_code (binds s f u) rest ∷ [])
+  -- So does a way that begins at a brace where the variable is nil: a condition found it so, or a giver gave its error.
+  -- Go comes there only where the cell holds no function, and then this does nothing (`CallsOfNothingDoNothing`). The
+  -- machine comes there with a function in the cell too, and calls it. Such runs are more than Go has; none of Go's is
+  -- left out, so what holds of all runs holds of these. That the variable is nil there no run can tell: it is what the
+  -- condition's parts say (`ConditionsFindOut`), since nothing else writes the cell (`WritesAreSeen`). Of a giver with
+  -- an error it is a premise on its returns, which their text says (`Unless`).
   calls_one : {v : ℕ} {rest : Code Event}
       → DoesNext f (call v) rest
       → Acts p s place f (calling s (held s f v)) (at_code f rest ∷ [])
@@ -346,9 +352,10 @@ pub data ChangesMembers (p : Program) (w : World) : World → Type 0 where
 
 -- What is outside: callers and callbacks, `go` statements, timers, and all that the packages don't show.
 pub data Surrounds (p : Program) (w : World) : World → Type 0 where
-  -- a function or method is called, or a literal outside all functions
+  -- A function or method is called, or a literal outside all functions, by a goroutine that has no frame here. That may
+  -- be a member of which nothing is known.
   starts : (g : ℕ) (b : Body) (values : ℕ → Value) (groups : ℕ → Option ℕ)
-      → IsFree w g
+      → w.stacks g ≡ []
       → IsOf p b
       → IsOutermost b
       → AreForeign w.store values groups
@@ -365,6 +372,10 @@ pub data Surrounds (p : Program) (w : World) : World → Type 0 where
       → Contains w.escaped c
       → AreForeign w.store values groups
       → Surrounds p w (with_stack w (with_cells w.store values groups) g (new_frame w.store c.literal c.newest ∷ []))
+  -- variables are made outside
+  makes_cells : (values : ℕ → Value) (groups : ℕ → Option ℕ)
+      → AreForeign w.store values groups
+      → Surrounds p w (record w { store = with_cells w.store values groups })
   -- a maker is called outside, or in an item of a return
   makes_one : (parent : Option ℕ)
       → IsEarlier w.store parent

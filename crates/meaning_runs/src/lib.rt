@@ -2,21 +2,25 @@
 #![tactic(auto)]
 
 ghost use Rattle.meaning_runs.specs.BodyOffsets.{BodiesAreApart, BodiesBeginOnce};
-ghost use Rattle.meaning_runs.specs.CallSteps.{CallsHaveSteps};
+ghost use Rattle.meaning_runs.specs.CallSteps.{CallsHaveSteps, HandsStayTrusted};
 ghost use Rattle.meaning_runs.specs.Doings.{MovesAreLists};
-ghost use Rattle.meaning_runs.specs.Laws.{ContextsAreSound, FramesHaveSteps, GoroutinesAreFree, GroupsGetMembers, MembersMayLeave, TheEnvironmentMay};
+ghost use Rattle.meaning_runs.specs.Laws.{CallsOfNothingDoNothing, ContextsAreSound, FramesHaveSteps, GoroutinesAreFree, GroupsGetMembers, MembersMayLeave, TheEnvironmentMay};
 ghost use Rattle.meaning_runs.specs.EntryPlaces.{EntriesLieInFiles};
 ghost use Rattle.meaning_runs.specs.EventSources.{BindingsAreOfLocals, BindingsAreTracked, EventsHaveSources};
 ghost use Rattle.meaning_runs.specs.FilePlaces.{WholePlacesLieInFiles};
 ghost use Rattle.meaning_runs.specs.NamePlaces.{NamesLieInTexts};
 ghost use Rattle.meaning_runs.specs.OccurrencePlaces.{OccurrencesHavePlaces, OccurrencesLieInTexts};
-ghost use Rattle.meaning_runs.specs.Promise.{YesIsQuiet};
-ghost use Rattle.meaning_runs.specs.PackageYes.{YesIsOfAllBelow, YesOfAPackageIsQuiet};
+ghost use Rattle.meaning_runs.specs.Promise.{YesIsQuiet, YesIsQuietInAll};
+ghost use Rattle.meaning_runs.specs.PackageYes.{YesOfAPackageIsQuiet};
+ghost use Rattle.meaning_runs.specs.YesBelow.{YesIsOfAllBelow};
+ghost use Rattle.meaning_runs.specs.YesBesideOthers.{YesIsQuietBesideOthers};
 ghost use Rattle.meaning_runs.specs.RunLists.{BodiesAreOfTexts, DeferredLiteralsAreThere, ListsAreRun, ListsOfTextsAreRun, ReturnsAreLast, StartedLiteralsAreThere};
 ghost use Rattle.meaning_runs.specs.LoudReturns.{LostFunctionsAreSeen};
+ghost use Rattle.meaning_runs.specs.EditionReturns.{EditionReturnsExist};
 ghost use Rattle.meaning_runs.specs.GroupReturns.{GroupReturnsExist};
 ghost use Rattle.meaning_runs.specs.Returns.{ReturnsExist};
 ghost use Rattle.meaning_runs.specs.Waits.{AllWaitsWait};
+ghost use Rattle.meaning_runs.specs.Writes.{WritesAreMarked, WritesAreSeen};
 
 /// The moves of a code are its lists of events: each list that the code may go through is done by its moves, one after
 /// another, and what moves do is a list.
@@ -51,6 +55,18 @@ pub fn bindings_are_tracked()
     ensures { BindingsAreTracked }
 {}
 
+/// What a form of statement gives a value, and whose place `&` hands out, is marked so: as a left side, as exposed, or
+/// as an argument with its address.
+pub fn writes_are_marked()
+    ensures { WritesAreMarked }
+{}
+
+/// Each such mention of a tracked cancel variable binds it, clears it or is a fault, in both editions. A read is none
+/// of these, and has no event.
+pub fn writes_are_seen()
+    ensures { WritesAreSeen }
+{}
+
 /// A goroutine's running frame always goes on, past its event or by what it saved, but for a Wait whose group has
 /// members, for a start in a variable that holds no group, and for a call that gets cancel functions or groups, of
 /// which `calls_have_steps` tells.
@@ -58,11 +74,23 @@ pub fn frames_have_steps()
     ensures { FramesHaveSteps }
 {}
 
+/// A call of a variable that holds no function does nothing. So where a condition has found the variable nil, the way
+/// from there on is one that the machine goes.
+pub fn calls_of_nothing_do_nothing()
+    ensures { CallsOfNothingDoNothing }
+{}
+
 /// A call of a function that gets cancel functions or groups always begins, at once or when what was saved runs: in
 /// every world of a run there are contents that it can give. What has no body may start work in the groups that it was
 /// lent, and it comes back.
 pub fn calls_have_steps()
     ensures { CallsHaveSteps }
+{}
+
+/// A body that runs go through passes cancel functions and lends groups to functions of packages that runs go through
+/// too, or of none that was given.
+pub fn hands_stay_trusted()
+    ensures { HandsStayTrusted }
 {}
 
 /// In every world of a run some goroutine does nothing and is no member of a group.
@@ -106,22 +134,34 @@ pub fn returns_exist()
     ensures { ReturnsExist }
 {}
 
-/// What a yes promises: where nothing is to be said of the files of a package, nor of those of any given package below
-/// it, under tables that are consistent, each of its returns is quiet, in every run. Literals share the variables that
-/// they capture with the activation around them, be they deferred, called by anyone, or started in a group.
+/// What a yes promises: where nothing is to be said of the files of some packages, and among these is each given one to
+/// whose functions they pass cancel functions or lend groups, under tables that are consistent, each return of one of
+/// them is quiet, in every run. Other packages are part of the environment, and may do anything that it may. Literals
+/// share the variables that they capture with the activation around them, be they deferred, called by anyone, or
+/// started in a group.
 pub fn yes_is_quiet()
     ensures { YesIsQuiet }
 {}
 
-/// So it is by a report of packages, whatever is declared of packages that were not given. Where it says nothing of a
-/// package, its tables know what holds of that package and of all given ones below it, and none of these has a finding;
-/// so each return of the package is quiet, in every run in which what is declared is true.
+/// So it is where all given packages run: what the bodies of others do is nothing that the environment may not do.
+pub fn yes_is_quiet_in_all()
+    ensures { YesIsQuietInAll }
+{}
+
+/// So it is by a report of packages of different paths, in each edition, whatever is declared of packages that were not
+/// given. Of the packages of which it says nothing its tables know what holds, and what they use is among them; so each
+/// return of such a package is quiet, in every run of all packages in which what is declared is true.
 pub fn yes_of_a_package_is_quiet()
     ensures { YesOfAPackageIsQuiet }
 {}
 
-/// A yes is one of each given package below too, since an import that isn't yes would be said: where a report says
-/// nothing of a package, nothing is to be said of the files of any package that its runs go through.
+/// So it is where packages that are not yes do anything that the environment may.
+pub fn yes_is_quiet_beside_others()
+    ensures { YesIsQuietBesideOthers }
+{}
+
+/// In the first edition a yes is one of each given package below too, since an import that isn't yes would be said:
+/// nothing is to be said of the files of any of these.
 pub fn yes_is_of_all_below()
     ensures { YesIsOfAllBelow }
 {}
@@ -205,4 +245,10 @@ pub fn lost_functions_are_seen()
 /// which the group was lent starts work in it, and where a literal that something else gets forgets its function.
 pub fn group_returns_exist()
     ensures { GroupReturnsExist }
+{}
+
+/// In the second edition, of a function that calls its cancel function where that is not nil a run comes to a quiet
+/// return, and of one that calls it where it is nil, to one that is not quiet.
+pub fn edition_returns_exist()
+    ensures { EditionReturnsExist }
 {}

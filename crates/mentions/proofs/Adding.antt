@@ -1,10 +1,14 @@
 -- What is added at the end of the marks, step by step.
-use Rattle.std.proofs.Common.{◌≡◌, List, [], ◌∷◌, ◌++◌, Result, OnOk, sym, ap, ◌∙◌}
+use Rattle.std.proofs.Common.{◌≡◌, ℕ, List, [], ◌∷◌, ◌++◌, Result, OnOk, refl, sym, ap, ◌∙◌}
 use Rattle.std.proofs.lemmas.List.{append_assoc, append-nil, map-append}
 use Rattle.std.proofs.lemmas.Result.{on_ok_weaker}
 use Rattle.mentions.specs.declared.mark.Mark.{Mark as KeptMark}
 use Rattle.mentions.specs.MarkViews.{mark_view, marks_view, Adds}
-use Rattle.meaning.specs.Mentions.{Mark}
+use Rattle.tree.specs.declared.expression.Param.{Param, Named', Unnamed', NameAlone}
+use Rattle.tree.specs.Syntax.{Parameters, no_parameter}
+use Rattle.tree.specs.View.{parameter_and}
+use Rattle.meaning.specs.Mentions.{Mark, declared_elsewhere}
+use Rattle.meaning.specs.Scopes.{parameters_named}
 
 pub adds_nothing : (before : List KeptMark) → Adds before before []
 adds_nothing before = sym (append-nil (marks_view before))
@@ -94,8 +98,20 @@ pub three_parts : (a b c rest : List Mark) → a ++ (b ++ (c ++ rest)) ≡ (a ++
 three_parts a b c rest =
     sym (append_assoc a (b ++ (c ++ [])) rest ∙ ap (λ l. a ++ l) (append_assoc b (c ++ []) rest ∙ ap (λ l. b ++ l) (append_assoc c [] rest)))
 
+pub four_parts : (a b c d rest : List Mark) → a ++ (b ++ (c ++ (d ++ rest))) ≡ (a ++ (b ++ (c ++ (d ++ [])))) ++ rest
+four_parts a b c d rest =
+    ap (λ l. a ++ l) (three_parts b c d rest) ∙ sym (append_assoc a (b ++ (c ++ (d ++ []))) rest)
+
 pub two_joined : (a b rest : List Mark) → a ++ (b ++ rest) ≡ (a ++ b) ++ rest
 two_joined a b rest = sym (append_assoc a b rest)
 
 pub three_joined : (a b c rest : List Mark) → a ++ (b ++ (c ++ rest)) ≡ (a ++ (b ++ c)) ++ rest
 three_joined a b c rest = sym (append_assoc a (b ++ c) rest ∙ ap (λ l. a ++ l) (append_assoc b c rest))
+
+pub parameters_named_more : (site : ℕ) (p : Param) (ps : Parameters)
+    → declared_elsewhere site (parameters_named (parameter_and p ps))
+    ≡ declared_elsewhere site (parameters_named (parameter_and p no_parameter)) ++ declared_elsewhere site (parameters_named ps)
+unfolding parameter_and
+parameters_named_more site (Named' n ellipsis t span) ps = refl
+parameters_named_more site (Unnamed' ellipsis t span) ps = refl
+parameters_named_more site (NameAlone n) ps = refl

@@ -1,3 +1,4 @@
 pub mod Adding
 pub mod Naming
+pub mod NilTests
 pub mod SingleLists

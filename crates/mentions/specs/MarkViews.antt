@@ -1,5 +1,5 @@
 -- What the marks that the program keeps stand for.
-use Rattle.std.specs.Prelude.{List, Option, option_map, map, ◌≡◌, ◌++◌}
+use Rattle.std.specs.Prelude.{ℕ, List, [], ◌∷◌, Option, Some, None, option_map, map, ◌≡◌, ◌++◌}
 use Rattle.std.specs.Borrow.{Bor}
 use Rattle.mentions.specs.declared.mark.Named.{Named as KeptNamed}
 use Rattle.mentions.specs.declared.mark.RowForm.{RowForm as KeptForm}
@@ -13,14 +13,20 @@ use Rattle.mentions.specs.declared.mark.Call.{Call as KeptCall}
 use Rattle.mentions.specs.declared.mark.LiteralUse.{LiteralUse as KeptUse}
 use Rattle.mentions.specs.declared.mark.LiteralUse.TheVariants.{Other, DeferredCall, StartedBy}
 use Rattle.mentions.specs.declared.mark.Role.{Role as KeptRole}
-use Rattle.mentions.specs.declared.mark.Role.TheVariants.{Elsewhere, Called, CalledInBrackets, Argument, Returned, Left, NamesType, NewLiteral, ParameterPointer}
+use Rattle.mentions.specs.declared.mark.Role.TheVariants.{Elsewhere, Exposed, FoundNil, FoundError, Called, CalledInBrackets, Argument, Returned, Left, NamesType, NewLiteral, ParameterPointer}
 use Rattle.mentions.specs.declared.mark.Mention.{Mention as KeptMention}
 use Rattle.mentions.specs.declared.mark.BodyPlace.{BodyPlace as KeptBody}
 use Rattle.mentions.specs.declared.mark.Mark.{Mark as KeptMark}
 use Rattle.mentions.specs.declared.mark.Mark.TheVariants.{Mentions, DefersLiteral, Returns, Opens, Closes}
 use Rattle.mentions.specs.declared.mark.Spot.{Spot as KeptSpot}
+use Rattle.mentions.specs.declared.found.NilTest.{NilTest as KeptTest}
+use Rattle.tree.specs.declared.span.Span.{Span}
+use Rattle.tree.specs.Syntax.{Identifier}
 use Rattle.tree.specs.View.{identifier_syntax, parameters_syntax, signature_syntax, expressions_syntax, optional_expression_syntax, statements_syntax}
-use Rattle.meaning.specs.Mentions.{Named, RowForm, defines, assigns, declares, Standing, ordinary, first_of_for, communication, Row, CallPlace, nowhere, as_statement, only_value, return_item, deferred, Call, LiteralUse, other_use, deferred_call, started_by, Role, elsewhere, called, called_in_brackets, argument, returned, left, names_type, new_literal, parameter_pointer, Mention, BodyPlace, Mark, mentions, defers_literal, returns, opens, closes, Spot}
+use Rattle.meaning.specs.Mentions.{Named, RowForm, defines, assigns, declares, Standing, ordinary, first_of_for, communication, Row, CallPlace, nowhere, as_statement, only_value, return_item, deferred, Call, LiteralUse, other_use, deferred_call, started_by, Role, elsewhere, exposed, found_nil, found_error, called, called_in_brackets, argument, returned, left, names_type, new_literal, parameter_pointer, Mention, BodyPlace, Mark, mentions, defers_literal, returns, opens, closes, Spot, NilTest}
+
+abbrev pub identifier_at : List ℕ → Span → Identifier
+identifier_at text span = record { text = text; span = span }
 
 abbrev pub named_view : KeptNamed → Named
 named_view n = record { name = n.name.now; at = n.at; selected = option_map (λ m. m.now) n.selected }
@@ -69,6 +75,9 @@ use_view (StartedBy n) = started_by (named_view n)
 
 abbrev pub role_view : KeptRole → Role
 role_view Elsewhere = elsewhere
+role_view Exposed = exposed
+role_view (FoundNil nil) = found_nil nil
+role_view (FoundError nil row) = found_error nil (row_view row.now)
 role_view (Called c) = called (call_view c.now)
 role_view CalledInBrackets = called_in_brackets
 role_view (Argument has_address k c) = argument k has_address (call_view c.now)
@@ -109,6 +118,13 @@ marks_view ms = map mark_view ms
 
 abbrev pub spot_view : KeptSpot → Spot
 spot_view s = record { place = place_view s.place; literal = use_view s.literal; site = s.site }
+
+abbrev pub test_view : KeptTest → NilTest
+test_view t = record { named = named_view t.named; nil = t.nil }
+
+abbrev pub listed_test : Option NilTest → List NilTest
+listed_test None = []
+listed_test (Some t) = t ∷ []
 
 -- the marks are added at the end of those that were there
 abbrev pub Adds : List KeptMark → List KeptMark → List Mark → Type 0

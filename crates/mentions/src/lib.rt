@@ -3,16 +3,20 @@
 #![tactic(auto)]
 
 mod around;
+pub mod found;
 mod kept;
 pub mod mark;
 pub mod named;
 pub mod parts;
 
 pub use around::is_body;
+pub use found::{found_nil, guard_marks};
 pub use kept::Marks;
 pub use mark::{
     BodyPlace, Call, CallPlace, LiteralUse, Mark, Mention, Named, Role, Row, RowForm, Spot,
     Standing,
 };
-pub use named::{as_bare, as_bracketed, as_named, as_new_literal, as_pointer};
+pub use named::{
+    addressed_within, as_bare, as_bracketed, as_named, as_new_literal, as_pointer, bare_within,
+};
 pub use parts::call_of;

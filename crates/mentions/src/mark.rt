@@ -78,6 +78,13 @@ pub enum LiteralUse<'a> {
 #[derive(Clone, Copy)]
 pub enum Role<'m, 'a> {
     Elsewhere,
+    /// n where no row declares it, where its address is taken, or where it may get another value, and is no argument
+    /// and no whole left side of a row.
+    Exposed,
+    /// n of `n == nil` or `n != nil`, once more at the brace at which it is known to be nil; with the offset of `nil`.
+    FoundNil(u32),
+    /// The same where it is known not to be nil, behind a row.
+    FoundError(u32, &'m Row<'a>),
     /// n in `n(..)`, n.m in `n.m(..)`.
     Called(&'m Call<'m, 'a>),
     /// The same in brackets.

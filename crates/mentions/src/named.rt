@@ -1,7 +1,7 @@
 //! Expressions that are names, or names with another one after a dot.
 
 ghost use Rattle.std.specs.Prelude.{◌≡◌, option_map};
-ghost use Rattle.meaning.specs.Mentions.{addressed, select_from, as_bare, as_named, as_bracketed, as_pointer, as_new_literal, without_brackets, embedded};
+ghost use Rattle.meaning.specs.Mentions.{addressed, addressed_within, select_from, as_bare, bare_within, as_named, as_bracketed, as_pointer, as_new_literal, without_brackets, embedded};
 ghost use Rattle.mentions.specs.MarkViews.{named_view};
 ghost use Rattle.tree.specs.declared.operator.UnaryOperator.TheVariants.{Address};
 ghost use Rattle.tree.specs.View.{expression_syntax, identifier_syntax, type_name_syntax};
@@ -73,6 +73,13 @@ pub fn as_bracketed(expression: &Expr) -> Option<Named<'_>>
     }
 }
 
+/// `n`, in brackets or not.
+pub fn bare_within(expression: &Expr) -> Option<Named<'_>>
+    ensures { option_map named_view result ≡ bare_within (expression_syntax expression.now) }
+{
+    as_bare(without_brackets(expression))
+}
+
 /// `*n`, or `*n.m`.
 pub fn as_pointer(expression: &Expr) -> Option<Named<'_>>
     ensures { option_map named_view result ≡ as_pointer (expression_syntax expression.now) }
@@ -116,6 +123,17 @@ pub fn addressed(operator: UnaryOperator, operand: &Expr) -> Option<Named<'_>>
 {
     match operator {
         UnaryOperator::Address => as_bare(operand),
+        _ => None,
+    }
+}
+
+/// `&n`, where n may stand in brackets: the operand of the operator.
+pub fn addressed_within(operator: UnaryOperator, operand: &Expr) -> Option<Named<'_>>
+    ensures { option_map named_view result ≡ addressed_within operator
+        (expression_syntax operand.now) }
+{
+    match operator {
+        UnaryOperator::Address => bare_within(operand),
         _ => None,
     }
 }

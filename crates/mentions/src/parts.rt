@@ -1,15 +1,17 @@
 //! What a mark says of a name, and the names that are declared.
 
 ghost use Rattle.std.specs.Prelude.{◌≡◌, ◌&&◌, not, [], ◌∷◌, OnOk, option_map, map};
-ghost use Rattle.meaning.specs.Mentions.{part_of, whole, is_start, elsewhere, call_of, argument_use, callee_use, place_in, name_role, is_one, value_spot, mention, declaring, number_of, left_names, declared_elsewhere, guard_in_clause};
-ghost use Rattle.mentions.specs.MarkViews.{Adds, named_view, row_view, place_view, call_view, optional_call, use_view, role_view, standing_view, spot_view};
-ghost use Rattle.tree.specs.View.{expression_syntax, expressions_syntax, identifier_syntax};
+ghost use Rattle.meaning.specs.Mentions.{part_of, whole, is_start, exposed, call_of, argument_use, callee_use, place_in, name_role, is_one, value_spot, mention, declaring, number_of, left_names, declared_elsewhere, guard_in_clause};
+ghost use Rattle.meaning.specs.Scopes.{parameters_named};
+ghost use Rattle.mentions.specs.MarkViews.{Adds, identifier_at, named_view, row_view, place_view, call_view, optional_call, use_view, role_view, standing_view, spot_view};
+ghost use Rattle.tree.specs.Syntax.{no_parameter};
+ghost use Rattle.tree.specs.View.{expression_syntax, expressions_syntax, identifier_syntax, parameter_and, parameters_syntax};
 
 use crate::kept::Marks;
 use crate::mark::{Call, CallPlace, LiteralUse, Mark, Mention, Named, Role, Row, Spot, Standing};
 use crate::named::as_named;
 use std::alloc::AllocError;
-use tree::{BLANK, Expr, Identifier, Span};
+use tree::{BLANK, Expr, Identifier, Param, Span};
 
 /// A part of an expression: it stands nowhere as a whole.
 pub fn part_of<'m, 'a>(site: u32) -> Spot<'m, 'a>
@@ -183,10 +185,17 @@ fn declare<'m, 'a>(
 fn number_of(name: &Identifier) -> Option<u32>
     ensures { result ≡ number_of (identifier_syntax name.now) }
 {
-    if name.text.as_str() == BLANK {
+    number_at(name.text.as_str(), name.span)
+}
+
+/// The number of the local that a name of this text, with these bytes, declares.
+fn number_at(text: &str, span: Span) -> Option<u32>
+    ensures { result ≡ number_of (identifier_at text.now span) }
+{
+    if text == BLANK {
         None
     } else {
-        Some(name.span.start)
+        Some(span.start)
     }
 }
 
@@ -213,10 +222,10 @@ pub fn declare_elsewhere<'m, 'a>(
     name: &'a Identifier,
 ) -> Result<(), AllocError>
     ensures { OnOk result (Adds marks.old.list.items marks.new.list.items (declaring site
-        elsewhere (identifier_syntax name.now)
+        exposed (identifier_syntax name.now)
         (number_of (identifier_syntax name.now)) ∷ [])) }
 {
-    declare(marks, site, Role::Elsewhere, name, number_of(name))
+    declare(marks, site, Role::Exposed, name, number_of(name))
 }
 
 /// Adds names that are declared where no row is.
@@ -234,6 +243,59 @@ pub fn declared_elsewhere<'m, 'a>(
     Ok(())
 }
 
+/// Adds a name that is declared where no row is, by its text and its bytes.
+pub fn declare_text<'m, 'a>(
+    marks: &mut Marks<'m, 'a>,
+    site: u32,
+    text: &'a str,
+    span: Span,
+) -> Result<(), AllocError>
+    ensures { OnOk result (Adds marks.old.list.items marks.new.list.items (declared_elsewhere site
+        (identifier_at text.now span ∷ []))) }
+{
+    let named = Named {
+        name: text,
+        at: span.start,
+        selected: None,
+    };
+    marks.push(Mark::Mentions(Mention {
+        named,
+        role: Role::Exposed,
+        site,
+        declares: number_at(text, span),
+    }))
+}
+
+/// Adds the names that a list of type parameters declares.
+pub fn declared_parameters<'m, 'a>(
+    marks: &mut Marks<'m, 'a>,
+    site: u32,
+    params: &'a [Param],
+) -> Result<(), AllocError>
+    ensures { OnOk result (Adds marks.old.list.items marks.new.list.items (declared_elsewhere site
+        (parameters_named (parameters_syntax params.now)))) }
+{
+    for param in params {
+        declared_parameter(marks, site, param)?;
+    }
+    Ok(())
+}
+
+fn declared_parameter<'m, 'a>(
+    marks: &mut Marks<'m, 'a>,
+    site: u32,
+    param: &'a Param,
+) -> Result<(), AllocError>
+    ensures { OnOk result (Adds marks.old.list.items marks.new.list.items (declared_elsewhere site
+        (parameters_named (parameter_and param.now no_parameter)))) }
+{
+    match param {
+        Param::Named(name, _, _) => declare_elsewhere(marks, site, name),
+        Param::Unnamed(_, _) => Ok(()),
+        Param::NameAlone(name) => declare_elsewhere(marks, site, name),
+    }
+}
+
 /// Adds the name of a type switch, if it has one, as each clause declares it anew.
 pub fn guard_in_clause<'m, 'a>(
     marks: &mut Marks<'m, 'a>,
@@ -249,7 +311,7 @@ pub fn guard_in_clause<'m, 'a>(
             if name.text.as_str() == BLANK {
                 Ok(())
             } else {
-                declare(marks, site, Role::Elsewhere, name, Some(clause.start))
+                declare(marks, site, Role::Exposed, name, Some(clause.start))
             }
         }
         None => Ok(()),

@@ -5,6 +5,7 @@ use Rattle.std.specs.declared.boxed.Box.{Box}
 use Rattle.std.specs.declared.vec.Vec.{Vec}
 use Rattle.tree.specs.declared.declaration.Spec.{Spec, Value, «Type», Value', Type'}
 use Rattle.tree.specs.declared.expression.Expr.{Expr}
+use Rattle.tree.specs.declared.expression.Param.{Param}
 use Rattle.tree.specs.declared.span.Identifier.{Identifier as KeptIdentifier}
 use Rattle.tree.specs.declared.span.Span.{Span}
 use Rattle.tree.specs.Syntax.{Specs, no_spec, Function, function_declaration}
@@ -18,7 +19,7 @@ specs_at-append : (s : Spec) (ss : Specs)
     → specs_at_package_level (spec_and s ss) ≡ specs_at_package_level (spec_and s no_spec) ++ specs_at_package_level ss
 unfolding spec_and
 specs_at-append (Value' ns t shape es span) ss = ap (λ l. l ++ specs_at_package_level ss) (sym (append-nil _))
-specs_at-append (Type' n alias p t t_span span) ss = ap (λ l. l ++ specs_at_package_level ss) (sym (append-nil _))
+specs_at-append (Type' n shape ps alias p t t_span span) ss = ap (λ l. l ++ specs_at_package_level ss) (sym (append-nil _))
 
 pub specs_more : (s : Spec) (ss : Specs) (name : List ℕ)
     → is_function_in (specs_at_package_level (spec_and s ss)) name
@@ -37,13 +38,13 @@ module _ (s : Spec) where
       ∙ ap (λ l. is_function_in l name) (append-nil _)
       ∙ ap (λ l. is_function_in (names_at_package_level (map identifier_syntax l)) name) (sym f))
 
-  pub type_names : (n : KeptIdentifier) (alias : Bool) (t : Box Expr Global) (span : Span) → s ≡ «Type» n alias t span
+  pub type_names : (n : KeptIdentifier) (ps : Vec Param Global) (alias : Bool) (t : Box Expr Global) (span : Span) → s ≡ «Type» n ps alias t span
       → (name : List ℕ)
       → is_function_in (declares_at_package_level false (identifier_syntax n).text) name
       ≡ is_function_in (specs_at_package_level (spec_and s no_spec)) name
-  type_names n alias t span e name =
+  type_names n ps alias t span e name =
       sym (ap (λ l. is_function_in (specs_at_package_level l) name)
-      (ap (λ x. spec_and x no_spec) e ∙ spec_and-Type n alias t span no_spec)
+      (ap (λ x. spec_and x no_spec) e ∙ spec_and-Type n ps alias t span no_spec)
       ∙ ap (λ l. is_function_in l name) (append-nil _))
 
 pub function_names : (f : Function) → can_be_meant f ≡ true → (name : List ℕ)

@@ -49,7 +49,7 @@ fn add_spec<'a>(block: &mut IndexMap<&'a str, bool>, spec: &'a Spec) -> Result<(
 {
     match spec {
         Spec::Value(names, _, _, _) => add_names(block, names),
-        Spec::Type(name, _, _, _) => add_name(block, false, name),
+        Spec::Type(name, _, _, _, _) => add_name(block, false, name),
     }
 }
 

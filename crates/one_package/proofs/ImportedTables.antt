@@ -15,19 +15,22 @@ use Rattle.declared_tables.specs.declared.tables.PackageTable.{PackageTable as K
 use Rattle.declared_tables.specs.DeclaredTables.{table_if_any}
 use Rattle.declared_tables.specs.MarkedGivers.{AllMarkGivers}
 use Rattle.meaning.specs.OuterBlocks.{or_else}
+use Rattle.whole_packages.specs.declared.loaded_package.LoadedPackage.{LoadedPackage as KeptPackage}
+use Rattle.whole_packages.specs.LoadedViews.{TellPackages}
 use Rattle.whole_packages.specs.WholeEntries.{is_set, TellsOrder}
 use Rattle.meaning_reports.proofs.ImportsOf.{has_path, no_place, names_first, list_item, in_lists, given_in_lists}
-use Rattle.meaning_reports.specs.Loaded.{LoadedPackage, PackageTable, Tables, import_list, imported_paths, no_table, is_imported, imported_signatures, imported_flags, package_names}
+use Rattle.meaning_reports.specs.Loaded.{LoadedPackage, PackageTable, Tables, import_list, imported_paths, no_table, is_imported, imported_tables, imported_signatures, imported_flags, package_names}
 use Rattle.meaning_reports.specs.PackageReports.{Rules}
 use Rattle.gathering.specs.Results.{IsNotGiven, HaveResults}
 use Rattle.silent_files.specs.SilentPackages.{GiveNone}
-use Rattle.files_to_walk.specs.Givers.{giver_by_path, may_give}
+use Rattle.files_to_walk.specs.Signs.{is_told, may_give, signs_by_path}
+use Rattle.files_to_walk.specs.declared.signs.Signs.{Signs}
 use Rattle.one_package.specs.declared.given.Given.{Given}
 use Rattle.one_package.specs.declared.judged.Judged.{Judged}
 use Rattle.one_package.specs.declared.known_imports.KnownImports.{KnownImports}
 use Rattle.one_package.specs.Judgments.{table_view, KnownAround, IsOfImport, said_view}
 use Rattle.one_package.specs.Given.{TellsGiven}
-use Rattle.one_package.specs.Results.{declared_among, declared_outside, first_at, judged_at, said_at, results_by_path, table_or, AllMarked, AreImported, HaveTheirTables, KnowsImports}
+use Rattle.one_package.specs.Results.{declared_among, declared_outside, first_at, judged_at, said_at, signs_in, results_by_path, table_or, AllMarked, AreImported, HaveTheirTables, KnowsImports}
 use Rattle.one_package.proofs.DeclaredImports.{among_is, is_outside, was_given}
 use Rattle.one_package.proofs.FirstJudged.{first_is, found_at}
 
@@ -147,45 +150,67 @@ module _ (ps : List LoadedPackage) (tables : Tables) (p : LoadedPackage) (given 
       seen None None = refl
       seen None (Some t) = refl
 
-  -- where no mark says so, no function of that path gives
-  pub givers_so : AllMarked js → AllMarkGivers given.declared → (marks : List ℕ → Option Bool)
-      → ((path : List ℕ)
-      → marks path ≡ or_else (first_at (λ j. j.table.gives) js path) (option_map (λ t. t.gives) (other path)))
-      → (path : List ℕ) → is_set (marks path) ≡ false
-      → GiveNone (imported_signatures p tables path)
-  givers_so marked declared marks are path none =
-      subst (λ (t : PackageTable). GiveNone t.signatures) (have path)
-      (by (judged_at js path) refl (other path) refl
-      (sym (ap is_set (are path
-      ∙ ap (λ o. or_else o (option_map (λ t. t.gives) (other path))) (first_is (λ j. j.table.gives) js path)))
-      ∙ none))
-    where
-      by : (o : Option Judged) → judged_at js path ≡ o → (d : Option KeptTable) → other path ≡ d
-          → is_set (or_else (option_map (λ j. j.table.gives) o) (option_map (λ t. t.gives) d)) ≡ false
-          → GiveNone (table_or (table_if_any d) o).signatures
-      by (Some j) e d same off = marked j (found_at js path j e).0 off
-      by None e (Some t) same off = declared path t (among_is given (imported_paths p) path t same) off
-      by None e None same off = λ name f none_there. absurd (none-some f none_there)
+  module _ (signs : List ℕ → Option Signs)
+      (are : (path : List ℕ) → signs path ≡ or_else (first_at (λ j. signs_in j.table) js path) (option_map signs_in (other path))) where
+    -- what the tables of what was judged and of what is declared show
+    shown : (path : List ℕ)
+        → signs path ≡ or_else (option_map (λ j. signs_in j.table) (judged_at js path)) (option_map signs_in (other path))
+    shown path = are path ∙ ap (λ o. or_else o (option_map signs_in (other path))) (first_is (λ j. signs_in j.table) js path)
 
-  pub around_so : (names : List ℕ → Option (List ℕ)) (places : List ℕ → Option ℕ) (unranked : List Bool)
+    -- where no sign says so, no function of that path gives
+    pub givers_so : AllMarked js → AllMarkGivers given.declared
+        → (path : List ℕ) → is_set (option_map (λ s. s.gives) (signs path)) ≡ false
+        → GiveNone (imported_signatures p tables path)
+    givers_so marked declared path none =
+        subst (λ (t : PackageTable). GiveNone t.signatures) (have path)
+        (by (judged_at js path) refl (other path) refl
+        (sym (ap (λ o. is_set (option_map (λ (s : Signs). s.gives) o)) (shown path)) ∙ none))
+      where
+        by : (o : Option Judged) → judged_at js path ≡ o → (d : Option KeptTable) → other path ≡ d
+            → is_set (option_map (λ (s : Signs). s.gives) (or_else (option_map (λ j. signs_in j.table) o) (option_map signs_in d))) ≡ false
+            → GiveNone (table_or (table_if_any d) o).signatures
+        by (Some j) e d same off = marked j (found_at js path j e).0 off
+        by None e (Some t) same off = declared path t (among_is given (imported_paths p) path t same) off
+        by None e None same off = λ name f none_there. absurd (none-some f none_there)
+
+    -- they say so where the table tells of something
+    pub told_so : (path : List ℕ)
+        → is_set (option_map (λ s. s.is_told) (signs path)) ≡ (imported_tables p tables path).is_told
+    told_so path =
+        ap (λ o. is_set (option_map (λ (s : Signs). s.is_told) o)) (shown path)
+        ∙ (seen (judged_at js path) (other path) ∙ ap (λ (t : PackageTable). t.is_told) (have path))
+      where
+        seen : (o : Option Judged) (d : Option KeptTable)
+            → is_set (option_map (λ (s : Signs). s.is_told) (or_else (option_map (λ j. signs_in j.table) o) (option_map signs_in d)))
+            ≡ (table_or (table_if_any d) o).is_told
+        seen (Some j) d = refl
+        seen None None = refl
+        seen None (Some t) = refl
+
+  pub around_so : (packages : List KeptPackage) (names : List ℕ → Option (List ℕ)) (places : List ℕ → Option ℕ) (unranked : List Bool)
       (known : KnownImports)
+      → TellPackages ps packages
       → ((path : List ℕ) → names path ≡ package_names ps path)
       → TellsOrder ps places unranked
       → KnowsImports given (imported_paths p) js known
       → AllMarked js
       → AllMarkGivers given.declared
       → KnownAround ps tables p (record {
+        packages = packages;
         names = names;
         signatures = facts_by_path known.signatures;
         calls = flags_by_path known.calls;
-        givers = may_give known.givers;
+        givers = may_give known.signs;
+        told = is_told known.signs;
         unranked = places;
         unranked_marks = unranked;
       })
-  around_so names places unranked known are_names order knows marked declared = record {
+  around_so packages names places unranked known tell are_names order knows marked declared = record {
+    tell = tell;
     are_names = are_names;
     are_signatures = λ path name. ap (λ t. facts_in_table t name) (knows.are_signatures path) ∙ signatures_so path name;
     are_calls = λ path name k. ap (λ t. is_called_in t name k) (knows.are_calls path) ∙ calls_so path name k;
-    are_givers = givers_so marked declared (giver_by_path known.givers) knows.are_givers;
+    are_givers = givers_so (signs_by_path known.signs) knows.are_signs marked declared;
+    are_told = told_so (signs_by_path known.signs) knows.are_signs;
     is_order = order;
   }

@@ -5,6 +5,8 @@ mod GivenOrder
 pub mod ImportedTables
 mod ImportsNotYes
 pub mod JudgedFiles
+mod LeftOutDots
+mod NeededImports
 mod NothingSaid
 mod PackageNames
 mod WholeOnly

@@ -14,7 +14,7 @@ use Rattle.report.specs.Entries.{Entry}
 use Rattle.meaning_reports.specs.Loaded.{LoadedPackage, NumberedTree, Tables, numbered_trees, trees_of}
 use Rattle.meaning_reports.specs.WholeFaults.{IsWholeFault, HasNoWholeFault, has_two_functions}
 use Rattle.meaning_reports.specs.PackageTables.{empty}
-use Rattle.meaning_reports.specs.PackageReports.{Rules, IsFindingBy, of_whole, of_import, of_files}
+use Rattle.meaning_reports.specs.PackageReports.{Rules, IsFindingBy, of_whole, of_import, of_dot, of_files}
 use Rattle.one_package.specs.declared.judged.Judged.{Judged}
 use Rattle.one_package.specs.Judgments.{IsJudgment, IsWholeOnly}
 
@@ -60,7 +60,8 @@ is_there (x ∷ xs) k l e = none-some (get_or (x ∷ xs) k x) (sym e ∙ slice_g
 module _ (rules : Rules) (ps : List LoadedPackage) (tables : Tables) (i : ℕ) (p : LoadedPackage) where
   whole_of : (y : Entry) → IsWholeFault ps i y → (x : Entry) → IsFindingBy rules ps tables i x → IsWholeFault ps i x
   whole_of y fault x (of_whole w) = w
-  whole_of y fault x (of_import j number spec z none imports finding) = absurd (none y fault)
+  whole_of y fault x (of_import j number spec z none imports needed finding) = absurd (none y fault)
+  whole_of y fault x (of_dot file dot none out) = absurd (none y fault)
   whole_of y fault x (of_files none said) = absurd (none y fault)
 
   pub only_whole : (judged : Judged) (entries : List Entry) → IsWholeOnly entries judged

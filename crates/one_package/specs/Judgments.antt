@@ -10,17 +10,19 @@ use Rattle.imports.specs.Ranks.{Imports}
 use Rattle.imports.specs.Views.{at_path}
 use Rattle.called_parameters.specs.Called.{flags_by_path}
 use Rattle.whole_packages.specs.declared.loaded_package.LoadedPackage.{LoadedPackage as KeptPackage}
+use Rattle.whole_packages.specs.LoadedViews.{TellPackages}
 use Rattle.whole_packages.specs.WholeEntries.{is_set, TellsOrder}
 use Rattle.first_values.specs.ValuesByName.{value_of}
 use Rattle.names.specs.Answers.{names_by_path}
 use Rattle.report.specs.Entries.{Entry, Precedes, entry_of}
 use Rattle.report.specs.declared.diagnostics.Diagnostic.{Diagnostic}
 use Rattle.report.specs.declared.diagnostics.PackageReport.{PackageReport}
-use Rattle.meaning_reports.specs.Loaded.{LoadedPackage, PackageTable, Tables, import_list, package_names, imported_signatures, imported_flags}
+use Rattle.meaning_reports.specs.Loaded.{LoadedPackage, PackageTable, Tables, import_list, package_names, imported_tables, imported_signatures, imported_flags}
 use Rattle.meaning_reports.specs.PackageTables.{IsTableBy, IsEmpty}
+use Rattle.meaning_reports.specs.UsedImports.{IsNeeded}
 use Rattle.meaning_reports.specs.PackageReports.{Rules, Said, IsFindingBy, AreFindingsBy}
 use Rattle.silent_files.specs.SilentPackages.{GiveNone}
-use Rattle.files_to_walk.specs.Givers.{may_give}
+use Rattle.files_to_walk.specs.Signs.{is_told, may_give}
 use Rattle.one_package.specs.declared.judged.Around.{Around}
 use Rattle.one_package.specs.declared.judged.Judged.{Judged}
 use Rattle.one_package.specs.declared.known_imports.NotYes.{NotYes}
@@ -51,28 +53,34 @@ is_yes report = says_nothing report.diagnostics.items
 
 -- what is kept of the packages around one
 pub record Surroundings : Type 0 where
+  pub packages : List KeptPackage
   pub names : List ℕ → Option (List ℕ)
   pub signatures : List ℕ → List ℕ → Option FunctionFacts
   pub calls : List ℕ → Flags
   pub givers : List ℕ → Bool
+  pub told : List ℕ → Bool
   pub unranked : List ℕ → Option ℕ
   pub unranked_marks : List Bool
 
 -- it is what is known of those around the package
 pub record KnownAround (ps : List LoadedPackage) (tables : Tables) (p : LoadedPackage) (around : Surroundings)
     : Type 0 where
+  pub tell : TellPackages ps around.packages
   pub are_names : (path : List ℕ) → around.names path ≡ package_names ps path
   pub are_signatures : (path name : List ℕ) → around.signatures path name ≡ imported_signatures p tables path name
   pub are_calls : (path name : List ℕ) (k : ℕ) → around.calls path name k ≡ imported_flags p tables path name k
   pub are_givers : (path : List ℕ) → around.givers path ≡ false → GiveNone (imported_signatures p tables path)
+  pub are_told : (path : List ℕ) → around.told path ≡ (imported_tables p tables path).is_told
   pub is_order : TellsOrder ps around.unranked around.unranked_marks
 
 abbrev pub around_view : Around → Surroundings
 around_view around = record {
+  packages = around.packages.now;
   names = names_by_path around.names.now;
   signatures = facts_by_path around.signatures.now;
   calls = flags_by_path around.calls.now;
-  givers = may_give around.givers.now;
+  givers = may_give around.signs.now;
+  told = is_told around.signs.now;
   unranked = at_path around.unranked.places.now;
   unranked_marks = around.unranked.marks.now;
 }
@@ -103,6 +111,16 @@ pub record AreNotYes
       → Imports (import_list ps) i j
       → slice_get ps j ≡ Some q
       → (picked q.path ≡ true) ↔ HasFinding rules ps tables j
+  pub are_given : (path : List ℕ) → picked path ≡ true → IsOfImport ps i path
+
+-- picked are those of them that the package needs to be yes
+pub record ArePicked
+    (rules : Rules) (ps : List LoadedPackage) (tables : Tables) (i : ℕ) (picked : List ℕ → Bool)
+    : Type 0 where
+  pub of_imports : (j : ℕ) (q : LoadedPackage)
+      → Imports (import_list ps) i j
+      → slice_get ps j ≡ Some q
+      → (picked q.path ≡ true) ↔ (HasFinding rules ps tables j × IsNeeded ps tables i j q.path)
   pub are_given : (path : List ℕ) → picked path ≡ true → IsOfImport ps i path
 
 -- whether something is to be said of the package of that path, if it was judged

@@ -14,7 +14,8 @@ use Rattle.declared_tables.specs.MarkedGivers.{MarksGivers}
 use Rattle.meaning_reports.specs.Loaded.{LoadedPackage, PackageTable, Tables, import_list, imported_paths, imported_tables}
 use Rattle.meaning_reports.specs.PackageReports.{Said}
 use Rattle.gathering.specs.Results.{Results}
-use Rattle.files_to_walk.specs.Givers.{giver_by_path}
+use Rattle.files_to_walk.specs.Signs.{signs_by_path}
+use Rattle.files_to_walk.specs.declared.signs.Signs.{Signs}
 use Rattle.one_package.specs.declared.given.Given.{Given}
 use Rattle.one_package.specs.declared.judged.Judged.{Judged}
 use Rattle.one_package.specs.declared.known_imports.KnownImports.{KnownImports}
@@ -61,12 +62,16 @@ pub record AreImported (ps : List LoadedPackage) (i : ℕ) (js : List Judged) : 
 abbrev pub is_not_yes : Judged → Bool
 is_not_yes j = not (is_yes j.report)
 
--- what they say of functions, of which packages functions may give, and of which packages something is to be said
+-- what a table shows before one looks for a function
+abbrev pub signs_in : KeptTable → Signs
+signs_in t = record { gives = t.gives; is_told = t.is_told }
+
+-- what they say of functions, what their tables show, and of which packages something is to be said
 pub record KnowsJudged (js : List Judged) (known : KnownImports) : Type 0 where
   pub are_signatures : (path : List ℕ)
       → table_by_path known.signatures path ≡ first_at (λ j. j.table.signatures) js path
   pub are_calls : (path : List ℕ) → called_by_path known.calls path ≡ first_at (λ j. j.table.called) js path
-  pub are_givers : (path : List ℕ) → giver_by_path known.givers path ≡ first_at (λ j. j.table.gives) js path
+  pub are_signs : (path : List ℕ) → signs_by_path known.signs path ≡ first_at (λ j. signs_in j.table) js path
   pub are_not_yes : (path : List ℕ) → mark_by_path known.not_yes path ≡ first_at is_not_yes js path
 
 -- What is declared of a package's imports
@@ -87,8 +92,8 @@ declared_among given paths path =
 
 -- What is known of a package's imports by these, and by what is declared
 
--- what they say of functions, and whether some may give, what is declared of the paths of which none was given, and of
--- which packages something is to be said
+-- what they say of functions, and what their tables show, what is declared of the paths of which none was given, and
+-- of which packages something is to be said
 pub record KnowsImports (given : Given) (paths : List (List ℕ)) (js : List Judged) (known : KnownImports)
     : Type 0 where
   pub are_signatures : (path : List ℕ)
@@ -99,10 +104,10 @@ pub record KnowsImports (given : Given) (paths : List (List ℕ)) (js : List Jud
       → called_by_path known.calls path
       ≡ or_else (first_at (λ j. j.table.called) js path)
       (option_map (λ t. t.called) (declared_among given paths path))
-  pub are_givers : (path : List ℕ)
-      → giver_by_path known.givers path
-      ≡ or_else (first_at (λ j. j.table.gives) js path)
-      (option_map (λ t. t.gives) (declared_among given paths path))
+  pub are_signs : (path : List ℕ)
+      → signs_by_path known.signs path
+      ≡ or_else (first_at (λ j. signs_in j.table) js path)
+      (option_map signs_in (declared_among given paths path))
   pub are_not_yes : (path : List ℕ) → mark_by_path known.not_yes path ≡ first_at is_not_yes js path
 
 abbrev pub table_or : PackageTable → Option Judged → PackageTable

@@ -8,7 +8,7 @@ use Rattle.calls_flags.specs.FilesBodies.{HaveBodies, with_all_credits}
 use Rattle.meaning_packages.specs.CallsFlags.{FileWithCredits, AreMost}
 use Rattle.meaning_reports.specs.Loaded.{LoadedPackage, Tables, imported_flags, signatures_of}
 use Rattle.meaning_reports.specs.PackageReports.{Rules, IsFindingBy, SaysByPaths}
-use Rattle.meaning_reports.specs.PackageTables.{AreFlagsByPaths}
+use Rattle.meaning_reports.specs.PackageTables.{tells_of, AreFlagsByPaths}
 use Rattle.meaning_reports.specs.WholeFaults.{IsWholeFault, HasNoWholeFault}
 use Rattle.report.specs.Entries.{Entry, entry_of}
 use Rattle.silent_files.specs.SilentPackages.{GiveNone}
@@ -25,13 +25,14 @@ use Rattle.one_package.specs.declared.judged.FoundPackage.{FoundPackage}
 abbrev pub IsMarked : ToldPackage → Type 0
 IsMarked told = told.gives ≡ false → GiveNone (facts_by_name told.signatures)
 
--- What is kept are the signatures of its functions, and what was told of its files as they were seen. Of files that may
--- be skipped nothing need be told, unless all have to be.
+-- What is kept are the signatures of its functions, whether these have anything that is tracked, and what was told of
+-- its files as they were seen. Of files that may be skipped nothing need be told, unless all have to be.
 pub record IsToldPackage
     (ps : List LoadedPackage) (tables : Tables) (p : LoadedPackage) (tells_all : Bool) (told : ToldPackage)
     : Type 0 where
   pub walked : ℕ → Bool
   pub are_signatures : (name : List ℕ) → facts_by_name told.signatures name ≡ signatures_of ps p name
+  pub is_told : told.is_told ≡ tells_of ps p
   pub are_files : TellAllSeen (walked_files ps tables p walked) told.files.items
   pub skip_silent : SkipsSilent ps tables p walked
   pub all : tells_all ≡ true → (n : ℕ) → walked n ≡ true

@@ -12,16 +12,18 @@ ghost use Rattle.report.specs.Entries.{Entry, Precedes, entry_of};
 ghost use Rattle.meaning_reports.specs.Loaded.{LoadedPackage as MeantPackage, Tables};
 ghost use Rattle.meaning_reports.specs.WholeFaults.{HasNoWholeFault};
 
+use crate::dots::add_left_out;
 use crate::file_rules::{FileRules, FoundFiles, Judges};
 use crate::grounds::{Grounds, find_grounds};
 use crate::hands::Hands;
 use crate::known_imports::NotYes;
+use crate::needed::Needed;
 use crate::told_package::{Tellers, ToldPackage};
 use called_parameters::{Called, ImportedCalls};
 use certificate_json::Body;
 use declared_tables::PackageTable;
 use facts::{Imported, Table};
-use files_to_walk::Givers;
+use files_to_walk::KnownSigns;
 use names::PackageNames;
 use report::{Diagnostic, DiagnosticCode, PackageReport, in_order};
 use std::alloc::Global;
@@ -30,14 +32,16 @@ use whole_packages::{LoadedPackage, Marked, add_imports, numbered_trees};
 /// What is known of the packages around the one that is judged.
 #[derive(Clone, Copy)]
 pub struct Around<'k, 'a> {
+    /// The given packages.
+    pub packages: &'a [LoadedPackage],
     /// The names of the given packages.
     pub names: &'k PackageNames<'a>,
     /// What the signatures of its imports' functions say.
     pub signatures: &'k Imported<'a, 'k>,
     /// Which of their parameters its imports' functions are known to call.
     pub calls: &'k ImportedCalls<'a, 'k>,
-    /// Its imports that may have a function that gives.
-    pub givers: &'k Givers<'a>,
+    /// What else is known of the functions of its imports.
+    pub signs: &'k KnownSigns<'a>,
     /// The given packages that have no rank.
     pub unranked: Marked<'k, 'a>,
     /// Its imports that are not yes.
@@ -92,6 +96,7 @@ fn whole_only<'a>(
             signatures: Table::new(alloc),
             called: Called::new(alloc),
             gives: false,
+            is_told: false,
         },
         certificates: Vec::new(alloc),
     }
@@ -125,12 +130,19 @@ fn find_in_package<'a, R: FileRules, H: Hands>(
         certificates,
     } = by.rules.find(alloc, by.hands, loaded, told, around)?;
     let trees = numbered_trees(alloc, loaded)?;
+    let needed = Needed {
+        alloc,
+        edition: loaded.edition,
+        around,
+        files: &told.files,
+    };
     add_imports(
-        around.not_yes,
+        &needed,
         DiagnosticCode::ImportIsNotYes,
         &trees,
         &mut diagnostics,
     )?;
+    add_left_out(alloc, around, &trees, &mut diagnostics)?;
     Ok(FoundPackage {
         diagnostics,
         called,
@@ -166,6 +178,7 @@ fn judge_told<'a, R: FileRules, H: Hands>(
     let ToldPackage {
         signatures,
         gives,
+        is_told,
         ..
     } = told;
     Ok(Judged {
@@ -174,6 +187,7 @@ fn judge_told<'a, R: FileRules, H: Hands>(
             signatures,
             called,
             gives,
+            is_told,
         },
         certificates,
     })

@@ -28,10 +28,11 @@ pub fn around<'k, 't, 'a>(given: &'k Given<'a>, imports: &'k KnownImports<'a, 't
     ensures not_yes { result.not_yes.now ≡ imports.now.not_yes }
 {
     Around {
+        packages: given.packages,
         names: &given.names,
         signatures: &imports.signatures,
         calls: &imports.calls,
-        givers: &imports.givers,
+        signs: &imports.signs,
         unranked: Marked {
             places: &given.places,
             marks: &given.unranked,

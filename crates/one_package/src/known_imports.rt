@@ -3,23 +3,23 @@
 ghost use Rattle.std.specs.Prelude.{◌≡◌, ◌++◌, ◌∷◌, ℕ, List, [], OnOk, None, option_map};
 ghost use Rattle.called_parameters.specs.Called.{called_by_path};
 ghost use Rattle.facts.specs.FactViews.{table_by_path};
-ghost use Rattle.files_to_walk.specs.Givers.{giver_by_path};
+ghost use Rattle.files_to_walk.specs.Signs.{signs_by_path};
 ghost use Rattle.first_values.specs.ValuesByName.{only_at};
 ghost use Rattle.imports.specs.Views.{text_views};
 ghost use Rattle.meaning.specs.OuterBlocks.{or_else};
 ghost use Rattle.one_package.specs.Judgments.{is_picked, mark_by_path};
-ghost use Rattle.one_package.specs.Results.{declared_among, declared_if, KnowsImports, KnowsJudged};
+ghost use Rattle.one_package.specs.Results.{declared_among, declared_if, signs_in, KnowsImports, KnowsJudged};
 ghost use Rattle.one_package.specs.declared.judged.Judged.{Judged};
 
 use crate::given::Given;
 use crate::judged::Judged;
 use crate::verdicts::is_yes;
 use called_parameters::ImportedCalls;
+use declared_tables::PackageTable;
 use facts::Imported;
-use files_to_walk::Givers;
+use files_to_walk::{KnownSigns, Signs};
 use first_values::FirstValues;
 use std::alloc::{AllocError, Global};
-use whole_packages::Picks;
 
 /// The packages that are not yes, among those that were judged.
 #[derive(Drop)]
@@ -48,12 +48,11 @@ impl<'a> NotYes<'a> {
     {
         self.packages.insert(path, is_not_yes)
     }
-}
 
-impl Picks for NotYes<'_> {
-    ghost picked = { is_picked };
-
-    fn picks(&self, path: &str) -> bool {
+    /// Whether something is to be said of the package of that path, as far as it was judged.
+    pub fn has(&self, path: &str) -> bool
+        ensures { result ≡ is_picked self.now path.now }
+    {
         match self.packages.get(path) {
             Some(mark) => *mark,
             None => false,
@@ -68,10 +67,20 @@ pub struct KnownImports<'a, 'k> {
     pub signatures: Imported<'a, 'k>,
     /// Which of their parameters their functions are known to call.
     pub calls: ImportedCalls<'a, 'k>,
-    /// Those that may have a function that gives.
-    pub givers: Givers<'a>,
+    /// What else is known of their functions.
+    pub signs: KnownSigns<'a>,
     /// Those that are not yes.
     pub not_yes: NotYes<'a>,
+}
+
+/// What a table shows before one looks for a function.
+fn signs_in(table: &PackageTable<'_>) -> Signs
+    ensures { result ≡ signs_in table.now }
+{
+    Signs {
+        gives: table.gives,
+        is_told: table.is_told,
+    }
 }
 
 /// Adds what is declared of the package of that path, unless it was given, or something is known of its path.
@@ -80,7 +89,7 @@ fn add_declared<'a, 'k>(
     path: &'a str,
     signatures: &mut Imported<'a, 'k>,
     calls: &mut ImportedCalls<'a, 'k>,
-    givers: &mut Givers<'a>,
+    signs: &mut KnownSigns<'a>,
 ) -> Result<(), AllocError>
     ensures signatures { OnOk result ((other : List ℕ) → table_by_path signatures.new other
         ≡ or_else (table_by_path signatures.old other)
@@ -88,9 +97,9 @@ fn add_declared<'a, 'k>(
     ensures calls { OnOk result ((other : List ℕ) → called_by_path calls.new other
         ≡ or_else (called_by_path calls.old other)
         (option_map (λ t. t.called) (declared_if given.now path.now other))) }
-    ensures givers { OnOk result ((other : List ℕ) → giver_by_path givers.new other
-        ≡ or_else (giver_by_path givers.old other)
-        (option_map (λ t. t.gives) (declared_if given.now path.now other))) }
+    ensures signs { OnOk result ((other : List ℕ) → signs_by_path signs.new other
+        ≡ or_else (signs_by_path signs.old other)
+        (option_map signs_in (declared_if given.now path.now other))) }
 {
     if given.places.contains_key(path) {
         return Ok(());
@@ -99,7 +108,7 @@ fn add_declared<'a, 'k>(
         Some(table) => {
             signatures.insert(path, &table.signatures)?;
             calls.insert(path, &table.called)?;
-            givers.insert(path, table.gives)
+            signs.insert(path, signs_in(table))
         }
         None => Ok(()),
     }
@@ -111,7 +120,7 @@ fn add_all_declared<'a, 'k>(
     paths: &[&'a str],
     signatures: &mut Imported<'a, 'k>,
     calls: &mut ImportedCalls<'a, 'k>,
-    givers: &mut Givers<'a>,
+    signs: &mut KnownSigns<'a>,
 ) -> Result<(), AllocError>
     ensures signatures { OnOk result ((other : List ℕ) → table_by_path signatures.new other
         ≡ or_else (table_by_path signatures.old other)
@@ -119,12 +128,12 @@ fn add_all_declared<'a, 'k>(
     ensures calls { OnOk result ((other : List ℕ) → called_by_path calls.new other
         ≡ or_else (called_by_path calls.old other)
         (option_map (λ t. t.called) (declared_among given.now (text_views paths.now) other))) }
-    ensures givers { OnOk result ((other : List ℕ) → giver_by_path givers.new other
-        ≡ or_else (giver_by_path givers.old other)
-        (option_map (λ t. t.gives) (declared_among given.now (text_views paths.now) other))) }
+    ensures signs { OnOk result ((other : List ℕ) → signs_by_path signs.new other
+        ≡ or_else (signs_by_path signs.old other)
+        (option_map signs_in (declared_among given.now (text_views paths.now) other))) }
 {
     for path in paths {
-        add_declared(given, path, signatures, calls, givers)?;
+        add_declared(given, path, signatures, calls, signs)?;
     }
     Ok(())
 }
@@ -137,7 +146,7 @@ impl<'a, 'k> KnownImports<'a, 'k> {
         KnownImports {
             signatures: Imported::new(alloc),
             calls: ImportedCalls::new(alloc),
-            givers: Givers::new(alloc),
+            signs: KnownSigns::new(alloc),
             not_yes: NotYes::new(alloc),
         }
     }
@@ -154,7 +163,7 @@ impl<'a, 'k> KnownImports<'a, 'k> {
         let path = one.report.path;
         self.signatures.insert(path, &one.table.signatures)?;
         self.calls.insert(path, &one.table.called)?;
-        self.givers.insert(path, one.table.gives)?;
+        self.signs.insert(path, signs_in(&one.table))?;
         self.not_yes.insert(path, !is_yes(&one.report))?;
         Ok(())
     }
@@ -174,7 +183,7 @@ impl<'a, 'k> KnownImports<'a, 'k> {
             paths,
             &mut self.signatures,
             &mut self.calls,
-            &mut self.givers,
+            &mut self.signs,
         )
     }
 }

@@ -3,6 +3,7 @@
 #![tactic(auto)]
 
 mod by_paths;
+mod dots;
 mod file_rules;
 mod given;
 mod grounds;
@@ -10,6 +11,7 @@ mod hands;
 mod judged;
 mod judging;
 mod known_imports;
+mod needed;
 mod package_names;
 mod told_package;
 mod verdicts;

@@ -14,7 +14,7 @@ use crate::judged::Around;
 use called_parameters::{Called, ImportedCalls};
 use calls_flags::{FileBodies, Telling, ToldFile};
 use facts::{Table, signatures};
-use files_to_walk::{gives_some, walked_files};
+use files_to_walk::{signs_of_files, walked_files};
 use names::Names;
 use std::alloc::Global;
 use whole_packages::LoadedPackage;
@@ -26,6 +26,8 @@ pub struct ToldPackage<'a> {
     pub signatures: Table<'a>,
     /// Whether one of its functions may give a cancel function.
     pub gives: bool,
+    /// Whether one has a parameter or a result that is tracked.
+    pub is_told: bool,
     /// What was told of its files. Of files without anything to find nothing need be.
     pub files: Vec<ToldFile<'a>>,
 }
@@ -71,11 +73,12 @@ pub fn tell_package<'a, H: Hands>(
         → IsToldPackage ps tables p tellers.now.tells_all told) }
     ensures marked { IfOk result IsMarked }
 {
-    let table = signatures(alloc, &loaded.trees, names)?;
-    let gives = gives_some(&table, &loaded.trees);
-    let all = needs_all(tellers.tells_all, gives);
-    let walked = walked_files(alloc, loaded, around.givers, all)?;
+    let table = signatures(alloc, loaded.edition, &loaded.trees, names)?;
+    let signs = signs_of_files(&table, &loaded.trees);
+    let all = needs_all(tellers.tells_all, signs.gives);
+    let walked = walked_files(alloc, loaded, around.signs, all)?;
     let telling = Telling {
+        edition: loaded.edition,
         files: &loaded.trees,
         names: &*names,
         table: &table,
@@ -85,7 +88,8 @@ pub fn tell_package<'a, H: Hands>(
     let files = tellers.hands.tell(alloc, telling)?;
     Ok(ToldPackage {
         signatures: table,
-        gives,
+        gives: signs.gives,
+        is_told: signs.is_told,
         files,
     })
 }

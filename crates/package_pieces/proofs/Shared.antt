@@ -25,6 +25,7 @@ use Rattle.mentions.proofs.mark.LiteralUse.TheSendSync as literal
 use Rattle.mentions.specs.contracts.mark.BodyPlace as place
 use Rattle.names.proofs.resolution.Names.TheSendSync as names
 use Rattle.tree.proofs.declaration.Spec.TheLaws.TheKnot as knot
+use Rattle.tree.proofs.edition.Edition.TheSendSync as edition
 use Rattle.tree.proofs.file.ImportDecl.TheSendSync as import_declaration
 use Rattle.tree.proofs.name_text.NameText.TheSendSync as name
 use Rattle.tree.proofs.operator.BasicLitKind.TheSendSync as literal_kind
@@ -87,10 +88,13 @@ tree_sync =
 pub telling_sync : (κ ι : NamedLft) → IsSync (telling.the_row κ ι)
 telling_sync κ ι =
     declared_sync (telling.the_type κ ι) (
-      search (sendable, tree_sync),
+      search (sendable, edition.the_sync),
       (
-        search (sendable, names.the_sync),
-        (search (sendable, table.the_sync), (search (sendable, imported.the_sync), (search sendable, tt))),
+        search (sendable, tree_sync),
+        (
+          search (sendable, names.the_sync),
+          (search (sendable, table.the_sync), (search (sendable, imported.the_sync), (search sendable, tt))),
+        ),
       ),
     )
 
@@ -131,12 +135,15 @@ place_send κ =
 told_sync : (κ : NamedLft) → IsSync (told.the_row κ)
 told_sync κ =
     declared_sync (told.the_type κ) (
-      search (sendable, vec.the_sync, alloc.the_sync, fault.the_sync),
+      search (sendable, edition.the_sync),
       (
-        search (sendable, lists.the_sync, fault.the_sync),
+        search (sendable, vec.the_sync, alloc.the_sync, fault.the_sync),
         (
-          search (sendable, lists.the_sync, event.the_sync),
-          (search (sendable, lists.the_sync), (search (sendable, vec.the_sync, alloc.the_sync, place_sync), tt)),
+          search (sendable, lists.the_sync, fault.the_sync),
+          (
+            search (sendable, lists.the_sync, event.the_sync),
+            (search (sendable, lists.the_sync), (search (sendable, vec.the_sync, alloc.the_sync, place_sync), tt)),
+          ),
         ),
       ),
     )
@@ -148,12 +155,15 @@ file_sync κ =
 told_send : (κ : NamedLft) → IsSend (told.the_row κ)
 told_send κ =
     declared_send (told.the_type κ) (
-      search (sendable, crosses, fault.the_send),
+      search (sendable, edition.the_send),
       (
-        search (sendable, lists.the_send, fault.the_send),
+        search (sendable, crosses, fault.the_send),
         (
-          search (sendable, lists.the_send, event.the_send),
-          (search (sendable, lists.the_send), (search (sendable, crosses, place_send), tt)),
+          search (sendable, lists.the_send, fault.the_send),
+          (
+            search (sendable, lists.the_send, event.the_send),
+            (search (sendable, lists.the_send), (search (sendable, crosses, place_send), tt)),
+          ),
         ),
       ),
     )

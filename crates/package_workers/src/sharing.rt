@@ -4,7 +4,7 @@ ghost use Rattle.std.specs.Thread.{IsSync};
 ghost use Rattle.whole_packages.specs.contracts.loaded_package.LoadedPackage.{the_row as package_row};
 
 use lexer::Source;
-use tree::File;
+use tree::{Edition, File};
 use whole_packages::{LoadedPackage, Reading};
 
 /// Values of this type may be shared by threads. It does nothing.
@@ -20,5 +20,6 @@ pub fn packages_are_shared()
     are_shared::<Vec<Source>>();
     are_shared::<Vec<Reading>>();
     are_shared::<Vec<File>>();
+    are_shared::<Edition>();
     are_shared::<LoadedPackage>();
 }

@@ -6,7 +6,7 @@ use Rattle.tree.specs.declared.file.ImportDecl.{ImportDecl}
 use Rattle.tree.specs.declared.file.TopLevelDecl.{TopLevelDecl}
 use Rattle.tree.specs.Syntax.{ImportDeclaration, TopLevelDeclaration}
 use Rattle.tree.specs.View.{import_syntax, top_level_syntax}
-use Rattle.meaning.specs.Cursor.{Cursor}
+use Rattle.meaning.specs.Cursor.{Cursor, GoText}
 use Rattle.tree_reader.specs.Reader.{is_over, read_import, read_imports, read_top_level, read_top_levels, read_top_levels_within}
 use Rattle.tree_reader.specs.Reading.{Read, stands, steps, take_semicolon}
 use Rattle.parser_base.proofs.Growing.{prepend, prepend-all, after, starts, runs_out, ends, fails, goes_on}
@@ -21,7 +21,7 @@ and_import i is = import_syntax i ∷ is
 all_imports : (is : List ImportDecl) → prepend and_import is [] ≡ map import_syntax is
 all_imports is = prepend-all and_import [] (map import_syntax) refl (λ x xs. refl) is
 
-module _ (text : List ℕ) where
+module _ (text : GoText) where
   pub imports-start : (place : Cursor) (count : ℕ) → count ≡ steps place → after and_import [] (read_imports text (count - 0) place) ≡ read_imports text (steps place) place
   imports-start place count same = starts and_import (read_imports text) count (steps place) place same
 
@@ -71,7 +71,7 @@ module _ {A C D : Type 0} (g : A → C → Option D) where
   rejoin None f = refl
   rejoin (Some x) f = rejoin-second x.0 (f x.1)
 
-module _ (text : List ℕ) where
+module _ (text : GoText) where
   one_declared : (n : ℕ) (place : Cursor) → is_over text place ≡ false → read_top_levels text (suc n) place ≡ option_and_then (λ (d : TopLevelDeclaration × Cursor). option_and_then (λ (more : List TopLevelDeclaration × Cursor). Some (d.0 ∷ more.0, more.1)) (read_top_levels text n d.1)) (read_declared text place)
   unfolding read_top_levels_within read_declared
   one_declared n place left =

@@ -3,7 +3,7 @@ use Rattle.std.proofs.Common.{◌≡◌, ℕ, List, Option, Some, None, refl, �
 use Rattle.std.specs.Prelude.{option_and_then}
 use Rattle.tree.specs.Syntax.{Identifier, ImportDeclaration, TopLevelDeclaration, SourceFile}
 use Rattle.lexer.specs.declared.token.TokenKind.TheVariants.{PackageKeyword}
-use Rattle.meaning.specs.Cursor.{Cursor}
+use Rattle.meaning.specs.Cursor.{Cursor, GoText}
 use Rattle.tree_reader.specs.Reader.{read_imports, read_top_levels, read_file, read_file_within}
 use Rattle.tree_reader.specs.Reading.{Read, take, steps, span_between, take_semicolon, read_identifier}
 use Rattle.parser.specs.FileParts.{read_front}
@@ -28,7 +28,7 @@ module _ {N C I Z : Type 0} (g : (N × I) × C → Option Z) where
       rejoin_first first None = refl
       rejoin_first first (Some w) = rejoin_second (first w)
 
-module _ (text : List ℕ) (place : Cursor) where
+module _ (text : GoText) (place : Cursor) where
   abbrev file_of : Identifier × List ImportDeclaration → List TopLevelDeclaration × Cursor → SourceFile × Cursor
   file_of front ds =
       (record { package_name = front.0; imports = front.1; declarations = ds.0; span = span_between place ds.1 }, ds.1)

@@ -3,17 +3,17 @@
 use Rattle.std.specs.Prelude.{ℕ, List, Some}
 use Rattle.tree.specs.Syntax.{Identifier, ImportDeclaration, TopLevelDeclaration}
 use Rattle.lexer.specs.declared.token.TokenKind.TheVariants.{PackageKeyword}
-use Rattle.meaning.specs.Cursor.{Cursor}
+use Rattle.meaning.specs.Cursor.{Cursor, GoText}
 use Rattle.tree_reader.specs.Reader.{read_imports, read_top_level}
 use Rattle.tree_reader.specs.Reading.{Read, ◌>>=◌, take, steps, take_semicolon, read_identifier}
 
-unfoldable pub read_declared : List ℕ → Cursor → Read TopLevelDeclaration
+unfoldable pub read_declared : GoText → Cursor → Read TopLevelDeclaration
 read_declared text place = do
   first ← read_top_level text place
   end ← take_semicolon first.1
   Some (first.0, end)
 
-unfoldable pub read_front : List ℕ → Cursor → Read (Identifier × List ImportDeclaration)
+unfoldable pub read_front : GoText → Cursor → Read (Identifier × List ImportDeclaration)
 read_front text place = do
   word ← take PackageKeyword place
   n ← read_identifier text word

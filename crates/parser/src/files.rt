@@ -6,8 +6,8 @@ ghost use Rattle.meaning.specs.declared.TheConstants.{MOST_DEPTH};
 ghost use Rattle.tree.specs.View.{block_syntax, file_syntax, function_syntax, identifier_syntax, import_syntax, parameters_syntax, top_level_syntax};
 ghost use Rattle.parser_base.specs.Gives.{Gives};
 ghost use Rattle.parser_base.specs.Parts.{ReadsExpressions, ReadsStatements};
-ghost use Rattle.parser_base.specs.Places.{cursor, seen};
-ghost use Rattle.tree_reader.specs.Reader.{is_over, read_imports, read_receiver, read_body, read_function_declaration, read_top_level, read_top_levels, read_file};
+ghost use Rattle.parser_base.specs.Places.{cursor, seen, go_text};
+ghost use Rattle.tree_reader.specs.Reader.{is_over, read_imports, read_receiver, read_body, read_function_parameters, read_function_declaration, read_top_level, read_top_levels, read_file};
 ghost use Rattle.tree_reader.specs.Reading.{steps};
 ghost use Rattle.parser.specs.FileParts.{read_declared, read_front};
 ghost use Rattle.parser.specs.Faults.{GivesOrRefuses};
@@ -21,6 +21,7 @@ use parser_base::holding;
 use parser_base::names::identifier;
 use parser_base::parts::Wanted;
 use parser_parts::blocks::block;
+use parser_parts::constraints::{Faults, type_parameters};
 use parser_parts::signatures::{parameters, signature};
 use parser_statements::declarations::declaration;
 use tree::{Block, Expr, File, Func, Identifier, ImportDecl, Param, Stmt, TopLevelDecl};
@@ -28,7 +29,7 @@ use tree_hold::{list, release};
 
 /// Whether no token is left.
 fn is_over(source: SourceTokens<'_>, place: TokenPlace) -> bool
-    ensures { result ≡ is_over source.entry.text.now (cursor source.entry place) }
+    ensures { result ≡ is_over (go_text source.entry) (cursor source.entry place) }
 {
     match source.tokens.get(place.at) {
         Some(_) => false,
@@ -42,7 +43,7 @@ fn is_over(source: SourceTokens<'_>, place: TokenPlace) -> bool
 ///
 /// Where another token stands than one can have there, and out of memory.
 fn imports(source: SourceTokens<'_>, place: TokenPlace) -> Read<Vec<ImportDecl>>
-    ensures { Gives (seen source.entry (λ is. map import_syntax is.items)) result (read_imports source.entry.text.now
+    ensures { Gives (seen source.entry (λ is. map import_syntax is.items)) result (read_imports (go_text source.entry)
         (steps (cursor source.entry place)) (cursor source.entry place)) }
 {
     let mut items = Vec::new(source.alloc);
@@ -73,7 +74,7 @@ fn receiver<F: Fn(Wanted, TokenPlace) -> Read<Expr>>(
     requires expressions { ReadsExpressions source (F.pre parts.now) (F.post parts.now) }
     requires top { source.below ≡ MOST_DEPTH }
     ensures { Gives (seen source.entry (option_map (λ ps. parameters_syntax ps.items))) result (read_receiver
-        source.entry.text.now (cursor source.entry place)) }
+        (go_text source.entry) (cursor source.entry place)) }
 {
     if !source.stands(place, TokenKind::LeftParenthesis) {
         return Ok((None, place));
@@ -95,7 +96,7 @@ fn body<S: Fn(TokenPlace) -> Read<Stmt>>(
 ) -> Read<Option<Block>>
     requires statements { ReadsStatements source (S.pre statements.now) (S.post statements.now) }
     requires top { source.below ≡ MOST_DEPTH }
-    ensures { Gives (seen source.entry (option_map block_syntax)) result (read_body source.entry.text.now (cursor
+    ensures { Gives (seen source.entry (option_map block_syntax)) result (read_body (go_text source.entry) (cursor
         source.entry place)) }
 {
     if !source.stands(place, TokenKind::LeftBrace) {
@@ -103,6 +104,34 @@ fn body<S: Fn(TokenPlace) -> Read<Stmt>>(
     }
     let (inner, end) = block(source, statements, place)?;
     Ok((Some(inner), end))
+}
+
+/// The type parameters of a function, which no method has: in the second edition, if they stand here.
+///
+/// # Errors
+///
+/// Where another token stands, and out of memory.
+#[tactic(auto, unfolding(tree_reader::specs::Reader::read_function_parameters))]
+fn function_parameters<F: Fn(Wanted, TokenPlace) -> Read<Expr>>(
+    source: SourceTokens<'_>,
+    parts: &F,
+    receiver: &Option<Vec<Param>>,
+    place: TokenPlace,
+) -> Read<Vec<Param>>
+    requires expressions { ReadsExpressions source (F.pre parts.now) (F.post parts.now) }
+    requires top { source.below ≡ MOST_DEPTH }
+    ensures { Gives (seen source.entry (λ ps. parameters_syntax ps.items)) result (read_function_parameters (go_text
+        source.entry) MOST_DEPTH (option_map (λ ps. parameters_syntax ps.items) receiver.now) (cursor source.entry
+        place)) }
+{
+    match receiver {
+        Some(_) => Ok((Vec::new(source.alloc), place)),
+        None => if source.is_second() && source.stands(place, TokenKind::LeftBracket) {
+            type_parameters(source, parts, Faults::OfTypes, place)
+        } else {
+            Ok((Vec::new(source.alloc), place))
+        },
+    }
 }
 
 /// A function or a method, at its word.
@@ -120,21 +149,27 @@ fn function<F: Fn(Wanted, TokenPlace) -> Read<Expr>, S: Fn(TokenPlace) -> Read<S
     requires expressions { ReadsExpressions source (F.pre parts.now) (F.post parts.now) }
     requires statements { ReadsStatements source (S.pre statements.now) (S.post statements.now) }
     requires top { source.below ≡ MOST_DEPTH }
-    ensures { Gives (seen source.entry function_syntax) result (read_function_declaration source.entry.text.now (cursor
+    ensures { Gives (seen source.entry function_syntax) result (read_function_declaration (go_text source.entry) (cursor
         source.entry place)) }
 {
     let (on, at_name) = receiver(source, parts, source.behind(place))?;
     let (name, rest) = holding!(optional_params: on; identifier(source, at_name));
-    if source.stands(rest, TokenKind::LeftBracket) {
-        release::optional_params(on);
-        return Err(Stop::LeftOut(LeftOut::TypeParameters, source.start(rest)));
+    if !source.is_second() {
+        if source.stands(rest, TokenKind::LeftBracket) {
+            release::optional_params(on);
+            return Err(Stop::LeftOut(LeftOut::TypeParameters, source.start(rest)));
+        }
     }
-    let (takes, at_body) = holding!(optional_params: on; signature(source, parts, rest));
+    let (type_params, at_signature) =
+        holding!(optional_params: on; function_parameters(source, parts, &on, rest));
+    let (takes, at_body) =
+        holding!(optional_params: on, params: type_params; signature(source, parts, at_signature));
     let (inner, end) =
-        holding!(optional_params: on, signature: takes; body(source, statements, at_body));
+        holding!(optional_params: on, params: type_params, signature: takes; body(source, statements, at_body));
     let declared = Func {
         receiver: on,
         name,
+        type_params,
         signature: takes,
         body: inner,
         span: source.span_to(place, end),
@@ -157,7 +192,7 @@ fn top_level<F: Fn(Wanted, TokenPlace) -> Read<Expr>, S: Fn(TokenPlace) -> Read<
     requires expressions { ReadsExpressions source (F.pre parts.now) (F.post parts.now) }
     requires statements { ReadsStatements source (S.pre statements.now) (S.post statements.now) }
     requires top { source.below ≡ MOST_DEPTH }
-    ensures { Gives (seen source.entry top_level_syntax) result (read_top_level source.entry.text.now (cursor
+    ensures { Gives (seen source.entry top_level_syntax) result (read_top_level (go_text source.entry) (cursor
         source.entry place)) }
 {
     if source.stands(place, TokenKind::FuncKeyword) {
@@ -188,7 +223,7 @@ fn declared<F: Fn(Wanted, TokenPlace) -> Read<Expr>, S: Fn(TokenPlace) -> Read<S
     requires expressions { ReadsExpressions source (F.pre parts.now) (F.post parts.now) }
     requires statements { ReadsStatements source (S.pre statements.now) (S.post statements.now) }
     requires top { source.below ≡ MOST_DEPTH }
-    ensures { Gives (seen source.entry top_level_syntax) result (read_declared source.entry.text.now (cursor
+    ensures { Gives (seen source.entry top_level_syntax) result (read_declared (go_text source.entry) (cursor
         source.entry place)) }
 {
     let (item, end) = top_level(source, parts, statements, place)?;
@@ -211,7 +246,7 @@ fn top_levels<F: Fn(Wanted, TokenPlace) -> Read<Expr>, S: Fn(TokenPlace) -> Read
     requires statements { ReadsStatements source (S.pre statements.now) (S.post statements.now) }
     requires top { source.below ≡ MOST_DEPTH }
     ensures { GivesOrRefuses source.entry.text.now (seen source.entry (λ ds. map top_level_syntax ds.items)) result
-        (read_top_levels source.entry.text.now (steps (cursor source.entry place)) (cursor source.entry place)) }
+        (read_top_levels (go_text source.entry) (steps (cursor source.entry place)) (cursor source.entry place)) }
 {
     let mut items = Vec::new(source.alloc);
     let mut rest = place;
@@ -247,7 +282,7 @@ type Front = (Identifier, Vec<ImportDecl>);
 #[tactic(auto, unfolding(crate::specs::FileParts::read_front))]
 fn front(source: SourceTokens<'_>, place: TokenPlace) -> Read<Front>
     ensures { Gives (seen source.entry (λ front. (identifier_syntax front.0, map import_syntax front.1.items))) result
-        (read_front source.entry.text.now (cursor source.entry place)) }
+        (read_front (go_text source.entry) (cursor source.entry place)) }
 {
     let word = source.take(place, TokenKind::PackageKeyword)?;
     let (name, end) = identifier(source, word)?;
@@ -271,7 +306,7 @@ pub fn file<F: Fn(Wanted, TokenPlace) -> Read<Expr>, S: Fn(TokenPlace) -> Read<S
     requires statements { ReadsStatements source (S.pre statements.now) (S.post statements.now) }
     requires top { source.below ≡ MOST_DEPTH }
     ensures { GivesOrRefuses source.entry.text.now (seen source.entry file_syntax) result (read_file
-        source.entry.text.now (cursor source.entry place)) }
+        (go_text source.entry) (cursor source.entry place)) }
 {
     let ((package_name, imports), rest) = match front(source, place) {
         Ok(read) => read,

@@ -5,7 +5,7 @@ ghost use Rattle.std.specs.Prelude.{◌≡◌, ◌-◌};
 ghost use Rattle.tree.specs.View.{expression_syntax, statement_syntax};
 ghost use Rattle.parser_base.specs.Gives.{Gives};
 ghost use Rattle.parser_base.specs.Parts.{read_wanted};
-ghost use Rattle.parser_base.specs.Places.{cursor, seen, parts_of};
+ghost use Rattle.parser_base.specs.Places.{cursor, seen, parts_of, go_text};
 
 use parser_base::cursor::{Read, SourceTokens, TokenPlace};
 use parser_base::fault::Stop;
@@ -16,12 +16,14 @@ use tree::{Expr, Stmt};
 
 /// The source of the parts of a node, which may be one less deep.
 fn one_less_deep(source: SourceTokens<'_>) -> SourceTokens<'_>
+    ensures edition { result.edition ≡ source.entry.edition }
     ensures text { result.text.now ≡ source.entry.text.now }
     ensures tokens { result.tokens.now ≡ source.entry.tokens.now }
     ensures below { result.below ≡ source.entry.below - 1 }
 {
     SourceTokens {
         alloc: source.alloc,
+        edition: source.edition,
         text: source.text,
         tokens: source.tokens,
         below: source.below.saturating_sub(1),

@@ -11,20 +11,26 @@ use meaning::MOST_DEPTH;
 use parser_base::cursor::{SourceTokens, TokenPlace};
 use parser_base::parts::Wanted;
 use std::alloc::Global;
-use tree::File;
+use tree::{Edition, File};
 
-/// The tree of a text, from the tokens that `lexer::lex` gives.
+/// The tree of a text as an edition reads it, from the tokens that `lexer::lex` gives.
 ///
 /// # Errors
 ///
 /// The first place where the tokens go on as no file does, or where a form stands that is left out; a tree that is
 /// deeper than `MOST_DEPTH`; `OutOfMemory` where the tree finds no memory.
-pub fn parse(alloc: Global, text: &[u8], tokens: &[Token]) -> Result<File, ParseFault>
+pub fn parse(
+    alloc: Global,
+    edition: Edition,
+    text: &[u8],
+    tokens: &[Token],
+) -> Result<File, ParseFault>
     requires { IsTokens text.now tokens.now }
-    ensures { IsParsed text.now result }
+    ensures { IsParsed edition text.now result }
 {
     let source = SourceTokens {
         alloc,
+        edition,
         text,
         tokens,
         below: MOST_DEPTH,

@@ -1,5 +1,5 @@
 -- A reading that failed makes the whole one fail.
-use Rattle.std.proofs.Common.{◌≡◌, Option, None}
+use Rattle.std.proofs.Common.{◌≡◌, ℕ, Option, None, subst}
 use Rattle.parser_base.specs.declared.fault.Stop.{Stop}
 use Rattle.parser_base.specs.declared.fault.Stop.TheVariants.{Unexpected, LeftOut, TooDeep, Memory}
 use Rattle.parser_base.specs.Gives.{Stops}
@@ -16,3 +16,7 @@ is_stopped (Unexpected at) a h = h
 is_stopped (LeftOut form at) a h = h
 is_stopped TooDeep a h = h
 is_stopped Memory a h = tt
+
+-- a fault at another place
+pub stopped_too : (e f : Stop) (at : ℕ) → e ≡ Unexpected at → {A : Type 0} → (a : Option A) → Stops e a → Stops f a
+stopped_too e f at is a h = is_stopped f a (subst (λ s. Stops s a) is h)

@@ -3,11 +3,11 @@ use Rattle.std.proofs.Common.{◌≡◌, ℕ, suc, ◌+◌, ◌-◌, ◌<◌, �
 use Rattle.lexer.specs.Spelling.{same_kind}
 use Rattle.lexer.specs.declared.token.Token.{Token}
 use Rattle.lexer.specs.declared.token.TokenKind.TheVariants.{Dot, RightParenthesis}
-use Rattle.meaning.specs.Cursor.{Cursor}
+use Rattle.meaning.specs.Cursor.{Cursor, GoText}
 use Rattle.tree.specs.declared.file.ImportSpec.{ImportSpec as KeptImport}
 use Rattle.tree.specs.Syntax.{ImportSpec}
 use Rattle.tree.specs.View.{import_spec_syntax}
-use Rattle.tree_reader.specs.Reader.{read_import_spec, read_import_specs}
+use Rattle.tree_reader.specs.Reader.{is_second, read_import_name, read_import_spec, read_import_specs}
 use Rattle.tree_reader.specs.Reading.{Read, stands, steps, take_semicolon, read_optional_identifier}
 use Rattle.tree_reader.proofs.Steps.{same_kind_is}
 use Rattle.parser_base.specs.declared.fault.Stop.{Stop}
@@ -15,20 +15,21 @@ use Rattle.parser_base.specs.Gives.{Stops}
 use Rattle.parser_base.proofs.Faults.{fails_too}
 use Rattle.parser_base.proofs.Rounds.{after_front, after_front-nil, after_front-push, after_front-end, with_more}
 
-dot-first : (text : List ℕ) (t : Token) (rest : List Token) (end : ℕ) → t.kind ≡ Dot → read_import_spec text (record { left = t ∷ rest; end = end }) ≡ None
-unfolding read_import_spec read_optional_identifier stands same_kind
-dot-first text t rest end e = rw e refl
+dot-first : (text : GoText) → is_second text.edition ≡ false → (t : Token) (rest : List Token) (end : ℕ) → t.kind ≡ Dot → read_import_spec text (record { left = t ∷ rest; end = end }) ≡ None
+unfolding read_import_spec read_import_name read_optional_identifier stands same_kind
+dot-first text first t rest end e = rw (first, e) refl
 
-dot-from : (text : List ℕ) (tokens : List Token) (end : ℕ) → stands Dot (record { left = tokens; end = end }) ≡ true → read_import_spec text (record { left = tokens; end = end }) ≡ None
+dot-from : (text : GoText) → is_second text.edition ≡ false → (tokens : List Token) (end : ℕ) → stands Dot (record { left = tokens; end = end }) ≡ true → read_import_spec text (record { left = tokens; end = end }) ≡ None
 unfolding stands
-dot-from text [] end e = absurd cc
-dot-from text (t ∷ rest) end e = dot-first text t rest end (same_kind_is t.kind Dot e)
+dot-from text first [] end e = absurd cc
+dot-from text first (t ∷ rest) end e = dot-first text first t rest end (same_kind_is t.kind Dot e)
 
-pub dot-import : (text : List ℕ) (place : Cursor) → stands Dot place ≡ true → read_import_spec text place ≡ None
-dot-import text place e = dot-from text place.left place.end e
+-- the first edition has no dot
+pub dot-import : (text : GoText) (place : Cursor) → is_second text.edition ≡ false → stands Dot place ≡ true → read_import_spec text place ≡ None
+dot-import text place first e = dot-from text first place.left place.end e
 
 -- imports up to a closing bracket, as a loop reads them
-module _ (text : List ℕ) (front : List KeptImport) (count i : ℕ) (rest : Cursor) (total : Read (List ImportSpec)) (so_far : after_front (map import_spec_syntax front) (read_import_specs text (count - i) rest) ≡ total) where
+module _ (text : GoText) (front : List KeptImport) (count i : ℕ) (rest : Cursor) (total : Read (List ImportSpec)) (so_far : after_front (map import_spec_syntax front) (read_import_specs text (count - i) rest) ≡ total) where
   pub imports-run-out : count ≤ i → total ≡ None
   unfolding read_import_specs
   imports-run-out le =
@@ -60,7 +61,7 @@ module _ (text : List ℕ) (front : List KeptImport) (count i : ℕ) (rest : Cur
         imports-go-on after taken =
             sym (one_round ∙ rw (no_end, read, taken) (ap (after_front (map import_spec_syntax front)) (with_more (import_spec_syntax x) (read_import_specs text (count - (i + 1)) after)) ∙ after_front-push import_spec_syntax front x (read_import_specs text (count - (i + 1)) after)))
 
-pub imports-start : (text : List ℕ) (place : Cursor) (count : ℕ) → count ≡ steps place → after_front [] (read_import_specs text (count - 0) place) ≡ read_import_specs text (steps place) place
+pub imports-start : (text : GoText) (place : Cursor) (count : ℕ) → count ≡ steps place → after_front [] (read_import_specs text (count - 0) place) ≡ read_import_specs text (steps place) place
 imports-start text place count same =
     let k : count - 0 ≡ steps place = omega (arith, same) in
     ap (λ (n : ℕ). after_front [] (read_import_specs text n place)) k ∙ after_front-nil (read_import_specs text (steps place) place)

@@ -6,3 +6,6 @@ pub mod Imports
 pub mod Rounds
 pub mod Nodes
 pub mod Growing
+pub mod ReadForms
+pub mod TokensAhead
+pub mod Constrained

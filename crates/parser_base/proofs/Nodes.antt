@@ -9,15 +9,14 @@ use Rattle.tree.specs.declared.span.Identifier.{Identifier as KeptIdentifier}
 use Rattle.tree.specs.declared.span.Span.{Span}
 use Rattle.tree.specs.Syntax.{Expression, expression_node, name_expression}
 use Rattle.tree.specs.View.{expression_form}
-use Rattle.meaning.specs.Cursor.{Cursor}
-use Rattle.meaning.specs.WellFormed.{is_name_form}
-use Rattle.tree_reader.specs.Reader.{names_type_form}
+use Rattle.meaning.specs.Cursor.{Cursor, GoText}
+use Rattle.meaning.specs.WellFormed.{is_name_form, names_type_form}
 use Rattle.tree_reader.specs.Reading.{behind, spanned, span_between, word_between}
 
 abbrev pub IsNoName : ExprKind → Type 0
 IsNoName k = (s : List ℕ) → k ≡ Name s → ⊥
 
-no_name : (k : ExprKind) → IsNoName k → is_name_form (expression_form k) ≡ false
+pub no_name : (k : ExprKind) → IsNoName k → is_name_form (expression_form k) ≡ false
 unfolding expression_form
 no_name (Name s) not = absurd (not s refl)
 no_name (FuncLit' p (Literal' ps_shape ps rs_shape rs brackets body)) not = refl
@@ -39,7 +38,7 @@ no_type_name (Selector' p e span n) not other =
 no_type_name (FuncLit' p (Literal' ps_shape ps rs_shape rs brackets body)) not other = refl
 no_type_name _ not other = refl
 
-module _ (text : List ℕ) where
+module _ (text : GoText) where
   pub name-read : (from end : Cursor) (e : Expression) (bytes : List ℕ) (span : Span) → e ≡ expression_node (name_expression bytes) span → bytes ≡ word_between text from (behind from) → end ≡ behind from → span ≡ span_between from end → ◌≡◌ {A = Option (Expression × Cursor)} (Some (spanned from (name_expression (word_between text from (behind from))) (behind from))) (Some (e, end))
   name-read from end e bytes span made written ends spans =
       ap (λ (x : Expression × Cursor). Some x) (rw (made, written, spans, ends) refl)

@@ -1,9 +1,10 @@
 -- Steps from a place among tokens.
-use Rattle.std.proofs.Common.{◌≡◌, ℕ, ◌<◌, true, false, List, [], ◌∷◌, length, refl, arith}
+use Rattle.std.proofs.Common.{◌≡◌, ℕ, zero, suc, ◌<◌, true, false, List, [], ◌∷◌, length, refl, arith}
 use Rattle.lexer.specs.declared.token.Token.{Token}
 use Rattle.lexer.specs.declared.token.TokenKind.{TokenKind}
 use Rattle.lexer.specs.declared.token.TokenKind.TheVariants.{Semicolon}
-use Rattle.meaning.specs.Cursor.{Cursor}
+use Rattle.meaning.specs.Cursor.{GoText, Cursor}
+use Rattle.tree_reader.specs.Reader.{readers}
 use Rattle.tree_reader.specs.Reading.{stands, behind_semicolon, skip_semicolons, skip_from}
 
 first-shorter : (kind : TokenKind) (tokens : List Token) (end : ℕ) → stands kind (record { left = tokens; end = end }) ≡ true → length (behind_semicolon record { left = tokens; end = end }).left < length tokens
@@ -30,3 +31,9 @@ skip-none end (t ∷ rest) e = rw e refl
 
 pub skip-done : (place : Cursor) → stands Semicolon place ≡ false → skip_semicolons place ≡ place
 skip-done place e = skip-none place.end place.left e
+
+-- how deep what is read may be
+pub most_of : (text : GoText) (below : ℕ) → (readers text below).most ≡ below
+unfolding readers
+most_of text zero = refl
+most_of text (suc below) = refl

@@ -9,7 +9,7 @@ use Rattle.tree.specs.View.{identifier_syntax}
 use Rattle.parser_base.specs.declared.fault.Stop.{Stop}
 use Rattle.parser_base.specs.Gives.{Stops}
 use Rattle.parser_base.proofs.Faults.{fails_too}
-use Rattle.meaning.specs.Cursor.{Cursor}
+use Rattle.meaning.specs.Cursor.{Cursor, GoText}
 use Rattle.tree_reader.specs.Reading.{Read, stands, behind, steps, read_identifier, read_more_identifiers, read_identifiers}
 
 -- what was read before, and what is still read
@@ -42,7 +42,7 @@ pub with_more : {A : Type 0} (x : A) (more : Read (List A)) → option_and_then 
 with_more x None = refl
 with_more x (Some r) = refl
 
-module _ (text : List ℕ) where
+module _ (text : GoText) where
   pub names-first-fails : (place : Cursor) → read_identifier text place ≡ None → read_identifiers text place ≡ None
   unfolding read_identifiers
   names-first-fails place e = rw e refl
@@ -65,7 +65,7 @@ module _ (text : List ℕ) where
     names-more e n after read = rw (e, read) (with_more n (read_more_identifiers text k after))
 
 -- a round of the loop over names, with so many rounds left
-module _ (text : List ℕ) (front : List KeptIdentifier) (count i : ℕ) (rest : Cursor) (total : Read (List Identifier)) (so_far : after_front (map identifier_syntax front) (read_more_identifiers text (count - i) rest) ≡ total) where
+module _ (text : GoText) (front : List KeptIdentifier) (count i : ℕ) (rest : Cursor) (total : Read (List Identifier)) (so_far : after_front (map identifier_syntax front) (read_more_identifiers text (count - i) rest) ≡ total) where
   pub names-run-out : count ≤ i → total ≡ None
   unfolding read_more_identifiers
   names-run-out le =
@@ -92,7 +92,7 @@ module _ (text : List ℕ) (front : List KeptIdentifier) (count i : ℕ) (rest :
           sym (one_round ∙ ap (after_front (map identifier_syntax front)) (names-more text (count - (i + 1)) rest comma (identifier_syntax n) after read) ∙ after_front-push identifier_syntax front n (read_more_identifiers text (count - (i + 1)) after))
 
 -- before the first round
-pub names-start : (text : List ℕ) (place after : Cursor) (n : KeptIdentifier) (count : ℕ) → read_identifier text place ≡ Some (identifier_syntax n, after) → count ≡ steps after → after_front (map identifier_syntax (n ∷ [])) (read_more_identifiers text (count - 0) after) ≡ read_identifiers text place
+pub names-start : (text : GoText) (place after : Cursor) (n : KeptIdentifier) (count : ℕ) → read_identifier text place ≡ Some (identifier_syntax n, after) → count ≡ steps after → after_front (map identifier_syntax (n ∷ [])) (read_more_identifiers text (count - 0) after) ≡ read_identifiers text place
 names-start text place after n count read same =
     let k : count - 0 ≡ steps after = omega (arith, same) in
     ap (λ (m : ℕ). after_front (map identifier_syntax (n ∷ [])) (read_more_identifiers text m after)) k ∙ (front-first (identifier_syntax n) (read_more_identifiers text (steps after) after) ∙ sym (names-first text place after (identifier_syntax n) read))

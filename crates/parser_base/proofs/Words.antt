@@ -8,7 +8,8 @@ use Rattle.lexer.specs.Spelling.{same_kind}
 use Rattle.lexer.specs.declared.token.Token.{Token}
 use Rattle.lexer.specs.declared.token.TokenKind.{TokenKind}
 use Rattle.lexer.specs.declared.token.TokenKind.TheVariants.{Identifier, InterpretedString, RawString}
-use Rattle.meaning.specs.Cursor.{is_next, start_at}
+use Rattle.tree.specs.declared.edition.Edition.{Edition}
+use Rattle.meaning.specs.Cursor.{is_next, start_at, read_in}
 use Rattle.tree_reader.specs.Reader.{is_string}
 use Rattle.tree_reader.specs.Reading.{stands, behind, word_between}
 use Rattle.parser_base.specs.Words.{kept_between, kept_text, HasWords}
@@ -31,10 +32,10 @@ kept-string text InterpretedString start end e = refl
 kept-string text RawString start end e = refl
 kept-string text _ start end e = absurd cc
 
-first-name : (text : List ℕ) (tokens : List Token) (end : ℕ) → FirstKept text tokens → stands Identifier (record { left = tokens; end = end }) ≡ true → is_utf8 (word_between text (record { left = tokens; end = end }) (behind record { left = tokens; end = end })) ≡ true
+first-name : (edition : Edition) (text : List ℕ) (tokens : List Token) (end : ℕ) → FirstKept text tokens → stands Identifier (record { left = tokens; end = end }) ≡ true → is_utf8 (word_between (read_in edition text) (record { left = tokens; end = end }) (behind record { left = tokens; end = end })) ≡ true
 unfolding stands
-first-name text [] end kept e = absurd cc
-first-name text (t ∷ rest) end kept e =
+first-name edition text [] end kept e = absurd cc
+first-name edition text (t ∷ rest) end kept e =
     ap is_utf8 (sym (kept-name text t.kind t.start t.end e)) ∙ kept t (omega arith)
 
 first-string : (text : List ℕ) (tokens : List Token) (end : ℕ) → FirstKept text tokens → is_next is_string (record { left = tokens; end = end }) ≡ true → is_utf8 (slice_range text (start_at (record { left = tokens; end = end }) + 1) ((behind record { left = tokens; end = end }).end - 1)) ≡ true
@@ -43,8 +44,8 @@ first-string text (t ∷ rest) end kept e =
     ap is_utf8 (sym (kept-string text t.kind t.start t.end e)) ∙ kept t (omega arith)
 
 module _ (text : List ℕ) (tokens : List Token) (at end : ℕ) (words : HasWords text tokens) where
-  pub name-utf8 : stands Identifier (record { left = drop at tokens; end = end }) ≡ true → is_utf8 (word_between text (record { left = drop at tokens; end = end }) (behind record { left = drop at tokens; end = end })) ≡ true
-  name-utf8 e = first-name text (drop at tokens) end (first_kept text tokens at words) e
+  pub name-utf8 : (edition : Edition) → stands Identifier (record { left = drop at tokens; end = end }) ≡ true → is_utf8 (word_between (read_in edition text) (record { left = drop at tokens; end = end }) (behind record { left = drop at tokens; end = end })) ≡ true
+  name-utf8 edition e = first-name edition text (drop at tokens) end (first_kept text tokens at words) e
 
   pub string-utf8 : is_next is_string (record { left = drop at tokens; end = end }) ≡ true → is_utf8 (slice_range text (start_at (record { left = drop at tokens; end = end }) + 1) ((behind record { left = drop at tokens; end = end }).end - 1)) ≡ true
   string-utf8 e = first-string text (drop at tokens) end (first_kept text tokens at words) e

@@ -2,3 +2,4 @@ pub mod Words
 pub mod Gives
 pub mod Places
 pub mod Parts
+pub mod Ahead

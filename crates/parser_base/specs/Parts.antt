@@ -9,7 +9,8 @@ use Rattle.tree.specs.declared.statement.Block.{Block}
 use Rattle.tree.specs.View.{expression_syntax, statement_syntax, block_syntax}
 use Rattle.meaning.specs.Cursor.{Cursor}
 use Rattle.meaning.specs.WellFormed.{operator_level}
-use Rattle.tree_reader.specs.Reader.{Readers, Braced, of_next, binary_operator, is_guard, names_type}
+use Rattle.tree.specs.declared.edition.Edition.{Edition}
+use Rattle.tree_reader.specs.Reader.{Readers, Braced, of_next, binary_operator, is_guard, takes_braces}
 use Rattle.tree_reader.specs.Reading.{Read, stands}
 use Rattle.parser_base.specs.declared.cursor.SourceTokens.{SourceTokens}
 use Rattle.parser_base.specs.declared.cursor.TokenPlace.{TokenPlace}
@@ -49,11 +50,11 @@ pub record ReadsStatements
       → Gives (seen source statement_syntax) result ((parts_of source).read_statement (cursor source place))
 
 -- a primary expression goes on after what was read of it
-abbrev pub goes_on : Bool → Expression → Cursor → Bool
-goes_on header e place =
+abbrev pub goes_on : Edition → Bool → Expression → Cursor → Bool
+goes_on edition header e place =
     if stands Dot place then not (is_guard place)
     else if stands LeftBracket place || stands LeftParenthesis place then true
-    else stands LeftBrace place && (not header && names_type e)
+    else stands LeftBrace place && (not header && takes_braces edition e)
 
 -- the operator between two operands, where it is of at least that level
 abbrev pub at_least : ℕ → Option BinaryOperator → Option BinaryOperator

@@ -2,22 +2,25 @@
 
 ghost use Rattle.std.specs.Prelude.{◌≤◌};
 ghost use Rattle.meaning.specs.declared.TheConstants.{MOST_DEPTH};
+ghost use Rattle.parser_base.specs.Gives.{IsNoMemory};
 ghost use Rattle.parser_base.specs.Words.{HasWords};
 
 use crate::fault::{LeftOut, Stop};
 use crate::kinds::{
     assigning_operator, binary_operator, can_begin_type, declaration_keyword, ends_statements,
-    follows_embedded, is_closing, is_end, is_string, literal_kind, unary_operator,
+    follows_embedded, is_closing, is_end, is_identifier, is_no_index, is_string, joins_terms,
+    literal_kind, unary_operator,
 };
 use lexer::{Token, TokenKind};
 use std::alloc::Global;
-use tree::{BasicLitKind, BinaryOperator, DeclKeyword, Span, UnaryOperator};
+use tree::{BasicLitKind, BinaryOperator, DeclKeyword, Edition, Span, UnaryOperator};
 
-/// A text, its tokens, how deep the parts of what is read of them may be, and what allocates the tree. The texts that
-/// the tree keeps of tokens are UTF-8.
+/// A text, the edition by which it is read, its tokens, how deep the parts of what is read of them may be, and what
+/// allocates the tree. The texts that the tree keeps of tokens are UTF-8.
 #[derive(Clone, Copy)]
 pub struct SourceTokens<'a> {
     pub alloc: Global,
+    pub edition: Edition,
     pub text: &'a [u8],
     pub tokens: &'a [Token],
     pub below: u32,
@@ -43,16 +46,35 @@ pub struct Begun<T> {
     pub place: TokenPlace,
 }
 
+/// That a token of this kind, at this offset, can't stand where it does, or is of a form that the first edition leaves
+/// out.
+fn left_out(kind: TokenKind, start: u32) -> Stop
+    ensures { IsNoMemory result }
+{
+    match kind {
+        TokenKind::GotoKeyword => Stop::LeftOut(LeftOut::Goto, start),
+        TokenKind::FallthroughKeyword => Stop::LeftOut(LeftOut::Fallthrough, start),
+        TokenKind::Tilde => Stop::LeftOut(LeftOut::TypeParameters, start),
+        _ => Stop::Unexpected(start),
+    }
+}
+
 impl SourceTokens<'_> {
     ghost use Rattle.std.specs.Prelude.{◌≡◌, length, suc};
     ghost use Rattle.lexer.specs.Spelling.{same_kind};
-    ghost use Rattle.parser_base.specs.Gives.{Gives, IsNoMemory};
+    ghost use Rattle.parser_base.specs.Gives.{Gives};
     ghost use Rattle.parser_base.specs.Places.{cursor};
     ghost use Rattle.meaning.specs.Cursor.{start_at, is_next, is_closing};
     ghost use Rattle.meaning.specs.OperatorTokens.{can_begin_type};
+    ghost use Rattle.meaning.specs.TypeParameters.{is_identifier, is_no_index};
     ghost use Rattle.tree_reader.specs.Reader.{
       of_next,
       is_string,
+      is_second,
+      opens_index,
+      behind_name,
+      joins_terms,
+      is_no_name,
       is_end,
       is_guard,
       ends_statements,
@@ -207,6 +229,72 @@ impl SourceTokens<'_> {
         }
     }
 
+    /// Whether the text is read by the second edition.
+    pub fn is_second(self) -> bool
+        ensures { result ≡ is_second self.entry.edition }
+    {
+        match self.edition {
+            Edition::First => false,
+            Edition::Second => true,
+        }
+    }
+
+    /// Whether a name stands next.
+    pub fn has_name(self, place: TokenPlace) -> bool
+        ensures { result ≡ is_next is_identifier (cursor self.entry place) }
+    {
+        match self.tokens.get(place.at) {
+            Some(first) => is_identifier(first.kind),
+            None => false,
+        }
+    }
+
+    /// Whether with the next token a bracket before it begins a type, and no index.
+    fn begins_no_index(self, place: TokenPlace) -> bool
+        ensures { result ≡ is_next is_no_index (cursor self.entry place) }
+    {
+        match self.tokens.get(place.at) {
+            Some(first) => is_no_index(first.kind),
+            None => false,
+        }
+    }
+
+    /// Whether brackets open that can be an index, and no type's.
+    pub fn opens_index(self, place: TokenPlace) -> bool
+        ensures { result ≡ opens_index (cursor self.entry place) }
+    {
+        self.stands(place, TokenKind::LeftBracket) && !self.begins_no_index(self.behind(place))
+    }
+
+    /// Whether a constraint goes on with the next token behind a type's name.
+    fn joins_terms(self, place: TokenPlace) -> bool
+        ensures { result ≡ is_next joins_terms (cursor self.entry place) }
+    {
+        match self.tokens.get(place.at) {
+            Some(first) => joins_terms(first.kind),
+            None => false,
+        }
+    }
+
+    /// The place after the type's name that stands next.
+    fn behind_name(self, place: TokenPlace) -> TokenPlace
+        ensures { cursor self.entry result ≡ behind_name (cursor self.entry place) }
+    {
+        let end = self.behind(place);
+        if self.stands(end, TokenKind::Dot) {
+            self.behind(self.behind(end))
+        } else {
+            end
+        }
+    }
+
+    /// Whether more than the name of a type stands here, which an interface embeds.
+    pub fn is_no_name(self, place: TokenPlace) -> bool
+        ensures { result ≡ is_no_name (cursor self.entry place) }
+    {
+        !self.stands(place, TokenKind::Identifier) || self.joins_terms(self.behind_name(place))
+    }
+
     /// The operator before an operand that stands next.
     pub fn next_unary_operator(self, place: TokenPlace) -> Option<UnaryOperator>
         ensures { result ≡ of_next unary_operator (cursor self.entry place) }
@@ -323,9 +411,9 @@ impl SourceTokens<'_> {
         }
     }
 
-    /// That the next token can't stand here, or is of a form that is left out. At the end of the tokens it is the
-    /// text's end; a longer text than an offset can name has no tokens. Where the tokens go on as an expression that
-    /// asks for a type as only a `switch` does, the word `type` is what can't stand here.
+    /// That the next token can't stand here, or is of a form that the edition leaves out. At the end of the tokens it
+    /// is the text's end; a longer text than an offset can name has no tokens. Where the tokens go on as an expression
+    /// that asks for a type as only a `switch` does, the word `type` is what can't stand here.
     pub fn unexpected(self, place: TokenPlace) -> Stop
         ensures { IsNoMemory result }
     {
@@ -336,11 +424,9 @@ impl SourceTokens<'_> {
         };
         match self.tokens.get(wrong.at) {
             None => Stop::Unexpected(self.text.len().min(u32::MAX as usize) as u32),
-            Some(first) => match first.kind {
-                TokenKind::GotoKeyword => Stop::LeftOut(LeftOut::Goto, first.start),
-                TokenKind::FallthroughKeyword => Stop::LeftOut(LeftOut::Fallthrough, first.start),
-                TokenKind::Tilde => Stop::LeftOut(LeftOut::TypeParameters, first.start),
-                _ => Stop::Unexpected(first.start),
+            Some(first) => match self.edition {
+                Edition::First => left_out(first.kind, first.start),
+                Edition::Second => Stop::Unexpected(first.start),
             },
         }
     }

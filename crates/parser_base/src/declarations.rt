@@ -1,18 +1,18 @@
 //! Imports, and steps of declarations that read no expression or type (the Go specification, "Import declarations",
 //! "Declarations and scope").
 
-ghost use Rattle.std.specs.Prelude.{◌≡◌, map};
-ghost use Rattle.tree.specs.View.{optional_expression_syntax, expressions_syntax, import_spec_syntax, import_syntax};
+ghost use Rattle.std.specs.Prelude.{◌≡◌, map, option_map};
+ghost use Rattle.tree.specs.View.{optional_expression_syntax, expressions_syntax, identifier_syntax, import_spec_syntax, import_syntax};
 ghost use Rattle.parser_base.specs.Gives.{Gives};
-ghost use Rattle.parser_base.specs.Places.{cursor, seen};
-ghost use Rattle.tree_reader.specs.Reader.{value_fits, read_import_spec, read_import_specs, read_import};
+ghost use Rattle.parser_base.specs.Places.{cursor, seen, go_text};
+ghost use Rattle.tree_reader.specs.Reader.{value_fits, read_import_name, read_import_spec, read_import_specs, read_import};
 ghost use Rattle.tree_reader.specs.Reading.{steps};
 
 use crate::cursor::{Read, SourceTokens, TokenPlace};
 use crate::fault::{LeftOut, Stop};
 use crate::names::{optional_identifier, quoted};
 use lexer::TokenKind;
-use tree::{DeclKeyword, Expr, ImportDecl, ImportSpec};
+use tree::{DeclKeyword, Expr, Identifier, ImportDecl, ImportSpec, NameText};
 
 /// Whether constants or variables may be declared with this type and these values.
 pub fn value_fits(keyword: DeclKeyword, kind: &Option<Box<Expr>>, values: &[Expr]) -> bool
@@ -31,20 +31,41 @@ pub fn value_fits(keyword: DeclKeyword, kind: &Option<Box<Expr>>, values: &[Expr
     }
 }
 
+/// The name of an import, if there is one, or a dot, and the place after it. The first edition has no dot.
+///
+/// # Errors
+///
+/// Out of memory.
+#[tactic(auto, unfolding(tree_reader::specs::Reader::read_import_name))]
+fn import_name(source: SourceTokens<'_>, place: TokenPlace) -> Read<Option<Identifier>>
+    ensures { Gives (seen source.entry (option_map identifier_syntax)) result (read_import_name (go_text source.entry)
+        (cursor source.entry place)) }
+{
+    if source.is_second() && source.stands(place, TokenKind::Dot) {
+        let text = NameText::of(source.alloc, ".")?;
+        let end = source.behind(place);
+        let span = source.span_to(place, end);
+        return Ok((Some(Identifier { text, span }), end));
+    }
+    optional_identifier(source, place)
+}
+
 /// What one line of an import declaration imports, and the place after it.
 ///
 /// # Errors
 ///
-/// Where it has a dot or no path, and out of memory.
+/// Where it has a dot in the first edition, where it has no path, and out of memory.
 #[tactic(auto, unfolding(tree_reader::specs::Reader::read_import_spec))]
 pub fn import_spec(source: SourceTokens<'_>, place: TokenPlace) -> Read<ImportSpec>
-    ensures { Gives (seen source.entry import_spec_syntax) result (read_import_spec source.entry.text.now (cursor
+    ensures { Gives (seen source.entry import_spec_syntax) result (read_import_spec (go_text source.entry) (cursor
         source.entry place)) }
 {
     if source.stands(place, TokenKind::Dot) {
-        return Err(Stop::LeftOut(LeftOut::DotImport, source.start(place)));
+        if !source.is_second() {
+            return Err(Stop::LeftOut(LeftOut::DotImport, source.start(place)));
+        }
     }
-    let (name, at_path) = optional_identifier(source, place)?;
+    let (name, at_path) = import_name(source, place)?;
     if !source.has_string(at_path) {
         return Err(source.unexpected(at_path));
     }
@@ -64,7 +85,7 @@ pub fn import_spec(source: SourceTokens<'_>, place: TokenPlace) -> Read<ImportSp
 /// Imports up to a closing bracket, each with its semicolon, and the place after them.
 fn import_specs(source: SourceTokens<'_>, place: TokenPlace) -> Read<Vec<ImportSpec>>
     ensures { Gives (seen source.entry (λ specs. map import_spec_syntax specs.items)) result (read_import_specs
-        source.entry.text.now (steps (cursor source.entry place)) (cursor source.entry place)) }
+        (go_text source.entry) (steps (cursor source.entry place)) (cursor source.entry place)) }
 {
     let mut specs = Vec::new(source.alloc);
     let mut rest = place;
@@ -87,7 +108,7 @@ fn import_specs(source: SourceTokens<'_>, place: TokenPlace) -> Read<Vec<ImportS
 /// Where another token stands than one can have there, and out of memory.
 #[tactic(auto, unfolding(tree_reader::specs::Reader::read_import))]
 pub fn import(source: SourceTokens<'_>, place: TokenPlace) -> Read<ImportDecl>
-    ensures { Gives (seen source.entry import_syntax) result (read_import source.entry.text.now (cursor source.entry
+    ensures { Gives (seen source.entry import_syntax) result (read_import (go_text source.entry) (cursor source.entry
         place)) }
 {
     let inner = source.behind(place);

@@ -3,8 +3,9 @@
 ghost use Rattle.std.specs.Prelude.{◌≡◌};
 ghost use Rattle.meaning.specs.Cursor.{is_closing};
 ghost use Rattle.meaning.specs.OperatorTokens.{can_begin_type};
+ghost use Rattle.meaning.specs.TypeParameters.{separates, closes, only_begins_type, is_no_index, is_identifier};
 ghost use Rattle.meaning.specs.WellFormed.{operator_level};
-ghost use Rattle.tree_reader.specs.Reader.{unary_operator, binary_operator, assigning_operator, literal_kind, declaration_keyword, is_string, is_end, ends_statements, follows_embedded};
+ghost use Rattle.tree_reader.specs.Reader.{unary_operator, binary_operator, assigning_operator, literal_kind, declaration_keyword, is_string, is_end, ends_statements, follows_embedded, joins_terms};
 
 use lexer::TokenKind;
 use tree::{BasicLitKind, BinaryOperator, DeclKeyword, UnaryOperator};
@@ -188,4 +189,58 @@ pub fn is_closing(kind: TokenKind) -> bool
     ensures { result ≡ is_closing kind }
 {
     matches!(kind, TokenKind::RightParenthesis | TokenKind::RightBrace)
+}
+
+/// Whether it is a name's token.
+pub fn is_identifier(kind: TokenKind) -> bool
+    ensures { result ≡ is_identifier kind }
+{
+    matches!(kind, TokenKind::Identifier)
+}
+
+/// Whether a bracket before such a token begins a type, and no index.
+pub fn is_no_index(kind: TokenKind) -> bool
+    ensures { result ≡ is_no_index kind }
+{
+    matches!(kind, TokenKind::RightBracket | TokenKind::Ellipsis)
+}
+
+/// Whether a constraint goes on with such a token behind a type's name.
+pub fn joins_terms(kind: TokenKind) -> bool
+    ensures { result ≡ joins_terms kind }
+{
+    matches!(kind, TokenKind::LeftBracket | TokenKind::Pipe)
+}
+
+/// Whether no expression has such a token outside all brackets, but type parameters do.
+pub fn separates(kind: TokenKind) -> bool
+    ensures { result ≡ separates kind }
+{
+    matches!(kind, TokenKind::Comma | TokenKind::Tilde)
+}
+
+/// Whether it closes a bracket or a brace.
+pub fn closes(kind: TokenKind) -> bool
+    ensures { result ≡ closes kind }
+{
+    matches!(
+        kind,
+        TokenKind::RightParenthesis | TokenKind::RightBracket | TokenKind::RightBrace
+    )
+}
+
+/// Whether a type can begin with such a token, and no expression goes on with it.
+pub fn only_begins_type(kind: TokenKind) -> bool
+    ensures { result ≡ only_begins_type kind }
+{
+    matches!(
+        kind,
+        TokenKind::Identifier
+            | TokenKind::ChanKeyword
+            | TokenKind::FuncKeyword
+            | TokenKind::InterfaceKeyword
+            | TokenKind::MapKeyword
+            | TokenKind::StructKeyword
+            | TokenKind::Arrow
+    )
 }

@@ -27,6 +27,7 @@ macro_rules! holding {
     };
 }
 
+pub mod ahead;
 pub mod cursor;
 pub mod declarations;
 pub mod expressions;
@@ -35,3 +36,5 @@ pub mod kinds;
 pub mod lists;
 pub mod names;
 pub mod parts;
+pub mod shapes;
+pub mod type_faults;

@@ -1,7 +1,7 @@
 //! Steps of lists that read no expression, type or statement (the Go specification, "Struct types").
 
 ghost use Rattle.std.specs.Prelude.{◌≡◌};
-ghost use Rattle.parser_base.specs.Places.{cursor, seen, parts_of};
+ghost use Rattle.parser_base.specs.Places.{cursor, seen, parts_of, go_text};
 ghost use Rattle.tree_reader.specs.Reader.{read_tag};
 
 use crate::cursor::{SourceTokens, TokenPlace};
@@ -9,7 +9,7 @@ use tree::Span;
 
 /// A tag, if one stands here, and the place after it.
 pub fn tag(source: SourceTokens<'_>, place: TokenPlace) -> (Option<Span>, TokenPlace)
-    ensures { seen source.entry (λ span. span) result ≡ read_tag source.entry.text.now (parts_of source.entry) (cursor
+    ensures { seen source.entry (λ span. span) result ≡ read_tag (go_text source.entry) (parts_of source.entry) (cursor
         source.entry
         place) }
 {

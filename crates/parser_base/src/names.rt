@@ -6,7 +6,7 @@ ghost use Rattle.lexer.specs.declared.token.TokenKind.TheVariants.{Identifier as
 ghost use Rattle.meaning.specs.Cursor.{is_next, start_at};
 ghost use Rattle.tree.specs.View.{identifier_syntax, type_name_syntax};
 ghost use Rattle.parser_base.specs.Gives.{Gives};
-ghost use Rattle.parser_base.specs.Places.{cursor, seen, parts_of};
+ghost use Rattle.parser_base.specs.Places.{cursor, seen, parts_of, go_text};
 ghost use Rattle.tree_reader.specs.Reader.{is_string, read_type_name};
 ghost use Rattle.tree_reader.specs.Reading.{stands, behind, word_between, read_identifier, read_optional_identifier, read_identifiers};
 
@@ -42,7 +42,7 @@ fn text_between(text: &[u8], start: usize, end: usize) -> &str
 /// Out of memory.
 pub fn word(source: SourceTokens<'_>, place: TokenPlace) -> Result<NameText, AllocError>
     requires { stands identifier_kind (cursor source place) ≡ true }
-    ensures { IfOk result (λ s. s ≡ word_between source.entry.text.now (cursor source.entry place) (behind
+    ensures { IfOk result (λ s. s ≡ word_between (go_text source.entry) (cursor source.entry place) (behind
         (cursor source.entry place))) }
 {
     let start = source.start(place) as usize;
@@ -72,7 +72,7 @@ pub fn quoted(source: SourceTokens<'_>, place: TokenPlace) -> Result<String, All
 /// Where another token stands, and out of memory.
 #[tactic(auto, unfolding(tree_reader::specs::Reading::read_identifier, tree_reader::specs::Reading::take))]
 pub fn identifier(source: SourceTokens<'_>, place: TokenPlace) -> Read<Identifier>
-    ensures { Gives (seen source.entry identifier_syntax) result (read_identifier source.entry.text.now (cursor
+    ensures { Gives (seen source.entry identifier_syntax) result (read_identifier (go_text source.entry) (cursor
         source.entry place)) }
 {
     if !source.stands(place, TokenKind::Identifier) {
@@ -92,7 +92,7 @@ pub fn identifier(source: SourceTokens<'_>, place: TokenPlace) -> Read<Identifie
 #[tactic(auto, unfolding(tree_reader::specs::Reading::read_optional_identifier))]
 pub fn optional_identifier(source: SourceTokens<'_>, place: TokenPlace) -> Read<Option<Identifier>>
     ensures { Gives (seen source.entry (option_map identifier_syntax)) result (read_optional_identifier
-        source.entry.text.now (cursor source.entry place)) }
+        (go_text source.entry) (cursor source.entry place)) }
 {
     if source.stands(place, TokenKind::Identifier) {
         let (name, end) = identifier(source, place)?;
@@ -108,7 +108,7 @@ pub fn optional_identifier(source: SourceTokens<'_>, place: TokenPlace) -> Read<
 /// Where another token stands, and out of memory.
 pub fn identifiers(source: SourceTokens<'_>, place: TokenPlace) -> Read<Vec<Identifier>>
     ensures { Gives (seen source.entry (λ ns. map identifier_syntax ns.items)) result (read_identifiers
-        source.entry.text.now (cursor source.entry place)) }
+        (go_text source.entry) (cursor source.entry place)) }
 {
     let mut names = Vec::new(source.alloc);
     let (first, mut rest) = identifier(source, place)?;
@@ -134,7 +134,7 @@ pub fn identifiers(source: SourceTokens<'_>, place: TokenPlace) -> Read<Vec<Iden
 /// Where another token stands, and out of memory.
 #[tactic(auto, unfolding(tree_reader::specs::Reader::read_type_name))]
 pub fn type_name(source: SourceTokens<'_>, place: TokenPlace) -> Read<TypeName>
-    ensures { Gives (seen source.entry type_name_syntax) result (read_type_name source.entry.text.now (parts_of
+    ensures { Gives (seen source.entry type_name_syntax) result (read_type_name (go_text source.entry) (parts_of
         source.entry)
         (cursor source.entry place)) }
 {

@@ -84,6 +84,13 @@ pub fn fits(source: SourceTokens<'_>, expression: &Expr) -> bool
     expression.depth() <= source.below
 }
 
+/// Whether an expression is no deeper than the parts of what is read may be.
+pub fn within(source: SourceTokens<'_>, expression: &Expr) -> bool
+    ensures { result ≡ nat_le (expression_depth (expression_syntax expression.now)) (parts_of source.entry).most }
+{
+    fits(source, expression)
+}
+
 /// Whether a statement can be a part of what is read.
 pub fn statement_fits(source: SourceTokens<'_>, statement: &Stmt) -> bool
     ensures { result ≡ nat_le (statement_depth (statement_syntax statement.now)) source.entry.below }

@@ -6,7 +6,7 @@ use Rattle.tree.specs.declared.statement.CaseClause.{CaseClause}
 use Rattle.tree.specs.declared.statement.CommClause.{CommClause}
 use Rattle.tree.specs.Syntax.{CaseClauses, no_case, case_and, CommunicationClauses, no_communication, communication_and}
 use Rattle.tree.specs.View.{case_clause_and, cases_syntax, communication_clause_and, communications_syntax}
-use Rattle.meaning.specs.Cursor.{Cursor}
+use Rattle.meaning.specs.Cursor.{Cursor, GoText}
 use Rattle.tree_reader.specs.Reader.{Readers, read_statements, read_case_head, read_cases, read_communication_head, read_communications}
 use Rattle.tree_reader.specs.Reading.{Read, stands, take, steps, span_between}
 use Rattle.parser_base.proofs.Growing.{prepend, prepend-all, after, ends, fails, goes_on}
@@ -32,7 +32,7 @@ after_three (Some x) second third made next = after_second (second x) third (mad
 abbrev pub clause_then : {Y : Type 0} → (Cursor → Read Y) → (Y → Y) × Cursor → Read Y
 clause_then rest first = option_and_then (λ more. Some (first.0 more.0, more.1)) (rest first.1)
 
-module _ (text : List ℕ) (r : Readers) (below : ℕ) (n : ℕ) (place : Cursor) where
+module _ (text : GoText) (r : Readers) (below : ℕ) (n : ℕ) (place : Cursor) where
   pub cases-round : read_cases text r below (suc n) place ≡ (if stands RightBrace place then Some (no_case, place) else option_and_then (clause_then (read_cases text r below n)) (read_case_clause text r below place))
   unfolding read_cases
   cases-round =
@@ -43,7 +43,7 @@ module _ (text : List ℕ) (r : Readers) (below : ℕ) (n : ℕ) (place : Cursor
   communications-round =
       ap (λ (o : Read CommunicationClauses). if stands RightBrace place then Some (no_communication, place) else o) (sym (after_three (read_communication_head text r below place) (λ c. take Colon c.1) (λ inner. read_statements text r (steps inner) inner) (λ c ss. (communication_and c.0 ss.0 (span_between place ss.1), ss.1)) (clause_then (read_communications text r below n))))
 
-module _ (text : List ℕ) (r : Readers) (below : ℕ) (place : Cursor) where
+module _ (text : GoText) (r : Readers) (below : ℕ) (place : Cursor) where
   pub no-cases : read_cases text r below 0 place ≡ None
   unfolding read_cases
   no-cases = refl

@@ -9,6 +9,7 @@ use Rattle.tree.specs.declared.span.Identifier.{Identifier as KeptIdentifier}
 use Rattle.tree.specs.declared.span.Span.{Span}
 use Rattle.tree.specs.Syntax.{Identifier}
 use Rattle.tree.specs.View.{identifier_syntax, expression_form, statement_form, expression_syntax, expressions_syntax}
+use Rattle.meaning.specs.Cursor.{GoText}
 use Rattle.tree_reader.specs.Reader.{Readers, form_identifier, as_identifiers, single, expression_of}
 
 pub no_name : (span : Span) (k : ExprKind) → ((s : List ℕ) → k ≡ Name s → ⊥) → form_identifier span (expression_form k) ≡ None
@@ -21,12 +22,12 @@ pub name : (span : Span) (k : ExprKind) (n : KeptIdentifier) → k ≡ Name n.te
 unfolding expression_form
 name span k n is same = rw (is, same) refl
 
-pub no_expression_statement : (text : List ℕ) (r : Readers) (below : ℕ) (k : StmtKind) → ((e : Expr) → k ≡ ExprStatement e → ⊥) → expression_of text r below (statement_form k) ≡ None
+pub no_expression_statement : (text : GoText) (r : Readers) (below : ℕ) (k : StmtKind) → ((e : Expr) → k ≡ ExprStatement e → ⊥) → expression_of text r below (statement_form k) ≡ None
 unfolding statement_form
 no_expression_statement text r below (Expr' e span) not = absurd (not (record { kind = e; span = span }) refl)
 no_expression_statement text r below _ not = refl
 
-pub expression_statement : (text : List ℕ) (r : Readers) (below : ℕ) (k : StmtKind) (e : Expr) → k ≡ ExprStatement e → expression_of text r below (statement_form k) ≡ Some (expression_syntax e)
+pub expression_statement : (text : GoText) (r : Readers) (below : ℕ) (k : StmtKind) (e : Expr) → k ≡ ExprStatement e → expression_of text r below (statement_form k) ≡ Some (expression_syntax e)
 unfolding statement_form
 expression_statement text r below k e is = rw is refl
 

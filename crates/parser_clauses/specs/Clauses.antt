@@ -2,11 +2,11 @@
 use Rattle.std.specs.Prelude.{ℕ, List, Some}
 use Rattle.lexer.specs.declared.token.TokenKind.TheVariants.{LeftBrace, RightBrace, Colon}
 use Rattle.tree.specs.Syntax.{CaseClauses, case_and, CommunicationClauses, communication_and}
-use Rattle.meaning.specs.Cursor.{Cursor}
+use Rattle.meaning.specs.Cursor.{Cursor, GoText}
 use Rattle.tree_reader.specs.Reader.{Readers, read_statements, read_case_head, read_cases, read_communication_head}
 use Rattle.tree_reader.specs.Reading.{Read, ◌>>=◌, take, steps, span_between}
 
-module _ (text : List ℕ) (r : Readers) (below : ℕ) where
+module _ (text : GoText) (r : Readers) (below : ℕ) where
   abbrev pub read_case_clause : Cursor → Read (CaseClauses → CaseClauses)
   read_case_clause place = do
     es ← read_case_head text r below place

@@ -3,7 +3,7 @@
 ghost use Rattle.std.specs.Prelude.{◌≡◌};
 ghost use Rattle.parser_base.specs.Gives.{Gives};
 ghost use Rattle.parser_base.specs.Parts.{ReadsExpressions};
-ghost use Rattle.parser_base.specs.Places.{cursor, seen, parts_of};
+ghost use Rattle.parser_base.specs.Places.{cursor, seen, parts_of, go_text};
 ghost use Rattle.parser_clauses.specs.Headers.{header_syntax};
 ghost use Rattle.tree_reader.specs.Reader.{read_header};
 
@@ -32,7 +32,7 @@ pub fn read_header<F: Fn(Wanted, TokenPlace) -> Read<Expr>>(
     place: TokenPlace,
 ) -> Read<Header>
     requires { ReadsExpressions source (F.pre parts.now) (F.post parts.now) }
-    ensures { Gives (seen source.entry header_syntax) result (read_header source.entry.text.now (parts_of source.entry)
+    ensures { Gives (seen source.entry header_syntax) result (read_header (go_text source.entry) (parts_of source.entry)
         source.entry.below (cursor source.entry place)) }
 {
     if source.stands(place, TokenKind::Semicolon) {

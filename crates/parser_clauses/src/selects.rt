@@ -5,7 +5,7 @@ ghost use Rattle.tree.specs.View.{communication_clause_and, communications_synta
 ghost use Rattle.meaning.specs.Grammar.{form_of};
 ghost use Rattle.parser_base.specs.Gives.{Gives};
 ghost use Rattle.parser_base.specs.Parts.{ReadsExpressions, ReadsStatements};
-ghost use Rattle.parser_base.specs.Places.{cursor, seen, parts_of};
+ghost use Rattle.parser_base.specs.Places.{cursor, seen, parts_of, go_text};
 ghost use Rattle.parser_clauses.specs.Clauses.{read_communication_clause};
 ghost use Rattle.tree_reader.specs.Reader.{is_communication, read_communication, read_communication_head, read_communications, read_select};
 ghost use Rattle.tree_reader.specs.Reading.{steps};
@@ -67,7 +67,7 @@ fn communication<F: Fn(Wanted, TokenPlace) -> Read<Expr>>(
     place: TokenPlace,
 ) -> Read<Option<Box<Stmt>>>
     requires { ReadsExpressions source (F.pre parts.now) (F.post parts.now) }
-    ensures { Gives (seen source.entry optional_statement_syntax) result (read_communication source.entry.text.now
+    ensures { Gives (seen source.entry optional_statement_syntax) result (read_communication (go_text source.entry)
         (parts_of source.entry) source.entry.below (cursor source.entry place)) }
 {
     let (statement, end) = simple(source, parts, false, place)?;
@@ -91,7 +91,7 @@ fn communication_head<F: Fn(Wanted, TokenPlace) -> Read<Expr>>(
     place: TokenPlace,
 ) -> Read<Option<Box<Stmt>>>
     requires { ReadsExpressions source (F.pre parts.now) (F.post parts.now) }
-    ensures { Gives (seen source.entry optional_statement_syntax) result (read_communication_head source.entry.text.now
+    ensures { Gives (seen source.entry optional_statement_syntax) result (read_communication_head (go_text source.entry)
         (parts_of source.entry) source.entry.below (cursor source.entry place)) }
 {
     if source.stands(place, TokenKind::DefaultKeyword) {
@@ -114,8 +114,8 @@ fn communication_clause<F: Fn(Wanted, TokenPlace) -> Read<Expr>, S: Fn(TokenPlac
 ) -> Read<CommClause>
     requires expressions { ReadsExpressions source (F.pre parts.now) (F.post parts.now) }
     requires statements { ReadsStatements source (S.pre statements.now) (S.post statements.now) }
-    ensures { Gives (seen source.entry communication_clause_and) result (read_communication_clause source.entry.text.now
-        (parts_of source.entry) source.entry.below (cursor source.entry place)) }
+    ensures { Gives (seen source.entry communication_clause_and) result (read_communication_clause (go_text
+        source.entry) (parts_of source.entry) source.entry.below (cursor source.entry place)) }
 {
     let (head, rest) = communication_head(source, parts, place)?;
     let inner = holding!(optional_statement: head; source.take(rest, TokenKind::Colon));
@@ -138,7 +138,7 @@ fn communications<F: Fn(Wanted, TokenPlace) -> Read<Expr>, S: Fn(TokenPlace) -> 
     requires expressions { ReadsExpressions source (F.pre parts.now) (F.post parts.now) }
     requires statements { ReadsStatements source (S.pre statements.now) (S.post statements.now) }
     ensures { Gives (seen source.entry (λ cs. communications_syntax cs.items)) result (read_communications
-        source.entry.text.now (parts_of source.entry) source.entry.below (steps (cursor source.entry place)) (cursor
+        (go_text source.entry) (parts_of source.entry) source.entry.below (steps (cursor source.entry place)) (cursor
         source.entry place)) }
 {
     let mut items = Vec::new(source.alloc);
@@ -170,7 +170,7 @@ pub fn select<F: Fn(Wanted, TokenPlace) -> Read<Expr>, S: Fn(TokenPlace) -> Read
 ) -> Read<Stmt>
     requires expressions { ReadsExpressions source (F.pre parts.now) (F.post parts.now) }
     requires statements { ReadsStatements source (S.pre statements.now) (S.post statements.now) }
-    ensures { Gives (seen source.entry statement_syntax) result (read_select source.entry.text.now (parts_of
+    ensures { Gives (seen source.entry statement_syntax) result (read_select (go_text source.entry) (parts_of
         source.entry) source.entry.below (cursor source.entry place)) }
 {
     let inner = source.take(source.behind(place), TokenKind::LeftBrace)?;

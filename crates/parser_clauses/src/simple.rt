@@ -6,7 +6,7 @@ ghost use Rattle.tree.specs.Syntax.{expression_and, no_expression};
 ghost use Rattle.tree.specs.View.{identifier_syntax, expression_syntax, expressions_syntax, optional_statement_syntax, statement_syntax};
 ghost use Rattle.parser_base.specs.Gives.{Gives};
 ghost use Rattle.parser_base.specs.Parts.{ReadsExpressions};
-ghost use Rattle.parser_base.specs.Places.{cursor, seen, parts_of};
+ghost use Rattle.parser_base.specs.Places.{cursor, seen, parts_of, go_text};
 ghost use Rattle.tree_reader.specs.Reader.{as_identifier, as_identifiers, single, read_simple, read_simple_after, as_part, statement_expression};
 ghost use Rattle.tree_reader.specs.Reading.{stands};
 
@@ -102,7 +102,7 @@ fn one_operand<F: Fn(Wanted, TokenPlace) -> Read<Expr>>(
     requires expressions { ReadsExpressions source (F.pre parts.now) (F.post parts.now) }
     requires defines_none { stands define_token (cursor source begun.place) ≡ false }
     requires assigns_none { stands assign_token (cursor source begun.place) ≡ false }
-    ensures { Gives (seen source.entry statement_syntax) result (read_simple_after source.entry.text.now (parts_of
+    ensures { Gives (seen source.entry statement_syntax) result (read_simple_after (go_text source.entry) (parts_of
         source.entry) source.entry.below header (cursor source.entry begun.from) (expression_and (expression_syntax
         begun.first) no_expression) (cursor source.entry begun.place)) }
 {
@@ -154,7 +154,7 @@ pub fn simple_after<F: Fn(Wanted, TokenPlace) -> Read<Expr>>(
     begun: Begun<Vec<Expr>>,
 ) -> Read<Stmt>
     requires { ReadsExpressions source (F.pre parts.now) (F.post parts.now) }
-    ensures { Gives (seen source.entry statement_syntax) result (read_simple_after source.entry.text.now (parts_of
+    ensures { Gives (seen source.entry statement_syntax) result (read_simple_after (go_text source.entry) (parts_of
         source.entry) source.entry.below header (cursor source.entry begun.from) (expressions_syntax
         begun.first.items) (cursor source.entry begun.place)) }
 {
@@ -197,7 +197,7 @@ pub fn simple<F: Fn(Wanted, TokenPlace) -> Read<Expr>>(
     place: TokenPlace,
 ) -> Read<Stmt>
     requires { ReadsExpressions source (F.pre parts.now) (F.post parts.now) }
-    ensures { Gives (seen source.entry statement_syntax) result (read_simple source.entry.text.now (parts_of
+    ensures { Gives (seen source.entry statement_syntax) result (read_simple (go_text source.entry) (parts_of
         source.entry) source.entry.below header (cursor source.entry place)) }
 {
     let (first, rest) = expressions(source, parts, header, place)?;
@@ -215,7 +215,7 @@ pub fn simple<F: Fn(Wanted, TokenPlace) -> Read<Expr>>(
 ///
 /// Where it is too deep, and out of memory.
 pub fn as_part(source: SourceTokens<'_>, part: Stmt) -> Result<Option<Box<Stmt>>, Stop>
-    ensures { Gives (optional_statement_syntax) result (as_part source.entry.text.now (parts_of source.entry)
+    ensures { Gives (optional_statement_syntax) result (as_part (go_text source.entry) (parts_of source.entry)
         source.entry.below (statement_syntax part)) }
 {
     if !statement_fits(source, &part) {
@@ -236,7 +236,7 @@ pub fn only_expression(
     statement: Stmt,
     place: TokenPlace,
 ) -> Result<Expr, Stop>
-    ensures { Gives (expression_syntax) result (statement_expression source.entry.text.now (parts_of source.entry)
+    ensures { Gives (expression_syntax) result (statement_expression (go_text source.entry) (parts_of source.entry)
         source.entry.below (statement_syntax statement)) }
 {
     let Stmt { kind, span } = statement;

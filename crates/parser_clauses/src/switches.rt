@@ -7,7 +7,7 @@ ghost use Rattle.meaning.specs.Grammar.{form_of};
 ghost use Rattle.meaning.specs.WellFormed.{level, primary_level};
 ghost use Rattle.parser_base.specs.Gives.{Gives};
 ghost use Rattle.parser_base.specs.Parts.{ReadsExpressions, ReadsStatements};
-ghost use Rattle.parser_base.specs.Places.{cursor, seen, parts_of};
+ghost use Rattle.parser_base.specs.Places.{cursor, seen, parts_of, go_text};
 ghost use Rattle.parser_clauses.specs.Clauses.{read_braced_cases, read_case_clause};
 ghost use Rattle.parser_clauses.specs.Guards.{behind_type, guard_syntax, only, switch_form_of};
 ghost use Rattle.parser_clauses.specs.Headers.{header_syntax};
@@ -134,7 +134,7 @@ fn behind_type(source: SourceTokens<'_>, place: TokenPlace) -> Result<TokenPlace
 /// Where the statement has another form, where another token stands, and out of memory.
 #[tactic(auto, unfolding(tree_reader::specs::Reader::read_guard))]
 fn statement_guard(source: SourceTokens<'_>, statement: Stmt, place: TokenPlace) -> Read<Guard>
-    ensures { Gives (seen source.entry guard_syntax) result (read_guard source.entry.text.now (parts_of source.entry)
+    ensures { Gives (seen source.entry guard_syntax) result (read_guard (go_text source.entry) (parts_of source.entry)
         source.entry.below (statement_syntax statement) (cursor source.entry place)) }
 {
     if !source.stands(place, TokenKind::Dot) {
@@ -166,7 +166,7 @@ fn switch_guard<F: Fn(Wanted, TokenPlace) -> Read<Expr>>(
     place: TokenPlace,
 ) -> Read<Guard>
     requires { ReadsExpressions source (F.pre parts.now) (F.post parts.now) }
-    ensures { Gives (seen source.entry guard_syntax) result (read_switch_guard source.entry.text.now (parts_of
+    ensures { Gives (seen source.entry guard_syntax) result (read_switch_guard (go_text source.entry) (parts_of
         source.entry) source.entry.below (option_map statement_syntax first) (cursor source.entry place)) }
 {
     match first {
@@ -192,7 +192,7 @@ fn switch_header<F: Fn(Wanted, TokenPlace) -> Read<Expr>>(
     place: TokenPlace,
 ) -> Read<Header>
     requires { ReadsExpressions source (F.pre parts.now) (F.post parts.now) }
-    ensures { Gives (seen source.entry header_syntax) result (read_switch_header source.entry.text.now (parts_of
+    ensures { Gives (seen source.entry header_syntax) result (read_switch_header (go_text source.entry) (parts_of
         source.entry) source.entry.below (cursor source.entry place)) }
 {
     if source.stands(place, TokenKind::LeftBrace) {
@@ -217,8 +217,8 @@ fn case_head<F: Fn(Wanted, TokenPlace) -> Read<Expr>>(
     place: TokenPlace,
 ) -> Read<Vec<Expr>>
     requires { ReadsExpressions source (F.pre parts.now) (F.post parts.now) }
-    ensures { Gives (seen source.entry (λ es. expressions_syntax es.items)) result (read_case_head source.entry.text.now
-        (parts_of source.entry) source.entry.below (cursor source.entry place)) }
+    ensures { Gives (seen source.entry (λ es. expressions_syntax es.items)) result (read_case_head (go_text
+        source.entry) (parts_of source.entry) source.entry.below (cursor source.entry place)) }
 {
     if source.stands(place, TokenKind::DefaultKeyword) {
         return Ok((Vec::new(source.alloc), source.behind(place)));
@@ -240,7 +240,7 @@ fn case_clause<F: Fn(Wanted, TokenPlace) -> Read<Expr>, S: Fn(TokenPlace) -> Rea
 ) -> Read<CaseClause>
     requires expressions { ReadsExpressions source (F.pre parts.now) (F.post parts.now) }
     requires statements { ReadsStatements source (S.pre statements.now) (S.post statements.now) }
-    ensures { Gives (seen source.entry case_clause_and) result (read_case_clause source.entry.text.now (parts_of
+    ensures { Gives (seen source.entry case_clause_and) result (read_case_clause (go_text source.entry) (parts_of
         source.entry) source.entry.below (cursor source.entry place)) }
 {
     let (head, rest) = case_head(source, parts, place)?;
@@ -263,8 +263,8 @@ fn cases<F: Fn(Wanted, TokenPlace) -> Read<Expr>, S: Fn(TokenPlace) -> Read<Stmt
 ) -> Read<Vec<CaseClause>>
     requires expressions { ReadsExpressions source (F.pre parts.now) (F.post parts.now) }
     requires statements { ReadsStatements source (S.pre statements.now) (S.post statements.now) }
-    ensures { Gives (seen source.entry (λ cs. cases_syntax cs.items)) result (read_cases source.entry.text.now (parts_of
-        source.entry) source.entry.below (steps (cursor source.entry place)) (cursor source.entry place)) }
+    ensures { Gives (seen source.entry (λ cs. cases_syntax cs.items)) result (read_cases (go_text source.entry)
+        (parts_of source.entry) source.entry.below (steps (cursor source.entry place)) (cursor source.entry place)) }
 {
     let mut items = Vec::new(source.alloc);
     let mut rest = place;
@@ -294,7 +294,7 @@ fn braced_cases<F: Fn(Wanted, TokenPlace) -> Read<Expr>, S: Fn(TokenPlace) -> Re
 ) -> Read<Vec<CaseClause>>
     requires expressions { ReadsExpressions source (F.pre parts.now) (F.post parts.now) }
     requires statements { ReadsStatements source (S.pre statements.now) (S.post statements.now) }
-    ensures { Gives (seen source.entry (λ cs. cases_syntax cs.items)) result (read_braced_cases source.entry.text.now
+    ensures { Gives (seen source.entry (λ cs. cases_syntax cs.items)) result (read_braced_cases (go_text source.entry)
         (parts_of source.entry) source.entry.below (cursor source.entry place)) }
 {
     let inner = source.take(place, TokenKind::LeftBrace)?;
@@ -338,7 +338,7 @@ pub fn switch<F: Fn(Wanted, TokenPlace) -> Read<Expr>, S: Fn(TokenPlace) -> Read
 ) -> Read<Stmt>
     requires expressions { ReadsExpressions source (F.pre parts.now) (F.post parts.now) }
     requires statements { ReadsStatements source (S.pre statements.now) (S.post statements.now) }
-    ensures { Gives (seen source.entry statement_syntax) result (read_switch source.entry.text.now (parts_of
+    ensures { Gives (seen source.entry statement_syntax) result (read_switch (go_text source.entry) (parts_of
         source.entry) source.entry.below (cursor source.entry place)) }
 {
     let (header, rest) = switch_header(source, parts, source.behind(place))?;

@@ -1,14 +1,14 @@
 -- Expressions that grow by one step after the other, as a loop lets them: `reads n e place` goes on after e in at most n
 -- rounds, and `step e place` is the next step, or nothing where e ends.
-use Rattle.std.proofs.Common.{◌≡◌, ℕ, suc, ◌+◌, ◌-◌, ◌<◌, ◌≤◌, arith, true, false, Option, Some, None, List, refl, sym, ap, ◌∙◌}
+use Rattle.std.proofs.Common.{◌≡◌, ℕ, suc, ◌+◌, ◌-◌, ◌<◌, ◌≤◌, arith, true, false, Option, Some, None, refl, sym, ap, ◌∙◌}
 use Rattle.std.specs.Prelude.{nat_le}
 use Rattle.tree.specs.Syntax.{Expression}
 use Rattle.tree.specs.Depth.{expression_depth}
-use Rattle.meaning.specs.Cursor.{Cursor}
+use Rattle.meaning.specs.Cursor.{Cursor, GoText}
 use Rattle.tree_reader.specs.Reader.{Readers, go_on}
 use Rattle.tree_reader.specs.Reading.{Read}
 
-module _ (text : List ℕ) (r : Readers) (below : ℕ) (reads : ℕ → Expression → Cursor → Read Expression) (count i : ℕ) (e : Expression) (rest : Cursor) (total : Read Expression) (so_far : reads (count - i) e rest ≡ total) where
+module _ (text : GoText) (r : Readers) (below : ℕ) (reads : ℕ → Expression → Cursor → Read Expression) (count i : ℕ) (e : Expression) (rest : Cursor) (total : Read Expression) (so_far : reads (count - i) e rest ≡ total) where
   pub grown-runs-out : reads 0 e rest ≡ None → count ≤ i → total ≡ None
   grown-runs-out none le =
       let k : count - i ≡ 0 = omega (arith, le) in

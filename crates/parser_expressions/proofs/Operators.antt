@@ -1,10 +1,10 @@
 -- Operators between two operands.
-use Rattle.std.proofs.Common.{◌≡◌, ℕ, suc, ◌+◌, ◌-◌, ◌<◌, ◌≤◌, Bool, true, false, Option, Some, None, List, refl, sym, ◌∙◌}
+use Rattle.std.proofs.Common.{◌≡◌, ℕ, suc, ◌+◌, ◌-◌, ◌<◌, ◌≤◌, Bool, true, false, Option, Some, None, refl, sym, ◌∙◌}
 use Rattle.std.specs.Prelude.{nat_le, if◌then◌else◌, option_and_then}
 use Rattle.tree.specs.declared.operator.BinaryOperator.{BinaryOperator}
 use Rattle.tree.specs.Syntax.{Expression, binary_expression}
 use Rattle.tree.specs.Depth.{expression_depth}
-use Rattle.meaning.specs.Cursor.{Cursor}
+use Rattle.meaning.specs.Cursor.{Cursor, GoText}
 use Rattle.meaning.specs.WellFormed.{operator_level}
 use Rattle.tree_reader.specs.Reader.{Readers, of_next, binary_operator, read_operator, read_operators}
 use Rattle.tree_reader.specs.Reading.{Read, behind, spanned}
@@ -23,7 +23,7 @@ kept_by : {A : Type 0} (b : Bool) (x : A) (op : BinaryOperator) → (if b then S
 kept_by true x op h = absurd cc
 kept_by false x op h = refl
 
-module _ (text : List ℕ) (r : Readers) (below : ℕ) (header : Bool) (least : ℕ) (from : Cursor) where
+module _ (text : GoText) (r : Readers) (below : ℕ) (header : Bool) (least : ℕ) (from : Cursor) where
   ends_of : (e : Expression) (place : Cursor) (o : Option BinaryOperator) → at_least least o ≡ None → read_operator text r below header least from e place o ≡ None
   ends_of e place None h = refl
   ends_of e place (Some op) h = kept_by (nat_le least (operator_level op)) (binary_read r header from op e place) op h

@@ -1,11 +1,11 @@
 -- What follows an operand.
-use Rattle.std.proofs.Common.{◌≡◌, ℕ, ◌+◌, ◌-◌, ◌<◌, ◌≤◌, Bool, true, false, Option, Some, None, List, refl, sym, ◌∙◌}
+use Rattle.std.proofs.Common.{◌≡◌, ℕ, ◌+◌, ◌-◌, ◌<◌, ◌≤◌, Bool, true, false, Option, Some, None, refl, sym, ◌∙◌}
 use Rattle.std.specs.Prelude.{nat_le, not, ◌&&◌, ◌||◌, if◌then◌else◌, option_and_then}
 use Rattle.lexer.specs.declared.token.TokenKind.TheVariants.{Dot, LeftBracket, LeftParenthesis, LeftBrace}
 use Rattle.tree.specs.Syntax.{Expression}
 use Rattle.tree.specs.Depth.{expression_depth}
-use Rattle.meaning.specs.Cursor.{Cursor}
-use Rattle.tree_reader.specs.Reader.{Readers, is_guard, names_type, read_suffix, read_suffixes, read_assertion, read_selector, read_index, read_call, read_composite}
+use Rattle.meaning.specs.Cursor.{Cursor, GoText}
+use Rattle.tree_reader.specs.Reader.{Readers, is_guard, takes_braces, read_suffix, read_suffixes, read_assertion, read_selector, read_index, read_call, read_composite}
 use Rattle.tree_reader.specs.Reading.{Read, stands, behind}
 use Rattle.parser_base.specs.declared.fault.Stop.{Stop}
 use Rattle.parser_base.specs.Gives.{Stops}
@@ -50,26 +50,26 @@ module _ {B : Type 0} (assertion selector index call composite : Option B) where
   grows_by false guard asks false false false header named h = absurd cc
 
 -- what a suffix is read as, where the expression goes on
-abbrev pub suffix_read : List ℕ → Readers → ℕ → Cursor → Expression → Cursor → Read Expression
+abbrev pub suffix_read : GoText → Readers → ℕ → Cursor → Expression → Cursor → Read Expression
 suffix_read text r below from e place =
     option_and_then (λ (read : Read Expression). read) (read_suffix text r below false from e place)
 
-module _ (text : List ℕ) (r : Readers) (below : ℕ) (header : Bool) (from : Cursor) (count i : ℕ) (e : Expression) (rest : Cursor) (total : Read Expression) (so_far : read_suffixes text r below header from (count - i) e rest ≡ total) where
+module _ (text : GoText) (r : Readers) (below : ℕ) (header : Bool) (from : Cursor) (count i : ℕ) (e : Expression) (rest : Cursor) (total : Read Expression) (so_far : read_suffixes text r below header from (count - i) e rest ≡ total) where
   pub suffixes-run-out : count ≤ i → total ≡ None
   unfolding read_suffixes
   suffixes-run-out le =
       grown-runs-out text r below (read_suffixes text r below header from) count i e rest total so_far refl le
 
   module _ (lt : i < count) where
-    pub suffixes-end : (goes : Bool) → goes ≡ goes_on header e rest → goes ≡ false → total ≡ Some (e, rest)
+    pub suffixes-end : (goes : Bool) → goes ≡ goes_on text.edition header e rest → goes ≡ false → total ≡ Some (e, rest)
     unfolding read_suffixes
     suffixes-end goes same stays =
-        grown-ends text r below (read_suffixes text r below header from) count i e rest total so_far lt (read_suffix text r below header from e rest) (λ n. refl) (stays_by (read_assertion text r below from e rest) (read_selector text r below from e rest) (read_index text r below from e rest) (read_call text r below from e rest) (read_composite text r below from e rest) (stands Dot rest) (is_guard rest) (stands LeftParenthesis (behind rest)) (stands LeftBracket rest) (stands LeftParenthesis rest) (stands LeftBrace rest) header (names_type e) (sym same ∙ stays))
+        grown-ends text r below (read_suffixes text r below header from) count i e rest total so_far lt (read_suffix text r below header from e rest) (λ n. refl) (stays_by (read_assertion text r below from e rest) (read_selector text r below from e rest) (read_index text r from e rest) (read_call text r below from e rest) (read_composite text r below from e rest) (stands Dot rest) (is_guard rest) (stands LeftParenthesis (behind rest)) (stands LeftBracket rest) (stands LeftParenthesis rest) (stands LeftBrace rest) header (takes_braces text.edition e) (sym same ∙ stays))
 
-    module _ (goes : Bool) (same : goes ≡ goes_on header e rest) (on : goes ≡ true) where
+    module _ (goes : Bool) (same : goes ≡ goes_on text.edition header e rest) (on : goes ≡ true) where
       grows : read_suffix text r below header from e rest ≡ Some (suffix_read text r below from e rest)
       grows =
-          grows_by (read_assertion text r below from e rest) (read_selector text r below from e rest) (read_index text r below from e rest) (read_call text r below from e rest) (read_composite text r below from e rest) (stands Dot rest) (is_guard rest) (stands LeftParenthesis (behind rest)) (stands LeftBracket rest) (stands LeftParenthesis rest) (stands LeftBrace rest) header (names_type e) (sym same ∙ on)
+          grows_by (read_assertion text r below from e rest) (read_selector text r below from e rest) (read_index text r from e rest) (read_call text r below from e rest) (read_composite text r below from e rest) (stands Dot rest) (is_guard rest) (stands LeftParenthesis (behind rest)) (stands LeftBracket rest) (stands LeftParenthesis rest) (stands LeftBrace rest) header (takes_braces text.edition e) (sym same ∙ on)
 
       pub suffixes-too-deep : (fits : Bool) → fits ≡ nat_le (expression_depth e) below → fits ≡ false → total ≡ None
       unfolding read_suffixes

@@ -9,14 +9,15 @@ ghost use Rattle.tree.specs.Syntax.{Expression, Signature, binary_expression, ch
 ghost use Rattle.tree.specs.View.{expression_syntax};
 ghost use Rattle.parser_base.specs.Gives.{Gives};
 ghost use Rattle.parser_base.specs.Parts.{ReadsExpressions, ReadsStatements};
-ghost use Rattle.parser_base.specs.Places.{cursor, seen, parts_of};
+ghost use Rattle.parser_base.specs.Places.{cursor, seen, parts_of, go_text};
 ghost use Rattle.tree_reader.specs.Reader.{read_unary, read_operators, read_expression_of, read_value_of, read_type_of, read_signature};
 ghost use Rattle.tree_reader.specs.Reading.{behind, spanned, steps, take};
 
 use crate::primaries::primary;
+use crate::type_names::named_type;
 use lexer::TokenKind;
 use parser_base::cursor::{Begun, Read, SourceTokens, TokenPlace};
-use parser_base::expressions::{named_type, next_operator};
+use parser_base::expressions::next_operator;
 use parser_base::fault::Stop;
 use parser_base::holding;
 use parser_base::kinds::{PRIMARY_LEVEL, UNARY_LEVEL, operator_level};
@@ -51,7 +52,7 @@ pub fn expression_of<F: Fn(Wanted, TokenPlace) -> Read<Expr>, S: Fn(TokenPlace) 
 ) -> Read<Expr>
     requires expressions { ReadsExpressions source (F.pre parts.now) (F.post parts.now) }
     requires statements { ReadsStatements source (S.pre statements.now) (S.post statements.now) }
-    ensures { Gives (seen source.entry expression_syntax) result (read_expression_of source.entry.text.now (parts_of
+    ensures { Gives (seen source.entry expression_syntax) result (read_expression_of (go_text source.entry) (parts_of
         source.entry) source.entry.below wanted.in_header wanted.least (cursor source.entry place)) }
 {
     let WantedExpression { in_header, least } = wanted;
@@ -85,7 +86,7 @@ fn unary<F: Fn(Wanted, TokenPlace) -> Read<Expr>, S: Fn(TokenPlace) -> Read<Stmt
 ) -> Read<Expr>
     requires expressions { ReadsExpressions source (F.pre parts.now) (F.post parts.now) }
     requires statements { ReadsStatements source (S.pre statements.now) (S.post statements.now) }
-    ensures { Gives (seen source.entry expression_syntax) result (read_unary source.entry.text.now (parts_of
+    ensures { Gives (seen source.entry expression_syntax) result (read_unary (go_text source.entry) (parts_of
         source.entry) source.entry.below header (cursor source.entry place)) }
 {
     if source.stands(place, TokenKind::Star) {
@@ -128,7 +129,7 @@ fn operators<F: Fn(Wanted, TokenPlace) -> Read<Expr>>(
     begun: Begun<Expr>,
 ) -> Read<Expr>
     requires { ReadsExpressions source (F.pre parts.now) (F.post parts.now) }
-    ensures { Gives (seen source.entry expression_syntax) result (read_operators source.entry.text.now (parts_of
+    ensures { Gives (seen source.entry expression_syntax) result (read_operators (go_text source.entry) (parts_of
         source.entry) source.entry.below wanted.in_header wanted.least (cursor source.entry begun.from) (steps (cursor
         source.entry begun.place)) (expression_syntax begun.first) (cursor source.entry begun.place)) }
 {
@@ -206,7 +207,7 @@ pub fn value_of<F: Fn(Wanted, TokenPlace) -> Read<Expr>, S: Fn(TokenPlace) -> Re
 ) -> Read<Expr>
     requires expressions { ReadsExpressions source (F.pre parts.now) (F.post parts.now) }
     requires statements { ReadsStatements source (S.pre statements.now) (S.post statements.now) }
-    ensures { Gives (seen source.entry expression_syntax) result (read_value_of source.entry.text.now (parts_of
+    ensures { Gives (seen source.entry expression_syntax) result (read_value_of (go_text source.entry) (parts_of
         source.entry) source.entry.below (cursor source.entry place)) }
 {
     if !source.stands(place, TokenKind::LeftBrace) {
@@ -235,11 +236,11 @@ pub fn type_of<F: Fn(Wanted, TokenPlace) -> Read<Expr>>(
     place: TokenPlace,
 ) -> Read<Expr>
     requires { ReadsExpressions source (F.pre parts.now) (F.post parts.now) }
-    ensures { Gives (seen source.entry expression_syntax) result (read_type_of source.entry.text.now (parts_of
+    ensures { Gives (seen source.entry expression_syntax) result (read_type_of (go_text source.entry) (parts_of
         source.entry) source.entry.below (cursor source.entry place)) }
 {
     if source.stands(place, TokenKind::Identifier) {
-        return named_type(source, place);
+        return named_type(source, parts, place);
     }
     if source.stands(place, TokenKind::Star) {
         let (operand, end) = type_expression(source, parts, source.behind(place))?;
@@ -306,7 +307,7 @@ fn function_type<F: Fn(Wanted, TokenPlace) -> Read<Expr>>(
     requires { ReadsExpressions source (F.pre parts.now) (F.post parts.now) }
     ensures { Gives (seen source.entry expression_syntax) result (option_and_then (λ (signature : Signature × Cursor).
         Some (spanned (cursor source.entry place) (function_type signature.0) signature.1)) (read_signature
-        source.entry.text.now (parts_of source.entry) (behind (cursor source.entry place)))) }
+        (go_text source.entry) (parts_of source.entry) (behind (cursor source.entry place)))) }
 {
     let (signature, end) = signature(source, parts, source.behind(place))?;
     let kept = boxed::signature(source.alloc, signature)?;

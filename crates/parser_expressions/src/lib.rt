@@ -4,3 +4,4 @@
 pub mod expressions;
 pub mod operands;
 pub mod primaries;
+pub mod type_names;

@@ -4,7 +4,7 @@ ghost use Rattle.std.specs.Prelude.{◌≡◌};
 ghost use Rattle.tree.specs.View.{expression_syntax};
 ghost use Rattle.parser_base.specs.Gives.{Gives};
 ghost use Rattle.parser_base.specs.Parts.{ReadsExpressions, ReadsStatements};
-ghost use Rattle.parser_base.specs.Places.{cursor, seen, parts_of};
+ghost use Rattle.parser_base.specs.Places.{cursor, seen, parts_of, go_text};
 ghost use Rattle.tree_reader.specs.Reader.{read_function, read_typed, read_operand};
 
 use lexer::TokenKind;
@@ -35,7 +35,7 @@ fn function<F: Fn(Wanted, TokenPlace) -> Read<Expr>, S: Fn(TokenPlace) -> Read<S
 ) -> Read<Expr>
     requires expressions { ReadsExpressions source (F.pre parts.now) (F.post parts.now) }
     requires statements { ReadsStatements source (S.pre statements.now) (S.post statements.now) }
-    ensures { Gives (seen source.entry expression_syntax) result (read_function source.entry.text.now (parts_of
+    ensures { Gives (seen source.entry expression_syntax) result (read_function (go_text source.entry) (parts_of
         source.entry) source.entry.below (cursor source.entry place)) }
 {
     let (header, rest) = signature(source, parts, source.behind(place))?;
@@ -64,7 +64,7 @@ fn typed<F: Fn(Wanted, TokenPlace) -> Read<Expr>>(
     place: TokenPlace,
 ) -> Read<Expr>
     requires { ReadsExpressions source (F.pre parts.now) (F.post parts.now) }
-    ensures { Gives (seen source.entry expression_syntax) result (read_typed source.entry.text.now (parts_of
+    ensures { Gives (seen source.entry expression_syntax) result (read_typed (go_text source.entry) (parts_of
         source.entry) source.entry.below (cursor source.entry place)) }
 {
     let (kind, rest) = literal_type(source, parts, place)?;
@@ -98,7 +98,7 @@ pub fn operand<F: Fn(Wanted, TokenPlace) -> Read<Expr>, S: Fn(TokenPlace) -> Rea
 ) -> Read<Expr>
     requires expressions { ReadsExpressions source (F.pre parts.now) (F.post parts.now) }
     requires statements { ReadsStatements source (S.pre statements.now) (S.post statements.now) }
-    ensures { Gives (seen source.entry expression_syntax) result (read_operand source.entry.text.now (parts_of
+    ensures { Gives (seen source.entry expression_syntax) result (read_operand (go_text source.entry) (parts_of
         source.entry) source.entry.below (cursor source.entry place)) }
 {
     if source.stands(place, TokenKind::Identifier) {

@@ -1,15 +1,13 @@
 //! Primary expressions (the Go specification, "Primary expressions").
 
-ghost use Rattle.std.specs.Prelude.{◌≡◌, false, true, Option, Some, option_and_then, if◌then◌else◌};
-ghost use Rattle.lexer.specs.declared.token.TokenKind.TheVariants.{Colon, RightBracket};
-ghost use Rattle.meaning.specs.Cursor.{Cursor};
-ghost use Rattle.tree.specs.Syntax.{Expression, missing_expression, present_expression};
-ghost use Rattle.tree.specs.View.{expression_syntax, optional_expression_syntax};
+ghost use Rattle.std.specs.Prelude.{◌≡◌, false, true, option_and_then};
+ghost use Rattle.tree.specs.Syntax.{Expression};
+ghost use Rattle.tree.specs.View.{expression_syntax};
 ghost use Rattle.parser_base.specs.Gives.{Gives};
 ghost use Rattle.parser_base.specs.Parts.{ReadsExpressions, ReadsStatements, goes_on};
-ghost use Rattle.parser_base.specs.Places.{cursor, seen, parts_of};
-ghost use Rattle.tree_reader.specs.Reader.{read_any, read_expression_unless, read_index, read_slice, read_call, read_assertion, read_composite, read_suffix, read_suffixes, read_primary};
-ghost use Rattle.tree_reader.specs.Reading.{Read as read_of, stands, behind, steps};
+ghost use Rattle.parser_base.specs.Places.{cursor, seen, parts_of, go_text};
+ghost use Rattle.tree_reader.specs.Reader.{read_call, read_assertion, read_composite, read_suffix, read_suffixes, read_primary};
+ghost use Rattle.tree_reader.specs.Reading.{Read as read_of, steps};
 
 use crate::operands::operand;
 use lexer::TokenKind;
@@ -17,8 +15,9 @@ use parser_base::cursor::{Begun, Read, SourceTokens, TokenPlace};
 use parser_base::expressions::{goes_on, selector};
 use parser_base::fault::Stop;
 use parser_base::holding;
-use parser_base::parts::{Wanted, expression, fits, type_expression};
-use parser_parts::lists::{arguments, braced_elements, expression_unless};
+use parser_base::parts::{Wanted, fits, type_expression};
+use parser_parts::indexes::index;
+use parser_parts::lists::{arguments, braced_elements};
 use tree::{Expr, Stmt};
 use tree_hold::{boxed, release};
 use tree_make as make;
@@ -38,7 +37,7 @@ pub fn primary<F: Fn(Wanted, TokenPlace) -> Read<Expr>, S: Fn(TokenPlace) -> Rea
 ) -> Read<Expr>
     requires expressions { ReadsExpressions source (F.pre parts.now) (F.post parts.now) }
     requires statements { ReadsStatements source (S.pre statements.now) (S.post statements.now) }
-    ensures { Gives (seen source.entry expression_syntax) result (read_primary source.entry.text.now (parts_of
+    ensures { Gives (seen source.entry expression_syntax) result (read_primary (go_text source.entry) (parts_of
         source.entry) source.entry.below header (cursor source.entry place)) }
 {
     let (first, rest) = operand(source, parts, statements, place)?;
@@ -62,7 +61,7 @@ fn suffixes<F: Fn(Wanted, TokenPlace) -> Read<Expr>>(
     begun: Begun<Expr>,
 ) -> Read<Expr>
     requires { ReadsExpressions source (F.pre parts.now) (F.post parts.now) }
-    ensures { Gives (seen source.entry expression_syntax) result (read_suffixes source.entry.text.now (parts_of
+    ensures { Gives (seen source.entry expression_syntax) result (read_suffixes (go_text source.entry) (parts_of
         source.entry) source.entry.below header (cursor source.entry begun.from) (steps (cursor source.entry
         begun.place)) (expression_syntax begun.first) (cursor source.entry begun.place)) }
 {
@@ -98,9 +97,9 @@ fn suffix<F: Fn(Wanted, TokenPlace) -> Read<Expr>>(
     place: TokenPlace,
 ) -> Read<Expr>
     requires parts { ReadsExpressions source (F.pre parts.now) (F.post parts.now) }
-    requires goes_on { goes_on false (expression_syntax operand) (cursor source place) ≡ true }
+    requires goes_on { goes_on source.edition false (expression_syntax operand) (cursor source place) ≡ true }
     ensures { Gives (seen source.entry expression_syntax) result (option_and_then (λ (read : read_of Expression).
-        read) (read_suffix source.entry.text.now (parts_of source.entry) source.entry.below false (cursor source.entry
+        read) (read_suffix (go_text source.entry) (parts_of source.entry) source.entry.below false (cursor source.entry
         from) (expression_syntax operand) (cursor source.entry place))) }
 {
     if source.stands(place, TokenKind::Dot) {
@@ -132,7 +131,7 @@ fn assertion<F: Fn(Wanted, TokenPlace) -> Read<Expr>>(
     place: TokenPlace,
 ) -> Read<Expr>
     requires { ReadsExpressions source (F.pre parts.now) (F.post parts.now) }
-    ensures { Gives (seen source.entry expression_syntax) result (read_assertion source.entry.text.now (parts_of
+    ensures { Gives (seen source.entry expression_syntax) result (read_assertion (go_text source.entry) (parts_of
         source.entry) source.entry.below (cursor source.entry from) (expression_syntax operand) (cursor source.entry
         place)) }
 {
@@ -162,7 +161,7 @@ fn call<F: Fn(Wanted, TokenPlace) -> Read<Expr>>(
     place: TokenPlace,
 ) -> Read<Expr>
     requires { ReadsExpressions source (F.pre parts.now) (F.post parts.now) }
-    ensures { Gives (seen source.entry expression_syntax) result (read_call source.entry.text.now (parts_of
+    ensures { Gives (seen source.entry expression_syntax) result (read_call (go_text source.entry) (parts_of
         source.entry) source.entry.below (cursor source.entry from) (expression_syntax operand) (cursor source.entry
         place)) }
 {
@@ -193,7 +192,7 @@ fn composite<F: Fn(Wanted, TokenPlace) -> Read<Expr>>(
     place: TokenPlace,
 ) -> Read<Expr>
     requires { ReadsExpressions source (F.pre parts.now) (F.post parts.now) }
-    ensures { Gives (seen source.entry expression_syntax) result (read_composite source.entry.text.now (parts_of
+    ensures { Gives (seen source.entry expression_syntax) result (read_composite (go_text source.entry) (parts_of
         source.entry) source.entry.below (cursor source.entry from) (expression_syntax operand) (cursor source.entry
         place)) }
 {
@@ -203,139 +202,4 @@ fn composite<F: Fn(Wanted, TokenPlace) -> Read<Expr>>(
         make::expression::composite_literal(kind, elements, source.span_to(from, end)),
         end,
     ))
-}
-
-/// `[index]` after an operand that began at `from`, or the bounds of a slice.
-///
-/// # Errors
-///
-/// Where another token stands, and out of memory.
-#[tactic(auto, unfolding(tree_reader::specs::Reader::read_index))]
-fn index<F: Fn(Wanted, TokenPlace) -> Read<Expr>>(
-    source: SourceTokens<'_>,
-    parts: &F,
-    from: TokenPlace,
-    operand: Expr,
-    place: TokenPlace,
-) -> Read<Expr>
-    requires { ReadsExpressions source (F.pre parts.now) (F.post parts.now) }
-    ensures { Gives (seen source.entry expression_syntax) result (read_index source.entry.text.now (parts_of
-        source.entry) source.entry.below (cursor source.entry from) (expression_syntax operand) (cursor source.entry
-        place)) }
-{
-    let inner = source.behind(place);
-    let (low, rest) =
-        holding!(expression: operand; expression_unless(source, parts, TokenKind::Colon, false, inner));
-    if source.stands(rest, TokenKind::Colon) {
-        let begun = Begun {
-            from,
-            first: operand,
-            place: rest,
-        };
-        return slice(source, parts, begun, low);
-    }
-    match low {
-        Some(kept) => {
-            let end =
-                holding!(expression: operand, boxed_expression: kept; source.take(rest, TokenKind::RightBracket));
-            let indexed =
-                holding!(boxed_expression: kept; memory boxed::expression(source.alloc, operand));
-            Ok((
-                make::expression::index_expression(indexed, kept, source.span_to(from, end)),
-                end,
-            ))
-        }
-        None => {
-            release::expression(operand);
-            Err(source.unexpected(rest))
-        }
-    }
-}
-
-/// The other bounds of a slice, after its operand and the first bound.
-///
-/// # Errors
-///
-/// Where another token stands, and out of memory.
-#[tactic(auto, unfolding(tree_reader::specs::Reader::read_slice))]
-fn slice<F: Fn(Wanted, TokenPlace) -> Read<Expr>>(
-    source: SourceTokens<'_>,
-    parts: &F,
-    begun: Begun<Expr>,
-    low: Option<Box<Expr>>,
-) -> Read<Expr>
-    requires { ReadsExpressions source (F.pre parts.now) (F.post parts.now) }
-    ensures { Gives (seen source.entry expression_syntax) result (read_slice source.entry.text.now (parts_of
-        source.entry) source.entry.below (cursor source.entry begun.from) (expression_syntax begun.first)
-        (optional_expression_syntax low) (cursor source.entry begun.place)) }
-{
-    let Begun {
-        from,
-        first: operand,
-        place,
-    } = begun;
-    let inner = source.behind(place);
-    let (high, after) =
-        holding!(expression: operand, optional_expression: low; second_bound(source, parts, inner));
-    let (most, rest) =
-        holding!(expression: operand, optional_expression: low, optional_expression: high; third_bound(source, parts,
-            after));
-    let end =
-        holding!(expression: operand, optional_expression: low, optional_expression: high, optional_expression: most;
-            source.take(rest, TokenKind::RightBracket));
-    let sliced =
-        holding!(optional_expression: low, optional_expression: high, optional_expression: most; memory
-            boxed::expression(source.alloc, operand));
-    let made = make::expression::bounds(low, high, most);
-    let bounds = holding!(boxed_expression: sliced; memory boxed::bounds(source.alloc, made));
-    let span = source.span_to(from, end);
-    Ok((
-        make::expression::slice_expression(sliced, bounds, span),
-        end,
-    ))
-}
-
-/// The second bound of a slice, where no colon stands.
-///
-/// # Errors
-///
-/// Where another token stands, and out of memory.
-fn second_bound<F: Fn(Wanted, TokenPlace) -> Read<Expr>>(
-    source: SourceTokens<'_>,
-    parts: &F,
-    place: TokenPlace,
-) -> Read<Option<Box<Expr>>>
-    requires { ReadsExpressions source (F.pre parts.now) (F.post parts.now) }
-    ensures { Gives (seen source.entry optional_expression_syntax) result (if stands Colon (cursor source.entry place)
-        then Some (missing_expression, cursor source.entry place) else read_expression_unless source.entry.text.now
-        (parts_of source.entry) RightBracket false (cursor source.entry place)) }
-{
-    if source.stands(place, TokenKind::Colon) {
-        return Ok((None, place));
-    }
-    expression_unless(source, parts, TokenKind::RightBracket, false, place)
-}
-
-/// The third bound of a slice, after a colon.
-///
-/// # Errors
-///
-/// Where another token stands, and out of memory.
-fn third_bound<F: Fn(Wanted, TokenPlace) -> Read<Expr>>(
-    source: SourceTokens<'_>,
-    parts: &F,
-    place: TokenPlace,
-) -> Read<Option<Box<Expr>>>
-    requires { ReadsExpressions source (F.pre parts.now) (F.post parts.now) }
-    ensures { Gives (seen source.entry optional_expression_syntax) result (if stands Colon (cursor source.entry place)
-        then option_and_then (λ (bound : Expression × Cursor). Some (present_expression bound.0, bound.1)) (read_any
-        source.entry.text.now (parts_of source.entry) (behind (cursor source.entry place))) else Some
-        (missing_expression, cursor source.entry place)) }
-{
-    if !source.stands(place, TokenKind::Colon) {
-        return Ok((None, place));
-    }
-    let (bound, end) = expression(source, parts, false, 1, source.behind(place))?;
-    let kept = boxed::expression(source.alloc, bound)?;
-    Ok((Some(kept), end))
 }

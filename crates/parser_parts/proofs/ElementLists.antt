@@ -4,7 +4,7 @@ use Rattle.lexer.specs.declared.token.TokenKind.TheVariants.{Comma, Ellipsis, Ri
 use Rattle.tree.specs.declared.expression.Expr.{Expr}
 use Rattle.tree.specs.Syntax.{Expressions, no_expression}
 use Rattle.tree.specs.View.{expression_syntax, expressions_syntax}
-use Rattle.meaning.specs.Cursor.{Cursor}
+use Rattle.meaning.specs.Cursor.{Cursor, GoText}
 use Rattle.tree_reader.specs.Reader.{Readers, read_any, read_element, read_elements, read_arguments}
 use Rattle.tree_reader.specs.Reading.{Read, stands, behind, past}
 use Rattle.parser_base.proofs.Growing.{prepend, prepend-all, after, runs_out, ends, fails, goes_on}
@@ -23,7 +23,7 @@ module _ {X Y : Type 0} (cons : X → Y → Y) where
   ends_with reads items count i rest total so_far lt nil view all x end is =
       ends cons reads items count i rest total so_far lt (cons x nil) end is ∙ ap (λ (y : Y). Some (y, end)) (prepend-last items x nil ∙ all (items ++ x ∷ []))
 
-module _ (text : List ℕ) (r : Readers) where
+module _ (text : GoText) (r : Readers) where
   -- in a round, after those elements, of so many rounds
   module _ (items : List Expr) (count i : ℕ) (rest : Cursor) (total : Read Expressions) (so_far : after and_expression items (read_elements text r (count - i) rest) ≡ total) where
     pub elements-run-out : count ≤ i → total ≡ None
@@ -63,7 +63,7 @@ pub all_arguments : (has_ellipsis : Bool) (es : List Expr) → prepend and_argum
 all_arguments has_ellipsis es =
     prepend-all and_argument (no_expression, has_ellipsis) (arguments_syntax has_ellipsis) refl (λ x xs. refl) es
 
-module _ (text : List ℕ) (r : Readers) where
+module _ (text : GoText) (r : Readers) where
   -- in a round, after those arguments, of so many rounds
   module _ (items : List Expr) (count i : ℕ) (rest : Cursor) (total : Read (Expressions × Bool)) (so_far : after and_argument items (read_arguments text r (count - i) rest) ≡ total) where
     pub arguments-run-out : count ≤ i → total ≡ None

@@ -4,7 +4,7 @@ use Rattle.lexer.specs.declared.token.TokenKind.TheVariants.{Comma}
 use Rattle.tree.specs.declared.expression.Expr.{Expr}
 use Rattle.tree.specs.Syntax.{Expressions, expression_and, no_expression}
 use Rattle.tree.specs.View.{expression_syntax, expressions_syntax}
-use Rattle.meaning.specs.Cursor.{Cursor}
+use Rattle.meaning.specs.Cursor.{Cursor, GoText}
 use Rattle.tree_reader.specs.Reader.{Readers, read_more_expressions, read_expressions}
 use Rattle.tree_reader.specs.Reading.{Read, stands, behind, steps}
 use Rattle.parser_base.proofs.Growing.{prepend, prepend-all, with_part, after, runs_out, ends, fails, goes_on}
@@ -18,7 +18,7 @@ and_expression e es = expression_and (expression_syntax e) es
 pub all_expressions : (es : List Expr) → prepend and_expression es no_expression ≡ expressions_syntax es
 all_expressions es = prepend-all and_expression no_expression expressions_syntax refl (λ x xs. refl) es
 
-module _ (text : List ℕ) (r : Readers) (header : Bool) where
+module _ (text : GoText) (r : Readers) (header : Bool) where
   pub expressions-start : (place next : Cursor) (x : Expr) (count : ℕ) → r.read_expression header 1 place ≡ Some (expression_syntax x, next) → count ≡ steps next → after and_expression (x ∷ []) (read_more_expressions text r header (count - 0) next) ≡ read_expressions text r header place
   unfolding read_expressions
   expressions-start place next x count read same =

@@ -4,7 +4,7 @@ use Rattle.lexer.specs.declared.token.TokenKind.TheVariants.{RightBrace}
 use Rattle.tree.specs.declared.expression.Field.{Field}
 use Rattle.tree.specs.Syntax.{Fields, no_field}
 use Rattle.tree.specs.View.{field_and, fields_syntax}
-use Rattle.meaning.specs.Cursor.{Cursor}
+use Rattle.meaning.specs.Cursor.{Cursor, GoText}
 use Rattle.meaning.specs.Grammar.{Owner}
 use Rattle.tree_reader.specs.Reader.{Readers, read_field, read_fields}
 use Rattle.tree_reader.specs.Reading.{Read, stands, take_semicolon}
@@ -16,7 +16,7 @@ use Rattle.parser_base.specs.Gives.{Stops}
 pub all_fields : (fs : List Field) → prepend field_and fs no_field ≡ fields_syntax fs
 all_fields fs = prepend-all field_and no_field fields_syntax refl (λ x xs. refl) fs
 
-module _ (text : List ℕ) (r : Readers) (owner : Owner) where
+module _ (text : GoText) (r : Readers) (owner : Owner) where
   -- in a round, after those lines, of so many rounds
   module _ (items : List Field) (count i : ℕ) (rest : Cursor) (total : Read Fields) (so_far : after field_and items (read_fields text r owner (count - i) rest) ≡ total) where
     pub fields-run-out : count ≤ i → total ≡ None

@@ -4,3 +4,7 @@ pub mod ElementLists
 pub mod FieldLists
 pub mod ParameterLists
 pub mod NamedItems
+pub mod TypeParameterLists
+pub mod ArgumentLists
+pub mod ConstraintTerms
+pub mod IndexedNames

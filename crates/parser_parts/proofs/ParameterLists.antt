@@ -4,7 +4,7 @@ use Rattle.lexer.specs.declared.token.TokenKind.TheVariants.{Comma, RightParenth
 use Rattle.tree.specs.declared.expression.Param.{Param}
 use Rattle.tree.specs.Syntax.{Parameters, no_parameter}
 use Rattle.tree.specs.View.{parameter_and, parameters_syntax}
-use Rattle.meaning.specs.Cursor.{Cursor}
+use Rattle.meaning.specs.Cursor.{Cursor, GoText}
 use Rattle.tree_reader.specs.Reader.{Readers, read_item, read_items}
 use Rattle.tree_reader.specs.Reading.{Read, stands, behind}
 use Rattle.parser_base.proofs.Growing.{prepend, prepend-all, after, runs_out, ends, fails, goes_on}
@@ -20,7 +20,7 @@ with_last [] x = refl
 with_last (p ∷ ps) x = ap (parameter_and p) (with_last ps x)
 
 -- in a round, after those items, of so many rounds
-module _ (text : List ℕ) (r : Readers) (items : List Param) (count i : ℕ) (rest : Cursor) (total : Read Parameters) (so_far : after parameter_and items (read_items text r (count - i) rest) ≡ total) where
+module _ (text : GoText) (r : Readers) (items : List Param) (count i : ℕ) (rest : Cursor) (total : Read Parameters) (so_far : after parameter_and items (read_items text r (count - i) rest) ≡ total) where
   pub items-run-out : count ≤ i → total ≡ None
   unfolding read_items
   items-run-out le = runs_out parameter_and (read_items text r) items count i rest total so_far (λ place. refl) le

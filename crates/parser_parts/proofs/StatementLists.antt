@@ -3,7 +3,7 @@ use Rattle.std.proofs.Common.{◌≡◌, ℕ, ◌-◌, ◌+◌, ◌<◌, ◌≤�
 use Rattle.tree.specs.declared.statement.Stmt.{Stmt}
 use Rattle.tree.specs.Syntax.{Statements, statement_and, no_statement}
 use Rattle.tree.specs.View.{statement_syntax, statements_syntax}
-use Rattle.meaning.specs.Cursor.{Cursor, is_next}
+use Rattle.meaning.specs.Cursor.{Cursor, is_next, GoText}
 use Rattle.tree_reader.specs.Reader.{Readers, ends_statements, read_statements}
 use Rattle.tree_reader.specs.Reading.{Read, skip_semicolons, steps, take_semicolon}
 use Rattle.parser_base.proofs.Growing.{prepend, prepend-all, after, starts, runs_out, ends, fails, goes_on}
@@ -17,7 +17,7 @@ and_statement s ss = statement_and (statement_syntax s) ss
 pub all_statements : (ss : List Stmt) → prepend and_statement ss no_statement ≡ statements_syntax ss
 all_statements ss = prepend-all and_statement no_statement statements_syntax refl (λ s ss. refl) ss
 
-module _ (text : List ℕ) (r : Readers) where
+module _ (text : GoText) (r : Readers) where
   pub statements-start : (count : ℕ) (place : Cursor) → count ≡ steps place → after and_statement [] (read_statements text r (count - 0) place) ≡ read_statements text r (steps place) place
   statements-start count place same = starts and_statement (read_statements text r) count (steps place) place same
 

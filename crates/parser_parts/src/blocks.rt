@@ -4,7 +4,7 @@ ghost use Rattle.std.specs.Prelude.{◌≡◌};
 ghost use Rattle.tree.specs.View.{statements_syntax};
 ghost use Rattle.parser_base.specs.Gives.{Gives};
 ghost use Rattle.parser_base.specs.Parts.{ReadsStatements, braced};
-ghost use Rattle.parser_base.specs.Places.{cursor, seen, parts_of};
+ghost use Rattle.parser_base.specs.Places.{cursor, seen, parts_of, go_text};
 ghost use Rattle.tree_reader.specs.Reader.{read_statements, read_block};
 ghost use Rattle.tree_reader.specs.Reading.{steps};
 
@@ -28,7 +28,8 @@ pub fn statement_list<S: Fn(TokenPlace) -> Read<Stmt>>(
 ) -> Read<Vec<Stmt>>
     requires { ReadsStatements source (S.pre statements.now) (S.post statements.now) }
     ensures { Gives (seen source.entry (λ ss. statements_syntax ss.items)) result (read_statements
-        source.entry.text.now (parts_of source.entry) (steps (cursor source.entry place)) (cursor source.entry place)) }
+        (go_text source.entry) (parts_of source.entry) (steps (cursor source.entry place)) (cursor source.entry
+        place)) }
 {
     let mut items = Vec::new(source.alloc);
     let mut rest = place;
@@ -57,7 +58,7 @@ pub fn block<S: Fn(TokenPlace) -> Read<Stmt>>(
     place: TokenPlace,
 ) -> Read<Block>
     requires { ReadsStatements source (S.pre statements.now) (S.post statements.now) }
-    ensures { Gives (seen source.entry braced) result (read_block source.entry.text.now (parts_of source.entry) (cursor
+    ensures { Gives (seen source.entry braced) result (read_block (go_text source.entry) (parts_of source.entry) (cursor
         source.entry place)) }
 {
     let inner = source.take(place, TokenKind::LeftBrace)?;

@@ -2,7 +2,10 @@
 #![tactic(auto)]
 
 pub mod blocks;
+pub mod constraints;
 pub mod fields;
+pub mod indexes;
+pub mod instances;
 pub mod lists;
 pub mod signatures;
 pub mod types;

@@ -4,7 +4,7 @@ ghost use Rattle.std.specs.Prelude.{◌≡◌};
 ghost use Rattle.tree.specs.View.{expression_syntax, expressions_syntax, optional_expression_syntax};
 ghost use Rattle.parser_base.specs.Gives.{Gives};
 ghost use Rattle.parser_base.specs.Parts.{ReadsExpressions};
-ghost use Rattle.parser_base.specs.Places.{cursor, seen, parts_of};
+ghost use Rattle.parser_base.specs.Places.{cursor, seen, parts_of, go_text};
 ghost use Rattle.tree_reader.specs.Reader.{read_expressions, read_element, read_expression_unless, read_elements, read_braced_elements, read_arguments};
 ghost use Rattle.tree_reader.specs.Reading.{steps};
 
@@ -30,7 +30,7 @@ pub fn expressions<F: Fn(Wanted, TokenPlace) -> Read<Expr>>(
 ) -> Read<Vec<Expr>>
     requires { ReadsExpressions source (F.pre parts.now) (F.post parts.now) }
     ensures { Gives (seen source.entry (λ es. expressions_syntax es.items)) result (read_expressions
-        source.entry.text.now (parts_of source.entry) header (cursor source.entry place)) }
+        (go_text source.entry) (parts_of source.entry) header (cursor source.entry place)) }
 {
     let (first, mut rest) = expression(source, parts, header, 1, place)?;
     let mut items = list::with_expression(Vec::new(source.alloc), first)?;
@@ -56,7 +56,7 @@ fn element<F: Fn(Wanted, TokenPlace) -> Read<Expr>>(
     place: TokenPlace,
 ) -> Read<Expr>
     requires { ReadsExpressions source (F.pre parts.now) (F.post parts.now) }
-    ensures { Gives (seen source.entry expression_syntax) result (read_element source.entry.text.now (parts_of
+    ensures { Gives (seen source.entry expression_syntax) result (read_element (go_text source.entry) (parts_of
         source.entry) (cursor source.entry place)) }
 {
     let (key, rest) = element_value(source, parts, place)?;
@@ -86,7 +86,7 @@ pub fn expression_unless<F: Fn(Wanted, TokenPlace) -> Read<Expr>>(
     place: TokenPlace,
 ) -> Read<Option<Box<Expr>>>
     requires { ReadsExpressions source (F.pre parts.now) (F.post parts.now) }
-    ensures { Gives (seen source.entry optional_expression_syntax) result (read_expression_unless source.entry.text.now
+    ensures { Gives (seen source.entry optional_expression_syntax) result (read_expression_unless (go_text source.entry)
         (parts_of source.entry) kind header (cursor source.entry place)) }
 {
     if source.stands(place, kind) {
@@ -104,7 +104,7 @@ fn elements<F: Fn(Wanted, TokenPlace) -> Read<Expr>>(
     place: TokenPlace,
 ) -> Read<Vec<Expr>>
     requires { ReadsExpressions source (F.pre parts.now) (F.post parts.now) }
-    ensures { Gives (seen source.entry (λ es. expressions_syntax es.items)) result (read_elements source.entry.text.now
+    ensures { Gives (seen source.entry (λ es. expressions_syntax es.items)) result (read_elements (go_text source.entry)
         (parts_of source.entry) (steps (cursor source.entry place)) (cursor source.entry place)) }
 {
     let mut items = Vec::new(source.alloc);
@@ -137,7 +137,7 @@ pub fn braced_elements<F: Fn(Wanted, TokenPlace) -> Read<Expr>>(
 ) -> Read<Vec<Expr>>
     requires { ReadsExpressions source (F.pre parts.now) (F.post parts.now) }
     ensures { Gives (seen source.entry (λ es. expressions_syntax es.items)) result (read_braced_elements
-        source.entry.text.now (parts_of source.entry) (cursor source.entry place)) }
+        (go_text source.entry) (parts_of source.entry) (cursor source.entry place)) }
 {
     let inner = source.take(place, TokenKind::LeftBrace)?;
     let (items, rest) = elements(source, parts, inner)?;
@@ -157,7 +157,8 @@ pub fn arguments<F: Fn(Wanted, TokenPlace) -> Read<Expr>>(
 ) -> Read<(Vec<Expr>, bool)>
     requires { ReadsExpressions source (F.pre parts.now) (F.post parts.now) }
     ensures { Gives (seen source.entry (λ es. (expressions_syntax es.0.items, es.1))) result (read_arguments
-        source.entry.text.now (parts_of source.entry) (steps (cursor source.entry place)) (cursor source.entry place)) }
+        (go_text source.entry) (parts_of source.entry) (steps (cursor source.entry place)) (cursor source.entry
+        place)) }
 {
     let mut items = Vec::new(source.alloc);
     let mut rest = place;

@@ -6,10 +6,11 @@ ghost use Rattle.tree.specs.Syntax.{Parameters};
 ghost use Rattle.tree.specs.View.{expression_syntax, parameter_and, parameters_syntax, signature_syntax};
 ghost use Rattle.parser_base.specs.Gives.{Gives};
 ghost use Rattle.parser_base.specs.Parts.{ReadsExpressions};
-ghost use Rattle.parser_base.specs.Places.{cursor, seen, parts_of};
+ghost use Rattle.parser_base.specs.Places.{cursor, seen, parts_of, go_text};
 ghost use Rattle.tree_reader.specs.Reader.{as_identifier, is_no_item, name_alone, with_names, settled, read_item, read_items, read_parameters, read_signature};
 ghost use Rattle.tree_reader.specs.Reading.{steps};
 
+use crate::instances::{indexed, is_indexed, item_of};
 use lexer::TokenKind;
 use parser_base::cursor::{Read, SourceTokens, TokenPlace};
 use parser_base::fault::Stop;
@@ -28,9 +29,13 @@ fn item<F: Fn(Wanted, TokenPlace) -> Read<Expr>>(
     place: TokenPlace,
 ) -> Read<Param>
     requires { ReadsExpressions source (F.pre parts.now) (F.post parts.now) }
-    ensures { Gives (seen source.entry parameter_and) result (read_item source.entry.text.now (parts_of source.entry)
+    ensures { Gives (seen source.entry parameter_and) result (read_item (go_text source.entry) (parts_of source.entry)
         (cursor source.entry place)) }
 {
+    if is_indexed(source, place) {
+        let (read, end) = indexed(source, parts, place)?;
+        return Ok((item_of(read), end));
+    }
     let next = source.behind(place);
     if source.stands(place, TokenKind::Identifier)
         && (source.stands(next, TokenKind::Ellipsis) || source.begins_type(next))
@@ -53,7 +58,8 @@ fn items<F: Fn(Wanted, TokenPlace) -> Read<Expr>>(
 ) -> Read<Vec<Param>>
     requires { ReadsExpressions source (F.pre parts.now) (F.post parts.now) }
     ensures { Gives (seen source.entry (λ ps. parameters_syntax ps.items)) result (read_items
-        source.entry.text.now (parts_of source.entry) (steps (cursor source.entry place)) (cursor source.entry place)) }
+        (go_text source.entry) (parts_of source.entry) (steps (cursor source.entry place)) (cursor source.entry
+        place)) }
 {
     let mut read = Vec::new(source.alloc);
     let mut rest = place;
@@ -176,7 +182,7 @@ pub fn parameters<F: Fn(Wanted, TokenPlace) -> Read<Expr>>(
 ) -> Read<Vec<Param>>
     requires { ReadsExpressions source (F.pre parts.now) (F.post parts.now) }
     ensures { Gives (seen source.entry (λ ps. parameters_syntax ps.items)) result (read_parameters
-        source.entry.text.now (parts_of source.entry) (cursor source.entry place)) }
+        (go_text source.entry) (parts_of source.entry) (cursor source.entry place)) }
 {
     let inner = source.take(place, TokenKind::LeftParenthesis)?;
     let (read, rest) = items(source, parts, inner)?;
@@ -197,7 +203,7 @@ pub fn signature<F: Fn(Wanted, TokenPlace) -> Read<Expr>>(
     place: TokenPlace,
 ) -> Read<Signature>
     requires { ReadsExpressions source (F.pre parts.now) (F.post parts.now) }
-    ensures { Gives (seen source.entry signature_syntax) result (read_signature source.entry.text.now (parts_of
+    ensures { Gives (seen source.entry signature_syntax) result (read_signature (go_text source.entry) (parts_of
         source.entry) (cursor source.entry place)) }
 {
     let (params, rest) = parameters(source, parts, place)?;

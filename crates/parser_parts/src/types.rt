@@ -4,7 +4,7 @@ ghost use Rattle.std.specs.Prelude.{◌≡◌};
 ghost use Rattle.tree.specs.View.{expression_syntax};
 ghost use Rattle.parser_base.specs.Gives.{Gives};
 ghost use Rattle.parser_base.specs.Parts.{ReadsExpressions};
-ghost use Rattle.parser_base.specs.Places.{cursor, seen, parts_of};
+ghost use Rattle.parser_base.specs.Places.{cursor, seen, parts_of, go_text};
 ghost use Rattle.tree_reader.specs.Reader.{read_bracket_type, read_map_type, read_channel_type, read_literal_type};
 
 use crate::fields::{interface_fields, struct_fields};
@@ -28,7 +28,7 @@ pub fn bracket_type<F: Fn(Wanted, TokenPlace) -> Read<Expr>>(
     place: TokenPlace,
 ) -> Read<Expr>
     requires { ReadsExpressions source (F.pre parts.now) (F.post parts.now) }
-    ensures { Gives (seen source.entry expression_syntax) result (read_bracket_type source.entry.text.now (parts_of
+    ensures { Gives (seen source.entry expression_syntax) result (read_bracket_type (go_text source.entry) (parts_of
         source.entry) (cursor source.entry place)) }
 {
     let inner = source.behind(place);
@@ -72,7 +72,7 @@ fn map_type<F: Fn(Wanted, TokenPlace) -> Read<Expr>>(
     place: TokenPlace,
 ) -> Read<Expr>
     requires { ReadsExpressions source (F.pre parts.now) (F.post parts.now) }
-    ensures { Gives (seen source.entry expression_syntax) result (read_map_type source.entry.text.now (parts_of
+    ensures { Gives (seen source.entry expression_syntax) result (read_map_type (go_text source.entry) (parts_of
         source.entry) (cursor source.entry place)) }
 {
     let inner = source.take(source.behind(place), TokenKind::LeftBracket)?;
@@ -99,7 +99,7 @@ fn channel_type<F: Fn(Wanted, TokenPlace) -> Read<Expr>>(
     place: TokenPlace,
 ) -> Read<Expr>
     requires { ReadsExpressions source (F.pre parts.now) (F.post parts.now) }
-    ensures { Gives (seen source.entry expression_syntax) result (read_channel_type source.entry.text.now (parts_of
+    ensures { Gives (seen source.entry expression_syntax) result (read_channel_type (go_text source.entry) (parts_of
         source.entry) (cursor source.entry place)) }
 {
     let inner = source.behind(place);
@@ -133,7 +133,7 @@ pub fn literal_type<F: Fn(Wanted, TokenPlace) -> Read<Expr>>(
     place: TokenPlace,
 ) -> Read<Expr>
     requires { ReadsExpressions source (F.pre parts.now) (F.post parts.now) }
-    ensures { Gives (seen source.entry expression_syntax) result (read_literal_type source.entry.text.now (parts_of
+    ensures { Gives (seen source.entry expression_syntax) result (read_literal_type (go_text source.entry) (parts_of
         source.entry) (cursor source.entry place)) }
 {
     if source.stands(place, TokenKind::LeftBracket) {

@@ -11,7 +11,7 @@ use Rattle.tree.specs.declared.expression.Literal.{Literal'}
 use Rattle.tree.specs.Syntax.{Expression, expression_node, name_expression, call_expression, StatementForm}
 use Rattle.tree.specs.Depth.{expression_depth, below_expression}
 use Rattle.tree.specs.View.{expression_form}
-use Rattle.meaning.specs.Cursor.{Cursor}
+use Rattle.meaning.specs.Cursor.{Cursor, GoText}
 use Rattle.meaning.specs.WellFormed.{primary_level, is_call, is_call_form}
 use Rattle.tree_reader.specs.Reader.{readers, read_started}
 use Rattle.tree_reader.specs.Reading.{Read, ◌>>=◌, only_where, behind, spanned_statement}
@@ -32,7 +32,7 @@ shallow_is_none (expression_node (call_expression e es ellipsis) span) below lt 
 shallow_is_none (expression_node (name_expression name) span) below lt le = refl
 shallow_is_none (expression_node _ span) below lt le = refl
 
-module _ (text : List ℕ) (below : ℕ) (lt : below < 2) (form : Expression → StatementForm) (place : Cursor) where
+module _ (text : GoText) (below : ℕ) (lt : below < 2) (form : Expression → StatementForm) (place : Cursor) where
   started_with : (read : Read Expression) → (readers text below).read_expression false primary_level (behind place) ≡ read → (read >>= (λ (e : Expression × Cursor). only_where (is_call e.0) (Some (spanned_statement place (form e.0) e.1)))) ≡ None
   started_with None h = refl
   started_with (Some x) h =

@@ -4,12 +4,12 @@ use Rattle.lexer.specs.declared.token.TokenKind.TheVariants.{Assign}
 use Rattle.tree.specs.declared.operator.DeclKeyword.{DeclKeyword}
 use Rattle.tree.specs.declared.operator.DeclKeyword.TheVariants.{Var}
 use Rattle.tree.specs.Syntax.{Identifier}
-use Rattle.meaning.specs.Cursor.{Cursor, is_next}
+use Rattle.meaning.specs.Cursor.{Cursor, is_next, GoText}
 use Rattle.meaning.specs.OperatorTokens.{can_begin_type}
 use Rattle.tree_reader.specs.Reader.{no_readers, readers, read_expressions, read_value_spec}
 use Rattle.tree_reader.specs.Reading.{Read, stands, read_identifiers}
 
-module _ (text : List ℕ) (place : Cursor) where
+module _ (text : GoText) (place : Cursor) where
   module _ (ns : List Identifier) (rest : Cursor) (names : read_identifiers text place ≡ Some (ns, rest)) where
     after_names : (kind value : Bool) → is_next can_begin_type rest ≡ kind → stands Assign rest ≡ value → read_value_spec text no_readers Var place ≡ None
     unfolding read_value_spec read_expressions

@@ -5,7 +5,7 @@ use Rattle.tree.specs.declared.declaration.Spec.{Spec}
 use Rattle.tree.specs.declared.operator.DeclKeyword.{DeclKeyword}
 use Rattle.tree.specs.Syntax.{Specs, no_spec}
 use Rattle.tree.specs.View.{spec_and, specs_syntax}
-use Rattle.meaning.specs.Cursor.{Cursor}
+use Rattle.meaning.specs.Cursor.{Cursor, GoText}
 use Rattle.tree_reader.specs.Reader.{Readers, read_spec, read_specs}
 use Rattle.tree_reader.specs.Reading.{Read, stands, take_semicolon}
 use Rattle.parser_base.proofs.Growing.{prepend, prepend-all, after, runs_out, ends, fails, goes_on}
@@ -17,7 +17,7 @@ all_specs : (specs : List Spec) → prepend spec_and specs no_spec ≡ specs_syn
 all_specs specs = prepend-all spec_and no_spec specs_syntax refl (λ x xs. refl) specs
 
 -- in a round, after those lines, of so many rounds
-module _ (text : List ℕ) (r : Readers) (keyword : DeclKeyword) (items : List Spec) (count i : ℕ) (rest : Cursor) (total : Read Specs) (so_far : after spec_and items (read_specs text r keyword (count - i) rest) ≡ total) where
+module _ (text : GoText) (r : Readers) (keyword : DeclKeyword) (items : List Spec) (count i : ℕ) (rest : Cursor) (total : Read Specs) (so_far : after spec_and items (read_specs text r keyword (count - i) rest) ≡ total) where
   pub specs-run-out : count ≤ i → total ≡ None
   unfolding read_specs
   specs-run-out le = runs_out spec_and (read_specs text r keyword) items count i rest total so_far (λ place. refl) le

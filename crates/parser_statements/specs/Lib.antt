@@ -1,1 +1,2 @@
+pub mod SplitConstraint
 pub mod Starts

@@ -1,14 +1,16 @@
 -- What a statement is that begins with a token, but for declarations, and how it is read.
-use Rattle.std.specs.Prelude.{ℕ, false, if◌then◌else◌, List, [], ◌∷◌}
+use Rattle.std.specs.Prelude.{ℕ, false, if◌then◌else◌, List, [], ◌∷◌, Some}
 use Rattle.lexer.specs.declared.token.Token.{Token}
 use Rattle.lexer.specs.declared.token.TokenKind.{TokenKind}
-use Rattle.lexer.specs.declared.token.TokenKind.TheVariants.{Identifier, BreakKeyword, ContinueKeyword, DeferKeyword, ForKeyword, GoKeyword, IfKeyword, ReturnKeyword, SelectKeyword, SwitchKeyword, LeftBrace, Colon}
-use Rattle.tree.specs.Syntax.{Statement, go_statement, defer_statement, break_statement, continue_statement}
-use Rattle.meaning.specs.Cursor.{Cursor}
-use Rattle.tree_reader.specs.Reader.{Readers, read_simple, read_if, read_for, read_switch, read_select, read_labeled, read_block_statement, read_return, read_started, read_branch}
-use Rattle.tree_reader.specs.Reading.{Read, stands, behind}
+use Rattle.lexer.specs.declared.token.TokenKind.TheVariants.{Identifier, BreakKeyword, ContinueKeyword, DeferKeyword, FallthroughKeyword, ForKeyword, GoKeyword, GotoKeyword, IfKeyword, ReturnKeyword, SelectKeyword, SwitchKeyword, LeftBrace, Colon}
+use Rattle.tree.specs.declared.edition.Edition.{Edition}
+use Rattle.tree.specs.declared.edition.Edition.TheVariants.{First}
+use Rattle.tree.specs.Syntax.{Statement, go_statement, defer_statement, break_statement, continue_statement, fallthrough_statement}
+use Rattle.meaning.specs.Cursor.{Cursor, GoText}
+use Rattle.tree_reader.specs.Reader.{Readers, read_simple, read_if, read_for, read_switch, read_select, read_labeled, read_block_statement, read_return, read_started, read_branch, read_goto}
+use Rattle.tree_reader.specs.Reading.{Read, stands, behind, spanned_statement}
 use Rattle.parser_statements.specs.declared.statements.Start.{Start}
-use Rattle.parser_statements.specs.declared.statements.Start.TheVariants.{Name, Block, If, For, Switch, Select, Return, Go, Defer, Break, Continue, Simple}
+use Rattle.parser_statements.specs.declared.statements.Start.TheVariants.{Name, Block, If, For, Switch, Select, Return, Go, Defer, Break, Continue, Goto, Fallthrough, Simple}
 
 abbrev pub start_of : TokenKind → Start
 start_of Identifier = Name
@@ -22,16 +24,24 @@ start_of GoKeyword = Go
 start_of DeferKeyword = Defer
 start_of BreakKeyword = Break
 start_of ContinueKeyword = Continue
+start_of GotoKeyword = Goto
+start_of FallthroughKeyword = Fallthrough
 start_of kind = Simple
 
-abbrev pub first_start : List Token → Start
-first_start [] = Simple
-first_start (t ∷ rest) = start_of t.kind
+-- the first edition has neither `goto` nor `fallthrough`
+abbrev pub start_in : Edition → Start → Start
+start_in First Goto = Simple
+start_in First Fallthrough = Simple
+start_in edition start = start
 
-abbrev pub next_start : Cursor → Start
-next_start place = first_start place.left
+abbrev pub first_start : Edition → List Token → Start
+first_start edition [] = Simple
+first_start edition (t ∷ rest) = start_in edition (start_of t.kind)
 
-module _ (text : List ℕ) (r : Readers) (below : ℕ) where
+abbrev pub next_start : Edition → Cursor → Start
+next_start edition place = first_start edition place.left
+
+module _ (text : GoText) (r : Readers) (below : ℕ) where
   abbrev pub read_named : Cursor → Read Statement
   read_named place =
       if stands Colon (behind place) then read_labeled text r below place else read_simple text r below false place
@@ -48,4 +58,6 @@ module _ (text : List ℕ) (r : Readers) (below : ℕ) where
   read_start Defer place = read_started text r below defer_statement place
   read_start Break place = read_branch text r below break_statement place
   read_start Continue place = read_branch text r below continue_statement place
+  read_start Goto place = read_goto text r below place
+  read_start Fallthrough place = Some (spanned_statement place fallthrough_statement (behind place))
   read_start Simple place = read_simple text r below false place

@@ -4,7 +4,7 @@ ghost use Rattle.std.specs.Prelude.{◌≡◌, option_map};
 ghost use Rattle.tree.specs.View.{expression_syntax, optional_statement_syntax, statement_syntax};
 ghost use Rattle.parser_base.specs.Gives.{Gives};
 ghost use Rattle.parser_base.specs.Parts.{ReadsExpressions, ReadsStatements};
-ghost use Rattle.parser_base.specs.Places.{cursor, seen, parts_of};
+ghost use Rattle.parser_base.specs.Places.{cursor, seen, parts_of, go_text};
 ghost use Rattle.tree_reader.specs.Reader.{read_condition, read_else, read_if};
 
 use lexer::TokenKind;
@@ -32,7 +32,7 @@ fn condition<F: Fn(Wanted, TokenPlace) -> Read<Expr>>(
     place: TokenPlace,
 ) -> Read<Expr>
     requires { ReadsExpressions source (F.pre parts.now) (F.post parts.now) }
-    ensures { Gives (seen source.entry expression_syntax) result (read_condition source.entry.text.now (parts_of
+    ensures { Gives (seen source.entry expression_syntax) result (read_condition (go_text source.entry) (parts_of
         source.entry) source.entry.below (option_map statement_syntax first) (cursor source.entry place)) }
 {
     match first {
@@ -56,7 +56,7 @@ fn otherwise<S: Fn(TokenPlace) -> Read<Stmt>>(
     place: TokenPlace,
 ) -> Read<Option<Box<Stmt>>>
     requires { ReadsStatements source (S.pre statements.now) (S.post statements.now) }
-    ensures { Gives (seen source.entry optional_statement_syntax) result (read_else source.entry.text.now (parts_of
+    ensures { Gives (seen source.entry optional_statement_syntax) result (read_else (go_text source.entry) (parts_of
         source.entry) source.entry.below (cursor source.entry place)) }
 {
     if !source.stands(place, TokenKind::ElseKeyword) {
@@ -88,7 +88,7 @@ pub fn choice<F: Fn(Wanted, TokenPlace) -> Read<Expr>, S: Fn(TokenPlace) -> Read
 ) -> Read<Stmt>
     requires expressions { ReadsExpressions source (F.pre parts.now) (F.post parts.now) }
     requires statements { ReadsStatements source (S.pre statements.now) (S.post statements.now) }
-    ensures { Gives (seen source.entry statement_syntax) result (read_if source.entry.text.now (parts_of source.entry)
+    ensures { Gives (seen source.entry statement_syntax) result (read_if (go_text source.entry) (parts_of source.entry)
         source.entry.below (cursor source.entry place)) }
 {
     let (header, rest) = read_header(source, parts, source.behind(place))?;

@@ -1,26 +1,31 @@
 //! Declarations of constants, variables and types (the Go specification, "Declarations and scope").
 
-ghost use Rattle.std.specs.Prelude.{◌≡◌, false, Some, if◌then◌else◌, option_and_then};
-ghost use Rattle.lexer.specs.declared.token.TokenKind.TheVariants.{Assign};
+ghost use Rattle.std.specs.Prelude.{◌≡◌, false, true, Some, if◌then◌else◌, option_and_then};
+ghost use Rattle.lexer.specs.declared.token.TokenKind.TheVariants.{Assign, LeftBracket};
 ghost use Rattle.meaning.specs.Cursor.{is_next};
 ghost use Rattle.meaning.specs.OperatorTokens.{can_begin_type};
+ghost use Rattle.meaning.specs.TypeParameters.{is_parameter};
 ghost use Rattle.tree.specs.Syntax.{no_expression, missing_expression, present_expression};
-ghost use Rattle.tree.specs.View.{expressions_syntax, optional_expression_syntax, spec_and, specs_syntax, declaration_syntax};
+ghost use Rattle.tree.specs.View.{expression_syntax, expressions_syntax, optional_expression_syntax, identifier_syntax, parameters_syntax, spec_and, specs_syntax, declaration_syntax};
 ghost use Rattle.parser_base.specs.Gives.{Gives};
 ghost use Rattle.parser_base.specs.Parts.{ReadsExpressions};
-ghost use Rattle.parser_base.specs.Places.{cursor, seen, parts_of};
-ghost use Rattle.tree_reader.specs.Reader.{read_expressions, read_value_spec, read_type_spec, read_spec, read_specs, read_declaration};
+ghost use Rattle.parser_base.specs.Places.{cursor, seen, parts_of, go_text};
+ghost use Rattle.tree_reader.specs.Reader.{read_any, read_expressions, read_value_spec, read_plain_type, read_generic_type, read_length_or_parameter, read_type_spec, read_spec, read_specs, read_declaration};
 ghost use Rattle.tree_reader.specs.Reading.{stands, behind, steps};
 
+use crate::parameter_faults::parameters_or_fault;
+use crate::split_parameters::{constraint_of, ends_plainly, only_parameter};
 use lexer::TokenKind;
-use parser_base::cursor::{Read, SourceTokens, TokenPlace};
+use parser_base::ahead::begins_parameters;
+use parser_base::cursor::{Begun, Read, SourceTokens, TokenPlace};
 use parser_base::declarations::value_fits;
 use parser_base::fault::Stop;
 use parser_base::holding;
 use parser_base::names::{identifier, identifiers};
-use parser_base::parts::{Wanted, type_expression};
+use parser_base::parts::{Wanted, expression, type_expression, within};
+use parser_base::shapes::{is_constraint, is_one_parameter, is_parameter};
 use parser_parts::lists::expressions;
-use tree::{Decl, DeclKeyword, Expr, Spec};
+use tree::{Decl, DeclKeyword, Expr, Identifier, Param, Spec};
 use tree_hold::{boxed, list, release};
 use tree_make as make;
 
@@ -53,7 +58,7 @@ fn values<F: Fn(Wanted, TokenPlace) -> Read<Expr>>(
 ) -> Read<Vec<Expr>>
     requires { ReadsExpressions source (F.pre parts.now) (F.post parts.now) }
     ensures { Gives (seen source.entry (λ es. expressions_syntax es.items)) result (if stands Assign (cursor
-        source.entry place) then read_expressions source.entry.text.now (parts_of source.entry) false (behind (cursor
+        source.entry place) then read_expressions (go_text source.entry) (parts_of source.entry) false (behind (cursor
         source.entry place)) else Some (no_expression, cursor source.entry place)) }
 {
     if !source.stands(place, TokenKind::Assign) {
@@ -71,7 +76,7 @@ fn value_spec<F: Fn(Wanted, TokenPlace) -> Read<Expr>>(
     place: TokenPlace,
 ) -> Read<Spec>
     requires { ReadsExpressions source (F.pre parts.now) (F.post parts.now) }
-    ensures { Gives (seen source.entry spec_and) result (read_value_spec source.entry.text.now (parts_of source.entry)
+    ensures { Gives (seen source.entry spec_and) result (read_value_spec (go_text source.entry) (parts_of source.entry)
         keyword (cursor source.entry place)) }
 {
     let (names, after_names) = identifiers(source, place)?;
@@ -92,6 +97,175 @@ fn value_spec<F: Fn(Wanted, TokenPlace) -> Read<Expr>>(
     Ok((make::statement::value_spec(names, kind, values, span), end))
 }
 
+/// A type, or `=` and a type, behind the name and the type parameters of what is declared at `from`.
+#[tactic(auto, unfolding(tree_reader::specs::Reader::read_plain_type))]
+fn plain_type<F: Fn(Wanted, TokenPlace) -> Read<Expr>>(
+    source: SourceTokens<'_>,
+    parts: &F,
+    declared: Begun<Identifier>,
+    params: Vec<Param>,
+) -> Read<Spec>
+    requires { ReadsExpressions source (F.pre parts.now) (F.post parts.now) }
+    ensures { Gives (seen source.entry spec_and) result (read_plain_type (go_text source.entry) (parts_of source.entry)
+        (cursor source.entry declared.from) (identifier_syntax declared.first) (parameters_syntax params.items) (cursor
+        source.entry declared.place)) }
+{
+    let Begun {
+        from,
+        first: name,
+        place,
+    } = declared;
+    let is_alias = source.stands(place, TokenKind::Assign);
+    let start = source.past(place, TokenKind::Assign);
+    let (kind, end) = holding!(params: params; type_expression(source, parts, start));
+    let kept = holding!(params: params; memory boxed::expression(source.alloc, kind));
+    let span = source.span_to(from, end);
+    Ok((
+        make::statement::type_spec(name, params, is_alias, kept, span),
+        end,
+    ))
+}
+
+/// Type parameters and a type, behind the name of what is declared at `from`. What stands in the brackets may have been
+/// read as a length already, up to `length_end`.
+#[tactic(auto, unfolding(tree_reader::specs::Reader::read_generic_type))]
+fn generic_type<F: Fn(Wanted, TokenPlace) -> Read<Expr>>(
+    source: SourceTokens<'_>,
+    parts: &F,
+    length_end: Option<TokenPlace>,
+    declared: Begun<Identifier>,
+) -> Read<Spec>
+    requires parts { ReadsExpressions source (F.pre parts.now) (F.post parts.now) }
+    requires bracket { stands LeftBracket (cursor source declared.place) ≡ true }
+    ensures { Gives (seen source.entry spec_and) result (read_generic_type (go_text source.entry) (parts_of
+        source.entry) (cursor source.entry declared.from) (identifier_syntax declared.first) (cursor source.entry
+        declared.place)) }
+{
+    let Begun {
+        from,
+        first: name,
+        place,
+    } = declared;
+    let (params, rest) = parameters_or_fault(source, parts, length_end, place)?;
+    if begins_parameters(source, place) || is_one_parameter(&params) {
+        let named = Begun {
+            from,
+            first: name,
+            place: rest,
+        };
+        return plain_type(source, parts, named, params);
+    }
+    release::params(params);
+    Err(source.unexpected(rest))
+}
+
+/// Type parameters and a type, behind the name of what is declared at `from`, where the one type parameter was read as
+/// a length. It is not read again, so that nested texts are not read twice at each level; but where it has a fault,
+/// reading it tells where.
+fn split_type<F: Fn(Wanted, TokenPlace) -> Read<Expr>>(
+    source: SourceTokens<'_>,
+    parts: &F,
+    declared: Begun<Identifier>,
+    length: Begun<Expr>,
+) -> Read<Spec>
+    requires parts { ReadsExpressions source (F.pre parts.now) (F.post parts.now) }
+    requires bracket { stands LeftBracket (cursor source declared.place) ≡ true }
+    requires inner { cursor source length.from ≡ behind (cursor source declared.place) }
+    requires read { read_any (go_text source) (parts_of source) (cursor source length.from) ≡ Some (
+      expression_syntax
+          length.first,
+      cursor source length.place,
+    ) }
+    requires is_parameter { is_parameter (expression_syntax length.first) ≡ true }
+    ensures { Gives (seen source.entry spec_and) result (read_generic_type (go_text source.entry) (parts_of
+        source.entry) (cursor source.entry declared.from) (identifier_syntax declared.first) (cursor source.entry
+        declared.place)) }
+{
+    let Begun {
+        from: inner,
+        first: read,
+        place: rest,
+    } = length;
+    if !ends_plainly(source, inner, rest) {
+        release::expression(read);
+        return generic_type(source, parts, Some(rest), declared);
+    }
+    let Begun {
+        from,
+        first: name,
+        place,
+    } = declared;
+    let start = source.start(source.behind(inner));
+    let constraint = constraint_of(source, start, read, rest)?;
+    if !is_constraint(&constraint) {
+        release::expression(constraint);
+        let declared = Begun {
+            from,
+            first: name,
+            place,
+        };
+        return generic_type(source, parts, Some(rest), declared);
+    }
+    let params = only_parameter(source, inner, constraint)?;
+    let named = Begun {
+        from,
+        first: name,
+        place: source.behind(rest),
+    };
+    plain_type(source, parts, named, params)
+}
+
+/// A type that begins with the length of an array, behind the name of what is declared at `from`, unless this is read
+/// as a type parameter.
+#[tactic(auto, unfolding(tree_reader::specs::Reader::read_length_or_parameter))]
+fn length_or_parameter<F: Fn(Wanted, TokenPlace) -> Read<Expr>>(
+    source: SourceTokens<'_>,
+    parts: &F,
+    declared: Begun<Identifier>,
+) -> Read<Spec>
+    requires parts { ReadsExpressions source (F.pre parts.now) (F.post parts.now) }
+    requires bracket { stands LeftBracket (cursor source declared.place) ≡ true }
+    ensures { Gives (seen source.entry spec_and) result (read_length_or_parameter (go_text source.entry) (parts_of
+        source.entry) (cursor source.entry declared.from) (identifier_syntax declared.first) (cursor source.entry
+        declared.place)) }
+{
+    let Begun {
+        from,
+        first: name,
+        place,
+    } = declared;
+    let inner = source.behind(place);
+    let (read, rest) = expression(source, parts, false, 1, inner)?;
+    if is_parameter(&read) {
+        let declared = Begun {
+            from,
+            first: name,
+            place,
+        };
+        let length = Begun {
+            from: inner,
+            first: read,
+            place: rest,
+        };
+        return split_type(source, parts, declared, length);
+    }
+    let after = holding!(expression: read; source.take(rest, TokenKind::RightBracket));
+    let (element, end) = holding!(expression: read; type_expression(source, parts, after));
+    let kept = holding!(expression: read; memory boxed::expression(source.alloc, element));
+    let count = holding!(boxed_expression: kept; memory boxed::expression(source.alloc, read));
+    let array = make::types::array_type(count, kept, source.span_to(place, end));
+    if !within(source, &array) {
+        release::expression(array);
+        return Err(Stop::TooDeep);
+    }
+    let kind = boxed::expression(source.alloc, array)?;
+    let span = source.span_to(from, end);
+    Ok((
+        make::statement::type_spec(name, Vec::new(source.alloc), false, kind, span),
+        end,
+    ))
+}
+
 /// What one line declares of types, and the place after it.
 #[tactic(auto, unfolding(tree_reader::specs::Reader::read_type_spec))]
 fn type_spec<F: Fn(Wanted, TokenPlace) -> Read<Expr>>(
@@ -100,15 +274,24 @@ fn type_spec<F: Fn(Wanted, TokenPlace) -> Read<Expr>>(
     place: TokenPlace,
 ) -> Read<Spec>
     requires { ReadsExpressions source (F.pre parts.now) (F.post parts.now) }
-    ensures { Gives (seen source.entry spec_and) result (read_type_spec source.entry.text.now (parts_of source.entry)
+    ensures { Gives (seen source.entry spec_and) result (read_type_spec (go_text source.entry) (parts_of source.entry)
         (cursor source.entry place)) }
 {
     let (name, rest) = identifier(source, place)?;
-    let is_alias = source.stands(rest, TokenKind::Assign);
-    let (kind, end) = type_expression(source, parts, source.past(rest, TokenKind::Assign))?;
-    let kept = boxed::expression(source.alloc, kind)?;
-    let span = source.span_to(place, end);
-    Ok((make::statement::type_spec(name, is_alias, kept, span), end))
+    let has_bracket = source.stands(rest, TokenKind::LeftBracket);
+    let declared = Begun {
+        from: place,
+        first: name,
+        place: rest,
+    };
+    if !(source.is_second() && (has_bracket && source.has_name(source.behind(rest)))) {
+        return plain_type(source, parts, declared, Vec::new(source.alloc));
+    }
+    if begins_parameters(source, rest) {
+        generic_type(source, parts, None, declared)
+    } else {
+        length_or_parameter(source, parts, declared)
+    }
 }
 
 /// What one line declares, and the place after it.
@@ -119,7 +302,7 @@ fn spec<F: Fn(Wanted, TokenPlace) -> Read<Expr>>(
     place: TokenPlace,
 ) -> Read<Spec>
     requires { ReadsExpressions source (F.pre parts.now) (F.post parts.now) }
-    ensures { Gives (seen source.entry spec_and) result (read_spec source.entry.text.now (parts_of source.entry)
+    ensures { Gives (seen source.entry spec_and) result (read_spec (go_text source.entry) (parts_of source.entry)
         keyword (cursor source.entry place)) }
 {
     match keyword {
@@ -138,7 +321,7 @@ fn specs<F: Fn(Wanted, TokenPlace) -> Read<Expr>>(
 ) -> Read<Vec<Spec>>
     requires { ReadsExpressions source (F.pre parts.now) (F.post parts.now) }
     ensures { Gives (seen source.entry (λ specs. specs_syntax specs.items)) result (read_specs
-        source.entry.text.now (parts_of source.entry) keyword (steps (cursor source.entry place)) (cursor source.entry
+        (go_text source.entry) (parts_of source.entry) keyword (steps (cursor source.entry place)) (cursor source.entry
         place)) }
 {
     let mut read = Vec::new(source.alloc);
@@ -169,7 +352,7 @@ pub fn declaration<F: Fn(Wanted, TokenPlace) -> Read<Expr>>(
     place: TokenPlace,
 ) -> Read<Decl>
     requires { ReadsExpressions source (F.pre parts.now) (F.post parts.now) }
-    ensures { Gives (seen source.entry declaration_syntax) result (read_declaration source.entry.text.now (parts_of
+    ensures { Gives (seen source.entry declaration_syntax) result (read_declaration (go_text source.entry) (parts_of
         source.entry) keyword (cursor source.entry place)) }
 {
     let inner = source.behind(place);

@@ -4,4 +4,6 @@
 pub mod branches;
 pub mod declarations;
 pub mod loops;
+pub mod parameter_faults;
+pub mod split_parameters;
 pub mod statements;

@@ -6,7 +6,7 @@ ghost use Rattle.tree.specs.Syntax.{for_statement, range_assignment, range_defin
 ghost use Rattle.tree.specs.View.{identifier_syntax, expressions_syntax, optional_expression_syntax, optional_statement_syntax, statement_syntax};
 ghost use Rattle.parser_base.specs.Gives.{Gives};
 ghost use Rattle.parser_base.specs.Parts.{ReadsExpressions, ReadsStatements};
-ghost use Rattle.parser_base.specs.Places.{cursor, seen, parts_of};
+ghost use Rattle.parser_base.specs.Places.{cursor, seen, parts_of, go_text};
 ghost use Rattle.tree_reader.specs.Reader.{read_loop, read_post, read_clauses, read_range, read_for_after, read_for};
 ghost use Rattle.tree_reader.specs.Reading.{stands, behind};
 
@@ -40,8 +40,8 @@ fn loop_of<S: Fn(TokenPlace) -> Read<Stmt>>(
     place: TokenPlace,
 ) -> Read<Stmt>
     requires { ReadsStatements source (S.pre statements.now) (S.post statements.now) }
-    ensures { Gives (seen source.entry statement_syntax) result (read_loop source.entry.text.now (parts_of source.entry)
-        source.entry.below (cursor source.entry from) (for_statement (optional_statement_syntax head.init)
+    ensures { Gives (seen source.entry statement_syntax) result (read_loop (go_text source.entry) (parts_of
+        source.entry) source.entry.below (cursor source.entry from) (for_statement (optional_statement_syntax head.init)
         (optional_expression_syntax head.condition) (optional_statement_syntax head.post) head.has_semicolons)
         (cursor source.entry place)) }
 {
@@ -71,7 +71,7 @@ fn assigned_range<F: Fn(Wanted, TokenPlace) -> Read<Expr>, S: Fn(TokenPlace) -> 
 ) -> Read<Stmt>
     requires expressions { ReadsExpressions source (F.pre parts.now) (F.post parts.now) }
     requires statements { ReadsStatements source (S.pre statements.now) (S.post statements.now) }
-    ensures { Gives (seen source.entry statement_syntax) result (read_range source.entry.text.now (parts_of
+    ensures { Gives (seen source.entry statement_syntax) result (read_range (go_text source.entry) (parts_of
         source.entry) source.entry.below (cursor source.entry begun.from) (range_assignment (expressions_syntax
         begun.first.items)) (cursor source.entry begun.place)) }
 {
@@ -99,7 +99,7 @@ fn defined_range<F: Fn(Wanted, TokenPlace) -> Read<Expr>, S: Fn(TokenPlace) -> R
 ) -> Read<Stmt>
     requires expressions { ReadsExpressions source (F.pre parts.now) (F.post parts.now) }
     requires statements { ReadsStatements source (S.pre statements.now) (S.post statements.now) }
-    ensures { Gives (seen source.entry statement_syntax) result (read_range source.entry.text.now (parts_of
+    ensures { Gives (seen source.entry statement_syntax) result (read_range (go_text source.entry) (parts_of
         source.entry) source.entry.below (cursor source.entry begun.from) (range_definition (map identifier_syntax
         begun.first.items)) (cursor source.entry begun.place)) }
 {
@@ -125,7 +125,7 @@ fn read_post<F: Fn(Wanted, TokenPlace) -> Read<Expr>>(
     place: TokenPlace,
 ) -> Read<Option<Box<Stmt>>>
     requires { ReadsExpressions source (F.pre parts.now) (F.post parts.now) }
-    ensures { Gives (seen source.entry optional_statement_syntax) result (read_post source.entry.text.now (parts_of
+    ensures { Gives (seen source.entry optional_statement_syntax) result (read_post (go_text source.entry) (parts_of
         source.entry) source.entry.below (cursor source.entry place)) }
 {
     if source.stands(place, TokenKind::LeftBrace) {
@@ -146,7 +146,7 @@ fn clauses<F: Fn(Wanted, TokenPlace) -> Read<Expr>, S: Fn(TokenPlace) -> Read<St
 ) -> Read<Stmt>
     requires expressions { ReadsExpressions source (F.pre parts.now) (F.post parts.now) }
     requires statements { ReadsStatements source (S.pre statements.now) (S.post statements.now) }
-    ensures { Gives (seen source.entry statement_syntax) result (read_clauses source.entry.text.now (parts_of
+    ensures { Gives (seen source.entry statement_syntax) result (read_clauses (go_text source.entry) (parts_of
         source.entry) source.entry.below (cursor source.entry begun.from) (optional_statement_syntax begun.first)
         (cursor source.entry begun.place)) }
 {
@@ -189,7 +189,7 @@ fn loop_after<F: Fn(Wanted, TokenPlace) -> Read<Expr>, S: Fn(TokenPlace) -> Read
 ) -> Read<Stmt>
     requires expressions { ReadsExpressions source (F.pre parts.now) (F.post parts.now) }
     requires statements { ReadsStatements source (S.pre statements.now) (S.post statements.now) }
-    ensures { Gives (seen source.entry statement_syntax) result (read_for_after source.entry.text.now (parts_of
+    ensures { Gives (seen source.entry statement_syntax) result (read_for_after (go_text source.entry) (parts_of
         source.entry) source.entry.below (cursor source.entry from) (cursor source.entry header.from)
         (expressions_syntax header.first.items) (cursor source.entry header.place)) }
 {
@@ -255,7 +255,7 @@ pub fn repetition<F: Fn(Wanted, TokenPlace) -> Read<Expr>, S: Fn(TokenPlace) -> 
 ) -> Read<Stmt>
     requires expressions { ReadsExpressions source (F.pre parts.now) (F.post parts.now) }
     requires statements { ReadsStatements source (S.pre statements.now) (S.post statements.now) }
-    ensures { Gives (seen source.entry statement_syntax) result (read_for source.entry.text.now (parts_of source.entry)
+    ensures { Gives (seen source.entry statement_syntax) result (read_for (go_text source.entry) (parts_of source.entry)
         source.entry.below (cursor source.entry place)) }
 {
     let start = source.behind(place);

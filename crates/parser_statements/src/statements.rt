@@ -1,14 +1,15 @@
 //! Statements (the Go specification, "Statements").
 
-ghost use Rattle.std.specs.Prelude.{◌≡◌, true, nat_le, if◌then◌else◌};
-ghost use Rattle.tree.specs.Syntax.{go_statement, defer_statement, break_statement, continue_statement};
+ghost use Rattle.std.specs.Prelude.{◌≡◌, Some, if◌then◌else◌};
+ghost use Rattle.tree.specs.Syntax.{go_statement, defer_statement, break_statement, continue_statement, fallthrough_statement};
 ghost use Rattle.tree.specs.View.{expression_syntax, statement_syntax};
 ghost use Rattle.meaning.specs.WellFormed.{is_call};
 ghost use Rattle.parser_base.specs.Gives.{Gives};
 ghost use Rattle.parser_base.specs.Parts.{ReadsExpressions, ReadsStatements};
-ghost use Rattle.parser_base.specs.Places.{cursor, seen, parts_of};
-ghost use Rattle.parser_statements.specs.Starts.{start_of, next_start, read_named, read_start};
-ghost use Rattle.tree_reader.specs.Reader.{read_after_label, read_labeled, read_started, read_return, read_branch, read_block_statement, read_other_statement, read_statement_of};
+ghost use Rattle.parser_base.specs.Places.{cursor, seen, parts_of, go_text};
+ghost use Rattle.parser_statements.specs.Starts.{start_of, start_in, next_start, read_named, read_start};
+ghost use Rattle.tree_reader.specs.Reader.{read_after_label, read_labeled, read_started, read_return, read_branch, read_goto, read_block_statement, read_statement_of};
+ghost use Rattle.tree_reader.specs.Reading.{behind, spanned_statement};
 
 use crate::branches::choice;
 use crate::declarations::declaration;
@@ -24,7 +25,7 @@ use parser_clauses::simple::simple;
 use parser_clauses::switches::switch;
 use parser_parts::blocks::block;
 use parser_parts::lists::expressions;
-use tree::{Expr, ExprKind, Span, Stmt};
+use tree::{Edition, Expr, ExprKind, Span, Stmt};
 use tree_hold::{boxed, release};
 use tree_make as make;
 
@@ -42,6 +43,8 @@ enum Start {
     Defer,
     Break,
     Continue,
+    Goto,
+    Fallthrough,
     Simple,
 }
 
@@ -61,16 +64,32 @@ fn start_of(kind: TokenKind) -> Start
         TokenKind::DeferKeyword => Start::Defer,
         TokenKind::BreakKeyword => Start::Break,
         TokenKind::ContinueKeyword => Start::Continue,
+        TokenKind::GotoKeyword => Start::Goto,
+        TokenKind::FallthroughKeyword => Start::Fallthrough,
         _ => Start::Simple,
+    }
+}
+
+/// What it is in an edition: the first one has neither `goto` nor `fallthrough`.
+fn start_in(edition: Edition, start: Start) -> Start
+    ensures { result ≡ start_in edition start }
+{
+    match edition {
+        Edition::First => match start {
+            Start::Goto => Start::Simple,
+            Start::Fallthrough => Start::Simple,
+            other => other,
+        },
+        Edition::Second => start,
     }
 }
 
 /// What a statement is that begins with the next token.
 fn next_start(source: SourceTokens<'_>, place: TokenPlace) -> Start
-    ensures { result ≡ next_start (cursor source.entry place) }
+    ensures { result ≡ next_start source.entry.edition (cursor source.entry place) }
 {
     match source.tokens.get(place.at) {
-        Some(first) => start_of(first.kind),
+        Some(first) => start_in(source.edition, start_of(first.kind)),
         None => Start::Simple,
     }
 }
@@ -82,7 +101,7 @@ fn after_label<S: Fn(TokenPlace) -> Read<Stmt>>(
     place: TokenPlace,
 ) -> Read<Stmt>
     requires { ReadsStatements source (S.pre statements.now) (S.post statements.now) }
-    ensures { Gives (seen source.entry statement_syntax) result (read_after_label source.entry.text.now (parts_of
+    ensures { Gives (seen source.entry statement_syntax) result (read_after_label (go_text source.entry) (parts_of
         source.entry) source.entry.below (cursor source.entry place)) }
 {
     if !source.ends(place) {
@@ -106,7 +125,7 @@ fn labeled<S: Fn(TokenPlace) -> Read<Stmt>>(
     place: TokenPlace,
 ) -> Read<Stmt>
     requires { ReadsStatements source (S.pre statements.now) (S.post statements.now) }
-    ensures { Gives (seen source.entry statement_syntax) result (read_labeled source.entry.text.now (parts_of
+    ensures { Gives (seen source.entry statement_syntax) result (read_labeled (go_text source.entry) (parts_of
         source.entry) source.entry.below (cursor source.entry place)) }
 {
     let (label, rest) = identifier(source, place)?;
@@ -127,7 +146,7 @@ fn named<F: Fn(Wanted, TokenPlace) -> Read<Expr>, S: Fn(TokenPlace) -> Read<Stmt
 ) -> Read<Stmt>
     requires expressions { ReadsExpressions source (F.pre parts.now) (F.post parts.now) }
     requires statements { ReadsStatements source (S.pre statements.now) (S.post statements.now) }
-    ensures { Gives (seen source.entry statement_syntax) result (read_named source.entry.text.now (parts_of
+    ensures { Gives (seen source.entry statement_syntax) result (read_named (go_text source.entry) (parts_of
         source.entry) source.entry.below (cursor source.entry place)) }
 {
     if source.stands(source.behind(place), TokenKind::Colon) {
@@ -154,7 +173,7 @@ fn started<F: Fn(Wanted, TokenPlace) -> Read<Expr>>(
     place: TokenPlace,
 ) -> Read<Stmt>
     requires { ReadsExpressions source (F.pre parts.now) (F.post parts.now) }
-    ensures { Gives (seen source.entry statement_syntax) result (read_started source.entry.text.now (parts_of
+    ensures { Gives (seen source.entry statement_syntax) result (read_started (go_text source.entry) (parts_of
         source.entry) source.entry.below (if is_deferred then defer_statement else go_statement) (cursor source.entry
         place)) }
 {
@@ -182,7 +201,7 @@ fn leave<F: Fn(Wanted, TokenPlace) -> Read<Expr>>(
     place: TokenPlace,
 ) -> Read<Stmt>
     requires { ReadsExpressions source (F.pre parts.now) (F.post parts.now) }
-    ensures { Gives (seen source.entry statement_syntax) result (read_return source.entry.text.now (parts_of
+    ensures { Gives (seen source.entry statement_syntax) result (read_return (go_text source.entry) (parts_of
         source.entry) source.entry.below (cursor source.entry place)) }
 {
     let inner = source.behind(place);
@@ -203,7 +222,7 @@ fn leave<F: Fn(Wanted, TokenPlace) -> Read<Expr>>(
 /// `break` or `continue`, perhaps with a label.
 #[tactic(auto, unfolding(tree_reader::specs::Reader::read_branch))]
 fn branch(source: SourceTokens<'_>, is_break: bool, place: TokenPlace) -> Read<Stmt>
-    ensures { Gives (seen source.entry statement_syntax) result (read_branch source.entry.text.now (parts_of
+    ensures { Gives (seen source.entry statement_syntax) result (read_branch (go_text source.entry) (parts_of
         source.entry) source.entry.below (if is_break then break_statement else continue_statement) (cursor
         source.entry place)) }
 {
@@ -215,6 +234,27 @@ fn branch(source: SourceTokens<'_>, is_break: bool, place: TokenPlace) -> Read<S
     Ok((make::statement::continue_statement(label, span), end))
 }
 
+/// `goto` and its label.
+#[tactic(auto, unfolding(tree_reader::specs::Reader::read_goto))]
+fn jump(source: SourceTokens<'_>, place: TokenPlace) -> Read<Stmt>
+    ensures { Gives (seen source.entry statement_syntax) result (read_goto (go_text source.entry) (parts_of
+        source.entry) source.entry.below (cursor source.entry place)) }
+{
+    let (label, end) = identifier(source, source.behind(place))?;
+    let span = source.span_to(place, end);
+    Ok((make::statement::goto_statement(label, span), end))
+}
+
+/// `fallthrough`.
+fn fall_through(source: SourceTokens<'_>, place: TokenPlace) -> Read<Stmt>
+    ensures { Gives (seen source.entry statement_syntax) result (Some (spanned_statement (cursor source.entry place)
+        fallthrough_statement (behind (cursor source.entry place)))) }
+{
+    let end = source.behind(place);
+    let span = source.span_to(place, end);
+    Ok((make::statement::fallthrough_statement(span), end))
+}
+
 /// A block as a statement.
 #[tactic(auto, unfolding(tree_reader::specs::Reader::read_block_statement))]
 fn braced<S: Fn(TokenPlace) -> Read<Stmt>>(
@@ -223,7 +263,7 @@ fn braced<S: Fn(TokenPlace) -> Read<Stmt>>(
     place: TokenPlace,
 ) -> Read<Stmt>
     requires { ReadsStatements source (S.pre statements.now) (S.post statements.now) }
-    ensures { Gives (seen source.entry statement_syntax) result (read_block_statement source.entry.text.now (parts_of
+    ensures { Gives (seen source.entry statement_syntax) result (read_block_statement (go_text source.entry) (parts_of
         source.entry) source.entry.below (cursor source.entry place)) }
 {
     let (body, end) = block(source, statements, place)?;
@@ -243,7 +283,7 @@ fn begun<F: Fn(Wanted, TokenPlace) -> Read<Expr>, S: Fn(TokenPlace) -> Read<Stmt
 ) -> Read<Stmt>
     requires expressions { ReadsExpressions source (F.pre parts.now) (F.post parts.now) }
     requires statements { ReadsStatements source (S.pre statements.now) (S.post statements.now) }
-    ensures { Gives (seen source.entry statement_syntax) result (read_start source.entry.text.now (parts_of
+    ensures { Gives (seen source.entry statement_syntax) result (read_start (go_text source.entry) (parts_of
         source.entry) source.entry.below start (cursor source.entry place)) }
 {
     match start {
@@ -258,6 +298,8 @@ fn begun<F: Fn(Wanted, TokenPlace) -> Read<Expr>, S: Fn(TokenPlace) -> Read<Stmt
         Start::Defer => started(source, parts, true, place),
         Start::Break => branch(source, true, place),
         Start::Continue => branch(source, false, place),
+        Start::Goto => jump(source, place),
+        Start::Fallthrough => fall_through(source, place),
         Start::Simple => simple(source, parts, false, place),
     }
 }
@@ -276,7 +318,7 @@ pub fn statement_of<F: Fn(Wanted, TokenPlace) -> Read<Expr>, S: Fn(TokenPlace) -
 ) -> Read<Stmt>
     requires expressions { ReadsExpressions source (F.pre parts.now) (F.post parts.now) }
     requires statements { ReadsStatements source (S.pre statements.now) (S.post statements.now) }
-    ensures { Gives (seen source.entry statement_syntax) result (read_statement_of source.entry.text.now (parts_of
+    ensures { Gives (seen source.entry statement_syntax) result (read_statement_of (go_text source.entry) (parts_of
         source.entry) source.entry.below (cursor source.entry place)) }
 {
     match source.next_declaration_keyword(place) {

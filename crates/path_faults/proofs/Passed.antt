@@ -3,6 +3,8 @@ use Rattle.std.proofs.Common.{◌≡◌, ◌↔◌, ◌==◌, ℕ, Bool, true, f
 use Rattle.std.proofs.lemmas.Bool.{and_parts, and_from}
 use Rattle.std.proofs.lemmas.List.Elements.{Contains-append_left, Contains-append_right, Contains-append_cases}
 use Rattle.meaning.proofs.Membership.{contains_nil, contains_here, contains_there, contains_cases}
+use Rattle.tree.specs.declared.edition.Edition.{Edition}
+use Rattle.tree.specs.declared.edition.Edition.TheVariants.{First, Second}
 use Rattle.meaning.specs.Uses.{VariableAt, Event, other, obtain, clear, call, defer_call, pass, defer_pass, lend, start, try, wait, defer_wait, make, defer_literal, return_event, is_cancel}
 use Rattle.meaning.specs.BodyEvents.{Variable}
 use Rattle.meaning.specs.Classes.{Promises}
@@ -129,8 +131,8 @@ module _ (b : Paths) (es : List Event) (there : (at : ℕ) (e : Event) → Conta
   abbrev vs : List Variable
   vs = b.variables
 
-  pub pass_is : (f : PathFault) → Contains (found_pass_faults vs b.promises es) f → IsPassFault b f
-  pass_is f h =
+  pub pass_is : b.edition ≡ First → (f : PathFault) → Contains (found_pass_faults vs b.promises es) f → IsPassFault b f
+  pass_is is_first f h =
       let w = passed_by vs b.promises es f h in
       let by = passing vs b.promises w.0 f w.2 in
       let at = somewhere w.0 w.1 in
@@ -138,11 +140,11 @@ module _ (b : Paths) (es : List Event) (there : (at : ℕ) (e : Event) → Conta
       let v = it.variable in
       let parts = and_parts (is_cancel (Some v.kind)) (v.number == by.it.number) it.passes in
       subst (IsPassFault b) it.is_it
-      (passes_on v by.it at.0 w.0 (contains_at vs it.place v it.is_there) (cancel_kind v.kind parts.0) at.1 by.is_pass
+      (passes_on v by.it at.0 w.0 is_first (contains_at vs it.place v it.is_there) (cancel_kind v.kind parts.0) at.1 by.is_pass
       (sym (same_number v.number by.it.number parts.1)))
 
   pub is_pass : (f : PathFault) → IsPassFault b f → Contains (found_pass_faults vs b.promises es) f
-  is_pass _ (passes_on v u at e inside kind here by same) =
+  is_pass _ (passes_on v u at e is_first inside kind here by same) =
       let place = place_of vs v inside in
       passes_by vs b.promises es _ e (there at e here)
       (passes_it vs b.promises by _
@@ -153,11 +155,11 @@ module _ (b : Paths) (es : List Event) (there : (at : ℕ) (e : Event) → Conta
 -- What the program keeps
 
 pub passes_are : (us : List Variable) (p : Promises) (es : List SiteEvent) (faults : List PathFault)
-    → faults ≡ found_pass_faults us p (views es) → (b : Paths)
+    → faults ≡ found_pass_faults us p (views es) → (b : Paths) → b.edition ≡ First
     → ((at : ℕ) → b.events at ≡ events_of_site at es)
     → b.variables ≡ us → b.promises ≡ p → (f : PathFault) → Contains faults f ↔ IsPassFault b f
-passes_are us p es faults is b events same_variables same_promises f = (
-  λ h. pass_is b (views es) there somewhere f (subst (λ l. Contains l f) same h),
+passes_are us p es faults is b is_first events same_variables same_promises f = (
+  λ h. pass_is b (views es) there somewhere is_first f (subst (λ l. Contains l f) same h),
   λ h. subst (λ l. Contains l f) (sym same) (is_pass b (views es) there somewhere f h),
 )
   where
@@ -172,3 +174,19 @@ passes_are us p es faults is b events same_variables same_promises f = (
     somewhere : (e : Event) → Contains (views es) e → (at : ℕ) × Contains (b.events at) e
     somewhere e h =
         let w = at_some_site es e h in (w.0, subst (λ l. Contains l e) (sym (events w.0)) w.1)
+
+-- The second edition asks for none
+
+first_not_second : First ≡ Second → ⊥
+first_not_second e = cc
+
+no_pass : (b : Paths) → b.edition ≡ Second → (f : PathFault) → IsPassFault b f → ⊥
+no_pass b is_second _ (passes_on v u at e is_first inside kind here by same) =
+    first_not_second (sym is_first ∙ is_second)
+
+pub passes_are_none : (faults : List PathFault) → faults ≡ [] → (b : Paths) → b.edition ≡ Second
+    → (f : PathFault) → Contains faults f ↔ IsPassFault b f
+passes_are_none faults none b is_second f = (
+  λ h. absurd (contains_nil f (subst (λ l. Contains l f) none h)),
+  λ h. absurd (no_pass b is_second f h),
+)

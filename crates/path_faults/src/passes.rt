@@ -9,12 +9,14 @@ ghost use Rattle.meaning_packages.specs.PathFaults.{Paths, PathFault as MeantFau
 ghost use Rattle.path_faults.specs.FaultViews.{fault_view, AddsFaults};
 ghost use Rattle.path_faults.specs.FoundFaults.{passed_faults, passed_unless, passing_faults};
 ghost use Rattle.events.specs.VariableViews.{variable_view};
+ghost use Rattle.tree.specs.declared.edition.Edition.TheVariants.{First};
 
 use crate::fault::{PathCode, PathFault, add_if};
 use events::{Told, Variable};
 use states::Promises;
 use std::alloc::{AllocError, Global};
 use tracked_rows::{Event, VariableAt};
+use tree::Edition;
 
 /// Adds the faults of a variable that is passed.
 fn add_passed<'a>(
@@ -91,7 +93,30 @@ fn add_passing<'a, P: Promises>(
     }
 }
 
-/// The faults of passes of the body at that byte offset, on a path or not; one may come twice.
+/// The faults of all passes of the body at that byte offset, as the first edition asks for them.
+fn first_faults<'a, P: Promises>(
+    alloc: Global,
+    told: &Told<'a>,
+    body: u32,
+    variables: &[Variable<'a>],
+    promises: &P,
+) -> Result<Vec<PathFault<'a>>, AllocError>
+    ensures { IfOk result (λ faults. (seen : Seen) → TellsFile seen told.now
+        → (b : Paths) → b.edition ≡ First → b.events ≡ events_at seen body seen.marks
+        → b.variables ≡ map variable_view variables.now
+        → b.promises ≡ P.promises promises.now
+        → (f : MeantFault)
+        → Contains (map fault_view faults.items) f ↔ IsPassFault b f) }
+{
+    let mut faults: Vec<PathFault<'a>> = Vec::new(alloc);
+    for event in told.events.at(body) {
+        add_passing(variables, promises, &event.event, &mut faults)?;
+    }
+    Ok(faults)
+}
+
+/// The faults of passes of the body at that byte offset, on a path or not, by the edition of its file; one may come
+/// twice. The second edition has none.
 ///
 /// # Errors
 ///
@@ -104,15 +129,14 @@ pub fn pass_faults<'a, P: Promises>(
     promises: &P,
 ) -> Result<Vec<PathFault<'a>>, AllocError>
     ensures { IfOk result (λ faults. (seen : Seen) → TellsFile seen told.now
-        → (b : Paths) → b.events ≡ events_at seen body seen.marks
+        → (b : Paths) → b.edition ≡ seen.known.edition → b.events ≡ events_at seen body seen.marks
         → b.variables ≡ map variable_view variables.now
         → b.promises ≡ P.promises promises.now
         → (f : MeantFault)
         → Contains (map fault_view faults.items) f ↔ IsPassFault b f) }
 {
-    let mut faults: Vec<PathFault<'a>> = Vec::new(alloc);
-    for event in told.events.at(body) {
-        add_passing(variables, promises, &event.event, &mut faults)?;
+    match told.edition {
+        Edition::First => first_faults(alloc, told, body, variables, promises),
+        Edition::Second => Ok(Vec::new(alloc)),
     }
-    Ok(faults)
 }

@@ -16,8 +16,9 @@ use Rattle.std.proofs.lemmas.List.Kept.{IsStrictlySortedBy-dedup, Any-dedup}
 use Rattle.std.proofs.lemmas.List.Elements.{Contains-append_left, Contains-append_right}
 use Rattle.std.proofs.lemmas.Slice.Eq.{bytes_eq-Decides}
 use Rattle.meaning.proofs.Membership.{contains_here, contains_map, contains_unmap}
-use Rattle.meaning.specs.FunctionFacts.{FunctionFacts, Meanings, signature_facts, facts_in, facts_from, package_facts}
+use Rattle.meaning.specs.FunctionFacts.{FunctionFacts, Meanings, function_facts, facts_in, facts_from, package_facts}
 use Rattle.meaning.specs.OuterBlocks.{can_be_meant, or_else}
+use Rattle.tree.specs.declared.edition.Edition.{Edition}
 use Rattle.tree.specs.Syntax.{SourceFile, TopLevelDeclaration, function_declaration, general_declaration}
 use Rattle.imports.specs.Views.{text_views}
 use Rattle.table_json.specs.Tables.{by_bytes}
@@ -76,9 +77,9 @@ names_so declared items sorted once are moved ordered is = record {
 
 -- Known functions are declared
 
-module _ (name : List ℕ) where
+module _ (name : List ℕ) (edition : Edition) where
   -- the function of a declaration that is known
-  known_in : (means : Meanings) (ds : List TopLevelDeclaration) → is_some (facts_in means name ds) ≡ true
+  known_in : (means : Meanings) (ds : List TopLevelDeclaration) → is_some (facts_in edition means name ds) ≡ true
       → Contains (flat_map declared_name ds) name
   known_in means [] e = absurd (true≢false (sym e))
   known_in means (general_declaration d ∷ ds) e = known_in means ds e
@@ -86,30 +87,30 @@ module _ (name : List ℕ) where
       by (can_be_meant f && bytes_eq f.name.text name) refl e (known_in means ds)
     where
       by : (b : Bool) → (can_be_meant f && bytes_eq f.name.text name) ≡ b
-          → is_some (facts_in means name (function_declaration f ∷ ds)) ≡ true
-          → (is_some (facts_in means name ds) ≡ true → Contains (flat_map declared_name ds) name)
+          → is_some (facts_in edition means name (function_declaration f ∷ ds)) ≡ true
+          → (is_some (facts_in edition means name ds) ≡ true → Contains (flat_map declared_name ds) name)
           → Contains (f.name.text ∷ flat_map declared_name ds) name
       by true test e rest =
           subst (Contains (f.name.text ∷ flat_map declared_name ds))
           ((bytes_eq-Decides f.name.text name).0 (and_parts _ _ test).1)
           (contains_here f.name.text (flat_map declared_name ds))
       by false test e rest =
-          Contains-append_right (f.name.text ∷ []) (flat_map declared_name ds) name (rest (subst (λ b. is_some (if b then Some (signature_facts means f.signature) else facts_in means name ds) ≡ true) test e))
+          Contains-append_right (f.name.text ∷ []) (flat_map declared_name ds) name (rest (subst (λ b. is_some (if b then Some (function_facts edition means f) else facts_in edition means name ds) ≡ true) test e))
 
   either_known : (a b : Option FunctionFacts) → is_some (or_else a b) ≡ true
       → (is_some a ≡ true) ⊎ (is_some b ≡ true)
   either_known (Some x) b e = inl refl
   either_known None b e = inr e
 
-  known_from : (means : ℕ → Meanings) (n : ℕ) (fs : List SourceFile) → is_some (facts_from means name n fs) ≡ true
+  known_from : (means : ℕ → Meanings) (n : ℕ) (fs : List SourceFile) → is_some (facts_from edition means name n fs) ≡ true
       → Contains (declared_names fs) name
   known_from means n [] e = absurd (true≢false (sym e))
   known_from means n (f ∷ fs) e =
-      elim (either_known (facts_in (means n) name f.declarations) (facts_from means name (n + 1) fs) e) [
+      elim (either_known (facts_in edition (means n) name f.declarations) (facts_from edition means name (n + 1) fs) e) [
         | inl h ↦ Contains-append_left (flat_map declared_name f.declarations) (declared_names fs) name (known_in (means n) f.declarations h)
         | inr h ↦ Contains-append_right (flat_map declared_name f.declarations) (declared_names fs) name (known_from means (n + 1) fs h)
       ]
 
-  pub known_is_declared : (means : ℕ → Meanings) (fs : List SourceFile) → is_some (package_facts means fs name) ≡ true
+  pub known_is_declared : (means : ℕ → Meanings) (fs : List SourceFile) → is_some (package_facts edition means fs name) ≡ true
       → Contains (declared_names fs) name
   known_is_declared means fs e = known_from means 0 fs e

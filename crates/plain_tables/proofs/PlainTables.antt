@@ -17,8 +17,8 @@ known_names : (ps : List LoadedPackage) (tables : Tables) (i : ℕ) (p : LoadedP
     → Contains (declared_names (trees_of p)) name
 known_names ps tables i p table (empty x whole none) name known =
     absurd (true≢false (sym known ∙ ap is_some (none.no_signature name)))
-known_names ps tables i p table (full flags none its same calls) name known =
-    known_is_declared name (means_in ps p) (trees_of p) (subst (λ o. is_some o ≡ true) (same name) known)
+known_names ps tables i p table (full flags none its same calls told) name known =
+    known_is_declared name p.edition (means_in ps p) (trees_of p) (subst (λ o. is_some o ≡ true) (same name) known)
 
 -- what is told of the functions whose names a package declares is its table
 pub is_plain : (ps : List LoadedPackage) (tables : Tables) (i : ℕ) (p : LoadedPackage) (k : KeptPackage)

@@ -1,6 +1,7 @@
-//! Tests of what no contract says: that texts have the tokens, faults and places that the Go specification expects,
-//! that deep trees have the depth that is counted by hand and are dropped safely, since no proof bounds the stack, and
-//! the texts of names. And of tables as texts, of work that threads share, and of a board.
+//! Tests of what no contract says: that texts have the tokens, faults and places that the Go specification expects, and
+//! trees in the editions that have their forms; that deep trees have the depth that is counted by hand and are dropped
+//! safely, since no proof bounds the stack; and the texts of names. And of tables as texts, of work that threads share,
+//! and of a board.
 #![tactic(auto)]
 
 #[cfg(test)]
@@ -9,6 +10,8 @@ mod boards;
 mod build;
 #[cfg(test)]
 mod depths;
+#[cfg(test)]
+mod editions;
 #[cfg(test)]
 mod expect;
 #[cfg(test)]

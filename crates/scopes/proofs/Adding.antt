@@ -6,10 +6,11 @@ use Rattle.std.specs.Borrow.{Bor}
 use Rattle.std.specs.Option.{option_copied}
 use Rattle.tree.specs.declared.declaration.Spec.{Spec, Value', Type'}
 use Rattle.tree.specs.declared.expression.Expr.{Expr}
-use Rattle.tree.specs.declared.expression.Field.{Field, Named' as NamedField', Embedded, Method'}
+use Rattle.tree.specs.declared.expression.Field.{Field, Named' as NamedField', Embedded, Element', Method'}
 use Rattle.tree.specs.declared.expression.Literal.{Literal, out-Literal}
 use Rattle.tree.specs.declared.expression.Param.{Param, Named' as NamedParam', Unnamed', NameAlone}
 use Rattle.tree.specs.declared.operator.DeclKeyword.{DeclKeyword}
+use Rattle.tree.specs.declared.operator.DeclKeyword.TheVariants.{«Type» as type_keyword}
 use Rattle.tree.specs.declared.span.Identifier.{Identifier as KeptIdentifier}
 use Rattle.tree.specs.declared.span.Span.{Span}
 use Rattle.tree.specs.declared.statement.Block.{Block, out-Block}
@@ -17,11 +18,11 @@ use Rattle.tree.specs.declared.statement.CaseClause.{CaseClause, out-CaseClause}
 use Rattle.tree.specs.declared.statement.CommClause.{CommClause, out-CommClause}
 use Rattle.tree.specs.declared.statement.Stmt.{Stmt}
 use Rattle.tree.specs.Syntax.{Identifier, expression_node, signature_of, Parameters, no_parameter, Fields, no_field, Specs, no_spec, CaseClauses, CommunicationClauses}
-use Rattle.tree.specs.View.{identifier_syntax, type_name_syntax, block_braces, expression_form, literal_syntax, row_expressions, held_expression, row_parameters, parameter_and, field_and, spec_and, case_clause_and, communication_clause_and, expressions_syntax, signature_syntax, statements_syntax, optional_statement_syntax}
+use Rattle.tree.specs.View.{identifier_syntax, type_name_syntax, block_braces, expression_form, literal_syntax, row_expressions, held_expression, row_parameters, parameter_and, field_and, spec_and, case_clause_and, communication_clause_and, expressions_syntax, parameters_syntax, signature_syntax, statements_syntax, optional_statement_syntax}
 use Rattle.tree.proofs.Views.{literal_syntax-out, block_syntax-out, case_clause_and-out, communication_clause_and-out}
 use Rattle.scopes.specs.declared.naming.Naming.{Naming as KeptNaming}
 use Rattle.scopes.specs.Views.{naming_view, namings_view, Adds}
-use Rattle.meaning.specs.Scopes.{Naming, embedded_name, declared_names, type_declared, guard_declared, signature_declared, expression_names, expression_form_names, expressions_names, optional_names, signature_names, parameters_names, fields_names, statements_names, optional_statement_names, cases_names, communications_names, specs_names, outer_specs_names}
+use Rattle.meaning.specs.Scopes.{Naming, embedded_name, declared, declared_names, type_declared, behind_name, type_parameters_declared, parameters_named, guard_declared, signature_declared, expression_names, expression_form_names, expressions_names, optional_names, signature_names, parameters_names, fields_names, statements_names, optional_statement_names, cases_names, communications_names, specs_names, outer_specs_names}
 
 pub adds_nothing : (before : List KeptNaming) → Adds before before []
 adds_nothing before = sym (append-nil (namings_view before))
@@ -88,6 +89,16 @@ pub four_adds : {T E : Type 0} (result : Result T E) (a b c d e : List KeptNamin
 four_adds result a b c d e xs ys zs ws first second third fourth =
     then_adds result a b e xs (ys ++ (zs ++ ws)) first (three_adds result b c d e ys zs ws second third fourth)
 
+pub five_adds : {T E : Type 0} (result : Result T E) (a b c d e f : List KeptNaming) (xs ys zs ws vs : List Naming)
+    → Adds a b xs
+    → Adds b c ys
+    → Adds c d zs
+    → Adds d e ws
+    → OnOk result (Adds e f vs)
+    → OnOk result (Adds a f (xs ++ (ys ++ (zs ++ (ws ++ vs)))))
+five_adds result a b c d e f xs ys zs ws vs first second third fourth fifth =
+    then_adds result a b f xs (ys ++ (zs ++ (ws ++ vs))) first (four_adds result b c d e f ys zs ws vs second third fourth fifth)
+
 pub alone_adds : {T E : Type 0} (result : Result T E) (before after : List KeptNaming) (names : List Naming)
     → OnOk result (Adds before after names)
     → OnOk result (Adds before after (names ++ []))
@@ -111,6 +122,10 @@ three_parts : (a b c rest : List Naming) → a ++ (b ++ (c ++ rest)) ≡ (a ++ (
 three_parts a b c rest =
     sym (append_assoc a (b ++ (c ++ [])) rest ∙ ap (λ l. a ++ l) (append_assoc b (c ++ []) rest ∙ ap (λ l. b ++ l) (append_assoc c [] rest)))
 
+four_parts : (a b c d rest : List Naming) → a ++ (b ++ (c ++ (d ++ rest))) ≡ (a ++ (b ++ (c ++ (d ++ [])))) ++ rest
+four_parts a b c d rest =
+    ap (λ l. a ++ l) (three_parts b c d rest) ∙ sym (append_assoc a (b ++ (c ++ (d ++ []))) rest)
+
 two_joined : (a b rest : List Naming) → a ++ (b ++ rest) ≡ (a ++ b) ++ rest
 two_joined a b rest = sym (append_assoc a b rest)
 
@@ -131,8 +146,50 @@ unfolding fields_names field_and
 fields_more (NamedField' ns t t_span tag span) fs =
     one_part (expression_names (expression_node (expression_form t) t_span)) (fields_names fs)
 fields_more (Embedded star n tag span) fs = one_part (embedded_name (type_name_syntax n)) (fields_names fs)
+fields_more (Element' star e e_span tag span) fs =
+    one_part (expression_names (expression_node (expression_form e) e_span)) (fields_names fs)
 fields_more (Method' n ps_shape ps rs_shape rs brackets span) fs =
     one_part (signature_names (signature_of (row_parameters ps) (row_parameters rs) brackets)) (fields_names fs)
+
+-- Type parameters.
+
+pub declared_more : (block : Span) (n : Identifier) (ns : List Identifier)
+    → type_parameters_declared block (n ∷ ns) ≡ type_parameters_declared block (n ∷ []) ++ type_parameters_declared block ns
+declared_more block n ns =
+    one_part (declared record { name = n.text; number = n.span.start; kind = type_keyword; block = block; from = block.start; is_short = false })
+    (type_parameters_declared block ns)
+
+declared_joined : (block : Span) (ns ms : List Identifier)
+    → type_parameters_declared block ns ++ type_parameters_declared block ms ≡ type_parameters_declared block (ns ++ ms)
+declared_joined block [] ms = refl
+declared_joined block (n ∷ ns) ms =
+    ap (λ l. l ++ type_parameters_declared block ms) (declared_more block n ns)
+    ∙ append_assoc (type_parameters_declared block (n ∷ [])) (type_parameters_declared block ns) (type_parameters_declared block ms)
+    ∙ ap (λ l. type_parameters_declared block (n ∷ []) ++ l) (declared_joined block ns ms) ∙ sym (declared_more block n (ns ++ ms))
+
+-- those that a receiver names, and those behind the function's name
+pub type_parameters_joined : (made block : Span) (ns ms others : List Identifier)
+    → made ≡ block
+    → ms ≡ others
+    → type_parameters_declared made ns ++ type_parameters_declared made ms ≡ type_parameters_declared block (ns ++ others)
+type_parameters_joined made block ns ms others same equal =
+    declared_joined made ns ms ∙ (λ i. type_parameters_declared (same i) (ns ++ equal i))
+
+pub type_parameters_more : (block : Span) (p : Param) (ps : Parameters)
+    → type_parameters_declared block (parameters_named (parameter_and p ps))
+    ≡ type_parameters_declared block (parameters_named (parameter_and p no_parameter)) ++ type_parameters_declared block (parameters_named ps)
+unfolding parameter_and
+type_parameters_more block (NamedParam' n ellipsis t span) ps = declared_more block (identifier_syntax n) (parameters_named ps)
+type_parameters_more block (Unnamed' ellipsis t span) ps = refl
+type_parameters_more block (NameAlone n) ps = declared_more block (identifier_syntax n) (parameters_named ps)
+
+-- those of a type, whose list the code reads as a slice
+pub type_block : (made block : Span) (ps qs : List Param)
+    → made ≡ block
+    → ps ≡ qs
+    → type_parameters_declared made (parameters_named (parameters_syntax ps))
+    ≡ type_parameters_declared block (parameters_named (parameters_syntax qs))
+type_block made block ps qs same equal = λ i. type_parameters_declared (same i) (parameters_named (parameters_syntax (equal i)))
 
 pub specs_more : (block : Span) (keyword : DeclKeyword) (s : Spec) (ss : Specs)
     → specs_names block keyword (spec_and s ss) ≡ specs_names block keyword (spec_and s no_spec) ++ specs_names block keyword ss
@@ -140,16 +197,20 @@ unfolding specs_names spec_and
 specs_more block keyword (Value' ns t shape es span) ss =
     three_parts (optional_names (held_expression t)) (expressions_names (row_expressions es))
     (declared_names keyword block span.end false (map identifier_syntax ns.items)) (specs_names block keyword ss)
-specs_more block keyword (Type' n alias p t t_span span) ss =
-    two_parts (type_declared block (identifier_syntax n)) (expression_names (expression_node (expression_form t) t_span))
+specs_more block keyword (Type' n shape ps alias p t t_span span) ss =
+    four_parts (type_declared block (identifier_syntax n))
+    (type_parameters_declared (behind_name (identifier_syntax n) span) (parameters_named (row_parameters ps)))
+    (parameters_names (row_parameters ps)) (expression_names (expression_node (expression_form t) t_span))
     (specs_names block keyword ss)
 
 pub outer_specs_more : (s : Spec) (ss : Specs) → outer_specs_names (spec_and s ss) ≡ outer_specs_names (spec_and s no_spec) ++ outer_specs_names ss
 unfolding spec_and
 outer_specs_more (Value' ns t shape es span) ss =
     two_parts (optional_names (held_expression t)) (expressions_names (row_expressions es)) (outer_specs_names ss)
-outer_specs_more (Type' n alias p t t_span span) ss =
-    one_part (expression_names (expression_node (expression_form t) t_span)) (outer_specs_names ss)
+outer_specs_more (Type' n shape ps alias p t t_span span) ss =
+    three_parts (type_parameters_declared (behind_name (identifier_syntax n) span) (parameters_named (row_parameters ps)))
+    (parameters_names (row_parameters ps)) (expression_names (expression_node (expression_form t) t_span))
+    (outer_specs_names ss)
 
 abbrev pub case_names : Option Identifier → CaseClause → List Naming
 case_names guard c =

@@ -1,14 +1,15 @@
 //! What a function declares, name by name. The blank identifier declares nothing.
 
-ghost use Rattle.std.specs.Prelude.{◌≡◌, true, OnOk, map, option_map};
-ghost use Rattle.meaning.specs.Scopes.{declared, declared_names, parameter_name, parameters_declared, signature_declared, type_declared, guard_declared, end_of_last, receiver_declared};
-ghost use Rattle.scopes.specs.Views.{local_view, Adds};
-ghost use Rattle.tree.specs.View.{expressions_syntax, identifier_syntax, parameters_syntax, signature_syntax};
+ghost use Rattle.std.specs.Prelude.{◌≡◌, true, [], ◌∷◌, OnOk, map, option_map};
+ghost use Rattle.meaning.specs.Scopes.{declared, declared_names, parameter_name, parameters_declared, signature_declared, type_declared, behind_name, type_parameters_declared, parameters_named, guard_declared, end_of_last, receiver_declared};
+ghost use Rattle.scopes.specs.Views.{local_view, bare_view, Adds};
+ghost use Rattle.tree.specs.Syntax.{no_parameter};
+ghost use Rattle.tree.specs.View.{expressions_syntax, identifier_syntax, parameter_and, parameters_syntax, signature_syntax};
 ghost use Rattle.tree.specs.declared.expression.Literal.{out-Literal};
 ghost use Rattle.tree.specs.declared.operator.DeclKeyword.TheVariants.{Var};
 ghost use Rattle.tree.specs.declared.statement.Block.{out-Block};
 
-use crate::naming::{LocalName, Naming, Scope};
+use crate::naming::{BareName, LocalName, Naming, Scope};
 use std::alloc::AllocError;
 use tree::{BLANK, DeclKeyword, Expr, Identifier, Literal, Param, Signature, Span};
 
@@ -161,6 +162,91 @@ pub fn declare_type<'a>(
         is_short: false,
     };
     declare(namings, local)
+}
+
+/// The block of type parameters: it begins behind the name of their function or type, and ends with the bytes of that.
+pub fn behind_name(name: &Identifier, whole: Span) -> Span
+    ensures { result ≡ behind_name (identifier_syntax name.now) whole }
+{
+    Span {
+        start: name.span.end,
+        end: whole.end,
+    }
+}
+
+/// Adds a type parameter, a local type whose scope is the whole block.
+fn declare_type_parameter<'a>(
+    namings: &mut Vec<Naming<'a>>,
+    block: Span,
+    name: BareName<'a>,
+) -> Result<(), AllocError>
+    ensures { OnOk result (Adds namings.old.items namings.new.items (type_parameters_declared block
+        (bare_view name.entry ∷ []))) }
+{
+    let local = LocalName {
+        name: name.text,
+        number: name.span.start,
+        kind: DeclKeyword::Type,
+        block,
+        from: block.start,
+        is_short: false,
+    };
+    declare(namings, local)
+}
+
+/// Adds the type parameters that a receiver's type names.
+pub fn declare_bare_names<'a>(
+    namings: &mut Vec<Naming<'a>>,
+    block: Span,
+    names: &[BareName<'a>],
+) -> Result<(), AllocError>
+    ensures { OnOk result (Adds namings.old.items namings.new.items (type_parameters_declared block
+        (map bare_view names.now))) }
+{
+    for name in names {
+        declare_type_parameter(namings, block, *name)?;
+    }
+    Ok(())
+}
+
+fn bare(name: &Identifier) -> BareName<'_>
+    ensures { bare_view result ≡ identifier_syntax name.now }
+{
+    BareName {
+        text: name.text.as_str(),
+        span: name.span,
+    }
+}
+
+/// Adds the type parameter that a list of them names there.
+fn declare_named<'a>(
+    namings: &mut Vec<Naming<'a>>,
+    block: Span,
+    param: &'a Param,
+) -> Result<(), AllocError>
+    ensures { OnOk result (Adds namings.old.items namings.new.items (type_parameters_declared block
+        (parameters_named (parameter_and param.now no_parameter)))) }
+{
+    match param {
+        Param::Named(name, _, _) => declare_type_parameter(namings, block, bare(name)),
+        Param::Unnamed(_, _) => Ok(()),
+        Param::NameAlone(name) => declare_type_parameter(namings, block, bare(name)),
+    }
+}
+
+/// Adds type parameters with that block.
+pub fn declare_type_parameters<'a>(
+    namings: &mut Vec<Naming<'a>>,
+    block: Span,
+    params: &'a [Param],
+) -> Result<(), AllocError>
+    ensures { OnOk result (Adds namings.old.items namings.new.items (type_parameters_declared block
+        (parameters_named (parameters_syntax params.now)))) }
+{
+    for param in params {
+        declare_named(namings, block, param)?;
+    }
+    Ok(())
 }
 
 /// Where the last of these types ends, or else the offset.

@@ -1,14 +1,17 @@
 //! The names of a whole file, but for what it declares outside functions.
 
-ghost use Rattle.std.specs.Prelude.{◌≡◌, OnOk, IfOk, option_map, map};
-ghost use Rattle.meaning.specs.Scopes.{receiver_names, body_names, function_names, outer_specs_names, top_level_names, top_levels_names, file_names};
-ghost use Rattle.scopes.specs.Views.{Adds, namings_view};
+ghost use Rattle.std.specs.Prelude.{◌≡◌, ◌++◌, OnOk, IfOk, option_map, map};
+ghost use Rattle.meaning.specs.Scopes.{type_parameters_declared, behind_name, parameters_named, body_names, function_names, outer_specs_names, top_level_names, top_levels_names, file_names};
+ghost use Rattle.scopes.specs.Views.{Adds, namings_view, bare_view};
 ghost use Rattle.tree.specs.View.{parameters_syntax, signature_syntax, block_syntax, function_syntax, specs_syntax, top_level_syntax, file_syntax, spec_and};
 ghost use Rattle.tree.specs.Syntax.{no_spec};
 
-use crate::declared::{declare_receiver, declare_signature};
+use crate::declared::{
+    behind_name, declare_bare_names, declare_receiver, declare_signature, declare_type_parameters,
+};
 use crate::names::{expression, expressions, optional, parameters, signature, statements};
-use crate::naming::Naming;
+use crate::naming::{BareName, Naming};
+use crate::receivers::{named_in_receiver, receiver};
 use std::alloc::{AllocError, Global};
 use tree::{Block, File, Func, Param, Signature, Spec, TopLevelDecl};
 
@@ -22,12 +25,13 @@ pub fn file_names<'a>(alloc: Global, file: &'a File) -> Result<Vec<Naming<'a>>, 
 {
     let mut namings = Vec::new(alloc);
     for declaration in &file.declarations {
-        top_level(&mut namings, declaration)?;
+        top_level(alloc, &mut namings, declaration)?;
     }
     Ok(namings)
 }
 
 fn top_level<'a>(
+    alloc: Global,
     namings: &mut Vec<Naming<'a>>,
     declaration: &'a TopLevelDecl,
 ) -> Result<(), AllocError>
@@ -35,16 +39,23 @@ fn top_level<'a>(
         (top_level_syntax declaration.now))) }
 {
     match declaration {
-        TopLevelDecl::Func(declared) => function(namings, declared),
+        TopLevelDecl::Func(declared) => function(alloc, namings, declared),
         TopLevelDecl::Decl(declared) => outer_specs(namings, &declared.specs),
     }
 }
 
 /// The names of a function or method; of one without a block those of its types alone.
-fn function<'a>(namings: &mut Vec<Naming<'a>>, function: &'a Func) -> Result<(), AllocError>
+fn function<'a>(
+    alloc: Global,
+    namings: &mut Vec<Naming<'a>>,
+    function: &'a Func,
+) -> Result<(), AllocError>
     ensures { OnOk result (Adds namings.old.items namings.new.items (function_names (function_syntax function.now))) }
 {
-    receiver(namings, &function.receiver)?;
+    let named = named_in_receiver(alloc, &function.receiver)?;
+    receiver(alloc, namings, &named, &function.receiver)?;
+    type_parameters(namings, &named, function)?;
+    parameters(namings, &function.type_params)?;
     signature(namings, &function.signature)?;
     body(
         namings,
@@ -54,17 +65,19 @@ fn function<'a>(namings: &mut Vec<Naming<'a>>, function: &'a Func) -> Result<(),
     )
 }
 
-fn receiver<'a>(
+/// Adds the type parameters of a function: those that its receiver's type names, and those behind its own name.
+fn type_parameters<'a>(
     namings: &mut Vec<Naming<'a>>,
-    receiver: &'a Option<Vec<Param>>,
+    named: &[BareName<'a>],
+    function: &'a Func,
 ) -> Result<(), AllocError>
-    ensures { OnOk result (Adds namings.old.items namings.new.items (receiver_names (option_map
-        (λ ps. parameters_syntax ps.items) receiver.now))) }
+    ensures { OnOk result (Adds namings.old.items namings.new.items (type_parameters_declared
+        (behind_name (function_syntax function.now).name (function_syntax function.now).span)
+        (map bare_view named.now ++ parameters_named (function_syntax function.now).type_parameters))) }
 {
-    match receiver {
-        Some(params) => parameters(namings, params),
-        None => Ok(()),
-    }
+    let block = behind_name(&function.name, function.span);
+    declare_bare_names(namings, block, named)?;
+    declare_type_parameters(namings, block, &function.type_params)
 }
 
 fn body<'a>(
@@ -87,7 +100,7 @@ fn body<'a>(
     }
 }
 
-/// The names of a declaration outside all functions, which declares no local.
+/// The names of a declaration outside all functions, which declares no local but type parameters.
 fn outer_specs<'a>(namings: &mut Vec<Naming<'a>>, list: &'a [Spec]) -> Result<(), AllocError>
     ensures { OnOk result (Adds namings.old.items namings.new.items (outer_specs_names (specs_syntax list.now))) }
 {
@@ -105,6 +118,10 @@ fn outer_spec<'a>(namings: &mut Vec<Naming<'a>>, spec: &'a Spec) -> Result<(), A
             optional(namings, kind)?;
             expressions(namings, values)
         }
-        Spec::Type(_, _, kind, _) => expression(namings, kind),
+        Spec::Type(name, params, _, kind, span) => {
+            declare_type_parameters(namings, behind_name(name, *span), params)?;
+            parameters(namings, params)?;
+            expression(namings, kind)
+        }
     }
 }

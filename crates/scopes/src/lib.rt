@@ -6,6 +6,8 @@ mod declared;
 mod file;
 mod names;
 pub mod naming;
+mod receivers;
 
 pub use file::file_names;
-pub use naming::{LocalName, Naming};
+pub use naming::{BareName, LocalName, Naming};
+pub use receivers::named_in_types;

@@ -7,7 +7,10 @@ ghost use Rattle.tree.specs.Syntax.{no_parameter, no_field, no_spec};
 ghost use Rattle.tree.specs.declared.statement.CommClause.{out-CommClause};
 ghost use Rattle.tree.specs.View.{identifier_syntax, type_name_syntax, expression_form, expression_syntax, expressions_syntax, optional_expression_syntax, signature_syntax, parameters_syntax, fields_syntax, statement_form, statement_syntax, statements_syntax, optional_statement_syntax, cases_syntax, communications_syntax, specs_syntax, parameter_and, field_and, spec_and};
 
-use crate::declared::{declare_guard, declare_literal, declare_names, declare_short, declare_type};
+use crate::declared::{
+    behind_name, declare_guard, declare_literal, declare_names, declare_short, declare_type,
+    declare_type_parameters,
+};
 use crate::naming::{Naming, Scope};
 use std::alloc::AllocError;
 use tree::{
@@ -63,6 +66,10 @@ fn expression_form<'a>(
         ExprKind::Index(operand, index) => {
             expression(namings, operand)?;
             expression(namings, index)
+        }
+        ExprKind::Instance(operand, arguments) => {
+            expression(namings, operand)?;
+            expressions(namings, arguments)
         }
         ExprKind::Slice(operand, bounds) => {
             expression(namings, operand)?;
@@ -201,6 +208,7 @@ fn field<'a>(namings: &mut Vec<Naming<'a>>, field: &'a Field) -> Result<(), Allo
     match field {
         Field::Named(_, kind, _, _) => expression(namings, kind),
         Field::Embedded(_, name, _, _) => embedded(namings, name),
+        Field::Element(_, kind, _, _) => expression(namings, kind),
         Field::Method(_, kind, _) => signature(namings, kind),
     }
 }
@@ -278,6 +286,8 @@ fn statement_form<'a>(
         StmtKind::Return(values) => expressions(namings, values),
         StmtKind::Break(_) => Ok(()),
         StmtKind::Continue(_) => Ok(()),
+        StmtKind::Goto(_) => Ok(()),
+        StmtKind::Fallthrough => Ok(()),
         StmtKind::Block(inner) => statements(namings, inner.span, &inner.statements),
         StmtKind::If {
             init,
@@ -452,8 +462,10 @@ fn spec<'a>(
             };
             declare_names(namings, keyword, scope, false, names)
         }
-        Spec::Type(name, _, kind, _) => {
+        Spec::Type(name, params, _, kind, span) => {
             declare_type(namings, block, name)?;
+            declare_type_parameters(namings, behind_name(name, *span), params)?;
+            parameters(namings, params)?;
             expression(namings, kind)
         }
     }

@@ -11,6 +11,14 @@ pub struct Scope {
     pub from: u32,
 }
 
+/// A name as it is written in one place.
+#[derive(Clone, Copy)]
+pub struct BareName<'a> {
+    pub text: &'a str,
+    /// The bytes of the name.
+    pub span: Span,
+}
+
 /// A name that a function declares.
 #[derive(Clone, Copy)]
 pub struct LocalName<'a> {

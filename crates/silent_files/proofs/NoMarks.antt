@@ -2,7 +2,7 @@
 use Rattle.std.proofs.Common.{◌≡◌, ℕ, List, [], ◌++◌, Option, refl, ap, ◌∙◌, append_assoc}
 use Rattle.tree.specs.declared.operator.DeclKeyword.{DeclKeyword}
 use Rattle.tree.specs.Syntax.{no_expression, OptionalExpression, missing_expression, present_expression, OptionalStatement, missing_statement, present_statement, Specs, no_spec, value_and, type_and}
-use Rattle.meaning.specs.Mentions.{Standing, Call, Mark, Spot, expressions_marks, optional_marks, arguments_marks, items_marks, optional_statement_marks, specs_marks, outer_specs_marks}
+use Rattle.meaning.specs.Mentions.{Standing, Call, Mark, Spot, expressions_marks, optional_marks, arguments_marks, items_marks, ranged_marks, optional_statement_marks, specs_marks, outer_specs_marks}
 use Rattle.meaning.specs.Grammar.{IsLast}
 
 pub missing_gives_none : (site : ℕ) (e : OptionalExpression) → e ≡ missing_expression → optional_marks site e ≡ []
@@ -29,6 +29,10 @@ pub no_items : (site k : ℕ) → items_marks site k no_expression ≡ []
 unfolding items_marks
 no_items site k = refl
 
+pub no_ranged : (site : ℕ) → ranged_marks site no_expression ≡ []
+unfolding ranged_marks
+no_ranged site = refl
+
 pub three_and_one : (a b c d : List Mark) → (a ++ (b ++ c)) ++ d ≡ a ++ (b ++ (c ++ d))
 three_and_one a b c d = append_assoc a (b ++ c) d ∙ ap (λ (l : List Mark). a ++ l) (append_assoc b c d)
 
@@ -36,9 +40,9 @@ pub no_specs_left : (keyword : DeclKeyword) (at : ℕ) (specs : Specs) → IsLas
 unfolding specs_marks
 no_specs_left keyword at no_spec h = refl
 no_specs_left keyword at (value_and names t es span specs) h = absurd h
-no_specs_left keyword at (type_and name is_alias t span specs) h = absurd h
+no_specs_left keyword at (type_and name ps is_alias t span specs) h = absurd h
 
 pub no_outer_specs : (specs : Specs) → IsLast specs → outer_specs_marks specs ≡ []
 no_outer_specs no_spec h = refl
 no_outer_specs (value_and names t es span specs) h = absurd h
-no_outer_specs (type_and name is_alias t span specs) h = absurd h
+no_outer_specs (type_and name ps is_alias t span specs) h = absurd h

@@ -1,20 +1,26 @@
 -- Where no use means `context` or `errgroup`, no named function gives, and no name is `recover`, nothing is to be
 -- found.
-use Rattle.std.proofs.Common.{◌≡◌, ℕ, zero, suc, ◌+◌, Bool, true, false, List, [], ◌∷◌, ◌++◌, Option, Some, None, refl, ap, ◌∙◌, subst}
-use Rattle.std.specs.Prelude.{◌==◌, ◌&&◌, ◌||◌, if◌then◌else◌, is_some, option_map, codes, length}
+use Rattle.std.proofs.Common.{◌≡◌, ℕ, zero, suc, ◌+◌, inl, inr, Bool, true, false, List, [], ◌∷◌, ◌++◌, map, Contains, Option, Some, None, refl, sym, ap, ◌∙◌, subst}
+use Rattle.std.specs.Prelude.{◌==◌, ◌&&◌, ◌||◌, if◌then◌else◌, is_some, option_map, flat_map, codes, length}
 use Rattle.std.specs.List.{list_any}
 use Rattle.std.specs.Str.{bytes_eq}
 use Rattle.std.proofs.lemmas.Option.{same_Some}
+use Rattle.std.proofs.lemmas.List.Elements.{Contains-append_cases}
+use Rattle.tree.specs.declared.edition.Edition.{Edition}
+use Rattle.tree.specs.declared.edition.Edition.TheVariants.{First, Second}
 use Rattle.tree.specs.declared.operator.DeclKeyword.TheVariants.{Const, Var, «Type» as type_keyword}
-use Rattle.tree.specs.Syntax.{Identifier, Expression, expression_node, name_expression, basic_literal, function_literal, composite_literal, literal_value, key_value, parenthesized, selector_expression, index_expression, slice_expression, type_assertion, call_expression, star_expression, unary_expression, binary_expression, array_type, ellipsis_array_type, slice_type, map_type, channel_type, function_type, struct_type, interface_type, Expressions, no_expression, expression_and, OptionalExpression, missing_expression, present_expression, Signature, signature_of}
+use Rattle.tree.specs.Syntax.{Identifier, Expression, expression_node, name_expression, basic_literal, function_literal, composite_literal, literal_value, key_value, parenthesized, selector_expression, index_expression, instance_expression, slice_expression, type_assertion, call_expression, star_expression, unary_expression, binary_expression, array_type, ellipsis_array_type, slice_type, map_type, channel_type, function_type, struct_type, interface_type, Expressions, no_expression, expression_and, OptionalExpression, missing_expression, present_expression, Signature, signature_of}
 use Rattle.meaning.specs.Scopes.{is_blank}
-use Rattle.meaning.specs.OuterBlocks.{or_else}
+use Rattle.meaning.specs.Jumps.{jumps_in}
+use Rattle.meaning.specs.OuterBlocks.{or_else, has_any}
 use Rattle.meaning.specs.Declarations.{Meaning, local_name, import_name, function_name, package_name, universe_name}
-use Rattle.meaning.specs.Mentions.{Named, as_named, as_pointer, RowForm, defines, assigns, declares, Row, Call, Role, elsewhere, called, called_in_brackets, argument, returned, left, names_type, new_literal, parameter_pointer, Mention, BodyPlace, Mark, mentions, defers_literal, returns, opens, closes, as_new_literal}
+use Rattle.meaning.specs.Mentions.{Named, as_named, as_pointer, RowForm, defines, assigns, declares, Row, Call, Role, elsewhere, exposed, found_nil, found_error, called, called_in_brackets, argument, returned, left, names_type, new_literal, parameter_pointer, Mention, BodyPlace, Mark, mentions, defers_literal, returns, opens, closes, as_new_literal}
 use Rattle.meaning.specs.FunctionFacts.{context_path, errgroup_path, is_import, is_selected, is_of, is_of_some, cancel_type_of_name, is_group_pointer, tracked_type, Item, items_of, item_type, kind_of_type, TrackedType, cancel, cancel_or_group, group, group_or_none, plain, with_cause}
-use Rattle.meaning.specs.Tracked.{Known, facts_of, facts_giving, plain_makers, cause_makers, is_plain_maker, is_maker, giving_of, call_giving, variable_of, declared_by, may_bind, only_call, fits, row_giving, obtains_there, row_obtains, GroupState, is_group_type, is_new_call, made_by_call, made_by_value, made_by_values, if_first, made_by_type, made_by_form, row_makes, lefts_of_expressions, local_at, Placed, outer, placed, LocalRole, Local, item_local, parameter_role, parameter_locals, receiver_locals, only_cancel, result_locals, receiver_items, signature_locals, body_locals, parameter, receiver, result, row_typed, role_typed, declared_local, locals_there, locals_of, find_local, is_variable, is_obtained_by, is_made_by, obtains_in, makes_in, kind_by_rows, kind_of_local, call_in, idle, is_of_universe, is_universe, live, maker_giving}
-use Rattle.meaning.specs.Uses.{Seen, found, may_be_tracked, tracked_kind, is_outside, is_body, nothing, variable_outcome, role_outcome, row_outcome, mention_outcome, local_outcome, binding_at, giving_faults, errgroup_faults, recover_faults, mention_faults, is_cancel, is_result, result_faults, bound_again, fault_at, group_used_otherwise, if_not, is_made_or_parameter, last_fault, recover_used}
-use Rattle.meaning.specs.BodyEvents.{mark_faults, outer_faults_of, faults_of, variable_there, variable_found, variables_among, in_their_order, is_captured_there}
+use Rattle.meaning.specs.Tracked.{Known, facts_of, facts_giving, plain_makers, cause_makers, is_plain_maker, is_maker, giving_of, call_giving, variable_of, declared_by, may_bind, only_call, fits, row_giving, obtains_there, row_obtains, GroupState, is_group_type, is_new_call, made_by_call, made_by_value, made_by_values, if_first, made_by_type, made_by_pair, made_by_form, row_makes, lefts_of_expressions, local_at, Placed, outer, placed, LocalRole, Local, item_local, parameter_role, parameter_locals, receiver_locals, only_cancel, result_locals, receiver_items, signature_locals, body_locals, parameter, receiver, result, row_typed, role_typed, declared_local, locals_there, locals_of, find_local, is_variable, is_obtained_by, is_made_by, obtains_in, makes_in, kind_by_rows, kind_of_local, call_in, idle, is_of_universe, is_universe, live, maker_giving}
+use Rattle.meaning.proofs.Membership.{contains_nil, contains_cases, contains_unmap}
+use Rattle.meaning_reports.specs.UsedImports.{HandsTo, passes, defers, lends}
+use Rattle.meaning.specs.Uses.{Callee, Handed, Event, call, defer_literal, return_event, body_gives, error_events, lost_to, Outcome, Seen, found, may_be_tracked, tracked_kind, is_outside, is_body, nothing, variable_outcome, role_outcome, row_outcome, mention_outcome, local_outcome, binding_at, giving_faults, errgroup_faults, recover_faults, mention_faults, is_cancel, is_result, result_faults, bound_again, fault_at, group_used_otherwise, if_not, is_made_or_parameter, last_fault, recover_used, goto_used}
+use Rattle.meaning.specs.BodyEvents.{Variable, mark_faults, outer_faults_of, faults_of, variable_there, variable_found, variables_among, variables_of, in_their_order, is_captured_there, forbids_recover, jump_faults, handed_on, mark_events, events_at, is_site}
 use Rattle.silent_files.specs.SilentFiles.{GivesNothing, GivesByContext, tells, named_tells, call_tells, type_tells, items_tell, signature_tells, form_tells, row_tells, role_tells, mark_tells, names_recover}
 use Rattle.silent_files.specs.SilentLaws.{SilentFilesAreSilent, FilesWithoutMakersAreSilent}
 
@@ -160,6 +166,7 @@ module _ (known : Known) (gives : GivesByContext known) where
   no_made_value row count (expression_node (parenthesized e) span) = refl
   no_made_value row count (expression_node (selector_expression e n) span) = refl
   no_made_value row count (expression_node (index_expression e i) span) = refl
+  no_made_value row count (expression_node (instance_expression e es) span) = refl
   no_made_value row count (expression_node (slice_expression e low high most) span) = refl
   no_made_value row count (expression_node (type_assertion e t) span) = refl
   no_made_value row count (expression_node (star_expression e) span) = refl
@@ -188,11 +195,26 @@ module _ (known : Known) (gives : GivesByContext known) where
       ap (λ b. if b then Some idle else None) (no_group_type (as_named t))
   no_made_type (present_expression t) (expression_and e es) = refl
 
+  no_made_pair : (edition : Edition) (row : Row) (count : ℕ) (t : OptionalExpression)
+      → made_by_pair edition known row count t ≡ None
+  no_made_pair First row count t = refl
+  no_made_pair Second row count (present_expression t) = refl
+  no_made_pair Second row count missing_expression = by (only_call row row.values) refl
+    where
+      by : (o : Option Call) → only_call row row.values ≡ o
+          → made_by_pair Second known row count missing_expression ≡ None
+      by None e = rw e refl
+      by (Some c) e =
+          rw (e, of_errgroup known gives.no_group (codes "WithContext") c.callee) refl
+
   no_made_form : (row : Row) (k : ℕ) (form : RowForm) → made_by_form known row k form ≡ None
   no_made_form row k (defines ns) = not_first k _ (no_made_values row (length ns) row.values)
   no_made_form row k (assigns ls) = not_first k _ (no_made_values row (length (lefts_of_expressions ls)) row.values)
   no_made_form row k (declares Const ns t) = refl
-  no_made_form row k (declares Var ns t) = no_made_type t row.values
+  no_made_form row k (declares Var ns t) =
+      (λ i. or_else (no_made_type t row.values i)
+      (if_first k (made_by_pair known.edition known row (length ns) t)))
+      ∙ not_first k _ (no_made_pair known.edition row (length ns) t)
   no_made_form row k (declares type_keyword ns t) = refl
 
   no_made : (row : Row) (k : ℕ) → row_makes known row k ≡ None
@@ -295,6 +317,9 @@ module _ (known : Known) (gives : GivesByContext known) where
 
   no_role_type : (r : Role) → role_tells known r ≡ false → role_typed known r ≡ None
   no_role_type elsewhere h = refl
+  no_role_type exposed h = refl
+  no_role_type (found_nil nil) h = refl
+  no_role_type (found_error nil row) h = refl
   no_role_type (called c) h = refl
   no_role_type called_in_brackets h = refl
   no_role_type (argument k has_address c) h = refl
@@ -334,6 +359,9 @@ module _ (known : Known) (gives : GivesByContext known) where
 
   not_obtained : (m : Mention) (r : Role) → role_tells known r ≡ false → is_obtained_by known m r ≡ false
   not_obtained m elsewhere h = refl
+  not_obtained m exposed h = refl
+  not_obtained m (found_nil nil) h = refl
+  not_obtained m (found_error nil row) h = refl
   not_obtained m (called c) h = refl
   not_obtained m called_in_brackets h = refl
   not_obtained m (argument k has_address c) h = refl
@@ -345,6 +373,9 @@ module _ (known : Known) (gives : GivesByContext known) where
 
   not_made : (m : Mention) (r : Role) → is_made_by known m r ≡ false
   not_made m elsewhere = refl
+  not_made m exposed = refl
+  not_made m (found_nil nil) = refl
+  not_made m (found_error nil row) = refl
   not_made m (called c) = refl
   not_made m called_in_brackets = refl
   not_made m (argument k has_address c) = refl
@@ -394,6 +425,44 @@ module _ (known : Known) (gives : GivesByContext known) where
   no_kind ps h l e =
       ap (λ t. or_else (option_map kind_of_type t) (kind_by_rows known ps l.number)) e ∙ no_rows ps h l.number
 
+literal_hands_nothing : (at : ℕ) (e : Event) (f : Callee) → e ≡ defer_literal at → HandsTo f e → ⊥
+literal_hands_nothing at e f same passes = cc
+literal_hands_nothing at e f same defers = cc
+literal_hands_nothing at e f same lends = cc
+
+return_hands_nothing : (handed : List Handed) (e : Event) (f : Callee) → e ≡ return_event handed → HandsTo f e → ⊥
+return_hands_nothing handed e f same passes = cc
+return_hands_nothing handed e f same defers = cc
+return_hands_nothing handed e f same lends = cc
+
+call_hands_nothing : (number : ℕ) (e : Event) (f : Callee) → e ≡ call number → HandsTo f e → ⊥
+call_hands_nothing number e f same passes = cc
+call_hands_nothing number e f same defers = cc
+call_hands_nothing number e f same lends = cc
+
+-- what was not given where an error was is only called
+calls_hand_nothing : (seen : Seen) (m : Mention) (r : Role) (e : Event) (f : Callee) → HandsTo f e
+    → Contains (error_events seen m r) e
+    → ⊥
+calls_hand_nothing seen m (found_error nil row) e f h c = by (is_universe (seen.known.means nil)) c
+  where
+    by : (t : Bool) → Contains (if t then map call (lost_to seen row (variable_of seen.known m)) else []) e → ⊥
+    by true k =
+        let n = contains_unmap call (lost_to seen row (variable_of seen.known m)) e k in
+        call_hands_nothing n.0 e f (sym n.2) h
+    by false k = contains_nil e k
+calls_hand_nothing seen m elsewhere e f h c = contains_nil e c
+calls_hand_nothing seen m exposed e f h c = contains_nil e c
+calls_hand_nothing seen m (found_nil nil) e f h c = contains_nil e c
+calls_hand_nothing seen m (called d) e f h c = contains_nil e c
+calls_hand_nothing seen m called_in_brackets e f h c = contains_nil e c
+calls_hand_nothing seen m (argument k has_address d) e f h c = contains_nil e c
+calls_hand_nothing seen m (returned k) e f h c = contains_nil e c
+calls_hand_nothing seen m (left k row) e f h c = contains_nil e c
+calls_hand_nothing seen m (names_type row) e f h c = contains_nil e c
+calls_hand_nothing seen m (new_literal row) e f h c = contains_nil e c
+calls_hand_nothing seen m parameter_pointer e f h c = contains_nil e c
+
 module _ (known : Known) (gives : GivesByContext known) (ps : List Placed)
     (none_tell : list_any (λ (p : Placed). mark_tells known p.mark) ps ≡ false) where
   abbrev seen : Seen
@@ -410,6 +479,25 @@ module _ (known : Known) (gives : GivesByContext known) (ps : List Placed)
       by true = no_kind known gives ps none_tell l e
       by false = refl
 
+  -- Variables
+
+  no_variable_found : (body : ℕ) (o : Option Local) → ((l : Local) → o ≡ Some l → l.typed ≡ None)
+      → variable_found seen body o ≡ []
+  no_variable_found body None h = refl
+  no_variable_found body (Some l) h =
+      ap (λ b. if b then variable_there seen body l (tracked_kind seen (Some l)) else [])
+      (ap (λ kind. is_some kind && ((l.body == body)
+      || list_any (λ (p : Placed). is_captured_there known body l p.bodies p.mark) ps))
+      (not_tracked l (h l refl)))
+
+  no_variables : (body : ℕ) (ns : List ℕ) → variables_among seen body ns ≡ []
+  no_variables body [] = refl
+  no_variables body (n ∷ ns) = λ i.
+      no_variable_found body (found seen (Some n)) (found_so (Some n)) i ++ no_variables body ns i
+
+  no_variable : (body : ℕ) → variables_of seen body ≡ []
+  no_variable body = ap in_their_order (no_variables body _)
+
   -- Mentions
 
   role_nothing : (l : Local) → l.typed ≡ None → (bodies : List BodyPlace) (m : Mention) (r : Role)
@@ -417,6 +505,9 @@ module _ (known : Known) (gives : GivesByContext known) (ps : List Placed)
   role_nothing l e bodies m (left k row) =
       ap (λ kind. row_outcome seen l kind bodies m row (binding_at seen row k)) (no_kind known gives ps none_tell l e)
   role_nothing l e bodies m elsewhere = ap (λ kind. mention_outcome seen l kind bodies m) (not_tracked l e)
+  role_nothing l e bodies m exposed = ap (λ kind. mention_outcome seen l kind bodies m) (not_tracked l e)
+  role_nothing l e bodies m (found_nil nil) = ap (λ kind. mention_outcome seen l kind bodies m) (not_tracked l e)
+  role_nothing l e bodies m (found_error nil row) = ap (λ kind. mention_outcome seen l kind bodies m) (not_tracked l e)
   role_nothing l e bodies m (called c) = ap (λ kind. mention_outcome seen l kind bodies m) (not_tracked l e)
   role_nothing l e bodies m called_in_brackets = ap (λ kind. mention_outcome seen l kind bodies m) (not_tracked l e)
   role_nothing l e bodies m (argument k has_address c) =
@@ -434,12 +525,10 @@ module _ (known : Known) (gives : GivesByContext known) (ps : List Placed)
       by (Some l) h = role_nothing l (h l refl) bodies m m.role
 
   no_mention_fault : (bodies : List BodyPlace) (m : Mention) → tells known m.named ≡ false
-      → names_recover (mentions m) ≡ false
       → mention_faults seen bodies m ≡ []
-  no_mention_fault bodies m h e = λ i.
+  no_mention_fault bodies m h = λ i.
       (variable_nothing bodies m i).faults
-      ++ (giving_faults seen bodies m (no_giving known gives m.named h i)
-      ++ (no_errgroup_fault i ++ no_recover_fault i))
+      ++ (giving_faults seen bodies m (no_giving known gives m.named h i) ++ no_errgroup_fault i)
     where
       no_errgroup_fault : errgroup_faults seen m ≡ []
       no_errgroup_fault =
@@ -447,17 +536,29 @@ module _ (known : Known) (gives : GivesByContext known) (ps : List Placed)
           (last_fault group_used_otherwise m.named) else [])
           (no_errgroup known gives.no_group m.named.at)
 
-      no_recover_fault : recover_faults known m ≡ []
-      no_recover_fault =
+  no_recover_fault : (bodies : List BodyPlace) (m : Mention) → names_recover (mentions m) ≡ false
+      → (if forbids_recover known.edition seen bodies then recover_faults known m else []) ≡ []
+  no_recover_fault bodies m e = by (forbids_recover known.edition seen bodies)
+    where
+      by : (t : Bool) → (if t then recover_faults known m else []) ≡ []
+      by true =
           ap (λ b. if b && is_universe (known.means m.named.at)
           then fault_at m.named.at recover_used (codes "-") else []) e
+      by false = refl
+
+  no_jump_fault : (b : BodyPlace) → jump_faults seen b ≡ []
+  no_jump_fault b =
+      ap (λ (vs : List Variable). if has_any vs
+      then flat_map (λ at. fault_at at goto_used (codes "-")) (jumps_in b.statements) else []) (no_variable b.at)
 
   no_mark_fault : (bodies : List BodyPlace) (mark : Mark) → mark_tells known mark ≡ false → names_recover mark ≡ false
       → mark_faults seen bodies mark ≡ []
-  no_mark_fault bodies (mentions m) h e = no_mention_fault bodies m (neither_first _ _ h) e
+  no_mark_fault bodies (mentions m) h e = λ i.
+      no_mention_fault bodies m (neither_first _ _ h) i ++ no_recover_fault bodies m e i
   no_mark_fault bodies (defers_literal site at) h e = refl
   no_mark_fault bodies (returns at es) h e = refl
-  no_mark_fault bodies (opens b) h e = no_result_fault (body_locals known b) (body_untyped known gives b h)
+  no_mark_fault bodies (opens b) h e = λ i.
+      no_result_fault (body_locals known b) (body_untyped known gives b h) i ++ no_jump_fault b i
   no_mark_fault bodies closes h e = refl
 
   abbrev no_recover_in : List Placed → Type 0
@@ -489,21 +590,45 @@ module _ (known : Known) (gives : GivesByContext known) (ps : List Placed)
       by true none rest = λ i. none i ++ rest i
       by false none rest = rest
 
-  -- Variables
+  -- Events
 
-  no_variable_found : (body : ℕ) (o : Option Local) → ((l : Local) → o ≡ Some l → l.typed ≡ None)
-      → variable_found seen body o ≡ []
-  no_variable_found body None h = refl
-  no_variable_found body (Some l) h =
-      ap (λ b. if b then variable_there seen body l (tracked_kind seen (Some l)) else [])
-      (ap (λ kind. is_some kind && ((l.body == body)
-      || list_any (λ (p : Placed). is_captured_there known body l p.bodies p.mark) ps))
-      (not_tracked l (h l refl)))
+  mark_hands_nothing : (bodies : List BodyPlace) (mark : Mark) (e : Event) (f : Callee) → HandsTo f e
+      → Contains (mark_events seen bodies mark) e
+      → ⊥
+  mark_hands_nothing bodies (mentions m) e f h c =
+      elim (Contains-append_cases (variable_outcome seen bodies m).events (error_events seen m m.role) e c) [
+        | inl own ↦ contains_nil e (subst (λ (o : Outcome). Contains o.events e) (variable_nothing bodies m) own)
+        | inr lost ↦ calls_hand_nothing seen m m.role e f h lost
+      ]
+  mark_hands_nothing bodies (defers_literal site at) e f h c =
+      elim (contains_cases (defer_literal at) e [] c) [
+        | inl same ↦ literal_hands_nothing at e f (sym same) h
+        | inr n ↦ contains_nil e n
+      ]
+  mark_hands_nothing bodies (returns at es) e f h c =
+      elim (contains_cases (return_event (handed_on seen (body_gives known bodies) 0 es)) e [] c) [
+        | inl same ↦ return_hands_nothing (handed_on seen (body_gives known bodies) 0 es) e f (sym same) h
+        | inr n ↦ contains_nil e n
+      ]
+  mark_hands_nothing bodies (opens b) e f h c = contains_nil e c
+  mark_hands_nothing bodies closes e f h c = contains_nil e c
 
-  no_variables : (body : ℕ) (ns : List ℕ) → variables_among seen body ns ≡ []
-  no_variables body [] = refl
-  no_variables body (n ∷ ns) = λ i.
-      no_variable_found body (found seen (Some n)) (found_so (Some n)) i ++ no_variables body ns i
+  events_hand_nothing : (body at : ℕ) (qs : List Placed) (e : Event) (f : Callee) → HandsTo f e
+      → Contains (events_at seen body qs at) e
+      → ⊥
+  events_hand_nothing body at [] e f h c = contains_nil e c
+  events_hand_nothing body at (q ∷ qs) e f h c =
+      by (is_body body q.bodies && is_site q.mark at) c (events_hand_nothing body at qs e f h)
+    where
+      by : (t : Bool)
+          → Contains (if t then mark_events seen q.bodies q.mark ++ events_at seen body qs at else events_at seen body qs at) e
+          → (Contains (events_at seen body qs at) e → ⊥)
+          → ⊥
+      by true k rest = elim (Contains-append_cases (mark_events seen q.bodies q.mark) (events_at seen body qs at) e k) [
+        | inl here ↦ mark_hands_nothing q.bodies q.mark e f h here
+        | inr later ↦ rest later
+      ]
+      by false k rest = rest k
 
 -- what no mark has, no placed mark has
 
@@ -532,9 +657,11 @@ without_makers known marks gives tell recovers =
     let none_tell = none_placed (mark_tells known) [] marks tell in
     let none_there = none_placed names_recover [] marks recovers in
     record {
-      no_variable = λ body. ap in_their_order (no_variables known gives ps none_tell body _);
+      no_variable = no_variable known gives ps none_tell;
       outside = no_outer_fault known gives ps none_tell ps none_tell none_there;
       inside = λ body. no_inner_fault known gives ps none_tell body ps none_tell none_there;
+      hands_nothing = λ f h.
+          events_hand_nothing known gives ps none_tell h.body.at h.at ps h.event f h.hands h.is_event;
     }
 
 -- Where no use means `context`
@@ -585,6 +712,9 @@ module _ (known : Known) (gives : GivesNothing known) where
 
   no_role_tells : (r : Role) → role_tells known r ≡ false
   no_role_tells elsewhere = refl
+  no_role_tells exposed = refl
+  no_role_tells (found_nil nil) = refl
+  no_role_tells (found_error nil row) = refl
   no_role_tells (called c) = refl
   no_role_tells called_in_brackets = refl
   no_role_tells (argument k has_address c) = refl

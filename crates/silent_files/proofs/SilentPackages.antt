@@ -1,15 +1,17 @@
 -- Where a file in which nothing is to be found stands for another, flags and findings stay.
 use Rattle.std.proofs.Common.{◌≡◌, ℕ, Bool, true, false, inl, inr, List, [], ◌∷◌, Option, Some, None, Contains, refl, sym, ap, ◌∙◌, subst}
-use Rattle.std.specs.Prelude.{◌++◌, ◌&&◌, ◌||◌, if◌then◌else◌, option_map, slice_get}
-use Rattle.std.specs.List.{list_any, AllZip}
+use Rattle.std.specs.Prelude.{◌++◌, not, ◌&&◌, ◌||◌, if◌then◌else◌, option_map, slice_get}
+use Rattle.std.specs.List.{list_any, filter, AllZip}
 use Rattle.std.specs.Str.{bytes_eq}
 use Rattle.std.proofs.lemmas.Option.{same_Some}
+use Rattle.tree.specs.declared.edition.Edition.{Edition}
+use Rattle.tree.specs.declared.edition.Edition.TheVariants.{First, Second}
 use Rattle.tree.specs.Syntax.{ImportSpec, SourceFile}
 use Rattle.meaning.specs.OuterBlocks.{PackageNames, PackageLevel, is_first_path, any_path, is_called, import_name_of, import_among, import_meant, or_else, specs_of, package_block, package_meant}
 use Rattle.meaning.specs.Scopes.{LocalName, file_names}
 use Rattle.meaning.specs.Declarations.{Meaning, local_name, import_name, function_name, package_name, universe_name, Use, use_at, uses_of, local_meant, locals_of, package_or_universe, import_or_around, local_or_around, meaning_of, meaning_at}
 use Rattle.meaning.specs.FunctionFacts.{FunctionFacts, context_path, errgroup_path}
-use Rattle.meaning.specs.Mentions.{Named, BodyPlace, file_marks}
+use Rattle.meaning.specs.Mentions.{Named, BodyPlace, Mark, is_found, marks_by, file_marks}
 use Rattle.meaning.specs.Tracked.{Known, facts_of, facts_meant, facts_giving, is_empty}
 use Rattle.meaning.specs.Uses.{Callee, Seen, UseFault}
 use Rattle.meaning.specs.BodyEvents.{Variable, variables_of, too_many_faults, body_faults}
@@ -20,7 +22,7 @@ use Rattle.meaning_packages.specs.CallsFlags.{Flags, FileWithCredits, IsKept, Ar
 use Rattle.meaning_reports.specs.Loaded.{LoadedPackage, Tables, trees_of, imports_of, package_names, imported_signatures, known_in}
 use Rattle.meaning_reports.specs.PackageReports.{IsFileFinding, outside_bodies, of_use, of_path}
 use Rattle.report.specs.Entries.{Entry}
-use Rattle.silent_files.specs.SilentFiles.{GivesNothing, GivesByContext, IsSilent}
+use Rattle.silent_files.specs.SilentFiles.{GivesNothing, GivesByContext, mark_tells, names_recover, IsSilent}
 use Rattle.silent_files.specs.SilentPackages.{imports_first, imports_group, GiveNone, NamesNoGiver, StandsFor, itself, silent}
 use Rattle.silent_files.specs.SilentLaws.{SkippedFilesAreSilent, ImportsTell, SilentFilesChangeNothing}
 use Rattle.silent_files.proofs.SilentFiles.{neither_first, neither_second, none_of, no_mark_tells, without_makers}
@@ -47,7 +49,7 @@ module _ (seen : Seen) (quiet : IsSilent seen) where
   no_path_fault b none _ (returns_pending v handed t o comes owes left) = none v owes.is_of_body
 
   no_pass_fault : (b : Paths) → ((v : Variable) → Contains b.variables v → ⊥) → (f : PathFault) → IsPassFault b f → ⊥
-  no_pass_fault b none _ (passes_on v u at e is_of kind there not_called same) = none v is_of
+  no_pass_fault b none _ (passes_on v u at e first is_of kind there not_called same) = none v is_of
 
   no_fault_of : (calls : Callee → ℕ → Bool) (credits : Credits) (b : BodyPlace) (f : PathFault)
       → IsFaultOf seen (promises_in calls credits b.at) b f
@@ -293,10 +295,28 @@ no_second (s ∷ ss) h =
     (neither_second (bytes_eq s.path context_path) _ (neither_first (is_first_path s.path) _ h))
     ∙ no_second ss (neither_second (is_first_path s.path) _ h)
 
+-- what no mark of a file has, none has that counts in an edition
+none_kept : (f g : Mark → Bool) (ms : List Mark) → list_any f ms ≡ false → list_any f (filter g ms) ≡ false
+none_kept f g [] h = refl
+none_kept f g (m ∷ ms) h =
+    by (g m) (neither_first (f m) _ h) (none_kept f g ms (neither_second (f m) _ h))
+  where
+    by : (t : Bool) → f m ≡ false → list_any f (filter g ms) ≡ false
+        → list_any f (if t then m ∷ filter g ms else filter g ms) ≡ false
+    by true here rest = ap (λ b. b || list_any f (filter g ms)) here ∙ rest
+    by false here rest = rest
+
+none_by : (edition : Edition) (f : Mark → Bool) (ms : List Mark) → list_any f ms ≡ false
+    → list_any f (marks_by edition ms) ≡ false
+none_by First f ms h = none_kept f (λ m. not (is_found m)) ms h
+none_by Second f ms h = h
+
 pub skipped_so : SkippedFilesAreSilent
 skipped_so ps tables p number tree may =
-    without_makers (known_in ps tables p number) (file_marks tree)
-    (gives_by_context ps tables p number tree may.names_no_giver may.no_group_import) may.none_tells may.no_recover
+    without_makers (known_in ps tables p number) (marks_by p.edition (file_marks tree))
+    (gives_by_context ps tables p number tree may.names_no_giver may.no_group_import)
+    (none_by p.edition (mark_tells (known_in ps tables p number)) (file_marks tree) may.none_tells)
+    (none_by p.edition names_recover (file_marks tree) may.no_recover)
 
 pub imports_tell : ImportsTell
 imports_tell ps tables p number tree names no_first no_recover = record {

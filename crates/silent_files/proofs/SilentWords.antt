@@ -2,18 +2,16 @@
 use Rattle.std.proofs.Common.{◌≡◌, ℕ, Bool, true, false, List, [], ◌∷◌, ◌++◌, Option, Some, None, Contains, refl, ap, ◌∙◌}
 use Rattle.std.specs.Prelude.{◌&&◌, ◌||◌, codes}
 use Rattle.std.specs.List.{list_any}
-use Rattle.std.specs.Str.{bytes_eq}
 use Rattle.std.proofs.lemmas.List.Elements.{Contains-append_left, Contains-append_right}
 use Rattle.lexer.specs.Tokens.{IsTokens}
 use Rattle.tree.specs.Syntax.{Identifier, OptionalExpression, missing_expression, present_expression, Signature, signature_of, Parameters, no_parameter, named_and, unnamed_and, name_alone_and}
-use Rattle.meaning.specs.Mentions.{Named, as_named, RowForm, defines, assigns, declares, Row, Call, Role, elsewhere, called, called_in_brackets, argument, returned, left, names_type, new_literal, parameter_pointer, Mark, mentions, defers_literal, returns, opens, closes, file_marks}
-use Rattle.meaning.specs.FunctionFacts.{Meanings, context_path, is_of, is_import, is_selected, Item, alone, items_of}
+use Rattle.meaning.specs.Mentions.{Named, as_named, RowForm, defines, assigns, declares, Call, Role, elsewhere, exposed, found_nil, found_error, called, called_in_brackets, argument, returned, left, names_type, new_literal, parameter_pointer, Mark, mentions, defers_literal, returns, opens, closes, file_marks}
+use Rattle.meaning.specs.FunctionFacts.{context_path, is_of, is_import, is_selected, Item, alone, items_of}
 use Rattle.meaning.specs.Tracked.{Known, plain_makers, cause_makers, only_call, receiver_items}
-use Rattle.meaning.specs.TreeOfText.{IsTreeOf}
 use Rattle.meaning.proofs.Membership.{contains_here, contains_there}
-use Rattle.silent_files.specs.NamedWords.{Lexed, LacksWord, LacksEach, IsSelectedWord, AreWords, AreWordsIf, CallHasWords, TypeHasWords, FormHasWords, RowHasWords, RoleHasWords, ParametersHaveWords, ReceiverHasWords, SignatureHasWords, HasWords}
+use Rattle.silent_files.specs.NamedWords.{Lexed, LacksWord, LacksEach, IsSelectedWord, AreWords, AreWordsIf, CallHasWords, TypeHasWords, FormHasWords, RoleHasWords, ParametersHaveWords, ReceiverHasWords, SignatureHasWords, HasWords}
 use Rattle.silent_files.proofs.NamedWords.{names_are_words, lacked_words_are_no_names}
-use Rattle.silent_files.specs.SilentFiles.{tells, named_tells, call_tells, type_tells, items_tell, signature_tells, form_tells, row_tells, role_tells, mark_tells, names_recover}
+use Rattle.silent_files.specs.SilentFiles.{tells, named_tells, call_tells, type_tells, items_tell, signature_tells, form_tells, role_tells, mark_tells, names_recover}
 use Rattle.silent_files.specs.SilentWords.{cancel_types, telling_words, WordsTell}
 use Rattle.silent_files.proofs.SilentFiles.{neither_first}
 
@@ -98,6 +96,9 @@ module _ (source : Lexed) (cut : IsTokens source.text source.tokens) where
 
     role_tells_none : (role : Role) → RoleHasWords source role → role_tells known role ≡ false
     role_tells_none elsewhere h = refl
+    role_tells_none exposed h = refl
+    role_tells_none (found_nil nil) h = refl
+    role_tells_none (found_error nil row) h = refl
     role_tells_none (called c) h = refl
     role_tells_none called_in_brackets h = refl
     role_tells_none (argument k has_address c) h = refl
@@ -138,8 +139,9 @@ module _ (source : Lexed) (cut : IsTokens source.text source.tokens) where
 
 pub words_tell : WordsTell
 words_tell = record {
-  no_recover = λ text tree t lacks. none_among names_recover (file_marks tree) λ m among.
-      is_no_recover record { text = text; tokens = t.tokens } t.cut lacks m (names_are_words text tree m t among);
+  no_recover = λ edition text tree t lacks. none_among names_recover (file_marks tree) λ m among.
+      is_no_recover record { text = text; tokens = t.tokens } t.cut lacks m (names_are_words edition text tree m t among);
   none_tells = λ text tree known t lacks. none_among (mark_tells known) (file_marks tree) λ m among.
-      mark_tells_none record { text = text; tokens = t.tokens } t.cut lacks known m (names_are_words text tree m t among);
+      mark_tells_none record { text = text; tokens = t.tokens } t.cut lacks known m
+      (names_are_words known.edition text tree m t among);
 }

@@ -1,22 +1,24 @@
 -- What is found in the files that are walked is what is to be said of all of them.
-use Rattle.std.proofs.Common.{◌≡◌, ℕ, zero, suc, ◌+◌, Bool, true, false, List, [], ◌∷◌, Some, refl, sym, ◌∙◌, subst, arith}
+use Rattle.std.proofs.Common.{◌≡◌, ℕ, zero, suc, ◌+◌, Bool, true, false, inl, inr, List, [], ◌∷◌, Some, Contains, refl, sym, ◌∙◌, subst, arith}
 use Rattle.std.specs.Prelude.{slice_get}
 use Rattle.std.specs.List.{AllZip}
 use Rattle.std.proofs.lemmas.Option.{same_Some, none-some}
 use Rattle.tree.specs.Syntax.{SourceFile}
 use Rattle.meaning.specs.Tracked.{Known, placed, locals_of}
-use Rattle.meaning.specs.Uses.{Seen, seen_in}
-use Rattle.meaning.specs.BodyEvents.{seen_file, variables_of, outer_faults_of, faults_of}
+use Rattle.meaning.specs.Uses.{Callee, Seen, seen_in}
+use Rattle.meaning.proofs.Membership.{contains_here, contains_there, contains_cases, contains_nil}
+use Rattle.meaning.specs.BodyEvents.{bodies_of, seen_file, variables_of, outer_faults_of, faults_of}
 use Rattle.meaning_packages.specs.Credits.{Credits, AreFullCredits}
 use Rattle.meaning_packages.specs.CallsFlags.{Flags, FileWithCredits, AreMost, calls_by}
 use Rattle.meaning_reports.specs.Loaded.{LoadedPackage, Tables, trees_of, known_in, imported_flags, seen_from, seen_files}
 use Rattle.meaning_reports.specs.PackageTables.{AreCredited, no_file, file_and, IsJudged}
 use Rattle.meaning_reports.specs.PackageReports.{IsFileFinding, SaysByPaths}
+use Rattle.meaning_reports.specs.UsedImports.{HandsThere}
 use Rattle.meaning_reports.proofs.OneAnswer.{one_list, one_most}
 use Rattle.report.specs.Entries.{Entry}
 use Rattle.silent_files.specs.SilentFiles.{IsSilent}
 use Rattle.silent_files.specs.SilentPackages.{StandsFor, itself, silent}
-use Rattle.silent_files.specs.WalkedFiles.{seen_if, seen_some, AreWalked, IsSaidOf, WalkedFilesAreEnough}
+use Rattle.silent_files.specs.WalkedFiles.{seen_if, seen_some, HandOver, AreWalked, IsSaidOf, WalkedFilesAreEnough}
 use Rattle.silent_files.proofs.SilentPackages.{no_variable_of, all_back, nothing_changes, skipped_so}
 
 -- A file without marks
@@ -33,11 +35,16 @@ bare_inside : (known : Known) (body : ℕ) → faults_of (seen_in known []) body
 unfolding placed
 bare_inside known body = refl
 
+bare_bodies : (known : Known) → bodies_of (seen_in known []) ≡ []
+unfolding placed
+bare_bodies known = refl
+
 bare : (known : Known) → IsSilent (seen_in known [])
 bare known = record {
   no_variable = bare_variables known;
   outside = bare_outside known;
   inside = bare_inside known;
+  hands_nothing = λ f h. contains_nil h.body (subst (λ bs. Contains bs h.body) (bare_bodies known) h.is_of_file);
 }
 
 -- no literal of it is relied on
@@ -135,6 +142,47 @@ module _ (walked : ℕ → Bool) (known : ℕ → Known) where
       subst (AllWhole (seen_file (known n) tree ∷ seen_from known (n + 1) trees)) (sym f.is)
       (record { others = w.file ∷ ws.others; are = file_and w.same w.full ws.are; stand = (w.stand, ws.stand) })
 
+  -- what they hand on
+
+  seen_hands : (b : Bool) (m : ℕ) (tree : SourceFile) (f : Callee) → (b ≡ false → IsSilent (seen_file (known m) tree))
+      → (HandsThere (seen_if b (known m) tree) f → HandsThere (seen_file (known m) tree) f)
+      × (HandsThere (seen_file (known m) tree) f → HandsThere (seen_if b (known m) tree) f)
+  seen_hands true m tree f quiet = (λ h. h, λ h. h)
+  seen_hands false m tree f quiet =
+      (λ h. absurd ((bare (known m)).hands_nothing f h), λ h. absurd ((quiet refl).hands_nothing f h))
+
+  over_first : (file : Seen) (files : List Seen) (f : Callee) → HandsThere file f → HandOver (file ∷ files) f
+  over_first file files f h = record { file = file; is_file = contains_here file files; hands = h }
+
+  over_later : (file : Seen) (files : List Seen) (f : Callee) → HandOver files f → HandOver (file ∷ files) f
+  over_later file files f h =
+      record { file = h.file; is_file = contains_there file h.file files h.is_file; hands = h.hands }
+
+  hand_both : (n : ℕ) (trees : List SourceFile) (f : Callee)
+      → ((k : ℕ) (tree : SourceFile) → slice_get trees k ≡ Some tree → IsQuiet (n + k) tree)
+      → (HandOver (seen_some walked known n trees) f → HandOver (seen_from known n trees) f)
+      × (HandOver (seen_from known n trees) f → HandOver (seen_some walked known n trees) f)
+  hand_both n [] f quiet =
+      (λ h. absurd (contains_nil h.file h.is_file), λ h. absurd (contains_nil h.file h.is_file))
+  hand_both n (tree ∷ trees) f quiet =
+      let first = seen_hands (walked n) n tree f (subst (λ m. IsQuiet m tree) (at_first n) (quiet zero tree refl)) in
+      let rest =
+      hand_both (n + 1) trees f (λ k t is. subst (λ m. IsQuiet m t) (at_next n k) (quiet (suc k) t is)) in
+      let one = seen_if (walked n) (known n) tree in
+      let whole = seen_file (known n) tree in
+      let ones = seen_some walked known (n + 1) trees in
+      let wholes = seen_from known (n + 1) trees in (
+        λ h. elim (contains_cases one h.file ones h.is_file) [
+          | inl same ↦
+              over_first whole wholes f (first.0 (subst (λ s. HandsThere s f) (sym same) h.hands))
+          | inr more ↦ over_later whole wholes f (rest.0 record { file = h.file; is_file = more; hands = h.hands })
+        ],
+        λ h. elim (contains_cases whole h.file wholes h.is_file) [
+          | inl same ↦ over_first one ones f (first.1 (subst (λ s. HandsThere s f) (sym same) h.hands))
+          | inr more ↦ over_later one ones f (rest.1 record { file = h.file; is_file = more; hands = h.hands })
+        ],
+      )
+
   each_walked : ((n : ℕ) → walked n ≡ true) → (n : ℕ) (trees : List SourceFile)
       → seen_some walked known n trees ≡ seen_from known n trees
   each_walked is n [] = refl
@@ -215,6 +263,11 @@ module _ (ps : List LoadedPackage) (tables : Tables) (i : ℕ) (p : LoadedPackag
 
 pub walks_are_enough : WalkedFilesAreEnough
 walks_are_enough = record {
+  hand_over = λ ps tables p walked f skip.
+      let both = hand_both walked (known_in ps tables p) 0 (trees_of p) f
+      (λ n tree is. subst (λ m. IsQuiet walked (known_in ps tables p) m tree) (at_zero n)
+      (λ skipped. skipped_so ps tables p n tree (skip.may_be n tree is skipped))) in
+      (both.0, both.1);
   all = λ ps tables p walked is. each_walked walked (known_in ps tables p) is 0 (trees_of p);
   flags = λ ps tables i p walked files flags are. record {
     files = (wholes ps tables i p walked files flags are).others;

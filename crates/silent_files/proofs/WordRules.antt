@@ -6,10 +6,11 @@ use Rattle.std.proofs.lemmas.List.Elements.{Contains-append_cases}
 use Rattle.lexer.specs.declared.token.Token.{Token}
 use Rattle.lexer.specs.declared.token.TokenKind.{TokenKind}
 use Rattle.lexer.specs.declared.token.TokenKind.TheVariants.{Identifier as identifier_kind, Semicolon}
+use Rattle.tree.specs.declared.edition.Edition.{Edition}
 use Rattle.tree.specs.declared.span.Span.{Span}
 use Rattle.tree.specs.Syntax.{Identifier}
 use Rattle.meaning.specs.Mentions.{Mark}
-use Rattle.meaning.specs.Cursor.{Cursor, Rule, ◌⨾◌, ◌⇒◌, nothing, never, one_of, optional, chosen, only_if, token, string_token, not_before, semicolon, TakesSemicolon, Semicolons, no_semicolon, semicolon_and, semicolons, spanning, start_at, first_start, word, identifier, optional_identifier, more_identifiers, identifiers}
+use Rattle.meaning.specs.Cursor.{read_in, Cursor, Rule, ◌⨾◌, ◌⇒◌, nothing, never, one_of, optional, chosen, only_if, token, string_token, not_before, semicolon, TakesSemicolon, Semicolons, no_semicolon, semicolon_and, semicolons, spanning, start_at, first_start, word, identifier, optional_identifier, more_identifiers, identifiers}
 use Rattle.meaning.proofs.Membership.{contains_nil, contains_here, contains_there, contains_cases}
 use Rattle.silent_files.specs.NamedWords.{Lexed, IsWord, IsBound, HasWords}
 
@@ -193,9 +194,10 @@ module _ {source : Lexed} where
 
   -- Words
 
-  says_word : (name : List ℕ) (from to : Cursor) → IsInside source from → word source.text name from to
+  says_word : (edition : Edition) (name : List ℕ) (from to : Cursor) → IsInside source from
+      → word (read_in edition source.text) name from to
       → Said source to (IsWord source name (start_at from))
-  says_word name from to k s =
+  says_word edition name from to k s =
       let t = s.0 in
       let first : Token = record { kind = identifier_kind; start = t.start; end = to.end } in
       let starts : start_at from ≡ t.start = ap (first_start from.end) t.taken in
@@ -211,31 +213,36 @@ module _ {source : Lexed} where
       }
 
   -- a name with what ends it
-  pub says_name : (name : List ℕ) (span : Span) {end : Rule} → Keeps source end
-      → Says source (IsWord source name span.start) (spanning span (word source.text name ⨾ end))
-  says_name name span h from to k s =
-      let a = says_word name from s.0.0 k s.0.1 in
+  pub says_name : (edition : Edition) (name : List ℕ) (span : Span) {end : Rule} → Keeps source end
+      → Says source (IsWord source name span.start) (spanning span (word (read_in edition source.text) name ⨾ end))
+  says_name edition name span h from to k s =
+      let a = says_word edition name from s.0.0 k s.0.1 in
       record {
         inside = (h s.0.0 to a.inside s.0.2).inside;
         holds = subst (IsWord source name) (sym s.1) a.holds;
       }
 
-  pub says_identifier : (name : Identifier) → Says source (IsName source name) (identifier source.text name)
-  says_identifier name from to k s =
-      let a = says_word name.text from to k s.0 in
+  pub says_identifier : (edition : Edition) (name : Identifier)
+      → Says source (IsName source name) (identifier (read_in edition source.text) name)
+  says_identifier edition name from to k s =
+      let a = says_word edition name.text from to k s.0 in
       record { inside = a.inside; holds = subst (IsWord source name.text) (sym s.1) a.holds }
 
-  pub keeps_optional_identifier : (name : Option Identifier) → Keeps source (optional_identifier source.text name)
-  keeps_optional_identifier None = keeps_nothing
-  keeps_optional_identifier (Some name) = keeps (says_identifier name)
+  pub keeps_optional_identifier : (edition : Edition) (name : Option Identifier)
+      → Keeps source (optional_identifier (read_in edition source.text) name)
+  keeps_optional_identifier edition None = keeps_nothing
+  keeps_optional_identifier edition (Some name) = keeps (says_identifier edition name)
 
-  more_names : (names : List Identifier) → Says source (AreNames source names) (more_identifiers source.text names)
-  more_names [] = says_nothing tt
-  more_names (name ∷ names) = behind (keeps_token _) (says_both (says_identifier name) (more_names names))
+  more_names : (edition : Edition) (names : List Identifier)
+      → Says source (AreNames source names) (more_identifiers (read_in edition source.text) names)
+  more_names edition [] = says_nothing tt
+  more_names edition (name ∷ names) =
+      behind (keeps_token _) (says_both (says_identifier edition name) (more_names edition names))
 
-  pub says_identifiers : (names : List Identifier) → Says source (AreNames source names) (identifiers source.text names)
-  says_identifiers [] = says_never
-  says_identifiers (name ∷ names) = says_both (says_identifier name) (more_names names)
+  pub says_identifiers : (edition : Edition) (names : List Identifier)
+      → Says source (AreNames source names) (identifiers (read_in edition source.text) names)
+  says_identifiers edition [] = says_never
+  says_identifiers edition (name ∷ names) = says_both (says_identifier edition name) (more_names edition names)
 
   -- Marks
 

@@ -9,8 +9,9 @@ use Rattle.std.specs.Str.{bytes_eq}
 use Rattle.lexer.specs.declared.token.Token.{Token}
 use Rattle.lexer.specs.declared.token.TokenKind.TheVariants.{Identifier as identifier_kind}
 use Rattle.lexer.specs.Tokens.{IsTokens}
+use Rattle.tree.specs.declared.edition.Edition.{Edition}
 use Rattle.tree.specs.Syntax.{OptionalExpression, missing_expression, present_expression, Parameters, no_parameter, named_and, unnamed_and, name_alone_and, Signature, signature_of, SourceFile}
-use Rattle.meaning.specs.Mentions.{Named, as_named, RowForm, defines, assigns, declares, Row, CallPlace, nowhere, as_statement, only_value, return_item, deferred, Call, Role, elsewhere, called, called_in_brackets, argument, returned, left, names_type, new_literal, parameter_pointer, Mark, mentions, defers_literal, returns, opens, closes, file_marks}
+use Rattle.meaning.specs.Mentions.{Named, as_named, RowForm, defines, assigns, declares, Row, CallPlace, nowhere, as_statement, only_value, return_item, deferred, Call, Role, elsewhere, exposed, found_nil, found_error, called, called_in_brackets, argument, returned, left, names_type, new_literal, parameter_pointer, Mark, mentions, defers_literal, returns, opens, closes, file_marks}
 use Rattle.meaning.specs.Tracked.{only_call}
 use Rattle.meaning.specs.TreeOfText.{IsTreeOf}
 
@@ -86,6 +87,9 @@ PlaceIsBound source deferred = Unit {0}
 
 abbrev pub RoleHasWords : Lexed → Role → Type 0
 RoleHasWords source elsewhere = Unit {0}
+RoleHasWords source exposed = Unit {0}
+RoleHasWords source (found_nil nil) = Unit {0}
+RoleHasWords source (found_error nil row) = Unit {0}
 RoleHasWords source (called c) = PlaceIsBound source c.place
 RoleHasWords source called_in_brackets = Unit {0}
 RoleHasWords source (argument k has_address c) = Unit {0}
@@ -122,8 +126,8 @@ HasWords source (opens b) = ReceiverHasWords source b.receiver × SignatureHasWo
 HasWords source closes = Unit {0}
 
 abbrev pub NamesAreWords : Type 0
-NamesAreWords = (text : List ℕ) (tree : SourceFile) (m : Mark)
-    → (t : IsTreeOf text tree)
+NamesAreWords = (edition : Edition) (text : List ℕ) (tree : SourceFile) (m : Mark)
+    → (t : IsTreeOf edition text tree)
     → Contains (file_marks tree) m
     → HasWords record { text = text; tokens = t.tokens } m
 

@@ -1,7 +1,8 @@
 -- Files in which nothing is to be found. In such a file no use means a maker, a type of cancel functions or something
 -- of `errgroup`, no function that a use could mean gives a cancel function, and no name is `recover`. Then no local is
--- tracked, no use is a fault, and no body has a variable. Functions that only take cancel functions or groups don't
--- matter: who has none can pass none.
+-- tracked, no use is a fault, no body has a variable, and none hands anything to a function. Functions that only take
+-- cancel functions or groups don't matter: who has none can pass none. And where no variable is, a condition finds out
+-- nothing of one.
 -- (This tool's rules.)
 use Rattle.std.specs.Prelude.{ℕ, ◌≡◌, ◌||◌, Bool, false, List, [], Option, Some, None, codes}
 use Rattle.std.specs.List.{list_any}
@@ -12,8 +13,9 @@ use Rattle.tree.specs.Syntax.{OptionalExpression, missing_expression, present_ex
 use Rattle.meaning.specs.Mentions.{Named, as_named, RowForm, defines, assigns, declares, Row, Call, Role, left, Mark, mentions, defers_literal, returns, opens, closes}
 use Rattle.meaning.specs.FunctionFacts.{context_path, errgroup_path, is_of, Item, items_of}
 use Rattle.meaning.specs.Tracked.{Known, facts_of, facts_giving, is_maker, only_call, receiver_items}
-use Rattle.meaning.specs.Uses.{Seen}
+use Rattle.meaning.specs.Uses.{Callee, Seen}
 use Rattle.meaning.specs.BodyEvents.{variables_of, outer_faults_of, faults_of}
+use Rattle.meaning_reports.specs.UsedImports.{HandsThere}
 
 -- no use means `context` or `errgroup`, and no function that is named gives a cancel function
 pub record GivesNothing (known : Known) : Type 0 where
@@ -84,3 +86,4 @@ pub record IsSilent (seen : Seen) : Type 0 where
   pub no_variable : (body : ℕ) → variables_of seen body ≡ []
   pub outside : outer_faults_of seen seen.marks ≡ []
   pub inside : (body : ℕ) → faults_of seen body seen.marks ≡ []
+  pub hands_nothing : (f : Callee) → HandsThere seen f → ⊥

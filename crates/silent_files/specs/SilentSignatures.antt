@@ -2,6 +2,7 @@
 -- the facts of the package's functions.
 -- (This tool's rules.)
 use Rattle.std.specs.Prelude.{ℕ, ◌+◌, ◌≡◌, ◌⊎◌, false, List, ◌++◌, None, Some, slice_get, Contains}
+use Rattle.tree.specs.declared.edition.Edition.{Edition}
 use Rattle.tree.specs.Syntax.{Signature, signature_of, Function, function_declaration, SourceFile}
 use Rattle.meaning.specs.FunctionFacts.{Meanings, Item, items_of, item_type, package_facts}
 use Rattle.meaning_reports.specs.Loaded.{LoadedPackage, Tables, trees_of, means_in, known_in}
@@ -30,8 +31,10 @@ AreAsGood one other n files = (k : ℕ) (tree : SourceFile)
     → IsAsGood one other (n + k) tree
 
 pub record SignaturesWithoutNames : Type 0 where
-  pub same : (one other : ℕ → Meanings) (files : List SourceFile) → AreAsGood one other 0 files → (name : List ℕ)
-      → package_facts one files name ≡ package_facts other files name
+  pub same : (edition : Edition) (one other : ℕ → Meanings) (files : List SourceFile)
+      → AreAsGood one other 0 files
+      → (name : List ℕ)
+      → package_facts edition one files name ≡ package_facts edition other files name
   -- a file that imports none of the two packages has plain signatures, by what its uses mean and by nothing
   pub of_imports : (ps : List LoadedPackage) (p : LoadedPackage) (n : ℕ) (tree : SourceFile)
       → slice_get (trees_of p) n ≡ Some tree
@@ -47,6 +50,6 @@ pub record SignaturesWithoutNames : Type 0 where
       → HasPlainSignatures (means_in ps p n) tree
   pub of_nothing : (tree : SourceFile) → HasPlainSignatures (λ at. None) tree
   -- and plain signatures give nothing
-  pub give_none : (means : ℕ → Meanings) (files : List SourceFile)
+  pub give_none : (edition : Edition) (means : ℕ → Meanings) (files : List SourceFile)
       → ((k : ℕ) (tree : SourceFile) → slice_get files k ≡ Some tree → HasPlainSignatures (means k) tree)
-      → GiveNone (package_facts means files)
+      → GiveNone (package_facts edition means files)

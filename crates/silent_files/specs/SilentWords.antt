@@ -1,8 +1,9 @@
 -- Words by which a text tells that its file names no maker, no type of cancel functions and no `recover`: none of its
 -- identifier tokens is written so. So a file may be skipped by its text, and nobody need look at its tree.
 -- (This tool's rules.)
-use Rattle.std.specs.Prelude.{ℕ, ◌≡◌, Bool, false, List, [], ◌∷◌, ◌++◌, codes}
+use Rattle.std.specs.Prelude.{ℕ, ◌≡◌, false, List, [], ◌∷◌, ◌++◌, codes}
 use Rattle.std.specs.List.{list_any}
+use Rattle.tree.specs.declared.edition.Edition.{Edition}
 use Rattle.tree.specs.Syntax.{SourceFile}
 use Rattle.meaning.specs.Mentions.{file_marks}
 use Rattle.meaning.specs.Tracked.{Known, plain_makers, cause_makers}
@@ -20,11 +21,11 @@ telling_words = plain_makers ++ (cause_makers ++ cancel_types)
 
 -- what the tree of a text has no name for
 pub record WordsTell : Type 0 where
-  pub no_recover : (text : List ℕ) (tree : SourceFile)
-      → IsTreeOf text tree
+  pub no_recover : (edition : Edition) (text : List ℕ) (tree : SourceFile)
+      → IsTreeOf edition text tree
       → LacksWord (codes "recover") text
       → list_any names_recover (file_marks tree) ≡ false
   pub none_tells : (text : List ℕ) (tree : SourceFile) (known : Known)
-      → IsTreeOf text tree
+      → IsTreeOf known.edition text tree
       → LacksEach telling_words text
       → list_any (mark_tells known) (file_marks tree) ≡ false

@@ -1,7 +1,7 @@
 -- Files of a package of which some are not walked. What is to be found is sought in the others alone: a file that may
 -- be skipped is looked at as if it had no marks. So it keeps its place and its number.
 -- (This tool's rules.)
-use Rattle.std.specs.Prelude.{ℕ, ◌+◌, ◌≡◌, ◌↔◌, Bool, true, false, List, [], ◌∷◌, Some, slice_get, unwrap_or}
+use Rattle.std.specs.Prelude.{ℕ, ◌+◌, ◌≡◌, ◌↔◌, Bool, true, false, List, [], ◌∷◌, Some, slice_get, unwrap_or, Contains}
 use Rattle.tree.specs.Syntax.{SourceFile}
 use Rattle.meaning.specs.Tracked.{Known}
 use Rattle.meaning.specs.Uses.{Callee, Seen, seen_in}
@@ -10,6 +10,7 @@ use Rattle.meaning_packages.specs.CallsFlags.{Flags, FileWithCredits, AreMost, c
 use Rattle.meaning_reports.specs.Loaded.{LoadedPackage, Tables, trees_of, known_in, imported_flags, seen_files}
 use Rattle.meaning_reports.specs.PackageTables.{AreCredited, AreFlagsByPaths}
 use Rattle.meaning_reports.specs.PackageReports.{IsFileFinding, SaysByPaths}
+use Rattle.meaning_reports.specs.UsedImports.{HandsThere}
 use Rattle.meaning_reports.specs.WholeFaults.{HasNoWholeFault}
 use Rattle.report.specs.Entries.{Entry}
 use Rattle.silent_files.specs.SilentPackages.{MayBeSkipped}
@@ -59,7 +60,17 @@ pub record IsSaidOf (files : List FileWithCredits) (calls : Callee → ℕ → B
   pub is_file : slice_get files number ≡ Some file
   pub is_finding : IsFileFinding calls number file x
 
+-- one of these files hands something to the function
+pub record HandOver (files : List Seen) (f : Callee) : Type 0 where
+  pub file : Seen
+  pub is_file : Contains files file
+  pub hands : HandsThere file f
+
 pub record WalkedFilesAreEnough : Type 0 where
+  -- all that files hand on is found in those that are walked
+  pub hand_over : (ps : List LoadedPackage) (tables : Tables) (p : LoadedPackage) (walked : ℕ → Bool) (f : Callee)
+      → SkipsSilent ps tables p walked
+      → HandOver (walked_files ps tables p walked) f ↔ HandOver (seen_files ps tables p) f
   pub all : (ps : List LoadedPackage) (tables : Tables) (p : LoadedPackage) (walked : ℕ → Bool)
       → ((n : ℕ) → walked n ≡ true)
       → walked_files ps tables p walked ≡ seen_files ps tables p

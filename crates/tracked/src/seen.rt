@@ -84,7 +84,7 @@ pub fn see<'k, 'm, 'a>(
     ensures view { IfOk result (λ seen. seen_view seen ≡ seen_file (known_view known.entry) (file_syntax file.now)) }
     ensures sees { IfOk result (λ seen. Sees seen) }
 {
-    let marks = file_marks(alloc, arena, file)?;
+    let marks = file_marks(alloc, arena, known.edition, file)?;
     let mut locals = all_locals(alloc, known, &marks)?;
     note_all(alloc, known, &marks, &mut locals.entries)?;
     let mut seen = Seen {

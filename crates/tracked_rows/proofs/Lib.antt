@@ -1,3 +1,4 @@
+pub mod ClearedAt
 pub mod LeftSides
 pub mod OnlyValues
 pub mod ValueForms

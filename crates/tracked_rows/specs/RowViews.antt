@@ -1,5 +1,5 @@
 -- What the program keeps of what is known, and of rows, and what it stands for.
-use Rattle.std.specs.Prelude.{Bool, Option, Some, None, length, map}
+use Rattle.std.specs.Prelude.{Bool, false, Option, Some, None, length, map, codes}
 use Rattle.tracked_rows.specs.declared.known.Known.{Known as KeptKnown}
 use Rattle.tracked_rows.specs.declared.lefts.Left.{Left as KeptLeft}
 use Rattle.tracked_rows.specs.declared.lefts.Left.TheVariants.{Blank, Name, Other}
@@ -10,12 +10,14 @@ use Rattle.names.specs.Answers.{declared_at}
 use Rattle.facts.specs.FactViews.{cancel_result_view, facts_by_name, facts_by_path}
 use Rattle.mentions.specs.MarkViews.{named_view}
 use Rattle.tree.specs.Syntax.{Expression, Expressions, no_expression, expression_and}
-use Rattle.meaning.specs.Mentions.{Row}
+use Rattle.meaning.specs.Mentions.{Row, Call}
+use Rattle.meaning.specs.FunctionFacts.{errgroup_path, is_of}
 use Rattle.meaning.specs.Tracked.{Known, Left, blank_left, name_left, other_left, lefts_of, Giving, GroupState, idle, live, made_by_values}
 use Rattle.meaning.specs.Uses.{clears_by_value}
 
 abbrev pub known_view : KeptKnown → Known
 known_view k = record {
+  edition = k.edition;
   means = declared_at k.names.now k.file;
   functions = facts_by_name k.table.now;
   imported = facts_by_path k.imported.now;
@@ -41,6 +43,11 @@ only_value_of (expression_and e (expression_and f es)) = None
 -- what the only value of the row makes
 abbrev pub made_by_only : Known → Row → Option GroupState
 made_by_only known row = made_by_values known row (length (lefts_of row.form)) row.values
+
+-- the call is that of `errgroup.WithContext`
+abbrev pub makes_with_context : Known → Option Call → Bool
+makes_with_context known None = false
+makes_with_context known (Some c) = is_of known.means errgroup_path (codes "WithContext") c.callee
 
 -- the only value of the row clears its only left side
 abbrev pub clears_by_only : Known → Row → Bool

@@ -1,4 +1,4 @@
-//! What is known of a file: what its uses mean, and the facts of functions.
+//! What is known of a file: the edition of the rules, what its uses mean, and the facts of functions.
 
 ghost use Rattle.std.specs.Prelude.{◌≡◌, option_map};
 ghost use Rattle.meaning.specs.FunctionFacts.{is_of};
@@ -11,10 +11,13 @@ ghost use Rattle.tracked_rows.specs.RowViews.{known_view};
 use facts::{FunctionFacts, Imported, Table, is_of};
 use mentions::Named;
 use names::{NameMeaning, Names};
+use tree::Edition;
 
-/// What the uses of the file of that number mean, and the facts of functions: of this package's, and of given imports'.
+/// The edition of the rules, what the uses of the file of that number mean, and the facts of functions: of this
+/// package's, and of given imports'.
 #[derive(Clone, Copy)]
 pub struct Known<'k, 'a> {
+    pub edition: Edition,
     pub file: usize,
     pub names: &'k Names<'a>,
     pub table: &'k Table<'a>,

@@ -2,20 +2,21 @@
 
 ghost use Rattle.std.specs.Prelude.{◌≡◌, ◌&&◌, ◌==◌, if◌then◌else◌, Some, None, option_map, map, length, is_some};
 ghost use Rattle.facts.specs.FactViews.{cancel_result_view};
-ghost use Rattle.meaning.specs.Tracked.{lefts_of, is_given, are_locals, row_obtains, row_makes, idle, is_group_type, is_new_call, made_by_call, made_by_value, made_by_type, if_first};
-ghost use Rattle.meaning.specs.Uses.{row_clears, clears_by_type, is_empty_value};
+ghost use Rattle.meaning.specs.FunctionFacts.{listed};
+ghost use Rattle.meaning.specs.Tracked.{lefts_of, is_given, are_locals, row_obtains, row_makes, idle, is_group_type, is_new_call, made_by_call, made_by_value, made_by_type, made_by_pair, live, if_first};
+ghost use Rattle.meaning.specs.Uses.{row_clears, is_no_giving, clears_at, clears_by_form, clears_by_type, is_empty_value};
 ghost use Rattle.mentions.specs.MarkViews.{named_view, call_view, row_view};
-ghost use Rattle.tracked_rows.specs.RowViews.{known_view, state_view, made_by_only, clears_by_only};
-ghost use Rattle.tree.specs.Syntax.{present_expression};
+ghost use Rattle.tracked_rows.specs.RowViews.{known_view, state_view, made_by_only, makes_with_context, clears_by_only};
+ghost use Rattle.tree.specs.Syntax.{missing_expression, present_expression};
 ghost use Rattle.tree.specs.View.{expression_syntax, expressions_syntax};
 
-use crate::calls::{call_in, only, row_giving};
+use crate::calls::{call_in, giving_of, only, only_call, row_giving};
 use crate::known::{Known, is_named, is_of_universe};
 use crate::lefts::{count, local_at, may_bind};
 use facts::{CancelResult, cancel_type_named};
 use mentions::{Call, Named, Row, RowForm, as_bare, as_named, as_new_literal};
 use names::ERRGROUP;
-use tree::{Expr, ExprKind};
+use tree::{DeclKeyword, Edition, Expr, ExprKind};
 
 /// The state in which a group is made.
 #[derive(Clone, Copy, PartialEq, Eq)]
@@ -151,6 +152,36 @@ fn made_by_type(known: Known<'_, '_>, kind: &Expr, values: &[Expr]) -> Option<Gr
     }
 }
 
+/// What `var g, x = errgroup.WithContext(..)` makes, in the second edition alone.
+fn made_by_pair(known: Known<'_, '_>, row: Row<'_>, index: usize) -> Option<GroupState>
+    ensures { option_map state_view result ≡ if_first index (made_by_pair known.entry.edition (known_view known.entry)
+        (row_view row.entry) (length (lefts_of (row_view row.entry).form)) missing_expression) }
+{
+    match known.edition {
+        Edition::First => None,
+        Edition::Second => {
+            if index == 0 && count(row.form) == 2 {
+                made_with_context(known, only_call(&row))
+            } else {
+                None
+            }
+        }
+    }
+}
+
+/// What `errgroup.WithContext(..)` makes for the first of two left sides.
+fn made_with_context(known: Known<'_, '_>, call: Option<Call<'_, '_>>) -> Option<GroupState>
+    ensures { option_map state_view result ≡ if makes_with_context (known_view known.entry)
+        (option_map call_view call.entry) then Some live else None }
+{
+    let call = call?;
+    if is_named(known, ERRGROUP, "WithContext", call.callee) {
+        Some(GroupState::Live)
+    } else {
+        None
+    }
+}
+
 /// What the row makes on its left side of that number, by its form, where a local stands there.
 pub fn row_makes(known: Known<'_, '_>, row: Row<'_>, index: usize) -> Option<GroupState>
     ensures { option_map state_view result ≡ row_makes (known_view known.entry) (row_view row.entry) index }
@@ -160,7 +191,7 @@ pub fn row_makes(known: Known<'_, '_>, row: Row<'_>, index: usize) -> Option<Gro
     }
     match row.form {
         RowForm::Declares(_, _, Some(kind)) => made_by_type(known, kind, row.values),
-        RowForm::Declares(_, _, None) => None,
+        RowForm::Declares(_, _, None) => made_by_pair(known, row, index),
         RowForm::Defines(_) => made_first(known, row, index),
         RowForm::Assigns(_) => made_first(known, row, index),
     }
@@ -203,18 +234,59 @@ fn clears_by_type(known: Known<'_, '_>, kind: &Expr, values: &[Expr]) -> bool
     cancel_type_named(known.names, known.file, as_named(kind)).is_some()
 }
 
-/// What the row may clear, if it is a cancel variable.
-pub fn row_clears(known: Known<'_, '_>, row: Row<'_>) -> bool
-    ensures { result ≡ row_clears (known_view known.entry) (row_view row.entry) }
+/// Whether the value is there, and no call of a maker or a giver.
+fn is_no_giving(known: Known<'_, '_>, row: Row<'_>, value: Option<&Expr>) -> bool
+    ensures { result ≡ is_no_giving (known_view known.entry) (row_view row.entry)
+        (option_map (λ e. expression_syntax e.now) value.entry) }
+{
+    match value {
+        Some(value) => match call_in(&row, value) {
+            Some(call) => giving_of(known, call.callee).is_none(),
+            None => true,
+        },
+        None => false,
+    }
+}
+
+/// Whether the values clear what stands on the left side of that number: there are none, or one for all left sides, or
+/// one for each, and the value is no call of a maker or a giver.
+fn clears_at(known: Known<'_, '_>, row: Row<'_>, index: usize) -> bool
+    ensures { result ≡ clears_at (known_view known.entry) (row_view row.entry) index
+        (listed (row_view row.entry).values) }
+{
+    if row.values.is_empty() {
+        return true;
+    }
+    if row.values.len() == 1 {
+        return is_no_giving(known, row, row.values.get(0));
+    }
+    row.values.len() == count(row.form) && is_no_giving(known, row, row.values.get(index))
+}
+
+/// Whether the row clears its only name, by its type or an empty value.
+fn clears_by_form(known: Known<'_, '_>, row: Row<'_>) -> bool
+    ensures { result ≡ clears_by_form (known_view known.entry) (row_view row.entry) (row_view row.entry).form }
+{
+    match row.form {
+        RowForm::Declares(DeclKeyword::Var, _, Some(kind)) => {
+            clears_by_type(known, kind, row.values)
+        }
+        RowForm::Declares(_, _, _) => false,
+        RowForm::Defines(_) => clears_first(known, row),
+        RowForm::Assigns(_) => clears_first(known, row),
+    }
+}
+
+/// Whether the row may clear what stands on its left side of that number, if it is a cancel variable.
+pub fn row_clears(known: Known<'_, '_>, row: Row<'_>, index: usize) -> bool
+    ensures { result ≡ row_clears (known_view known.entry) (row_view row.entry) index }
 {
     if !may_bind(row) {
         return false;
     }
-    match row.form {
-        RowForm::Declares(_, _, Some(kind)) => clears_by_type(known, kind, row.values),
-        RowForm::Declares(_, _, None) => false,
-        RowForm::Defines(_) => clears_first(known, row),
-        RowForm::Assigns(_) => clears_first(known, row),
+    match known.edition {
+        Edition::First => clears_by_form(known, row),
+        Edition::Second => clears_at(known, row, index),
     }
 }
 

@@ -6,7 +6,7 @@ use Rattle.std.proofs.lemmas.List.{drop_more, at_drop_all}
 use Rattle.tree.specs.declared.declaration.Spec.{Spec, Value', Type'}
 use Rattle.tree.specs.declared.expression.Expr.{Expr}
 use Rattle.tree.specs.declared.expression.ExprKind.{ExprKind, KeyValue, KeyValue', FuncLit'}
-use Rattle.tree.specs.declared.expression.Field.{Field, Named' as NamedField', Embedded, Method'}
+use Rattle.tree.specs.declared.expression.Field.{Field, Named' as NamedField', Embedded, Element', Method'}
 use Rattle.tree.specs.declared.expression.Literal.{Literal, Literal', out-Literal}
 use Rattle.tree.specs.declared.expression.Param.{Param, Named' as NamedParam', Unnamed', NameAlone}
 use Rattle.tree.specs.declared.expression.Signature.{Signature}
@@ -99,6 +99,7 @@ pub fields_more : (f : Field) (fs : Fields) → fields_depth (field_and f fs) �
 unfolding fields_depth field_and
 fields_more (NamedField' ns t t_span tag span) fs = ap (λ a. max a (fields_depth fs)) (max-zero _)
 fields_more (Embedded star n tag span) fs = zero-max _
+fields_more (Element' star e e_span tag span) fs = ap (λ a. max a (fields_depth fs)) (max-zero _)
 fields_more (Method' n ps_shape ps rs_shape rs brackets span) fs = ap (λ a. max a (fields_depth fs)) (max-zero _)
 
 pub assoc : (a b c : ℕ) → max a (max b c) ≡ max (max a b) c
@@ -110,7 +111,7 @@ assoc-zero a b c = omega arith
 pub specs_more : (s : Spec) (ss : Specs) → specs_depth (spec_and s ss) ≡ max (specs_depth (spec_and s no_spec)) (specs_depth ss)
 unfolding specs_depth spec_and
 specs_more (Value' ns t shape es span) ss = assoc-zero _ _ _
-specs_more (Type' n alias p t t_span span) ss = ap (λ a. max a (specs_depth ss)) (max-zero _)
+specs_more (Type' n shape ps alias p t t_span span) ss = assoc-zero _ _ _
 
 pub cases_more : (c : CaseClause) (cs : CaseClauses) → cases_depth (case_clause_and c cs) ≡ max (max (expressions_depth (expressions_syntax (out-CaseClause c).expressions.items)) (statements_depth (statements_syntax (out-CaseClause c).statements.items))) (cases_depth cs)
 unfolding cases_depth

@@ -4,11 +4,11 @@ use Rattle.std.specs.declared.alloc.Global.{Global}
 use Rattle.std.specs.declared.boxed.Box.{Box}
 use Rattle.std.specs.declared.vec.Vec.{Vec}
 use Rattle.tree.specs.declared.declaration.Decl.{Decl}
-use Rattle.tree.specs.declared.declaration.Spec.{Spec, Value, «Type», back-Spec-Value-1, Row_of-Expr, end_of-Expr, more_of-Expr, items-the_row-Expr, items_hidden-the_row-Expr-0}
+use Rattle.tree.specs.declared.declaration.Spec.{Spec, Value, «Type», back-Spec-Value-1, Row_of-Expr, end_of-Expr, more_of-Expr, items-the_row-Expr, items_hidden-the_row-Expr-0, Row_of-Param, end_of-Param, more_of-Param, items-the_row-Param, items_hidden-the_row-Param-1}
 use Rattle.tree.specs.declared.declaration.Spec.TheBlock.{hidden-the_row-Expr-0, hidden-the_row-Param-1, hidden-the_row-Field-2, hidden-the_row-Spec-3, hidden-the_row-CaseClause-4, hidden-the_row-CommClause-5, hidden-the_row-Stmt-6}
 use Rattle.tree.specs.declared.expression.Expr.{Expr}
-use Rattle.tree.specs.declared.expression.ExprKind.{Name, BasicLit, FuncLit, CompositeLit, LiteralValue, KeyValue, Paren, Selector, Index, Slice, TypeAssert, Call, Star, Unary, Binary, ArrayType, EllipsisArrayType, SliceType, MapType, ChanType, FuncType, StructType, InterfaceType, Row_of-Param, end_of-Param, more_of-Param, items-the_row-Param, items_hidden-the_row-Param-1, Row_of-Field, end_of-Field, more_of-Field, items-the_row-Field, items_hidden-the_row-Field-2}
-use Rattle.tree.specs.declared.expression.Field.{Field, Named as NamedField, Embedded, Method}
+use Rattle.tree.specs.declared.expression.ExprKind.{Name, BasicLit, FuncLit, CompositeLit, LiteralValue, KeyValue, Paren, Selector, Index, Instance, Slice, TypeAssert, Call, Star, Unary, Binary, ArrayType, EllipsisArrayType, SliceType, MapType, ChanType, FuncType, StructType, InterfaceType, Row_of-Field, end_of-Field, more_of-Field, items-the_row-Field, items_hidden-the_row-Field-2}
+use Rattle.tree.specs.declared.expression.Field.{Field, Named as NamedField, Embedded, Element, Method}
 use Rattle.tree.specs.declared.expression.Bounds.{Bounds, out-Bounds, roll-Bounds, rolls-Bounds', is-Bounds'}
 use Rattle.tree.specs.declared.expression.Literal.{Literal, out-Literal, roll-Literal, rolls-Literal', is-Literal'}
 use Rattle.tree.specs.declared.expression.Param.{Param, Named as NamedParam, Unnamed, NameAlone}
@@ -24,8 +24,8 @@ use Rattle.tree.specs.declared.statement.Block.{Block as KeptBlock, out-Block, r
 use Rattle.tree.specs.declared.statement.CaseClause.{CaseClause, out-CaseClause, roll-CaseClause, rolls-CaseClause', is-CaseClause'}
 use Rattle.tree.specs.declared.statement.CommClause.{CommClause, out-CommClause, roll-CommClause, rolls-CommClause', is-CommClause'}
 use Rattle.tree.specs.declared.statement.Stmt.{Stmt}
-use Rattle.tree.specs.declared.statement.StmtKind.{Empty, Decl as DeclStatement, Labeled, Expr as ExprStatement, Send, Increment, Decrement, Assign, AssignOp, Define, Go, Defer, Return, Break, Continue, Block as BlockStatement, If, For, RangeAssign, RangeDefine, Switch, TypeSwitch, Select, back-StmtKind-If-0, Row_of-Spec, end_of-Spec, more_of-Spec, items-the_row-Spec, items_hidden-the_row-Spec-3, Row_of-CaseClause, end_of-CaseClause, more_of-CaseClause, items-the_row-CaseClause, items_hidden-the_row-CaseClause-4, Row_of-CommClause, end_of-CommClause, more_of-CommClause, items-the_row-CommClause, items_hidden-the_row-CommClause-5}
-use Rattle.tree.specs.Syntax.{expression_node, name_expression, basic_literal, function_literal, composite_literal, literal_value, key_value, parenthesized, selector_expression, index_expression, slice_expression, type_assertion, call_expression, star_expression, unary_expression, binary_expression, array_type, ellipsis_array_type, slice_type, map_type, channel_type, function_type, struct_type, interface_type, expression_and, Signature, signature_of, Parameters, named_and, unnamed_and, name_alone_and, Fields, fields_and, embedded_and, method_and, statement_node, empty_statement, declaration_statement, labeled_statement, expression_statement, send_statement, increment_statement, decrement_statement, assignment, operator_assignment, define_statement, go_statement, defer_statement, return_statement, break_statement, continue_statement, block_statement, if_statement, for_statement, range_assignment, range_definition, switch_statement, type_switch_statement, select_statement, statement_and, CaseClauses, case_and, CommunicationClauses, communication_and, declaration_of, Specs, value_and, type_and}
+use Rattle.tree.specs.declared.statement.StmtKind.{Empty, Decl as DeclStatement, Labeled, Expr as ExprStatement, Send, Increment, Decrement, Assign, AssignOp, Define, Go, Defer, Return, Break, Continue, Goto, Fallthrough, Block as BlockStatement, If, For, RangeAssign, RangeDefine, Switch, TypeSwitch, Select, back-StmtKind-If-0, Row_of-Spec, end_of-Spec, more_of-Spec, items-the_row-Spec, items_hidden-the_row-Spec-3, Row_of-CaseClause, end_of-CaseClause, more_of-CaseClause, items-the_row-CaseClause, items_hidden-the_row-CaseClause-4, Row_of-CommClause, end_of-CommClause, more_of-CommClause, items-the_row-CommClause, items_hidden-the_row-CommClause-5}
+use Rattle.tree.specs.Syntax.{expression_node, name_expression, basic_literal, function_literal, composite_literal, literal_value, key_value, parenthesized, selector_expression, index_expression, instance_expression, slice_expression, type_assertion, call_expression, star_expression, unary_expression, binary_expression, array_type, ellipsis_array_type, slice_type, map_type, channel_type, function_type, struct_type, interface_type, expression_and, Signature, signature_of, Parameters, named_and, unnamed_and, name_alone_and, Fields, fields_and, embedded_and, element_and, method_and, statement_node, empty_statement, declaration_statement, labeled_statement, expression_statement, send_statement, increment_statement, decrement_statement, assignment, operator_assignment, define_statement, go_statement, defer_statement, return_statement, break_statement, continue_statement, goto_statement, fallthrough_statement, block_statement, if_statement, for_statement, range_assignment, range_definition, switch_statement, type_switch_statement, select_statement, statement_and, CaseClauses, case_and, CommunicationClauses, communication_and, declaration_of, Specs, value_and, type_and}
 use Rattle.tree.specs.View.{identifier_syntax, type_name_syntax, block_braces, expression_form, low_bound, high_bound, most_bound, literal_syntax, row_expressions, held_expression, row_parameters, parameter_and, row_fields, field_and, statement_form, block_statements, row_statements, held_statement, row_cases, case_clause_and, row_communications, communication_clause_and, row_specs, spec_and, expression_syntax, expressions_syntax, optional_expression_syntax, parameters_syntax, signature_syntax, fields_syntax, statement_syntax, statements_syntax, optional_statement_syntax, block_syntax, cases_syntax, communications_syntax, specs_syntax, declaration_syntax}
 
 pub row_expressions-items : (m : _) (es : Row_of-Expr m) → row_expressions es ≡ expressions_syntax (items-the_row-Expr m es)
@@ -149,6 +149,11 @@ expression_form-Selector e n = refl
 pub expression_form-Index : (e i : Box Expr Global) → expression_form (Index e i) ≡ index_expression (expression_syntax e.value) (expression_syntax i.value)
 unfolding expression_form
 expression_form-Index e i = refl
+
+pub expression_form-Instance : (e : Box Expr Global) (es : Vec Expr Global) → expression_form (Instance e es) ≡ instance_expression (expression_syntax e.value) (expressions_syntax es.items)
+unfolding expression_form
+expression_form-Instance e es =
+    ap (λ l. instance_expression (expression_syntax e.value) l) (expressions_kept es)
 
 pub expression_form-Slice : (e : Box Expr Global) (b : Box Bounds Global) → expression_form (Slice e b) ≡ slice_expression (expression_syntax e.value) (low_bound b.value) (high_bound b.value) (most_bound b.value)
 unfolding expression_form
@@ -274,6 +279,14 @@ pub statement_form-Continue : (label : Option KeptIdentifier) → statement_form
 unfolding statement_form
 statement_form-Continue label = refl
 
+pub statement_form-Goto : (label : KeptIdentifier) → statement_form (Goto label) ≡ goto_statement (identifier_syntax label)
+unfolding statement_form
+statement_form-Goto label = refl
+
+pub statement_form-Fallthrough : statement_form Fallthrough ≡ fallthrough_statement
+unfolding statement_form
+statement_form-Fallthrough = refl
+
 pub statement_form-Block : (b : KeptBlock) → statement_form (BlockStatement b) ≡ block_statement (block_syntax b).statements (block_syntax b).braces
 unfolding statement_form
 statement_form-Block b = refl
@@ -332,6 +345,10 @@ pub field_and-Embedded : (star : Bool) (n : KeptTypeName) (tag : Option Span) (s
 unfolding field_and
 field_and-Embedded star n tag span fs = refl
 
+pub field_and-Element : (star : Bool) (e : Expr) (tag : Option Span) (span : Span) (fs : Fields) → field_and (Element star e tag span) fs ≡ element_and star (expression_syntax e) tag span fs
+unfolding field_and
+field_and-Element star e tag span fs = refl
+
 pub field_and-Method : (n : KeptIdentifier) (s : KeptSignature) (span : Span) (fs : Fields) → field_and (Method n s span) fs ≡ method_and (identifier_syntax n) (signature_syntax s) span fs
 unfolding field_and
 field_and-Method n s span fs = ap (λ l. method_and (identifier_syntax n) l span fs) (signature_kept s)
@@ -342,9 +359,10 @@ spec_and-Value ns t es span ss =
     ap (λ l. value_and (map identifier_syntax ns.items) l (row_expressions (hidden-the_row-Expr-0 es)) span ss) (expression_held t)
     ∙ ap (λ l. value_and (map identifier_syntax ns.items) (optional_expression_syntax t) l span ss) (expressions_kept es)
 
-pub spec_and-Type : (n : KeptIdentifier) (alias : Bool) (t : Box Expr Global) (span : Span) (ss : Specs) → spec_and («Type» n alias t span) ss ≡ type_and (identifier_syntax n) alias (expression_syntax t.value) span ss
+pub spec_and-Type : (n : KeptIdentifier) (ps : Vec Param Global) (alias : Bool) (t : Box Expr Global) (span : Span) (ss : Specs) → spec_and («Type» n ps alias t span) ss ≡ type_and (identifier_syntax n) (parameters_syntax ps.items) alias (expression_syntax t.value) span ss
 unfolding spec_and
-spec_and-Type n alias t span ss = refl
+spec_and-Type n ps alias t span ss =
+    ap (λ l. type_and (identifier_syntax n) l alias (expression_syntax t.value) span ss) (parameters_kept ps)
 
 -- Of a block, a literal and a clause the code reads the fields by `out`, and builds one by `roll`.
 

@@ -2,9 +2,10 @@
 -- A declaration outside all functions, signatures, fields, specs, clauses and key-value pairs count nothing, and
 -- neither does a block that is the body of a function, a literal, an `if`, an `else` or a `for`. A block that is a
 -- statement, an `if` after `else`, a header's statement, and a select's communication count one each, and so does an
--- element in braces of a composite literal. A type is an expression.
+-- element in braces of a composite literal. A type is an expression, and so is a constraint; type parameters count
+-- nothing.
 use Rattle.std.specs.Prelude.{ℕ, suc, max, List, [], ◌∷◌, Option, Some, None}
-use Rattle.tree.specs.Syntax.{Expression, expression_node, ExpressionForm, name_expression, basic_literal, function_literal, composite_literal, literal_value, key_value, parenthesized, selector_expression, index_expression, slice_expression, type_assertion, call_expression, star_expression, unary_expression, binary_expression, array_type, ellipsis_array_type, slice_type, map_type, channel_type, function_type, struct_type, interface_type, Expressions, no_expression, expression_and, OptionalExpression, missing_expression, present_expression, Signature, signature_of, Parameters, no_parameter, named_and, unnamed_and, name_alone_and, Fields, no_field, fields_and, embedded_and, method_and, Statement, statement_node, StatementForm, empty_statement, declaration_statement, labeled_statement, expression_statement, send_statement, increment_statement, decrement_statement, assignment, operator_assignment, define_statement, go_statement, defer_statement, return_statement, break_statement, continue_statement, block_statement, if_statement, for_statement, range_assignment, range_definition, switch_statement, type_switch_statement, select_statement, Statements, no_statement, statement_and, OptionalStatement, missing_statement, present_statement, CaseClauses, no_case, case_and, CommunicationClauses, no_communication, communication_and, Declaration, declaration_of, Specs, no_spec, value_and, type_and, Block, Function, TopLevelDeclaration, function_declaration, general_declaration, SourceFile}
+use Rattle.tree.specs.Syntax.{Expression, expression_node, ExpressionForm, name_expression, basic_literal, function_literal, composite_literal, literal_value, key_value, parenthesized, selector_expression, index_expression, instance_expression, slice_expression, type_assertion, call_expression, star_expression, unary_expression, binary_expression, array_type, ellipsis_array_type, slice_type, map_type, channel_type, function_type, struct_type, interface_type, Expressions, no_expression, expression_and, OptionalExpression, missing_expression, present_expression, Signature, signature_of, Parameters, no_parameter, named_and, unnamed_and, name_alone_and, Fields, no_field, fields_and, embedded_and, element_and, method_and, Statement, statement_node, StatementForm, empty_statement, declaration_statement, labeled_statement, expression_statement, send_statement, increment_statement, decrement_statement, assignment, operator_assignment, define_statement, go_statement, defer_statement, return_statement, break_statement, continue_statement, goto_statement, fallthrough_statement, block_statement, if_statement, for_statement, range_assignment, range_definition, switch_statement, type_switch_statement, select_statement, Statements, no_statement, statement_and, OptionalStatement, missing_statement, present_statement, CaseClauses, no_case, case_and, CommunicationClauses, no_communication, communication_and, Declaration, declaration_of, Specs, no_spec, value_and, type_and, Block, Function, TopLevelDeclaration, function_declaration, general_declaration, SourceFile}
 
 -- an expression counts one more than what is below it, and a key-value pair nothing
 abbrev pub count_expression : ExpressionForm → ℕ → ℕ
@@ -31,6 +32,7 @@ unfoldable mutual
   below_expression (parenthesized e) = expression_depth e
   below_expression (selector_expression e n) = expression_depth e
   below_expression (index_expression e i) = max (expression_depth e) (expression_depth i)
+  below_expression (instance_expression e es) = max (expression_depth e) (expressions_depth es)
   below_expression (slice_expression e low high most) =
       max (expression_depth e) (max (optional_depth low) (max (optional_depth high) (optional_depth most)))
   below_expression (type_assertion e t) = max (expression_depth e) (expression_depth t)
@@ -64,11 +66,12 @@ unfoldable mutual
   parameters_depth (unnamed_and ellipsis t ps) = max (expression_depth t) (parameters_depth ps)
   parameters_depth (name_alone_and n ps) = parameters_depth ps
 
-  -- a line that names a type to embed it counts nothing
+  -- a line that names a type to embed it counts nothing; an instance or a constraint is an expression
   pub fields_depth : Fields → ℕ
   fields_depth no_field = 0
   fields_depth (fields_and ns t tag span fs) = max (expression_depth t) (fields_depth fs)
   fields_depth (embedded_and star n tag span fs) = fields_depth fs
+  fields_depth (element_and star t tag span fs) = max (expression_depth t) (fields_depth fs)
   fields_depth (method_and n signature span fs) = max (signature_depth signature) (fields_depth fs)
 
   pub statement_depth : Statement → ℕ
@@ -91,6 +94,8 @@ unfoldable mutual
   below_statement (return_statement es) = expressions_depth es
   below_statement (break_statement n) = 0
   below_statement (continue_statement n) = 0
+  below_statement (goto_statement n) = 0
+  below_statement fallthrough_statement = 0
   below_statement (block_statement ss braces) = statements_depth ss
   below_statement (if_statement init semicolon c ss braces otherwise) =
       max (optional_statement_depth init) (max (expression_depth c) (max (statements_depth ss) (else_depth otherwise)))
@@ -137,7 +142,8 @@ unfoldable mutual
   specs_depth no_spec = 0
   specs_depth (value_and ns t es span specs) =
       max (optional_depth t) (max (expressions_depth es) (specs_depth specs))
-  specs_depth (type_and n alias t span specs) = max (expression_depth t) (specs_depth specs)
+  specs_depth (type_and n ps alias t span specs) =
+      max (parameters_depth ps) (max (expression_depth t) (specs_depth specs))
 
 abbrev pub receiver_depth : Option Parameters → ℕ
 receiver_depth None = 0
@@ -148,7 +154,9 @@ body_depth None = 0
 body_depth (Some b) = statements_depth b.statements
 
 abbrev pub function_depth : Function → ℕ
-function_depth f = max (receiver_depth f.receiver) (max (signature_depth f.signature) (body_depth f.body))
+function_depth f =
+    max (receiver_depth f.receiver)
+    (max (parameters_depth f.type_parameters) (max (signature_depth f.signature) (body_depth f.body)))
 
 abbrev pub top_level_depth : TopLevelDeclaration → ℕ
 top_level_depth (function_declaration f) = function_depth f

@@ -44,8 +44,10 @@ mutual
     parenthesized : Expression → ExpressionForm
     -- operand.name, and the type package.name
     selector_expression : Expression → Identifier → ExpressionForm
-    -- operand[index]
+    -- operand[index], and an instance with one argument
     index_expression : Expression → Expression → ExpressionForm
+    -- operand[arguments], an instance with two arguments or more, or with one and a comma
+    instance_expression : Expression → Expressions → ExpressionForm
     -- operand[low:high:max]
     slice_expression : Expression → OptionalExpression → OptionalExpression → OptionalExpression → ExpressionForm
     -- operand.(type)
@@ -104,6 +106,9 @@ mutual
     fields_and : List Identifier → Expression → Option Span → Span → Fields → Fields
     -- name tag, and whether * stands before it
     embedded_and : Bool → TypeName → Option Span → Span → Fields → Fields
+    -- an instance that a struct embeds, with its tag, and whether * stands before it; or what the types of an
+    -- interface are restricted to, where it is more than a name
+    element_and : Bool → Expression → Option Span → Span → Fields → Fields
     -- name signature
     method_and : Identifier → Signature → Span → Fields → Fields
 
@@ -136,6 +141,9 @@ mutual
     -- with the label, if any
     break_statement : Option Identifier → StatementForm
     continue_statement : Option Identifier → StatementForm
+    -- with the label
+    goto_statement : Identifier → StatementForm
+    fallthrough_statement : StatementForm
     -- { statements }, with the span of the braces
     block_statement : Statements → Span → StatementForm
     -- if init; condition { statements } else otherwise, and whether the semicolon stands there
@@ -180,10 +188,10 @@ mutual
     no_spec : Specs
     -- names type = values
     value_and : List Identifier → OptionalExpression → Expressions → Span → Specs → Specs
-    -- name type, and whether = stands between them
-    type_and : Identifier → Bool → Expression → Span → Specs → Specs
+    -- name[type parameters] type, and whether = stands between them; without brackets there is no type parameter
+    type_and : Identifier → Parameters → Bool → Expression → Span → Specs → Specs
 
--- an import: its name, the text between its path's quotes, and the span of the path's token
+-- an import: its name, which may be `.`, the text between its path's quotes, and the span of the path's token
 pub record ImportSpec : Type 0 where
   pub name : Option Identifier
   pub path : List ℕ
@@ -201,10 +209,12 @@ pub record Block : Type 0 where
   pub statements : Statements
   pub braces : Span
 
--- a function, or with a receiver a method
+-- A function, or with a receiver a method. Type parameters stand as parameters do: names, each with its constraint or
+-- with that of the next one; without brackets there is none.
 pub record Function : Type 0 where
   pub receiver : Option Parameters
   pub name : Identifier
+  pub type_parameters : Parameters
   pub signature : Signature
   pub body : Option Block
   pub span : Span

@@ -4,10 +4,10 @@ use Rattle.std.specs.Prelude.{List, [], ◌∷◌, map, Option, Some, None, opti
 use Rattle.std.specs.declared.alloc.Global.{Global}
 use Rattle.std.specs.declared.boxed.Box.{Box}
 use Rattle.tree.specs.declared.declaration.Decl.{Decl}
-use Rattle.tree.specs.declared.declaration.Spec.{Spec, Value', Type', Held-Spec-Value-1, Spec-Value-1-None', Spec-Value-1-Some', Row_of-Expr, end_of-Expr, more_of-Expr}
+use Rattle.tree.specs.declared.declaration.Spec.{Spec, Value', Type', Held-Spec-Value-1, Spec-Value-1-None', Spec-Value-1-Some', Row_of-Expr, end_of-Expr, more_of-Expr, Row_of-Param, end_of-Param, more_of-Param}
 use Rattle.tree.specs.declared.expression.Expr.{Expr}
-use Rattle.tree.specs.declared.expression.ExprKind.{ExprKind, Name, BasicLit, FuncLit', CompositeLit', LiteralValue', KeyValue', Paren', Selector', Index', Slice', TypeAssert', Call', Star', Unary', Binary', ArrayType', EllipsisArrayType', SliceType', MapType', ChanType', FuncType', StructType', InterfaceType', Row_of-Param, end_of-Param, more_of-Param, Row_of-Field, end_of-Field, more_of-Field}
-use Rattle.tree.specs.declared.expression.Field.{Field, Named' as NamedField', Embedded, Method'}
+use Rattle.tree.specs.declared.expression.ExprKind.{ExprKind, Name, BasicLit, FuncLit', CompositeLit', LiteralValue', KeyValue', Paren', Selector', Index', Instance', Slice', TypeAssert', Call', Star', Unary', Binary', ArrayType', EllipsisArrayType', SliceType', MapType', ChanType', FuncType', StructType', InterfaceType', Row_of-Field, end_of-Field, more_of-Field}
+use Rattle.tree.specs.declared.expression.Field.{Field, Named' as NamedField', Embedded, Element', Method'}
 use Rattle.tree.specs.declared.expression.Bounds.{Bounds, Bounds'}
 use Rattle.tree.specs.declared.expression.Literal.{Literal, Literal'}
 use Rattle.tree.specs.declared.expression.Param.{Param, Named' as NamedParam', Unnamed', NameAlone}
@@ -25,8 +25,8 @@ use Rattle.tree.specs.declared.statement.Block.{Block as KeptBlock, Block', Row_
 use Rattle.tree.specs.declared.statement.CaseClause.{CaseClause, CaseClause'}
 use Rattle.tree.specs.declared.statement.CommClause.{CommClause, CommClause'}
 use Rattle.tree.specs.declared.statement.Stmt.{Stmt}
-use Rattle.tree.specs.declared.statement.StmtKind.{StmtKind, Empty, Decl', Labeled', Expr', Send', Increment', Decrement', Assign', AssignOp', Define', Go', Defer', Return', Break, Continue, Block as BlockStatement, If', For', RangeAssign', RangeDefine', Switch', TypeSwitch', Select', Row_of-Spec, end_of-Spec, more_of-Spec, Held-StmtKind-If-0, StmtKind-If-0-None', StmtKind-If-0-Some', Row_of-CaseClause, end_of-CaseClause, more_of-CaseClause, Row_of-CommClause, end_of-CommClause, more_of-CommClause}
-use Rattle.tree.specs.Syntax.{Identifier, TypeName, Expression, expression_node, ExpressionForm, name_expression, basic_literal, function_literal, composite_literal, literal_value, key_value, parenthesized, selector_expression, index_expression, slice_expression, type_assertion, call_expression, star_expression, unary_expression, binary_expression, array_type, ellipsis_array_type, slice_type, map_type, channel_type, function_type, struct_type, interface_type, Expressions, no_expression, expression_and, OptionalExpression, missing_expression, present_expression, Signature, signature_of, Parameters, no_parameter, named_and, unnamed_and, name_alone_and, Fields, no_field, fields_and, embedded_and, method_and, Statement, statement_node, StatementForm, empty_statement, declaration_statement, labeled_statement, expression_statement, send_statement, increment_statement, decrement_statement, assignment, operator_assignment, define_statement, go_statement, defer_statement, return_statement, break_statement, continue_statement, block_statement, if_statement, for_statement, range_assignment, range_definition, switch_statement, type_switch_statement, select_statement, Statements, no_statement, statement_and, OptionalStatement, missing_statement, present_statement, CaseClauses, no_case, case_and, CommunicationClauses, no_communication, communication_and, Declaration, declaration_of, Specs, no_spec, value_and, type_and, ImportSpec, ImportDeclaration, Block, Function, TopLevelDeclaration, function_declaration, general_declaration, SourceFile}
+use Rattle.tree.specs.declared.statement.StmtKind.{StmtKind, Empty, Decl', Labeled', Expr', Send', Increment', Decrement', Assign', AssignOp', Define', Go', Defer', Return', Break, Continue, Goto, Fallthrough, Block as BlockStatement, If', For', RangeAssign', RangeDefine', Switch', TypeSwitch', Select', Row_of-Spec, end_of-Spec, more_of-Spec, Held-StmtKind-If-0, StmtKind-If-0-None', StmtKind-If-0-Some', Row_of-CaseClause, end_of-CaseClause, more_of-CaseClause, Row_of-CommClause, end_of-CommClause, more_of-CommClause}
+use Rattle.tree.specs.Syntax.{Identifier, TypeName, Expression, expression_node, ExpressionForm, name_expression, basic_literal, function_literal, composite_literal, literal_value, key_value, parenthesized, selector_expression, index_expression, instance_expression, slice_expression, type_assertion, call_expression, star_expression, unary_expression, binary_expression, array_type, ellipsis_array_type, slice_type, map_type, channel_type, function_type, struct_type, interface_type, Expressions, no_expression, expression_and, OptionalExpression, missing_expression, present_expression, Signature, signature_of, Parameters, no_parameter, named_and, unnamed_and, name_alone_and, Fields, no_field, fields_and, embedded_and, element_and, method_and, Statement, statement_node, StatementForm, empty_statement, declaration_statement, labeled_statement, expression_statement, send_statement, increment_statement, decrement_statement, assignment, operator_assignment, define_statement, go_statement, defer_statement, return_statement, break_statement, continue_statement, goto_statement, fallthrough_statement, block_statement, if_statement, for_statement, range_assignment, range_definition, switch_statement, type_switch_statement, select_statement, Statements, no_statement, statement_and, OptionalStatement, missing_statement, present_statement, CaseClauses, no_case, case_and, CommunicationClauses, no_communication, communication_and, Declaration, declaration_of, Specs, no_spec, value_and, type_and, ImportSpec, ImportDeclaration, Block, Function, TopLevelDeclaration, function_declaration, general_declaration, SourceFile}
 
 -- lists and options, as the syntax has them
 abbrev pub expressions_of : List Expression → Expressions
@@ -73,6 +73,8 @@ unfoldable mutual
       selector_expression (expression_node (expression_form e) span) (identifier_syntax n)
   expression_form (Index' p e e_span q i i_span) =
       index_expression (expression_node (expression_form e) e_span) (expression_node (expression_form i) i_span)
+  expression_form (Instance' p e span shape es) =
+      instance_expression (expression_node (expression_form e) span) (row_expressions es)
   expression_form (Slice' p e span q bounds) =
       slice_expression (expression_node (expression_form e) span) (low_bound bounds) (high_bound bounds)
       (most_bound bounds)
@@ -138,6 +140,8 @@ unfoldable mutual
   field_and (NamedField' ns t t_span tag span) fs =
       fields_and (map identifier_syntax ns.items) (expression_node (expression_form t) t_span) tag span fs
   field_and (Embedded star n tag span) fs = embedded_and star (type_name_syntax n) tag span fs
+  field_and (Element' star e e_span tag span) fs =
+      element_and star (expression_node (expression_form e) e_span) tag span fs
   field_and (Method' n ps_shape ps rs_shape rs brackets span) fs =
       method_and (identifier_syntax n) (signature_of (row_parameters ps) (row_parameters rs) brackets) span fs
 
@@ -161,6 +165,8 @@ unfoldable mutual
   statement_form (Return' shape es) = return_statement (row_expressions es)
   statement_form (Break label) = break_statement (option_map identifier_syntax label)
   statement_form (Continue label) = continue_statement (option_map identifier_syntax label)
+  statement_form (Goto label) = goto_statement (identifier_syntax label)
+  statement_form Fallthrough = fallthrough_statement
   statement_form (BlockStatement b) = block_statement (block_statements b) (block_braces b)
   statement_form (If' init semicolon p c span body otherwise) =
       if_statement (held_statement init) semicolon (expression_node (expression_form c) span) (block_statements body)
@@ -215,8 +221,8 @@ unfoldable mutual
   pub spec_and : Spec → Specs → Specs
   spec_and (Value' ns t shape es span) specs =
       value_and (map identifier_syntax ns.items) (held_expression t) (row_expressions es) span specs
-  spec_and (Type' n alias p t t_span span) specs =
-      type_and (identifier_syntax n) alias (expression_node (expression_form t) t_span) span specs
+  spec_and (Type' n shape ps alias p t t_span span) specs =
+      type_and (identifier_syntax n) (row_parameters ps) alias (expression_node (expression_form t) t_span) span specs
 
 abbrev pub expression_syntax : Expr → Expression
 expression_syntax e = expression_node (expression_form e.kind) e.span
@@ -270,6 +276,7 @@ abbrev pub function_syntax : Func → Function
 function_syntax f = record {
   receiver = option_map (λ ps. parameters_syntax ps.items) f.receiver;
   name = identifier_syntax f.name;
+  type_parameters = parameters_syntax f.type_params.items;
   signature = signature_syntax f.signature;
   body = option_map block_syntax f.body;
   span = f.span;

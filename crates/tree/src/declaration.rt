@@ -1,6 +1,6 @@
 //! Declarations of constants, variables and types (the Go specification, "Declarations and scope").
 
-use crate::expression::Expr;
+use crate::expression::{Expr, Param};
 use crate::operator::DeclKeyword;
 use crate::span::{Identifier, Span};
 
@@ -20,6 +20,7 @@ pub struct Decl {
 pub enum Spec {
     /// Of constants or variables: `names Type = values`; the type or the values may be missing.
     Value(Vec<Identifier>, Option<Box<Expr>>, Vec<Expr>, Span),
-    /// Of a type: `name Type`, or `name = Type`, an alias; whether `=` stands there.
-    Type(Identifier, bool, Box<Expr>, Span),
+    /// Of a type: `name Type`, or `name = Type`, an alias; whether `=` stands there. Type parameters follow the name,
+    /// if there are any ("Type parameter declarations").
+    Type(Identifier, Vec<Param>, bool, Box<Expr>, Span),
 }

@@ -34,12 +34,12 @@ fn top_level_depth(declaration: &TopLevelDecl) -> u32
 }
 
 impl Func {
-    /// The depth of its receiver, signature and body.
+    /// The depth of its receiver, type parameters, signature and body.
     pub fn depth(&self) -> u32
         ensures { result ≡ min u32.MAX (function_depth (function_syntax self.now)) }
     {
         let body = signature_depth(&self.signature).max(body_depth(&self.body));
-        receiver_depth(&self.receiver).max(body)
+        receiver_depth(&self.receiver).max(parameters_depth(&self.type_params).max(body))
     }
 }
 
@@ -109,6 +109,9 @@ fn below_expression(kind: &ExprKind) -> u32
         ExprKind::Paren(operand) => expression_depth(operand),
         ExprKind::Selector(operand, _) => expression_depth(operand),
         ExprKind::Index(operand, index) => expression_depth(operand).max(expression_depth(index)),
+        ExprKind::Instance(operand, arguments) => {
+            expression_depth(operand).max(expressions_depth(arguments))
+        }
         ExprKind::Slice(operand, bounds) => {
             let last = optional_depth(&bounds.high).max(optional_depth(&bounds.max));
             expression_depth(operand).max(optional_depth(&bounds.low).max(last))
@@ -203,6 +206,7 @@ fn field_depth(field: &Field) -> u32
     match field {
         Field::Named(_, kind, _, _) => expression_depth(kind),
         Field::Embedded(_, _, _, _) => 0,
+        Field::Element(_, kind, _, _) => expression_depth(kind),
         Field::Method(_, signature, _) => signature_depth(signature),
     }
 }
@@ -235,6 +239,8 @@ fn below_statement(kind: &StmtKind) -> u32
         StmtKind::Return(values) => expressions_depth(values),
         StmtKind::Break(_) => 0,
         StmtKind::Continue(_) => 0,
+        StmtKind::Goto(_) => 0,
+        StmtKind::Fallthrough => 0,
         StmtKind::Block(block) => statements_depth(&block.statements),
         StmtKind::If {
             init,
@@ -364,6 +370,6 @@ fn spec_depth(spec: &Spec) -> u32
 {
     match spec {
         Spec::Value(_, kind, values, _) => optional_depth(kind).max(expressions_depth(values)),
-        Spec::Type(_, _, kind, _) => expression_depth(kind),
+        Spec::Type(_, params, _, kind, _) => parameters_depth(params).max(expression_depth(kind)),
     }
 }

@@ -33,8 +33,10 @@ pub enum ExprKind {
     Paren(Box<Expr>),
     /// `operand.name`; the type `package.Name` too.
     Selector(Box<Expr>, Identifier),
-    /// `operand[index]`.
+    /// `operand[index]`, and an instance with one argument ("Instantiations").
     Index(Box<Expr>, Box<Expr>),
+    /// `operand[arguments]`: an instance with two arguments or more, or with one and a comma ("Instantiations").
+    Instance(Box<Expr>, Vec<Expr>),
     /// `operand[low:high:max]`. The bounds stand in a box, so that what is seldom makes no other node larger.
     Slice(Box<Expr>, Box<Bounds>),
     /// `operand.(Type)`.
@@ -112,6 +114,9 @@ pub enum Field {
     Named(Vec<Identifier>, Expr, Option<Span>, Span),
     /// `Type` or `*Type`, whether `*` stands there, and its tag, if any; in an interface `Type` alone.
     Embedded(bool, TypeName, Option<Span>, Span),
+    /// An instance that a struct embeds, whether `*` stands before it, and its tag, if any; in an interface a union or
+    /// another constraint that is more than a name ("General interfaces").
+    Element(bool, Expr, Option<Span>, Span),
     /// `name(..) ..`, in an interface.
     Method(Identifier, Signature, Span),
 }

@@ -22,7 +22,8 @@ pub struct ImportDecl {
     pub span: Span,
 }
 
-/// `"path"`, or `name "path"`: the text between the path's quotes, and the bytes of the path's token.
+/// `"path"`, or `name "path"`, where the name may be `.` ("Import declarations"): the text between the path's quotes,
+/// and the bytes of the path's token.
 #[derive(Drop)]
 pub struct ImportSpec {
     pub name: Option<Identifier>,
@@ -38,11 +39,13 @@ pub enum TopLevelDecl {
     Decl(Decl),
 }
 
-/// A function, or a method, which has a receiver; one without a body is written elsewhere.
+/// A function, or a method, which has a receiver; one without a body is written elsewhere. Type parameters stand as
+/// parameters do: names with a constraint, or alone before one with it ("Type parameter declarations").
 #[derive(Drop)]
 pub struct Func {
     pub receiver: Option<Vec<Param>>,
     pub name: Identifier,
+    pub type_params: Vec<Param>,
     pub signature: Signature,
     pub body: Option<Block>,
     pub span: Span,

@@ -4,6 +4,7 @@
 
 pub mod declaration;
 pub mod depth;
+pub mod edition;
 pub mod expression;
 pub mod file;
 pub mod name_text;
@@ -12,6 +13,7 @@ pub mod span;
 pub mod statement;
 
 pub use declaration::{Decl, Spec};
+pub use edition::Edition;
 pub use expression::{Bounds, Expr, ExprKind, Field, Literal, Param, Signature};
 pub use file::{File, Func, ImportDecl, ImportSpec, TopLevelDecl};
 pub use name_text::NameText;

@@ -45,6 +45,8 @@ pub enum UnaryOperator {
     Address,
     /// `<-`
     Receive,
+    /// `~`, among the terms of a constraint.
+    Tilde,
 }
 
 /// What a literal of one token is.

@@ -47,6 +47,10 @@ pub enum StmtKind {
     Break(Option<Identifier>),
     /// `continue`, perhaps with a label.
     Continue(Option<Identifier>),
+    /// `goto label`.
+    Goto(Identifier),
+    /// `fallthrough`.
+    Fallthrough,
     /// A block as a statement.
     Block(Block),
     /// `if init; condition body else otherwise`, where `otherwise` is a block or an `if`. The `;` may stand

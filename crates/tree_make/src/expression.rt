@@ -1,7 +1,7 @@
 //! Expressions (the Go specification, "Expressions"). The span is the bytes that the node takes.
 
 ghost use Rattle.std.specs.Prelude.{◌≡◌};
-ghost use Rattle.tree.specs.Syntax.{expression_node, name_expression, basic_literal, function_literal, composite_literal, literal_value, key_value, parenthesized, selector_expression, index_expression, slice_expression, type_assertion, call_expression, star_expression, unary_expression, binary_expression};
+ghost use Rattle.tree.specs.Syntax.{expression_node, name_expression, basic_literal, function_literal, composite_literal, literal_value, key_value, parenthesized, selector_expression, index_expression, instance_expression, slice_expression, type_assertion, call_expression, star_expression, unary_expression, binary_expression};
 ghost use Rattle.tree.specs.View.{identifier_syntax, signature_syntax, block_syntax, expression_syntax, expressions_syntax, optional_expression_syntax, low_bound, high_bound, most_bound, literal_syntax};
 
 use tree::{
@@ -84,12 +84,21 @@ pub fn selector_expression(operand: Box<Expr>, name: Identifier, span: Span) -> 
     Expr { kind, span }
 }
 
-/// `operand[index]`.
+/// `operand[index]`, and an instance with one argument.
 pub fn index_expression(operand: Box<Expr>, index: Box<Expr>, span: Span) -> Expr
     ensures { expression_syntax result ≡ expression_node (index_expression (expression_syntax operand.value)
         (expression_syntax index.value)) span }
 {
     let kind = ExprKind::Index(operand, index);
+    Expr { kind, span }
+}
+
+/// `operand[arguments]`, of two arguments or more, or of one and a comma.
+pub fn instance_expression(operand: Box<Expr>, arguments: Vec<Expr>, span: Span) -> Expr
+    ensures { expression_syntax result ≡ expression_node (instance_expression (expression_syntax operand.value)
+        (expressions_syntax arguments.items)) span }
+{
+    let kind = ExprKind::Instance(operand, arguments);
     Expr { kind, span }
 }
 

@@ -2,10 +2,10 @@
 //! scope").
 
 ghost use Rattle.std.specs.Prelude.{◌≡◌, map, option_map};
-ghost use Rattle.tree.specs.Syntax.{statement_node, empty_statement, declaration_statement, labeled_statement, expression_statement, send_statement, increment_statement, decrement_statement, assignment, operator_assignment, define_statement, go_statement, defer_statement, return_statement, break_statement, continue_statement, block_statement, Specs, value_and, type_and};
-ghost use Rattle.tree.specs.View.{identifier_syntax, block_syntax, expression_syntax, expressions_syntax, optional_expression_syntax, statement_syntax, declaration_syntax, spec_and};
+ghost use Rattle.tree.specs.Syntax.{statement_node, empty_statement, declaration_statement, labeled_statement, expression_statement, send_statement, increment_statement, decrement_statement, assignment, operator_assignment, define_statement, go_statement, defer_statement, return_statement, break_statement, continue_statement, goto_statement, fallthrough_statement, block_statement, Specs, value_and, type_and};
+ghost use Rattle.tree.specs.View.{identifier_syntax, block_syntax, expression_syntax, expressions_syntax, optional_expression_syntax, parameters_syntax, statement_syntax, declaration_syntax, spec_and};
 
-use tree::{BinaryOperator, Block, Decl, Expr, Identifier, Span, Spec, Stmt, StmtKind};
+use tree::{BinaryOperator, Block, Decl, Expr, Identifier, Param, Span, Spec, Stmt, StmtKind};
 
 /// The empty statement after a label.
 pub fn empty_statement(span: Span) -> Stmt
@@ -138,6 +138,22 @@ pub fn continue_statement(label: Option<Identifier>, span: Span) -> Stmt
     Stmt { kind, span }
 }
 
+/// `goto label`.
+pub fn goto_statement(label: Identifier, span: Span) -> Stmt
+    ensures { statement_syntax result ≡ statement_node (goto_statement (identifier_syntax label)) span }
+{
+    let kind = StmtKind::Goto(label);
+    Stmt { kind, span }
+}
+
+/// `fallthrough`.
+pub fn fallthrough_statement(span: Span) -> Stmt
+    ensures { statement_syntax result ≡ statement_node fallthrough_statement span }
+{
+    let kind = StmtKind::Fallthrough;
+    Stmt { kind, span }
+}
+
 /// A block as a statement.
 pub fn block_statement(block: Block, span: Span) -> Stmt
     ensures { statement_syntax result ≡ statement_node (block_statement (block_syntax block).statements
@@ -161,10 +177,17 @@ pub fn value_spec(
     Spec::Value(names, kind, values, span)
 }
 
-/// `name Type` in a declaration, or `name = Type`; whether `=` stands there.
-pub fn type_spec(name: Identifier, is_alias: bool, kind: Box<Expr>, span: Span) -> Spec
-    ensures { (after : Specs) → spec_and result after ≡ type_and (identifier_syntax name) is_alias
-        (expression_syntax kind.value) span after }
+/// `name Type` in a declaration, or `name = Type`; whether `=` stands there. Type parameters follow the name, if there
+/// are any.
+pub fn type_spec(
+    name: Identifier,
+    params: Vec<Param>,
+    is_alias: bool,
+    kind: Box<Expr>,
+    span: Span,
+) -> Spec
+    ensures { (after : Specs) → spec_and result after ≡ type_and (identifier_syntax name)
+        (parameters_syntax params.items) is_alias (expression_syntax kind.value) span after }
 {
-    Spec::Type(name, is_alias, kind, span)
+    Spec::Type(name, params, is_alias, kind, span)
 }

@@ -1,7 +1,7 @@
 //! Types, and the items of parameter lists, structs and interfaces (the Go specification, "Types").
 
 ghost use Rattle.std.specs.Prelude.{◌≡◌, map};
-ghost use Rattle.tree.specs.Syntax.{expression_node, array_type, ellipsis_array_type, slice_type, map_type, channel_type, function_type, struct_type, interface_type, Parameters, named_and, unnamed_and, name_alone_and, Fields, fields_and, embedded_and, method_and};
+ghost use Rattle.tree.specs.Syntax.{expression_node, array_type, ellipsis_array_type, slice_type, map_type, channel_type, function_type, struct_type, interface_type, Parameters, named_and, unnamed_and, name_alone_and, Fields, fields_and, embedded_and, element_and, method_and};
 ghost use Rattle.tree.specs.View.{identifier_syntax, type_name_syntax, signature_syntax, expression_syntax, fields_syntax, parameter_and, field_and};
 
 use tree::{ChanDirection, Expr, ExprKind, Field, Identifier, Param, Signature, Span, TypeName};
@@ -110,6 +110,15 @@ pub fn embedded(has_star: bool, name: TypeName, tag: Option<Span>, span: Span) -
         ≡ embedded_and has_star (type_name_syntax name) tag span after }
 {
     Field::Embedded(has_star, name, tag, span)
+}
+
+/// An instance that a struct embeds, whether `*` stands before it, and its tag, if any; or in an interface a constraint
+/// that is more than a name.
+pub fn element(has_star: bool, kind: Expr, tag: Option<Span>, span: Span) -> Field
+    ensures { (after : Fields) → field_and result after
+        ≡ element_and has_star (expression_syntax kind) tag span after }
+{
+    Field::Element(has_star, kind, tag, span)
 }
 
 /// `name(..) ..` in an interface.

@@ -2,21 +2,21 @@
 use Rattle.std.proofs.Common.{◌≡◌, ℕ, ◌≤◌, Bool, true, false, true≢false, List, [], ◌∷◌, refl, sym, ◌∙◌, arith}
 use Rattle.std.specs.Prelude.{not, ◌||◌}
 use Rattle.lexer.specs.declared.token.TokenKind.{TokenKind}
-use Rattle.lexer.specs.declared.token.TokenKind.TheVariants.{Identifier as identifier_kind, Number as number_token, Rune as rune_token, InterpretedString as interpreted_string_token, RawString as raw_string_token, BreakKeyword, ChanKeyword, ConstKeyword, ContinueKeyword, DeferKeyword, ForKeyword, FuncKeyword, GoKeyword, IfKeyword, InterfaceKeyword, MapKeyword, ReturnKeyword, SelectKeyword, StructKeyword, SwitchKeyword, TypeKeyword, VarKeyword, Plus as plus_token, Minus, Star, Ampersand, Caret, Arrow, Bang, LeftParenthesis, LeftBracket, LeftBrace}
+use Rattle.lexer.specs.declared.token.TokenKind.TheVariants.{Identifier as identifier_kind, Number as number_token, Rune as rune_token, InterpretedString as interpreted_string_token, RawString as raw_string_token, BreakKeyword, ChanKeyword, ConstKeyword, ContinueKeyword, DeferKeyword, FallthroughKeyword, ForKeyword, FuncKeyword, GoKeyword, GotoKeyword, IfKeyword, InterfaceKeyword, MapKeyword, ReturnKeyword, SelectKeyword, StructKeyword, SwitchKeyword, TypeKeyword, VarKeyword, Plus as plus_token, Minus, Star, Ampersand, Caret, Arrow, Bang, LeftParenthesis, LeftBracket, LeftBrace}
 use Rattle.tree.specs.declared.operator.BasicLitKind.{BasicLitKind}
 use Rattle.tree.specs.declared.operator.BasicLitKind.TheVariants.{Number, Rune, InterpretedString, RawString}
 use Rattle.tree.specs.declared.operator.BinaryOperator.{BinaryOperator}
 use Rattle.tree.specs.declared.operator.BinaryOperator.TheVariants.{LogicalOr}
 use Rattle.tree.specs.declared.operator.UnaryOperator.{UnaryOperator}
-use Rattle.tree.specs.declared.operator.UnaryOperator.TheVariants.{Plus, Negate, Not, Complement, Address, Receive}
+use Rattle.tree.specs.declared.operator.UnaryOperator.TheVariants.{Plus, Negate, Not, Complement, Address, Receive, Tilde}
 use Rattle.tree.specs.declared.operator.ChanDirection.TheVariants.{Both, Send, Receive as receive_only}
 use Rattle.tree.specs.declared.operator.DeclKeyword.{DeclKeyword}
 use Rattle.tree.specs.declared.operator.DeclKeyword.TheVariants.{Const, Var, «Type» as type_keyword}
-use Rattle.tree.specs.Syntax.{Identifier, Expression, expression_node, name_expression, basic_literal, function_literal, composite_literal, literal_value, key_value, parenthesized, selector_expression, index_expression, slice_expression, type_assertion, call_expression, star_expression, unary_expression, binary_expression, array_type, ellipsis_array_type, slice_type, map_type, channel_type, function_type, struct_type, interface_type, Expressions, no_expression, expression_and, Statement, statement_node, StatementForm, empty_statement, declaration_statement, labeled_statement, expression_statement, send_statement, increment_statement, decrement_statement, assignment, operator_assignment, define_statement, go_statement, defer_statement, return_statement, break_statement, continue_statement, block_statement, if_statement, for_statement, range_assignment, range_definition, switch_statement, type_switch_statement, select_statement, Declaration, declaration_of}
-use Rattle.meaning.specs.Cursor.{Cursor, TakesToken, is_next, identifiers}
+use Rattle.tree.specs.Syntax.{Identifier, Expression, expression_node, name_expression, basic_literal, function_literal, composite_literal, literal_value, key_value, parenthesized, selector_expression, index_expression, slice_expression, type_assertion, call_expression, star_expression, unary_expression, binary_expression, array_type, ellipsis_array_type, slice_type, map_type, channel_type, function_type, struct_type, interface_type, Expressions, no_expression, expression_and, Statement, statement_node, StatementForm, empty_statement, declaration_statement, labeled_statement, expression_statement, send_statement, increment_statement, decrement_statement, assignment, operator_assignment, define_statement, go_statement, defer_statement, return_statement, break_statement, continue_statement, block_statement, if_statement, for_statement, range_assignment, range_definition, switch_statement, type_switch_statement, select_statement, Declaration, declaration_of, instance_expression, goto_statement, fallthrough_statement}
+use Rattle.meaning.specs.Cursor.{GoText, Cursor, TakesToken, is_next, identifiers}
 use Rattle.meaning.specs.OperatorTokens.{can_begin_type, unary_token, literal_token, keyword_token}
-use Rattle.meaning.specs.WellFormed.{operator_level, level, primary_level, IsPrimary, is_name, takes_elements, IsKept}
-use Rattle.meaning.specs.Grammar.{as_type, as_expression, as_value, as_element, form_of, SpellsExpression, SpellsForm, SpellsExpressions, SpellsStatement, SpellsStatementForm, SpellsDeclaration}
+use Rattle.meaning.specs.WellFormed.{operator_level, level, primary_level, IsPrimary, is_name, takes_elements, IsKept, names_type}
+use Rattle.meaning.specs.Grammar.{as_type, as_expression, as_value, as_element, form_of, SpellsExpression, SpellsForm, SpellsExpressions, SpellsStatement, SpellsStatementForm, SpellsDeclaration, as_constraint, CanOperate}
 use Rattle.tree_reader.proofs.Taken.{next_gives, next_implied}
 
 -- the tokens with which a primary expression can begin
@@ -62,6 +62,8 @@ begins_other_statement GoKeyword = true
 begins_other_statement DeferKeyword = true
 begins_other_statement BreakKeyword = true
 begins_other_statement ContinueKeyword = true
+begins_other_statement GotoKeyword = true
+begins_other_statement FallthroughKeyword = true
 begins_other_statement _ = false
 
 -- the tokens with which a statement that is not empty can begin
@@ -91,13 +93,14 @@ literal_begins Rune = refl
 literal_begins InterpretedString = refl
 literal_begins RawString = refl
 
-unary_begins : (op : UnaryOperator) → begins_expression (unary_token op) ≡ true
-unary_begins Plus = refl
-unary_begins Negate = refl
-unary_begins Not = refl
-unary_begins Complement = refl
-unary_begins Address = refl
-unary_begins Receive = refl
+unary_begins : (op : UnaryOperator) → CanOperate as_expression op → begins_expression (unary_token op) ≡ true
+unary_begins Plus h = refl
+unary_begins Negate h = refl
+unary_begins Not h = refl
+unary_begins Complement h = refl
+unary_begins Address h = refl
+unary_begins Receive h = refl
+unary_begins Tilde h = let p : as_expression ≡ as_constraint = h in cc
 
 keyword_begins : (keyword : DeclKeyword) → begins_statement (keyword_token keyword) ≡ true
 keyword_begins Const = refl
@@ -132,13 +135,15 @@ abbrev pub is_literal_value : Expression → Bool
 is_literal_value (expression_node (literal_value es) span) = true
 is_literal_value (expression_node form span) = false
 
-module _ (text : List ℕ) where
+module _ (text : GoText) where
   pub element_as_value : (e : Expression) (from to : Cursor)
       → is_key_value e ≡ false
       → SpellsExpression text as_element e from to
       → SpellsExpression text as_value e from to
   unfolding SpellsExpression SpellsForm
   element_as_value (expression_node (key_value k v) span) from to h s = absurd (true≢false h)
+  element_as_value (expression_node (unary_expression Tilde e) span) from to h s =
+      let p : as_element ≡ as_constraint = s.0.0 in cc
   element_as_value (expression_node (name_expression name) span) from to h s = s
   element_as_value (expression_node _ span) from to h s = s
 
@@ -150,6 +155,8 @@ module _ (text : List ℕ) where
   value_as_expression (expression_node (literal_value es) span) from to h s = absurd (true≢false h)
   value_as_expression (expression_node (key_value k v) span) from to h s =
       let p : as_value ≡ as_element = s.0.0 in cc
+  value_as_expression (expression_node (unary_expression Tilde e) span) from to h s =
+      let p : as_value ≡ as_constraint = s.0.0 in cc
   value_as_expression (expression_node (name_expression name) span) from to h s = s
   value_as_expression (expression_node _ span) from to h s = s
 
@@ -162,6 +169,16 @@ module _ (text : List ℕ) where
   name_token (expression_node (name_expression name) span) from to h s = (s.0.0, s.0.1.0)
   name_token (expression_node _ span) from to h s = absurd (true≢false (sym h))
 
+  -- the name of a type begins with a name
+  pub first_name : (e : Expression) (from to : Cursor)
+      → names_type e ≡ true
+      → SpellsExpression text as_expression e from to
+      → (middle : Cursor) × TakesToken identifier_kind from middle
+  unfolding SpellsExpression SpellsForm
+  first_name (expression_node (name_expression name) span) from to h s = (s.0.0, s.0.1.0)
+  first_name (expression_node (selector_expression e n) span) from to h s = name_token e from s.0.1.0 h s.0.1.1
+  first_name (expression_node _ span) from to h s = absurd (true≢false (sym h))
+
   pub type_begins : (t : Expression) (from to : Cursor)
       → SpellsExpression text as_type t from to
       → is_next can_begin_type from ≡ true
@@ -170,6 +187,12 @@ module _ (text : List ℕ) where
   type_begins (expression_node (parenthesized e) span) from to s = next_gives s.0.1 can_begin_type
   type_begins (expression_node (selector_expression e n) span) from to s =
       let name = name_token e from s.0.1.0 s.0.0 s.0.1.1 in next_gives name.1 can_begin_type
+  type_begins (expression_node (index_expression e i) span) from to s =
+      next_gives (first_name e from s.0.1.1.0 s.0.0.1 s.0.1.1.1).1 can_begin_type
+  type_begins (expression_node (instance_expression e es) span) from to s =
+      next_gives (first_name e from s.0.1.1.1.0 s.0.1.0.1 s.0.1.1.1.1).1 can_begin_type
+  type_begins (expression_node (unary_expression Tilde e) span) from to s =
+      let p : as_type ≡ as_constraint = s.0.0 in cc
   type_begins (expression_node (star_expression e) span) from to s = next_gives s.0.1.1 can_begin_type
   type_begins (expression_node (array_type n t) span) from to s = next_gives s.0.1.1 can_begin_type
   type_begins (expression_node (ellipsis_array_type t) span) from to s = next_gives s.0.1.1 can_begin_type
@@ -193,6 +216,10 @@ module _ (text : List ℕ) where
   literal_type_begins (expression_node (name_expression name) span) from to h s = next_gives s.0.1.0 begins_primary
   literal_type_begins (expression_node (selector_expression e n) span) from to h s =
       let name = name_token e from s.0.1.0 s.0.0 s.0.1.1 in next_gives name.1 begins_primary
+  literal_type_begins (expression_node (index_expression e i) span) from to h s =
+      next_gives (first_name e from s.0.1.1.0 s.0.0.1 s.0.1.1.1).1 begins_primary
+  literal_type_begins (expression_node (instance_expression e es) span) from to h s =
+      next_gives (first_name e from s.0.1.1.1.0 s.0.1.0.1 s.0.1.1.1.1).1 begins_primary
   literal_type_begins (expression_node (array_type n t) span) from to h s = next_gives s.0.1.1 begins_primary
   literal_type_begins (expression_node (ellipsis_array_type t) span) from to h s = next_gives s.0.1.1 begins_primary
   literal_type_begins (expression_node (slice_type t) span) from to h s = next_gives s.0.1.1 begins_primary
@@ -223,6 +250,8 @@ module _ (text : List ℕ) where
       primary_begins e from s.0.1.0 s.0.0 s.0.1.1
   primary_begins (expression_node (index_expression e i) span) from to h s =
       primary_begins e from s.0.1.1.0 s.0.1.0 s.0.1.1.1
+  primary_begins (expression_node (instance_expression e es) span) from to h s =
+      primary_begins e from s.0.1.1.1.0 s.0.1.1.0 s.0.1.1.1.1
   primary_begins (expression_node (slice_expression e low high most) span) from to h s =
       primary_begins e from s.0.1.1.0 s.0.1.0 s.0.1.1.1
   primary_begins (expression_node (type_assertion e t) span) from to h s =
@@ -249,7 +278,7 @@ module _ (text : List ℕ) where
   unfolding SpellsExpression SpellsForm
   expression_begins (expression_node (star_expression e) span) from to s = next_gives s.0.1.1 begins_expression
   expression_begins (expression_node (unary_expression op e) span) from to s =
-      next_gives s.0.1.1.1 begins_expression ∙ unary_begins op
+      next_gives s.0.1.1.1 begins_expression ∙ unary_begins op s.0.0
   expression_begins (expression_node (binary_expression op l r) span) from to s =
       expression_begins l from s.0.1.1.0 s.0.1.1.1
   expression_begins (expression_node (name_expression name) span) from to s =
@@ -330,6 +359,8 @@ module _ (text : List ℕ) where
   statement_form_begins (return_statement es) from to h s = next_gives s.1 begins_statement
   statement_form_begins (break_statement n) from to h s = next_gives s.1 begins_statement
   statement_form_begins (continue_statement n) from to h s = next_gives s.1 begins_statement
+  statement_form_begins (goto_statement n) from to h s = next_gives s.1.1 begins_statement
+  statement_form_begins fallthrough_statement from to h s = next_gives s.1 begins_statement
   statement_form_begins (block_statement ss braces) from to h s = next_gives s.0.1 begins_statement
   statement_form_begins (if_statement init has_semicolon c ss braces otherwise) from to h s =
       next_gives s.1.1.1 begins_statement

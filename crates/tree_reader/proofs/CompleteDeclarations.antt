@@ -1,15 +1,37 @@
 -- The reader gives each declaration of constants, variables and types that is spelled.
+use Rattle.std.proofs.lemmas.Bool.{and_parts}
+use Rattle.std.proofs.Common.{true≢false, sym, inl, inr}
+use Rattle.std.specs.Prelude.{◌&&◌}
+use Rattle.tree.specs.declared.edition.Edition.{Edition}
+use Rattle.tree.specs.declared.edition.Edition.TheVariants.{First, Second}
+use Rattle.tree.specs.declared.operator.BinaryOperator.TheVariants.{Or, Multiply}
+use Rattle.tree.specs.declared.operator.UnaryOperator.TheVariants.{Tilde}
+use Rattle.tree.specs.declared.operator.ChanDirection.TheVariants.{Both, Send, Receive}
+use Rattle.tree.specs.Depth.{below_expression, parameters_depth}
+use Rattle.meaning.specs.Cursor.{one_of, ◌⇒◌, start_at}
+use Rattle.meaning.specs.WellFormed.{level, is_type, is_term, is_constraint, end_constrained}
+use Rattle.meaning.specs.TypeParameters.{is_identifier, begins_parameters, is_parameter, is_one_parameter, splits, split_has_type, has_type, joins}
+use Rattle.meaning.specs.Grammar.{as_element, as_constraint, IsSecond, in_brackets, parameters_stand, no_type_parameters, after_type_name, SpellsForm, SpellsMore, SpellsTypeParameters}
+use Rattle.tree_reader.specs.Reading.{span_between}
+use Rattle.tree_reader.specs.Reader.{is_second, read_any, within, read_plain_type, read_generic_type, read_length_or_parameter}
+use Rattle.tree_reader.proofs.Taken.{and_true, or_left, or_right}
+use Rattle.tree_reader.proofs.Lengths.{after_type_name_longest, type_items_longest}
+use Rattle.tree_reader.proofs.Begins.{name_token, first_name}
+use Rattle.tree_reader.proofs.CompleteLists.{optional_follows, read_any-complete}
+use Rattle.tree_reader.proofs.CompleteIndexes.{second_true}
+use Rattle.tree_reader.proofs.CompleteInstances.{type_tight, type_as_expression, fits_within, read_type_parameters-complete}
+use Rattle.tree_reader.proofs.CompleteSignatures.{depth_high, moved_name}
 use Rattle.std.proofs.Common.{◌≡◌, ℕ, zero, suc, ◌≤◌, ◌<◌, Bool, true, false, List, [], ◌∷◌, length, Some, refl, subst, ap, ◌∙◌, arith}
 use Rattle.std.specs.Prelude.{if◌then◌else◌, not, ◌||◌}
 use Rattle.lexer.specs.Spelling.{same_kind}
 use Rattle.lexer.specs.declared.token.TokenKind.{TokenKind}
-use Rattle.lexer.specs.declared.token.TokenKind.TheVariants.{Identifier as identifier_kind, Assign, LeftParenthesis, RightParenthesis, RightBrace, Comma, Semicolon}
+use Rattle.lexer.specs.declared.token.TokenKind.TheVariants.{Identifier as identifier_kind, Assign, LeftParenthesis, RightParenthesis, LeftBracket, RightBracket, RightBrace, Comma, Semicolon}
 use Rattle.tree.specs.declared.span.Span.{Span}
 use Rattle.tree.specs.declared.operator.DeclKeyword.{DeclKeyword}
 use Rattle.tree.specs.declared.operator.DeclKeyword.TheVariants.{Const, Var, «Type» as type_keyword}
-use Rattle.tree.specs.Syntax.{Identifier, Expression, Expressions, no_expression, expression_and, OptionalExpression, missing_expression, present_expression, declaration_of, Specs, no_spec, value_and, type_and}
+use Rattle.tree.specs.Syntax.{Identifier, Expression, expression_node, name_expression, parenthesized, selector_expression, index_expression, instance_expression, call_expression, star_expression, unary_expression, binary_expression, array_type, ellipsis_array_type, slice_type, map_type, channel_type, function_type, struct_type, interface_type, key_value, Parameters, no_parameter, named_and, unnamed_and, name_alone_and, Expressions, no_expression, expression_and, OptionalExpression, missing_expression, present_expression, declaration_of, Specs, no_spec, value_and, type_and}
 use Rattle.tree.specs.Depth.{expression_depth, expressions_depth, optional_depth, specs_depth}
-use Rattle.meaning.specs.Cursor.{Cursor, TakesToken, ◌⨾◌, token, only_if, is_next, identifier, identifiers, semicolon, spanning}
+use Rattle.meaning.specs.Cursor.{GoText, Cursor, TakesToken, ◌⨾◌, token, only_if, is_next, identifier, identifiers, semicolon, spanning}
 use Rattle.meaning.specs.OperatorTokens.{can_begin_type}
 use Rattle.meaning.specs.Grammar.{as_type, as_expression, perhaps, ValueFits, IsTypeKeyword, IsLast, SpellsExpression, SpellsExpressions, SpellsOptional, SpellsDeclaration, SpellsSpecs}
 use Rattle.tree_reader.specs.Reading.{Read, ◌>>=◌, stands, behind, steps}
@@ -55,16 +77,176 @@ value_fits-complete Var missing_expression (expression_and e es) h = refl
 value_fits-complete Var (present_expression t) es h = refl
 value_fits-complete type_keyword t es h = absurd h
 
-module _ (text : List ℕ) where
+-- no type parameters stand, and nothing is taken
+between_same : (edition : Edition) (is_alias : Bool) (t : Expression) (from to : Cursor)
+    → no_type_parameters edition is_alias t from to
+    → from ≡ to
+between_same First is_alias t from to h = h
+between_same Second true t from to h = h
+between_same Second false (expression_node (array_type m u) span) from to h = h.1.0
+between_same Second false (expression_node (name_expression name) span) from to h = h
+between_same Second false (expression_node _ span) from to h = h
+
+stand_same : (one : Type 0) (from to : Cursor)
+    → one_of (parameters_stand true) (one ⇒ parameters_stand false) from to
+    → from ≡ to
+stand_same one from to (inl h) = h.0
+stand_same one from to (inr h) = h.1.0
+
+-- in the second edition the length of an array is no type parameter
+length_not : (edition : Edition) (m u : Expression) (span : Span) (place : Cursor)
+    → is_second edition ≡ true
+    → no_type_parameters edition false (expression_node (array_type m u) span) place place
+    → (is_parameter m ≡ false) × (begins_parameters place.left ≡ false)
+length_not First m u span place e h = absurd (true≢false (sym e))
+length_not Second m u span place e h = (h.0, h.1.1)
+
+abbrev is_array : Expression → Bool
+is_array (expression_node (array_type m u) span) = true
+is_array (expression_node form span) = false
+
+-- the expression that a name and a constraint behind it make
+abbrev join : Identifier → Expression → Expression
+join n (expression_node (binary_expression Or l r) span) =
+    expression_node (binary_expression Or (join n l) r) record { start = n.span.start; end = span.end }
+join n (expression_node (star_expression y) span) =
+    expression_node (binary_expression Multiply (expression_node (name_expression n.text) n.span) y)
+    record { start = n.span.start; end = span.end }
+join n (expression_node (parenthesized y) span) =
+    expression_node
+    (call_expression (expression_node (name_expression n.text) n.span) (expression_and y no_expression) false)
+    record { start = n.span.start; end = span.end }
+join n e = e
+
+join_splits : (n : Identifier) (c : Expression) → joins c ≡ true → splits (join n c) ≡ true
+unfolding joins splits
+join_splits n (expression_node (binary_expression Or l r) span) h =
+    join_splits n l (and_parts (joins l) (is_type r) h).0
+join_splits n (expression_node (star_expression y) span) h = refl
+join_splits n (expression_node (parenthesized y) span) h = refl
+join_splits n (expression_node _ span) h = absurd (true≢false (sym h))
+
+join_has_type : (n : Identifier) (c : Expression) → joins c ≡ true → split_has_type (join n c) ≡ has_type c
+unfolding joins split_has_type has_type
+join_has_type n (expression_node (binary_expression Or l r) span) h =
+    ap (λ b. b || has_type r) (join_has_type n l (and_parts (joins l) (is_type r) h).0)
+join_has_type n (expression_node (star_expression y) span) h = refl
+join_has_type n (expression_node (parenthesized y) span) h = refl
+join_has_type n (expression_node _ span) h = absurd (true≢false (sym h))
+
+join_depth : (n : Identifier) (c : Expression) → joins c ≡ true → expression_depth (join n c) ≤ expression_depth c
+unfolding joins expression_depth below_expression expressions_depth
+join_depth n (expression_node (binary_expression Or l r) span) h =
+    omega (arith, join_depth n l (and_parts (joins l) (is_type r) h).0)
+join_depth n (expression_node (star_expression y) span) h = omega (arith, depth_high y)
+join_depth n (expression_node (parenthesized y) span) h = omega (arith, depth_high y)
+join_depth n (expression_node _ span) h = absurd (true≢false (sym h))
+
+module _ (text : GoText) where
+  join_spelled : (n : Identifier) (c : Expression) (from middle to : Cursor)
+      → joins c ≡ true
+      → is_constraint c ≡ true
+      → identifier text n from middle
+      → SpellsExpression text as_constraint c middle to
+      → SpellsExpression text as_expression (join n c) from to × (4 ≤ level (join n c))
+  unfolding SpellsExpression SpellsForm SpellsExpressions SpellsMore joins is_constraint
+  join_spelled n (expression_node (binary_expression Or l r) span) from middle to h fits name s =
+      let rule = s.0.1.1 in
+      let parts = and_parts (joins l) (is_type r) h in
+      let left = join_spelled n l from middle rule.0 parts.0 (and_parts (is_constraint l) (is_term r) fits).0 name rule.1 in
+      let right = type_as_expression text r rule.2.0 to parts.1 rule.2.2 in
+      let tight = type_tight r parts.1 in
+      let high = left.1 in
+      (((tt, ((omega arith, omega arith), (rule.0, left.0, (rule.2.0, rule.2.1, right)))), name.1, s.2), omega arith)
+  join_spelled n (expression_node (star_expression y) span) from middle to h fits name s =
+      let tight = s.0.0 in (
+        (
+          (tt, ((omega arith, omega arith), (middle, ((middle, name.0, refl), name.1, name.2), (s.0.1.0, s.0.1.1, s.0.1.2)))),
+          name.1,
+          s.2,
+        ),
+        omega arith,
+      )
+  join_spelled n (expression_node (parenthesized y) span) from middle to h fits name s =
+      let close = s.0.2.0 in (
+        (
+          (
+            tt,
+            (
+              refl,
+              (
+                middle,
+                ((middle, name.0, refl), name.1, name.2),
+                (s.0.0, s.0.1, (close, (close, (close, s.0.2.1, refl), (close, refl, inl refl)), s.0.2.2)),
+              ),
+            ),
+          ),
+          name.1,
+          s.2,
+        ),
+        omega arith,
+      )
+  join_spelled n (expression_node _ span) from middle to h fits name s = absurd (true≢false (sym h))
+
+  -- no type but an array begins with brackets and a name in them
+  no_array : (t : Expression) (from to : Cursor)
+      → is_array t ≡ false
+      → SpellsExpression text as_type t from to
+      → stands LeftBracket from ≡ true
+      → is_next is_identifier (behind from) ≡ true
+      → ⊥
+  unfolding SpellsExpression SpellsForm same_kind
+  no_array (expression_node (array_type m u) span) from to a s b h = true≢false a
+  no_array (expression_node (slice_type t) span) from to a s b h =
+      let inner = s.0.1 in
+      let close : TakesToken RightBracket inner.0 s.0.0 =
+      subst (λ place. TakesToken RightBracket place s.0.0) (sym inner.2.1) inner.2.2 in
+      true≢false (sym h ∙ (ap (is_next is_identifier) (behind_gives inner.1) ∙ next_gives close is_identifier))
+  no_array (expression_node (ellipsis_array_type t) span) from to a s b h =
+      let inner = s.0.1 in
+      true≢false (sym h ∙ (ap (is_next is_identifier) (behind_gives inner.1) ∙ next_gives inner.2.1 is_identifier))
+  no_array (expression_node (name_expression x) span) from to a s b h =
+      true≢false (sym b ∙ stands_other s.0.1.0 LeftBracket refl)
+  no_array (expression_node (selector_expression e x) span) from to a s b h =
+      true≢false (sym b ∙ stands_other (name_token text e from s.0.1.0 s.0.0 s.0.1.1).1 LeftBracket refl)
+  no_array (expression_node (index_expression e i) span) from to a s b h =
+      true≢false (sym b ∙ stands_other (first_name text e from s.0.1.1.0 s.0.0.1 s.0.1.1.1).1 LeftBracket refl)
+  no_array (expression_node (instance_expression e es) span) from to a s b h =
+      true≢false (sym b ∙ stands_other (first_name text e from s.0.1.1.1.0 s.0.1.0.1 s.0.1.1.1.1).1 LeftBracket refl)
+  no_array (expression_node (parenthesized e) span) from to a s b h =
+      true≢false (sym b ∙ stands_other s.0.1 LeftBracket refl)
+  no_array (expression_node (star_expression e) span) from to a s b h =
+      true≢false (sym b ∙ stands_other s.0.1.1 LeftBracket refl)
+  no_array (expression_node (map_type k t) span) from to a s b h =
+      true≢false (sym b ∙ stands_other s.0.1 LeftBracket refl)
+  no_array (expression_node (channel_type Both t) span) from to a s b h =
+      true≢false (sym b ∙ stands_other s.0.1.1 LeftBracket refl)
+  no_array (expression_node (channel_type Send t) span) from to a s b h =
+      true≢false (sym b ∙ stands_other s.0.1.1 LeftBracket refl)
+  no_array (expression_node (channel_type Receive t) span) from to a s b h =
+      true≢false (sym b ∙ stands_other s.0.1.1 LeftBracket refl)
+  no_array (expression_node (function_type signature) span) from to a s b h =
+      true≢false (sym b ∙ stands_other s.0.1 LeftBracket refl)
+  no_array (expression_node (struct_type fs) span) from to a s b h =
+      true≢false (sym b ∙ stands_other s.0.1 LeftBracket refl)
+  no_array (expression_node (interface_type fs) span) from to a s b h =
+      true≢false (sym b ∙ stands_other s.0.1 LeftBracket refl)
+  no_array (expression_node (key_value k v) span) from to a s b h = let p : as_type ≡ as_element = s.0.0 in cc
+  no_array (expression_node (unary_expression Tilde e) span) from to a s b h =
+      let p : as_type ≡ as_constraint = s.0.0 in cc
+  no_array (expression_node form span) from to a s b h = absurd s.0.0
+
+module _ (text : GoText) where
   abbrev SpellsValues : Expressions → Rule
   SpellsValues es = perhaps es (token Assign ⨾ SpellsExpressions text as_expression es)
 
   abbrev SpellsValue : List Identifier → OptionalExpression → Expressions → Span → Rule
   SpellsValue ns t es span = spanning span (identifiers text ns ⨾ SpellsOptional text as_type t ⨾ SpellsValues es)
 
-  abbrev SpellsType : Identifier → Bool → Expression → Span → Rule
-  SpellsType n is_alias t span =
-      spanning span (identifier text n ⨾ only_if is_alias (token Assign) ⨾ SpellsExpression text as_type t)
+  abbrev SpellsType : Identifier → Parameters → Bool → Expression → Span → Rule
+  SpellsType n ps is_alias t span =
+      spanning span (identifier text n ⨾ after_type_name text.edition ps is_alias t (SpellsTypeParameters text true ps)
+      ⨾ only_if is_alias (token Assign) ⨾ SpellsExpression text as_type t)
 
   value_shorter : (ns : List Identifier) (t : OptionalExpression) (es : Expressions) (span : Span)
       → Shorter (SpellsValue ns t es span)
@@ -73,12 +255,14 @@ module _ (text : List ℕ) where
       perhaps_longest es (both (weak (token_shorter Assign)) (expressions_longest text as_expression es)) in
       spanning_shorter (first_then (identifiers_shorter text ns) (both (optional_type_longest text t) values))
 
-  type_shorter : (n : Identifier) (is_alias : Bool) (t : Expression) (span : Span)
-      → Shorter (SpellsType n is_alias t span)
-  type_shorter n is_alias t span =
+  type_shorter : (n : Identifier) (ps : Parameters) (is_alias : Bool) (t : Expression) (span : Span)
+      → Shorter (SpellsType n ps is_alias t span)
+  type_shorter n ps is_alias t span =
       let assign : NoLonger (only_if is_alias (token Assign)) =
       chosen_longest is_alias (weak (token_shorter Assign)) same_length in
-      spanning_shorter (first_then (identifier_shorter text n) (both assign (weak (expression_shorter text as_type t))))
+      spanning_shorter (first_then (identifier_shorter text n)
+      (both (after_type_name_longest text.edition ps is_alias t (type_items_longest text true ps))
+      (both assign (weak (expression_shorter text as_type t)))))
 
   values_follow : (es : Expressions) (from to : Cursor)
       → SpellsValues es from to
@@ -152,24 +336,249 @@ module _ (text : List ℕ) where
         (only_true (value_fits-complete keyword t es f)
         (λ i. Some (value_and ns t es (span_is span from to s.1 s.2 i), to)))))
 
-    read_type_spec-complete : (n : Identifier) (is_alias : Bool) (t : Expression) (span : Span) (from to : Cursor)
-        → SpellsType n is_alias t span from to
+    read_plain-complete : (n : Identifier) (ps : Parameters) (is_alias : Bool) (t : Expression) (span : Span)
+        (from before place to : Cursor)
+        → only_if is_alias (token Assign) before place
+        → SpellsExpression text as_type t place to
         → expression_depth t ≤ below
-        → read_type_spec text r from ≡ Some (type_and n is_alias t span, to)
-    unfolding read_type_spec
-    read_type_spec-complete n is_alias t span from to s d =
-        let middle : Cursor = s.0.0 in
-        let place : Cursor = s.0.2.0 in
+        → span.start ≡ start_at from
+        → span.end ≡ to.end
+        → read_plain_type text r from n ps before ≡ Some (type_and n ps is_alias t span, to)
+    unfolding read_plain_type
+    read_plain-complete n ps is_alias t span from before place to assign s d p q =
         let no_assign : stands Assign place ≡ false =
-        stands_not can_begin_type Assign place refl (type_begins text t place to s.0.2.2) in
-        step _ (read_identifier-complete text n from middle s.0.1)
-        (step _ (ap r.read_type (only_if_past Assign is_alias middle place s.0.2.1 no_assign)
-        ∙ complete.type place to t s.0.2.2 d)
+        stands_not can_begin_type Assign place refl (type_begins text t place to s) in
+        step _ (ap r.read_type (only_if_past Assign is_alias before place assign no_assign)
+        ∙ complete.type place to t s d)
         (λ i. Some (
-          type_and n (only_if_stands Assign is_alias middle place s.0.2.1 no_assign i) t
-              (span_is span from to s.1 s.2 i),
+          type_and n ps (only_if_stands Assign is_alias before place assign no_assign i) t
+              (span_is span from to p q i),
           to,
-        )))
+        ))
+
+    -- a name and brackets behind it, with a name first
+    abbrev opens : Cursor → Bool
+    opens place = is_second text.edition && (stands LeftBracket place && is_next is_identifier (behind place))
+
+    -- type parameters, and the type
+    read_generic-complete : (n : Identifier) (ps : Parameters) (is_alias : Bool) (t : Expression) (span : Span)
+        (from before after place to : Cursor)
+        → end_constrained ps ≡ true
+        → (begins_parameters before.left || is_one_parameter ps) ≡ true
+        → in_brackets (SpellsTypeParameters text true ps) before after
+        → only_if is_alias (token Assign) after place
+        → SpellsExpression text as_type t place to
+        → parameters_depth ps ≤ below
+        → expression_depth t ≤ below
+        → span.start ≡ start_at from
+        → span.end ≡ to.end
+        → read_generic_type text r from n before ≡ Some (type_and n ps is_alias t span, to)
+    unfolding read_generic_type
+    read_generic-complete n ps is_alias t span from before after place to h stand list assign s k d p q =
+        step _ (read_type_parameters-complete text r below complete ps before after h list k)
+        (only_true stand (read_plain-complete n ps is_alias t span from after place to assign s d p q))
+
+    -- an array whose length is read as no type parameter
+    read_array-complete : (n : Identifier) (m t : Expression) (inside span : Span) (from place to : Cursor)
+        → is_parameter m ≡ false
+        → SpellsExpression text as_type (expression_node (array_type m t) inside) place to
+        → expression_depth (expression_node (array_type m t) inside) ≤ below
+        → span.start ≡ start_at from
+        → span.end ≡ to.end
+        → read_length_or_parameter text r from n place
+        ≡ Some (type_and n no_parameter false (expression_node (array_type m t) inside) span, to)
+    unfolding read_length_or_parameter SpellsExpression SpellsForm expression_depth below_expression
+    read_array-complete n m t inside span from place to h s d p q =
+        let brackets = s.0.1 in
+        let close : Cursor = s.0.0 in
+        let element : SpellsExpression text as_type t close to =
+        subst (λ c. SpellsExpression text as_type t close c) s.0.2.2 s.0.2.1 in
+        let array = expression_node (array_type m t) (span_between place to) in
+        let fit : within text r (array, to) ≡ Some (array, to) = only_true (fits_within text r below complete array d) refl in
+        step _ (ap (read_any text r) (behind_gives brackets.1)
+        ∙ read_any-complete text r below complete m brackets.0 brackets.2.0 brackets.2.1 (omega arith)
+        (next_gives brackets.2.2 ends_expression))
+        (when_false _ h
+        (step _ (take_gives brackets.2.2)
+        (step _ (complete.type close to t element (omega arith))
+        (step _ fit
+        (λ i. Some (
+          type_and n no_parameter false (expression_node (array_type m t) (span_is inside place to s.1 s.2 i))
+              (span_is span from to p q i),
+          to,
+        ))))))
+
+    -- a type behind a name, where no type parameters stand
+    without_parameters : (n : Identifier) (is_alias : Bool) (t : Expression) (span : Span) (from place after to : Cursor)
+        → no_type_parameters text.edition is_alias t place place
+        → only_if is_alias (token Assign) place after
+        → SpellsExpression text as_type t after to
+        → expression_depth t ≤ below
+        → span.start ≡ start_at from
+        → span.end ≡ to.end
+        → (b : Bool)
+        → opens place ≡ b
+        → (if opens place
+        then if begins_parameters place.left
+        then read_generic_type text r from n place
+        else read_length_or_parameter text r from n place
+        else read_plain_type text r from n no_parameter place) ≡ Some (type_and n no_parameter is_alias t span, to)
+    unfolding SpellsExpression SpellsForm same_kind
+    without_parameters n is_alias t span from place after to none assign s d p q false test =
+        when_false _ test (read_plain-complete n no_parameter is_alias t span from place after to assign s d p q)
+    without_parameters n true t span from place after to none assign s d p q true test =
+        let tests = (and_parts (is_second text.edition) _ test).1 in
+        absurd (true≢false (sym (and_parts (stands LeftBracket place) _ tests).0 ∙ stands_other assign LeftBracket refl))
+    without_parameters n false (expression_node (array_type m u) inside) span from place after to none assign s d p q true test =
+        let second = (and_parts (is_second text.edition) _ test).0 in
+        let length = length_not text.edition m u inside place second none in
+        let t = expression_node (array_type m u) inside in
+        let spelled : SpellsExpression text as_type t place to =
+        subst (λ c. SpellsExpression text as_type t c to) (sym assign) s in
+        when_true _ test
+        (when_false _ length.1 (read_array-complete n m u inside span from place to length.0 spelled d p q))
+    without_parameters n false (expression_node form inside) span from place after to none assign s d p q true test =
+        let tests = (and_parts (is_second text.edition) _ test).1 in
+        let parts = and_parts (stands LeftBracket place) _ tests in
+        let t = expression_node form inside in
+        let spelled : SpellsExpression text as_type t place to =
+        subst (λ c. SpellsExpression text as_type t c to) (sym assign) s in
+        absurd (no_array text t place to refl spelled parts.0 parts.1)
+
+    -- the expression that a name and a constraint make, as it is read
+    record ReadsLength (from : Cursor) : Type 0 where
+      length : Expression
+      end : Cursor
+      read : read_any text r from ≡ Some (length, end)
+      is : is_parameter length ≡ true
+
+    one_length : (ps : Parameters) (from close to : Cursor)
+        → is_one_parameter ps ≡ true
+        → SpellsTypeParameters text true ps from close
+        → TakesToken RightBracket close to
+        → parameters_depth ps ≤ below
+        → ReadsLength from
+    unfolding SpellsTypeParameters parameters_depth
+    one_length no_parameter from close to h s t d = absurd (true≢false (sym h))
+    one_length (unnamed_and ellipsis c ps) from close to h s t d = absurd (true≢false (sym h))
+    one_length (name_alone_and n ps) from close to h s t d = absurd (true≢false (sym h))
+    one_length (named_and n ellipsis c (named_and x dots e ps)) from close to h s t d = absurd (true≢false (sym h))
+    one_length (named_and n ellipsis c (unnamed_and dots e ps)) from close to h s t d = absurd (true≢false (sym h))
+    one_length (named_and n ellipsis c (name_alone_and x ps)) from close to h s t d = absurd (true≢false (sym h))
+    one_length (named_and n ellipsis c no_parameter) from close to h s t d =
+        let rest = s.1.1.2 in
+        let name : identifier text n from rest.0 = moved_name text n from s.1.1.0 rest.0 s.1.1.1 rest.1 in
+        let tests = and_parts (joins c) (has_type c) h in
+        let whole = join_spelled text n c from rest.0 rest.2.0 tests.0 s.1.0 name rest.2.1 in
+        let ends : is_next ends_expression rest.2.0 ≡ true =
+        optional_follows ends_expression Comma rest.2.0 close refl rest.2.2 (next_gives t ends_expression) in
+        record {
+          length = join n c;
+          end = rest.2.0;
+          read = read_any-complete text r below complete (join n c) from rest.2.0 whole.0
+              (omega (arith, join_depth n c tests.0)) ends;
+          is = and_true (join_splits n c tests.0) (join_has_type n c tests.0 ∙ tests.1);
+        }
+
+    parameters_begin : (ps : Parameters) (from close : Cursor)
+        → end_constrained ps ≡ true
+        → SpellsTypeParameters text true ps from close
+        → is_next is_identifier from ≡ true
+    unfolding SpellsTypeParameters
+    parameters_begin no_parameter from close h s = absurd (true≢false (sym h))
+    parameters_begin (named_and n ellipsis c ps) from close h s =
+        let rest = s.1.1.2 in
+        let name : identifier text n from rest.0 = moved_name text n from s.1.1.0 rest.0 s.1.1.1 rest.1 in
+        next_gives name.0.0 is_identifier
+    parameters_begin (unnamed_and ellipsis c ps) from close h s = absurd s
+    parameters_begin (name_alone_and n ps) from close h s =
+        let name : identifier text n from s.2.0 = moved_name text n from s.0 s.2.0 s.1 s.2.1 in
+        next_gives name.0.0 is_identifier
+
+    -- a type behind type parameters
+    with_parameters : (n : Identifier) (ps : Parameters) (is_alias : Bool) (t : Expression) (span : Span)
+        (from before after place to : Cursor)
+        → IsSecond text.edition
+        → end_constrained ps ≡ true
+        → one_of (parameters_stand true) ((is_one_parameter ps ≡ true) ⇒ parameters_stand false) before before
+        → in_brackets (SpellsTypeParameters text true ps) before after
+        → only_if is_alias (token Assign) after place
+        → SpellsExpression text as_type t place to
+        → parameters_depth ps ≤ below
+        → expression_depth t ≤ below
+        → span.start ≡ start_at from
+        → span.end ≡ to.end
+        → (if opens before
+        then if begins_parameters before.left
+        then read_generic_type text r from n before
+        else read_length_or_parameter text r from n before
+        else read_plain_type text r from n no_parameter before) ≡ Some (type_and n ps is_alias t span, to)
+    unfolding read_length_or_parameter
+    with_parameters n ps is_alias t span from before after place to second h (inl stand) list assign s k d p q =
+        let test = and_true (second_true text.edition second) (and_true (stands_gives list.1)
+        (ap (is_next is_identifier) (behind_gives list.1) ∙ parameters_begin ps list.0 list.2.0 h list.2.1)) in
+        when_true _ test
+        (when_true _ stand.1
+        (read_generic-complete n ps is_alias t span from before after place to h (or_left _ stand.1) list assign s k d p q))
+    with_parameters n ps is_alias t span from before after place to second h (inr stand) list assign s k d p q =
+        let test = and_true (second_true text.edition second) (and_true (stands_gives list.1)
+        (ap (is_next is_identifier) (behind_gives list.1) ∙ parameters_begin ps list.0 list.2.0 h list.2.1)) in
+        let one = one_length ps list.0 list.2.0 after stand.0 list.2.1 list.2.2 k in
+        when_true _ test
+        (when_false _ stand.1.1
+        (step _ (ap (read_any text r) (behind_gives list.1) ∙ one.read)
+        (when_true _ one.is
+        (read_generic-complete n ps is_alias t span from before after place to h (or_right _ stand.0) list assign s k d
+        p q))))
+
+    parameters-read : (n : Identifier) (ps : Parameters) (is_alias : Bool) (t : Expression) (span : Span)
+        (from name before after place to : Cursor)
+        → identifier text n from name
+        → one_of (parameters_stand true) ((is_one_parameter ps ≡ true) ⇒ parameters_stand false) name before
+        → IsSecond text.edition
+        → end_constrained ps ≡ true
+        → in_brackets (SpellsTypeParameters text true ps) before after
+        → only_if is_alias (token Assign) after place
+        → SpellsExpression text as_type t place to
+        → parameters_depth ps ≤ below
+        → expression_depth t ≤ below
+        → span.start ≡ start_at from
+        → span.end ≡ to.end
+        → read_type_spec text r from ≡ Some (type_and n ps is_alias t span, to)
+    unfolding read_type_spec
+    parameters-read n ps is_alias t span from name before after place to named stand second h list assign s k d p q =
+        let same : name ≡ before = stand_same (is_one_parameter ps ≡ true) name before stand in
+        let there = subst (λ c. one_of (parameters_stand true) ((is_one_parameter ps ≡ true) ⇒ parameters_stand false) name c)
+        (sym same) stand in
+        let brackets = subst (λ c. in_brackets (SpellsTypeParameters text true ps) c after) (sym same) list in
+        step _ (read_identifier-complete text n from name named)
+        (with_parameters n ps is_alias t span from name after place to second h there brackets assign s k d p q)
+
+    read_type_spec-complete : (n : Identifier) (ps : Parameters) (is_alias : Bool) (t : Expression) (span : Span)
+        (from to : Cursor)
+        → SpellsType n ps is_alias t span from to
+        → parameters_depth ps ≤ below
+        → expression_depth t ≤ below
+        → read_type_spec text r from ≡ Some (type_and n ps is_alias t span, to)
+    unfolding read_type_spec
+    read_type_spec-complete n no_parameter is_alias t span from to s k d =
+        let place : Cursor = s.0.0 in
+        let between : place ≡ s.0.2.0 = between_same text.edition is_alias t place s.0.2.0 s.0.2.1 in
+        let none : no_type_parameters text.edition is_alias t place place =
+        subst (λ c. no_type_parameters text.edition is_alias t place c) (sym between) s.0.2.1 in
+        let assign : only_if is_alias (token Assign) place s.0.2.2.0 =
+        subst (λ c. only_if is_alias (token Assign) c s.0.2.2.0) (sym between) s.0.2.2.1 in
+        step _ (read_identifier-complete text n from place s.0.1)
+        (without_parameters n is_alias t span from place s.0.2.2.0 to none assign s.0.2.2.2 d s.1 s.2 (opens place) refl)
+    read_type_spec-complete n (named_and x ellipsis c ps) is_alias t span from to s k d =
+        parameters-read n (named_and x ellipsis c ps) is_alias t span from s.0.0 s.0.2.1.0 s.0.2.0 s.0.2.2.0 to s.0.1
+        s.0.2.1.1 s.0.2.1.2.0 s.0.2.1.2.1.0 s.0.2.1.2.1.1 s.0.2.2.1 s.0.2.2.2 k d s.1 s.2
+    read_type_spec-complete n (unnamed_and ellipsis c ps) is_alias t span from to s k d =
+        parameters-read n (unnamed_and ellipsis c ps) is_alias t span from s.0.0 s.0.2.1.0 s.0.2.0 s.0.2.2.0 to s.0.1
+        s.0.2.1.1 s.0.2.1.2.0 s.0.2.1.2.1.0 s.0.2.1.2.1.1 s.0.2.2.1 s.0.2.2.2 k d s.1 s.2
+    read_type_spec-complete n (name_alone_and x ps) is_alias t span from to s k d =
+        parameters-read n (name_alone_and x ps) is_alias t span from s.0.0 s.0.2.1.0 s.0.2.0 s.0.2.2.0 to s.0.1
+        s.0.2.1.1 s.0.2.1.2.0 s.0.2.1.2.1.0 s.0.2.1.2.1.1 s.0.2.2.1 s.0.2.2.2 k d s.1 s.2
 
     value_read : (keyword : DeclKeyword) (ns : List Identifier) (t : OptionalExpression) (es : Expressions)
         (span : Span) (from to : Cursor)
@@ -183,15 +592,16 @@ module _ (text : List ℕ) where
     value_read Var ns t es span from to f s d k h = read_value_spec-complete Var ns t es span from to f s d k h
     value_read type_keyword ns t es span from to f s d k h = absurd f
 
-    type_read : (keyword : DeclKeyword) (n : Identifier) (is_alias : Bool) (t : Expression) (span : Span)
-        (from to : Cursor)
+    type_read : (keyword : DeclKeyword) (n : Identifier) (ps : Parameters) (is_alias : Bool) (t : Expression)
+        (span : Span) (from to : Cursor)
         → IsTypeKeyword keyword
-        → SpellsType n is_alias t span from to
+        → SpellsType n ps is_alias t span from to
+        → parameters_depth ps ≤ below
         → expression_depth t ≤ below
-        → read_spec text r keyword from ≡ Some (type_and n is_alias t span, to)
-    type_read Const n is_alias t span from to f s d = absurd f
-    type_read Var n is_alias t span from to f s d = absurd f
-    type_read type_keyword n is_alias t span from to f s d = read_type_spec-complete n is_alias t span from to s d
+        → read_spec text r keyword from ≡ Some (type_and n ps is_alias t span, to)
+    type_read Const n ps is_alias t span from to f s k d = absurd f
+    type_read Var n ps is_alias t span from to f s k d = absurd f
+    type_read type_keyword n ps is_alias t span from to f s k d = read_type_spec-complete n ps is_alias t span from to s k d
 
     names_begin : (kind : TokenKind) (ns : List Identifier) (from to : Cursor)
         → same_kind identifier_kind kind ≡ false
@@ -231,13 +641,13 @@ module _ (text : List ℕ) where
         (value_read keyword ns kind es span from place s.0 s.1.1 (omega arith) (omega arith) follows)
         (names_begin RightParenthesis ns from s.1.1.0.0 refl s.1.1.0.1) rest.1
         (read_specs-complete keyword n specs rest.0 close to rest.2 t (omega arith) fewer)
-    read_specs-complete keyword (suc n) (type_and x is_alias kind span specs) from close to s t d short =
+    read_specs-complete keyword (suc n) (type_and x ps is_alias kind span specs) from close to s t d short =
         let place : Cursor = s.1.0 in
         let rest = s.1.2 in
         let fewer : length rest.0.left < n =
-        omega (arith, type_shorter x is_alias kind span from place s.1.1, semicolon_longest place rest.0 rest.1) in
-        spec_first keyword n (type_and x is_alias kind span) specs from place rest.0 close
-        (type_read keyword x is_alias kind span from place s.0 s.1.1 (omega arith))
+        omega (arith, type_shorter x ps is_alias kind span from place s.1.1, semicolon_longest place rest.0 rest.1) in
+        spec_first keyword n (type_and x ps is_alias kind span) specs from place rest.0 close
+        (type_read keyword x ps is_alias kind span from place s.0 s.1.1 (omega arith) (omega arith))
         (stands_other s.1.1.0.1.0.0 RightParenthesis refl) rest.1
         (read_specs-complete keyword n specs rest.0 close to rest.2 t (omega arith) fewer)
 
@@ -251,7 +661,7 @@ module _ (text : List ℕ) where
     last : (specs : Specs) → IsLast specs → no_spec ≡ specs
     last no_spec h = refl
     last (value_and ns t es span specs) h = absurd h
-    last (type_and n is_alias t span specs) h = absurd h
+    last (type_and n ps is_alias t span specs) h = absurd h
 
     single : (keyword : DeclKeyword) (specs : Specs) (from to : Cursor)
         → SpellsSpecs text keyword false specs from to
@@ -269,13 +679,13 @@ module _ (text : List ℕ) where
           same = ap (value_and ns kind es span) (last specs s.1.2.0);
           begins = names_begin LeftParenthesis ns from spelled.0.0 refl spelled.0.1;
         }
-    single keyword (type_and x is_alias kind span specs) from to s d h =
-        let spelled : SpellsType x is_alias kind span from to =
-        subst (λ place. SpellsType x is_alias kind span from place) s.1.2.1 s.1.1 in
+    single keyword (type_and x ps is_alias kind span specs) from to s d h =
+        let spelled : SpellsType x ps is_alias kind span from to =
+        subst (λ place. SpellsType x ps is_alias kind span from place) s.1.2.1 s.1.1 in
         record {
-          spec = type_and x is_alias kind span;
-          read = type_read keyword x is_alias kind span from to s.0 spelled (omega arith);
-          same = ap (type_and x is_alias kind span) (last specs s.1.2.0);
+          spec = type_and x ps is_alias kind span;
+          read = type_read keyword x ps is_alias kind span from to s.0 spelled (omega arith) (omega arith);
+          same = ap (type_and x ps is_alias kind span) (last specs s.1.2.0);
           begins = stands_other spelled.0.1.0.0 LeftParenthesis refl;
         }
 

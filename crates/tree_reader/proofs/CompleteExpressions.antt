@@ -9,13 +9,13 @@ use Rattle.tree.specs.declared.span.Span.{Span}
 use Rattle.tree.specs.declared.operator.BinaryOperator.{BinaryOperator}
 use Rattle.tree.specs.declared.operator.BinaryOperator.TheVariants.{LogicalOr}
 use Rattle.tree.specs.declared.operator.UnaryOperator.{UnaryOperator}
-use Rattle.tree.specs.declared.operator.UnaryOperator.TheVariants.{Plus, Negate, Not, Complement, Address, Receive}
+use Rattle.tree.specs.declared.operator.UnaryOperator.TheVariants.{Plus, Negate, Not, Complement, Address, Receive, Tilde}
 use Rattle.tree.specs.Syntax.{Expression, expression_node, name_expression, literal_value, star_expression, unary_expression, binary_expression}
 use Rattle.tree.specs.Depth.{expression_depth, below_expression}
-use Rattle.meaning.specs.Cursor.{Cursor, TakesToken, is_next, start_at}
+use Rattle.meaning.specs.Cursor.{GoText, Cursor, TakesToken, is_next, start_at}
 use Rattle.meaning.specs.OperatorTokens.{operator_token, unary_token}
 use Rattle.meaning.specs.WellFormed.{operator_level, level, primary_level, unary_level, IsPrimary, has_bare_literal, has_bare_literal_form}
-use Rattle.meaning.specs.Grammar.{as_expression, as_value, SpellsExpression, SpellsForm}
+use Rattle.meaning.specs.Grammar.{as_expression, as_value, SpellsExpression, SpellsForm, as_constraint, CanOperate}
 use Rattle.tree_reader.specs.Reading.{Read, ◌>>=◌, behind, steps, spanned}
 use Rattle.tree_reader.specs.Reader.{Readers, unary_operator, binary_operator, of_next, go_on, read_unary, read_operator, read_operators, read_expression_of, read_value_of}
 use Rattle.tree_reader.specs.Claims.{StandsIn, IsLooser, CannotGoOn, AreComplete}
@@ -27,13 +27,14 @@ use Rattle.std.proofs.lemmas.Bool.{le-leb, lt-leb, leb-true}
 use Rattle.std.specs.Prelude.{is_some}
 use Rattle.tree_reader.proofs.CompletePrimaries.{read_primary-complete}
 
-unary_of : (op : UnaryOperator) → unary_operator (unary_token op) ≡ Some op
-unary_of Plus = refl
-unary_of Negate = refl
-unary_of Not = refl
-unary_of Complement = refl
-unary_of Address = refl
-unary_of Receive = refl
+unary_of : (op : UnaryOperator) → CanOperate as_expression op → unary_operator (unary_token op) ≡ Some op
+unary_of Plus h = refl
+unary_of Negate h = refl
+unary_of Not h = refl
+unary_of Complement h = refl
+unary_of Address h = refl
+unary_of Receive h = refl
+unary_of Tilde h = let p : as_expression ≡ as_constraint = h in cc
 
 unary_no_star : (op : UnaryOperator) → same_kind (unary_token op) Star ≡ false
 unfolding same_kind
@@ -43,6 +44,7 @@ unary_no_star Not = refl
 unary_no_star Complement = refl
 unary_no_star Address = refl
 unary_no_star Receive = refl
+unary_no_star Tilde = refl
 
 primary_no_unary : (k : TokenKind) → begins_primary k ≡ true → unary_operator k ≡ None
 primary_no_unary identifier_kind e = refl
@@ -135,7 +137,7 @@ unfolding has_bare_literal has_bare_literal_form
 right_stands true op l r span h = let parts = or_parts (has_bare_literal l) (has_bare_literal r) h in parts.1
 right_stands false op l r span h = tt
 
-module _ (text : List ℕ) (r : Readers) (below : ℕ) (complete : AreComplete text below r) where
+module _ (text : GoText) (r : Readers) (below : ℕ) (complete : AreComplete text below r) where
   read_unary-primary : (header : Bool) (least : ℕ) (from to : Cursor) (e : Expression)
       → SpellsExpression text as_expression e from to
       → IsPrimary e
@@ -168,7 +170,7 @@ module _ (text : List ℕ) (r : Readers) (below : ℕ) (complete : AreComplete t
       (at_unary header least to c)) (ap Some (node_is (star_expression e) span from to s.1 s.2)))
   read_unary-complete header least from to (expression_node (unary_expression op e) span) s h stand d c =
       let rule = s.0.1.1 in
-      let found : of_next unary_operator from ≡ Some op = of_next_gives rule.1 unary_operator ∙ unary_of op in
+      let found : of_next unary_operator from ≡ Some op = of_next_gives rule.1 unary_operator ∙ unary_of op s.0.0 in
       when_false _ (stands_other rule.1 Star (unary_no_star op))
       (rw found (step _ (ap (r.read_expression header unary_level) (behind_gives rule.1)
       ∙ complete.expression header unary_level rule.0 to e rule.2 s.0.1.0 stand (omega arith)

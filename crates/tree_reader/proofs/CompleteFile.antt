@@ -3,25 +3,29 @@ use Rattle.std.proofs.Common.{◌≡◌, ℕ, zero, suc, ◌+◌, ◌-◌, ◌�
 use Rattle.lexer.specs.Spelling.{same_kind}
 use Rattle.lexer.specs.declared.token.Token.{Token}
 use Rattle.lexer.specs.declared.token.TokenKind.{TokenKind}
-use Rattle.lexer.specs.declared.token.TokenKind.TheVariants.{Identifier as identifier_kind, InterpretedString as interpreted_string_token, RawString as raw_string_token, ConstKeyword, FuncKeyword, ImportKeyword, TypeKeyword, VarKeyword, LeftParenthesis, RightParenthesis, LeftBrace}
+use Rattle.lexer.specs.declared.token.TokenKind.TheVariants.{Identifier as identifier_kind, InterpretedString as interpreted_string_token, RawString as raw_string_token, ConstKeyword, FuncKeyword, ImportKeyword, TypeKeyword, VarKeyword, LeftParenthesis, RightParenthesis, LeftBrace, Dot, LeftBracket}
 use Rattle.tree.specs.declared.span.Span.{Span}
 use Rattle.tree.specs.declared.operator.DeclKeyword.{DeclKeyword}
 use Rattle.tree.specs.declared.operator.DeclKeyword.TheVariants.{Const, Var, «Type» as type_keyword}
-use Rattle.tree.specs.Syntax.{Identifier, Parameters, Block, Function, TopLevelDeclaration, function_declaration, general_declaration, declaration_of, ImportSpec, ImportDeclaration, SourceFile}
-use Rattle.tree.specs.Depth.{receiver_depth, body_depth, function_depth, top_level_depth, top_levels_depth, declaration_depth, file_depth}
-use Rattle.meaning.specs.Cursor.{Cursor, ◌⨾◌, TakesToken, token, string_token, chosen, first_is, is_next, semicolon, start_at, spanning, optional_identifier}
+use Rattle.tree.specs.Syntax.{Identifier, Signature, signature_of, Parameters, Block, Function, TopLevelDeclaration, function_declaration, general_declaration, declaration_of, ImportSpec, ImportDeclaration, SourceFile, no_parameter, named_and, unnamed_and, name_alone_and}
+use Rattle.tree.specs.Depth.{receiver_depth, body_depth, function_depth, top_level_depth, top_levels_depth, declaration_depth, file_depth, parameters_depth}
+use Rattle.meaning.specs.Cursor.{GoText, Cursor, ◌⨾◌, TakesToken, token, string_token, chosen, first_is, is_next, semicolon, start_at, spanning, optional_identifier}
 use Rattle.meaning.specs.OperatorTokens.{keyword_token}
-use Rattle.meaning.specs.Grammar.{in_parentheses, SpellsImportSpec, SpellsImportSpecs, SpellsOneImport, SpellsImports, SpellsReceiver, SpellsBody, SpellsFunction, SpellsTopLevel, SpellsTopLevels, SpellsFile, SpellsDeclaration}
+use Rattle.meaning.specs.Grammar.{in_parentheses, SpellsImportSpec, SpellsImportSpecs, SpellsOneImport, SpellsImports, SpellsReceiver, SpellsBody, SpellsFunction, SpellsTopLevel, SpellsTopLevels, SpellsFile, SpellsDeclaration, IsSecond, IsNoMethod, in_brackets, type_parameters, import_name, dot_text, SpellsSignature, SpellsTypeParameters}
 use Rattle.meaning.specs.declared.TheConstants.{MOST_DEPTH}
-use Rattle.tree_reader.specs.Reading.{stands, behind, read_identifier}
-use Rattle.tree_reader.specs.Reader.{declaration_keyword, is_string, is_end, top, read_signature, read_import_spec, read_import_specs, read_import, read_imports, read_receiver_within, read_body_within, read_function_declaration_within, read_top_level_within, is_over, read_top_levels_within, read_file_within, read_file}
-use Rattle.tree_reader.proofs.Taken.{step, when_true, when_false, only_true, behind_gives, next_gives, of_next_gives, stands_gives, stands_other, stands_not, take_gives, take_semicolon_gives, before_semicolon, span_is, read_identifier-complete, read_optional_identifier-complete}
-use Rattle.tree_reader.proofs.Lengths.{Shorter, NoLonger, weak, both, first_then, enclosed, same_length, never_longer, token_shorter, chosen_longest, spanning_shorter, where_no_longer, string_shorter, semicolon_longest, identifier_shorter, optional_identifier_longest, items_longest, signature_longest, statements_longest, declaration_shorter}
+use Rattle.tree_reader.specs.Reading.{stands, behind, read_identifier, Read, span_between}
+use Rattle.tree_reader.specs.Reader.{declaration_keyword, is_string, is_end, top, read_signature, read_import_spec, read_import_specs, read_import, read_imports, read_receiver_within, read_body_within, read_function_declaration_within, read_top_level_within, is_over, read_top_levels_within, read_file_within, read_file, is_second, is_no_method, read_import_name, read_function_parameters}
+use Rattle.tree_reader.proofs.Taken.{step, when_true, when_false, only_true, behind_gives, next_gives, of_next_gives, stands_gives, stands_other, stands_not, take_gives, take_semicolon_gives, before_semicolon, span_is, read_identifier-complete, read_optional_identifier-complete, and_true, and_not}
+use Rattle.tree_reader.proofs.Lengths.{Shorter, NoLonger, weak, both, first_then, enclosed, same_length, never_longer, token_shorter, chosen_longest, spanning_shorter, where_no_longer, string_shorter, semicolon_longest, identifier_shorter, optional_identifier_longest, items_longest, signature_longest, statements_longest, declaration_shorter, type_parameters_longest, type_items_longest}
 use Rattle.tree_reader.proofs.CompleteLists.{closing_is_end, read_block-complete}
 use Rattle.tree_reader.proofs.CompleteSignatures.{read_parameters-complete, read_signature-complete}
 use Rattle.tree_reader.proofs.CompleteDeclarations.{read_declaration-complete}
 use Rattle.tree_reader.proofs.CompleteStatements.{keyword_given}
 use Rattle.tree_reader.proofs.Complete.{are_complete}
+use Rattle.std.specs.Prelude.{◌&&◌}
+use Rattle.meaning.specs.WellFormed.{end_constrained}
+use Rattle.tree_reader.proofs.CompleteIndexes.{second_true}
+use Rattle.tree_reader.proofs.CompleteInstances.{read_type_parameters-complete}
 
 string-behind : (from to : Cursor) → string_token from to → behind from ≡ to
 string-behind from to (inl t) = behind_gives t
@@ -36,6 +40,7 @@ abbrev begins_spec : TokenKind → Bool
 begins_spec identifier_kind = true
 begins_spec interpreted_string_token = true
 begins_spec raw_string_token = true
+begins_spec Dot = true
 begins_spec _ = false
 
 -- what stands behind the imports
@@ -61,17 +66,43 @@ no_func Const = refl
 no_func Var = refl
 no_func type_keyword = refl
 
-module _ (text : List ℕ) where
+module _ (text : GoText) where
   import_spec-begins : (i : ImportSpec) (from to : Cursor) → SpellsImportSpec text i from to → is_next begins_spec from ≡ true
   import_spec-begins i from to s = begins i.name s.1.0.1
     where
-      begins : (n : Option Identifier) → optional_identifier text n from s.1.0.0 → is_next begins_spec from ≡ true
+      begins : (n : Option Identifier) → import_name text n from s.1.0.0 → is_next begins_spec from ≡ true
       begins None p = ap (is_next begins_spec) p ∙ string-next begins_spec s.1.0.0 to s.1.0.2.0 refl
-      begins (Some n) p = next_gives p.0.0 begins_spec
+      begins (Some n) (inl p) = next_gives p.0.0 begins_spec
+      begins (Some n) (inr p) = next_gives p.1.1.0 begins_spec
+
+  import_name-longest : (n : Option Identifier) → NoLonger (import_name text n)
+  import_name-longest None from to s = same_length from to s
+  import_name-longest (Some n) from to (inl s) = weak (identifier_shorter text n) from to s
+  import_name-longest (Some n) from to (inr s) = weak (token_shorter Dot) from to s.1.1.0
+
+  import_name-complete : (n : Option Identifier) (from to : Cursor)
+      → import_name text n from to
+      → stands identifier_kind to ≡ false
+      → stands Dot to ≡ false
+      → read_import_name text from ≡ Some (n, to)
+  unfolding read_import_name same_kind
+  import_name-complete None from to p none dot =
+      when_false _ (and_not (is_second text.edition) (ap (stands Dot) p ∙ dot))
+      (read_optional_identifier-complete text None from to p none)
+  import_name-complete (Some n) from to (inl s) none dot =
+      when_false _ (and_not (is_second text.edition) (stands_other s.0.0 Dot refl))
+      (read_optional_identifier-complete text (Some n) from to s none)
+  import_name-complete (Some n) from to (inr s) none dot =
+      let point = s.1.1.0 in
+      let name : (record { text = dot_text; span = span_between from (behind from) }, behind from) ≡ (n, to) =
+      ap (λ c. (record { text = dot_text; span = span_between from c }, c)) (behind_gives point)
+      ∙ (λ i. (record { text = sym s.1.0 i; span = span_is n.span from to s.1.1.1 s.1.1.2 i }, to)) in
+      when_true _ (and_true (second_true text.edition s.0) (stands_gives point))
+      (ap (λ (x : Identifier × Cursor). Some (Some x.0, x.1)) name)
 
   import_spec-shorter : (i : ImportSpec) → Shorter (SpellsImportSpec text i)
   import_spec-shorter i from to s =
-      omega (arith, optional_identifier_longest text i.name from s.1.0.0 s.1.0.1, string_shorter s.1.0.0 to s.1.0.2.0)
+      omega (arith, import_name-longest i.name from s.1.0.0 s.1.0.1, string_shorter s.1.0.0 to s.1.0.2.0)
 
   import_specs-longest : (is : List ImportSpec) → NoLonger (SpellsImportSpecs text is)
   import_specs-longest [] = same_length
@@ -93,8 +124,9 @@ module _ (text : List ℕ) where
       let p = rest.2.1 in
       let q = rest.2.2 in
       let no_name = stands_not is_string identifier_kind rest.0 refl (string-next is_string rest.0 to rest.2.0 refl) in
-      let path : slice_range text (start_at rest.0 + 1) (to.end - 1) ≡ i.path = (λ j. slice_range text (sym p j + 1) (sym q j - 1)) ∙ sym s.0 in
-      step _ (read_optional_identifier-complete text i.name from rest.0 rest.1 no_name) (only_true (string-next is_string rest.0 to rest.2.0 refl) (rw (string-behind rest.0 to rest.2.0) (λ j. Some (record { name = i.name; path = path j; path_span = span_is i.path_span rest.0 to p q j; span = span_is i.span from to s.1.1 s.1.2 j }, to))))
+      let no_dot = stands_not is_string Dot rest.0 refl (string-next is_string rest.0 to rest.2.0 refl) in
+      let path : slice_range text.bytes (start_at rest.0 + 1) (to.end - 1) ≡ i.path = (λ j. slice_range text.bytes (sym p j + 1) (sym q j - 1)) ∙ sym s.0 in
+      step _ (import_name-complete i.name from rest.0 rest.1 no_name no_dot) (only_true (string-next is_string rest.0 to rest.2.0 refl) (rw (string-behind rest.0 to rest.2.0) (λ j. Some (record { name = i.name; path = path j; path_span = span_is i.path_span rest.0 to p q j; span = span_is i.span from to s.1.1 s.1.2 j }, to))))
 
   import_specs-complete : (n : ℕ) (is : List ImportSpec) (from to : Cursor) {after : Cursor} → SpellsImportSpecs text is from to → TakesToken RightParenthesis to after → length from.left < n → read_import_specs text n from ≡ Some (is, to)
   unfolding read_import_specs
@@ -144,7 +176,7 @@ module _ (text : List ℕ) where
 
   top_level-shorter : (d : TopLevelDeclaration) → Shorter (SpellsTopLevel text d)
   top_level-shorter (function_declaration f) =
-      spanning_shorter (first_then (token_shorter _) (both (receiver-longest f.receiver) (both (weak (identifier_shorter text f.name)) (both (signature_longest text f.signature) (body-longest f.body)))))
+      spanning_shorter (first_then (token_shorter _) (both (receiver-longest f.receiver) (both (weak (identifier_shorter text f.name)) (both (type_parameters_longest (IsSecond text.edition × IsNoMethod f.receiver) f.type_parameters (type_items_longest text true f.type_parameters)) (both (signature_longest text f.signature) (body-longest f.body))))))
   top_level-shorter (general_declaration d) = declaration_shorter text d
 
   over : (place : Cursor) → place.left ≡ [] → is_over text place ≡ true
@@ -160,7 +192,11 @@ module _ (text : List ℕ) where
   no_import [] from to s e = ap (λ place. is_next (λ k. same_kind k ImportKeyword) place) s ∙ ap (first_is (λ k. same_kind k ImportKeyword)) e
   no_import (x ∷ xs) from to s e = stands_not begins_top_level ImportKeyword from refl (top_level-begins x from s.0 s.1)
 
-module _ (text : List ℕ) (most : ℕ) where
+module _ (text : GoText) (most : ℕ) where
+  signature_no_bracket : (signature : Signature) (from to : Cursor) → SpellsSignature text signature from to → stands LeftBracket from ≡ false
+  unfolding SpellsSignature same_kind
+  signature_no_bracket (signature_of ps rs brackets) from to s = stands_other s.1.1.1 LeftBracket refl
+
   receiver-complete : (receiver : Option Parameters) (from to : Cursor) {after : Cursor} → SpellsReceiver text receiver from to → receiver_depth receiver ≤ most → TakesToken identifier_kind to after → read_receiver_within text most from ≡ Some (receiver, to)
   unfolding read_receiver_within same_kind
   receiver-complete None from to s d t =
@@ -175,21 +211,59 @@ module _ (text : List ℕ) (most : ℕ) where
   body-complete (Some b) from to s d e =
       when_true _ (stands_gives s.0.1) (step _ (read_block-complete text (top text most) most (are_complete text most) b.statements b.braces from to s d) refl)
 
+  -- type parameters of what has no receiver
+  abbrev parameters_at : Option Parameters → Cursor → Read Parameters
+  parameters_at receiver place = read_function_parameters text most receiver place
+
+  no_method : (receiver : Option Parameters) → IsNoMethod receiver → is_no_method receiver ≡ true
+  no_method None h = refl
+  no_method (Some ps) h = absurd h
+
+  parameters-read : (receiver : Option Parameters) (ps : Parameters) (from to : Cursor)
+      → IsSecond text.edition
+      → IsNoMethod receiver
+      → end_constrained ps ≡ true
+      → in_brackets (SpellsTypeParameters text true ps) from to
+      → parameters_depth ps ≤ most
+      → parameters_at receiver from ≡ Some (ps, to)
+  unfolding read_function_parameters
+  parameters-read receiver ps from to second none h s d =
+      when_true _ (and_true (second_true text.edition second) (and_true (no_method receiver none) (stands_gives s.1)))
+      (read_type_parameters-complete text (top text most) most (are_complete text most) ps from to h s d)
+
+  parameters-complete : (receiver : Option Parameters) (ps : Parameters) (from to : Cursor)
+      → type_parameters (IsSecond text.edition × IsNoMethod receiver) ps (SpellsTypeParameters text true ps) from to
+      → stands LeftBracket to ≡ false
+      → parameters_depth ps ≤ most
+      → parameters_at receiver from ≡ Some (ps, to)
+  unfolding read_function_parameters
+  parameters-complete receiver no_parameter from to p none d =
+      when_false _ (and_not (is_second text.edition) (and_not (is_no_method receiver) (ap (stands LeftBracket) p ∙ none)))
+      (ap (λ c. Some (no_parameter, c)) p)
+  parameters-complete receiver (named_and n ellipsis t ps) from to s none d =
+      parameters-read receiver (named_and n ellipsis t ps) from to s.0.0 s.0.1 s.1.0 s.1.1 d
+  parameters-complete receiver (unnamed_and ellipsis t ps) from to s none d =
+      parameters-read receiver (unnamed_and ellipsis t ps) from to s.0.0 s.0.1 s.1.0 s.1.1 d
+  parameters-complete receiver (name_alone_and n ps) from to s none d =
+      parameters-read receiver (name_alone_and n ps) from to s.0.0 s.0.1 s.1.0 s.1.1 d
+
   -- the parts of a function, one after the other
-  function_after : {kind : TokenKind} (f : Function) (from start name signature body to : Cursor) → TakesToken kind from start → read_receiver_within text most start ≡ Some (f.receiver, name) → read_identifier text name ≡ Some (f.name, signature) → read_signature text (top text most) signature ≡ Some (f.signature, body) → read_body_within text most body ≡ Some (f.body, to) → f.span.start ≡ start_at from → f.span.end ≡ to.end → read_function_declaration_within text most from ≡ Some (f, to)
+  function_after : {kind : TokenKind} (f : Function) (from start name parameters signature body to : Cursor) → TakesToken kind from start → read_receiver_within text most start ≡ Some (f.receiver, name) → read_identifier text name ≡ Some (f.name, parameters) → parameters_at f.receiver parameters ≡ Some (f.type_parameters, signature) → read_signature text (top text most) signature ≡ Some (f.signature, body) → read_body_within text most body ≡ Some (f.body, to) → f.span.start ≡ start_at from → f.span.end ≡ to.end → read_function_declaration_within text most from ≡ Some (f, to)
   unfolding read_function_declaration_within
-  function_after f from start name signature body to t receiver named signed bodied p q =
-      step _ (ap (read_receiver_within text most) (behind_gives t) ∙ receiver) (step _ named (step _ signed (step _ bodied (λ j. Some (record { receiver = f.receiver; name = f.name; signature = f.signature; body = f.body; span = span_is f.span from to p q j }, to)))))
+  function_after f from start name parameters signature body to t receiver named typed signed bodied p q =
+      step _ (ap (read_receiver_within text most) (behind_gives t) ∙ receiver) (step _ named (step _ typed (step _ signed (step _ bodied (λ j. Some (record { receiver = f.receiver; name = f.name; type_parameters = f.type_parameters; signature = f.signature; body = f.body; span = span_is f.span from to p q j }, to))))))
 
   function-complete : (f : Function) (from to : Cursor) → SpellsFunction text f from to → function_depth f ≤ most → is_next is_end to ≡ true → read_function_declaration_within text most from ≡ Some (f, to)
   function-complete f from to s d e =
       let word = s.0 in
       let name = word.2.2 in
-      let signature = name.2 in
+      let parameters = name.2 in
+      let signature = parameters.2 in
       let receiver = receiver-complete f.receiver word.0 word.2.0 word.2.1 (omega arith) name.1.0.0 in
-      let read = read_signature-complete text (top text most) most (are_complete text most) f.signature name.0 signature.0 signature.1 (omega arith) in
+      let read = read_signature-complete text (top text most) most (are_complete text most) f.signature parameters.0 signature.0 signature.1 (omega arith) in
+      let typed = parameters-complete f.receiver f.type_parameters name.0 parameters.0 parameters.1 (signature_no_bracket f.signature parameters.0 signature.0 signature.1) (omega arith) in
       let body = body-complete f.body signature.0 to signature.2 (omega arith) e in
-      function_after f from word.0 word.2.0 name.0 signature.0 to word.1 receiver (read_identifier-complete text f.name word.2.0 name.0 name.1) read body s.1 s.2
+      function_after f from word.0 word.2.0 name.0 parameters.0 signature.0 to word.1 receiver (read_identifier-complete text f.name word.2.0 name.0 name.1) typed read body s.1 s.2
 
   top_level-complete : (d : TopLevelDeclaration) (from to : Cursor) → SpellsTopLevel text d from to → top_level_depth d ≤ most → is_next is_end to ≡ true → read_top_level_within text most from ≡ Some (d, to)
   unfolding read_top_level_within SpellsDeclaration declaration_depth
@@ -220,7 +294,7 @@ module _ (text : List ℕ) (most : ℕ) where
       let declarations = top_levels-complete (suc (length parts.0.left)) file.declarations parts.0 to parts.2 e d (omega arith) in
       step _ (take_gives word.1) (step _ (read_identifier-complete text file.package_name word.0 name.0 name.1) (step _ (take_semicolon_gives end.1) (step _ imports (step _ declarations (λ j. Some (record { package_name = file.package_name; imports = file.imports; declarations = file.declarations; span = span_is file.span from to s.1 s.2 j }, to))))))
 
-module _ (text : List ℕ) where
+module _ (text : GoText) where
   -- with the limit that the tree of a text has
   pub read_file-complete : (from to : Cursor) (file : SourceFile) → SpellsFile text file from to → to.left ≡ [] → file_depth file ≤ MOST_DEPTH → read_file text from ≡ Some (file, to)
   read_file-complete = read_file_within-complete text MOST_DEPTH

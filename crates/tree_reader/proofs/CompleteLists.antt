@@ -7,7 +7,7 @@ use Rattle.lexer.specs.declared.token.TokenKind.TheVariants.{Identifier as ident
 use Rattle.tree.specs.declared.span.Span.{Span}
 use Rattle.tree.specs.Syntax.{Expression, expression_node, name_expression, key_value, Expressions, no_expression, expression_and, OptionalExpression, missing_expression, present_expression, Statements, no_statement, statement_and}
 use Rattle.tree.specs.Depth.{expression_depth, below_expression, expressions_depth, optional_depth, statements_depth}
-use Rattle.meaning.specs.Cursor.{Cursor, TakesToken, token, optional, only_if, is_next, is_closing}
+use Rattle.meaning.specs.Cursor.{GoText, Cursor, TakesToken, token, optional, only_if, is_next, is_closing}
 use Rattle.meaning.specs.WellFormed.{FitHeader, OptionalFitsHeader}
 use Rattle.meaning.specs.Grammar.{Position, as_expression, as_value, as_element, arguments, elements, in_braces, block, SpellsExpression, SpellsForm, SpellsExpressions, SpellsMore, SpellsOptional, SpellsStatements}
 use Rattle.tree_reader.specs.Reading.{Read, ◌>>=◌, stands, behind, past, take_semicolon, steps}
@@ -116,7 +116,7 @@ pub beginning_is_no_end : (k : TokenKind) → (not (begins_statement k) || not (
 beginning_is_no_end identifier_kind = refl
 beginning_is_no_end _ = refl
 
-module _ (text : List ℕ) where
+module _ (text : GoText) where
   pub more_follows : (test : TokenKind → Bool) (place : Position) (es : Expressions) (from to : Cursor)
       → test Comma ≡ true
       → SpellsMore text place es from to

@@ -9,19 +9,23 @@ use Rattle.tree.specs.declared.span.Span.{Span}
 use Rattle.tree.specs.declared.operator.BasicLitKind.{BasicLitKind}
 use Rattle.tree.specs.declared.operator.BasicLitKind.TheVariants.{Number, Rune, InterpretedString, RawString}
 use Rattle.tree.specs.declared.operator.ChanDirection.TheVariants.{Both, Send, Receive as receive_only}
-use Rattle.tree.specs.Syntax.{Expression, expression_node, name_expression, basic_literal, function_literal, composite_literal, literal_value, key_value, parenthesized, selector_expression, index_expression, slice_expression, type_assertion, call_expression, star_expression, unary_expression, binary_expression, array_type, ellipsis_array_type, slice_type, map_type, channel_type, function_type, struct_type, interface_type, Expressions, OptionalExpression, missing_expression, present_expression, Signature, Statements}
+use Rattle.tree.specs.Syntax.{Expression, expression_node, name_expression, basic_literal, function_literal, composite_literal, literal_value, key_value, parenthesized, selector_expression, index_expression, instance_expression, slice_expression, type_assertion, call_expression, star_expression, unary_expression, binary_expression, array_type, ellipsis_array_type, slice_type, map_type, channel_type, function_type, struct_type, interface_type, Expressions, OptionalExpression, missing_expression, present_expression, Signature, Statements}
 use Rattle.tree.specs.Depth.{expression_depth, below_expression, expressions_depth, optional_depth, signature_depth, statements_depth}
-use Rattle.meaning.specs.Cursor.{Cursor, TakesToken, ◌⨾◌, token, is_next, word, start_at}
+use Rattle.meaning.specs.Cursor.{GoText, Cursor, TakesToken, ◌⨾◌, token, is_next, word, start_at}
 use Rattle.meaning.specs.OperatorTokens.{literal_token, can_begin_type, is_left_brace}
 use Rattle.meaning.specs.WellFormed.{IsPrimary, is_name, is_type_name, takes_elements, has_bare_literal, has_bare_literal_form}
 use Rattle.meaning.specs.Grammar.{as_type, as_expression, as_element, arguments, elements, third_bound, in_parentheses, in_brackets, in_braces, block, end_of_type, SpellsExpression, SpellsForm, SpellsExpressions, SpellsOptional, SpellsSignature, SpellsStatements}
 use Rattle.tree_reader.specs.Reading.{Read, ◌>>=◌, stands, behind, steps, spanned, word_between}
-use Rattle.tree_reader.specs.Reader.{Readers, literal_kind, of_next, names_type, read_any, read_expression_unless, read_arguments, read_signature, read_function, read_typed, read_operand, read_slice, read_index, read_call, read_assertion, read_selector, read_composite, read_suffix, go_on, read_suffixes, read_primary}
+use Rattle.tree_reader.specs.Reader.{Readers, literal_kind, of_next, takes_braces, read_any, read_arguments, read_signature, read_function, read_typed, read_operand, read_index, read_call, read_assertion, read_selector, read_composite, read_suffix, go_on, read_suffixes, read_primary}
 use Rattle.tree_reader.specs.Claims.{StandsIn, CannotGoOn, AreComplete}
-use Rattle.tree_reader.proofs.Taken.{step, when_true, when_false, only_true, and_true, and_false, and_not, take_gives, stands_gives, stands_other, behind_gives, next_gives, of_next_gives, stands_not, stands_none, of_next_none, node_is}
+use Rattle.tree_reader.proofs.Taken.{step, when_true, when_false, only_true, and_true, and_false, and_not, or_left, take_gives, stands_gives, stands_other, behind_gives, next_gives, of_next_gives, stands_not, stands_none, of_next_none, node_is}
 use Rattle.tree_reader.proofs.Lengths.{token_shorter, expression_shorter, identifier_shorter}
 use Rattle.tree_reader.proofs.Begins.{begins_expression, type_begins, expression_begins, operator_low}
 use Rattle.tree_reader.proofs.CompleteLists.{ends_expression, ended, read_expression_unless-complete, read_any-complete, read_braced_elements-complete, read_arguments-complete, read_block-complete}
+use Rattle.tree_reader.proofs.Lengths.{after_instance_longest}
+use Rattle.tree_reader.proofs.CompleteIndexes.{second_true, read_index-complete, read_slice-complete, read_instance-complete}
+use Rattle.meaning.specs.WellFormed.{is_type}
+use Rattle.meaning.specs.Cursor.{identifier}
 use Rattle.tree_reader.proofs.CompleteSignatures.{read_signature-complete}
 use Rattle.std.proofs.lemmas.Bool.{le-leb}
 use Rattle.std.proofs.Common.{◌⊎◌}
@@ -29,109 +33,7 @@ use Rattle.meaning.specs.Cursor.{Rule}
 use Rattle.tree_reader.proofs.Lengths.{weak, both, first_then, enclosed, arguments_longest, elements_longest, third_bound_longest, expressions_longest, optional_expression_longest}
 use Rattle.tree_reader.proofs.CompleteTypes.{is_literal_type, begins_literal_type, literal_type_begins_with, name_read, read_literal_type-complete, read_selector-complete}
 
-module _ (text : List ℕ) (r : Readers) (below : ℕ) (complete : AreComplete text below r) where
-  read_index-complete : (e i : Expression) (span : Span) (from place to : Cursor)
-      → in_brackets (SpellsExpression text as_expression i) place to
-      → expression_depth i ≤ below
-      → span.start ≡ start_at from
-      → span.end ≡ to.end
-      → read_index text r below from e place ≡ Some (expression_node (index_expression e i) span, to)
-  unfolding read_index SpellsOptional optional_depth same_kind
-  read_index-complete e i span from place to s d p q =
-      step _ (ap (read_expression_unless text r Colon false) (behind_gives s.1)
-      ∙ read_expression_unless-complete text r below complete Colon false
-      (present_expression i) s.0 s.2.0 s.2.1 refl (λ impossible. cc) tt d
-      (ended false 1 s.2.0 (next_gives s.2.2 ends_expression)))
-      (when_false _ (stands_other s.2.2 Colon refl)
-      (step _ (take_gives s.2.2) (ap Some (node_is (index_expression e i) span from to p q))))
-
-  abbrev bound_at : Cursor → Read OptionalExpression
-  bound_at at =
-      if stands Colon at then Some (missing_expression, at) else read_expression_unless text r RightBracket false at
-
-  bound-complete : (e : OptionalExpression) (from to : Cursor)
-      → SpellsOptional text as_expression e from to
-      → optional_depth e ≤ below
-      → (stands Colon to ≡ true) ⊎ ((stands Colon to ≡ false) × (stands RightBracket to ≡ true))
-      → is_next ends_expression to ≡ true
-      → bound_at from ≡ Some (e, to)
-  unfolding SpellsOptional optional_depth
-  bound-complete missing_expression from to p d (inl c) h =
-      when_true _ (ap (stands Colon) p ∙ c) (λ i. Some (missing_expression, p i))
-  bound-complete missing_expression from to p d (inr c) h =
-      when_false _ (ap (stands Colon) p ∙ c.0)
-      (read_expression_unless-complete text r below complete RightBracket false missing_expression from to p refl
-      (λ missing. c.1) tt (omega arith) (ended false 1 to h))
-  bound-complete (present_expression e) from to s d c h =
-      when_false _ (stands_not begins_expression Colon from refl (expression_begins text e from to s))
-      (read_expression_unless-complete text r below complete RightBracket false
-      (present_expression e) from to s refl (λ impossible. cc) tt d (ended false 1 to h))
-
-  abbrev most_at : Cursor → Read OptionalExpression
-  most_at at =
-      if stands Colon at then (do
-        bound ← read_any text r (behind at)
-        Some (present_expression bound.0, bound.1)
-      ) else Some (missing_expression, at)
-
-  most-complete : (e : OptionalExpression) (from close to : Cursor)
-      → third_bound e (SpellsOptional text as_expression e) from close
-      → TakesToken RightBracket close to
-      → optional_depth e ≤ below
-      → most_at from ≡ Some (e, close)
-  unfolding SpellsOptional optional_depth same_kind
-  most-complete missing_expression from close to p t d =
-      when_false _ (ap (stands Colon) p ∙ stands_other t Colon refl) (λ i. Some (missing_expression, p i))
-  most-complete (present_expression e) from close to s t d =
-      when_true _ (stands_gives s.1)
-      (step _ (ap (read_any text r) (behind_gives s.1) ∙ read_any-complete text r below complete e s.0 close s.2 d
-      (next_gives t ends_expression)) refl)
-
-  most_follows : (e : OptionalExpression) (from close to : Cursor)
-      → third_bound e (SpellsOptional text as_expression e) from close
-      → TakesToken RightBracket close to
-      → ((stands Colon from ≡ true) ⊎ ((stands Colon from ≡ false) × (stands RightBracket from ≡ true)))
-      × (is_next ends_expression from ≡ true)
-  unfolding same_kind
-  most_follows missing_expression from close to p t = (
-    inr (
-      ap (stands Colon) p ∙ stands_other t Colon refl,
-      ap (stands RightBracket) p
-          ∙ stands_gives t,
-    ),
-    ap (is_next ends_expression) p ∙ next_gives t ends_expression,
-  )
-  most_follows (present_expression e) from close to s t = (inl (stands_gives s.1), next_gives s.1 ends_expression)
-
-  abbrev SpellsSlice : OptionalExpression → OptionalExpression → OptionalExpression → Rule
-  SpellsSlice low high most =
-      in_brackets (SpellsOptional text as_expression low ⨾ token Colon ⨾ SpellsOptional text as_expression high
-      ⨾ third_bound most (SpellsOptional text as_expression most))
-
-  read_slice-complete : (e : Expression) (low high most : OptionalExpression) (span : Span) (from place to : Cursor)
-      → SpellsSlice low high most place to
-      → optional_depth low ≤ below
-      → optional_depth high ≤ below
-      → optional_depth most ≤ below
-      → span.start ≡ start_at from
-      → span.end ≡ to.end
-      → read_index text r below from e place ≡ Some (expression_node (slice_expression e low high most) span, to)
-  unfolding read_index read_slice same_kind
-  read_slice-complete e low high most span from place to s d k l p q =
-      let bounds = s.2.1 in
-      let colon = bounds.2.1 in
-      let close = s.2.2 in
-      let last = bounds.2.2 in
-      let follows = most_follows most last.0 s.2.0 to last.2 close in
-      step _ (ap (read_expression_unless text r Colon false) (behind_gives s.1)
-      ∙ read_expression_unless-complete text r below complete Colon false low s.0 bounds.0 bounds.1 refl
-      (λ missing. stands_gives colon) tt d (ended false 1 bounds.0 (next_gives colon ends_expression)))
-      (when_true _ (stands_gives colon)
-      (step _ (ap bound_at (behind_gives colon)
-      ∙ bound-complete high bounds.2.0 last.0 last.1 k follows.0 follows.1)
-      (step _ (most-complete most last.0 s.2.0 to last.2 close l)
-      (step _ (take_gives close) (ap Some (node_is (slice_expression e low high most) span from to p q))))))
-
+module _ (text : GoText) (r : Readers) (below : ℕ) (complete : AreComplete text below r) where
   read_call-complete : (e : Expression) (es : Expressions) (ellipsis : Bool) (span : Span) (from place to : Cursor)
       → in_parentheses (arguments es ellipsis (SpellsExpressions text as_expression es)) place to
       → expressions_depth es ≤ below
@@ -373,7 +275,7 @@ module _ (text : List ℕ) (r : Readers) (below : ℕ) (complete : AreComplete t
 
   suffix-index : (header : Bool) (from : Cursor) (e : Expression) (place to : Cursor)
       → TakesToken LeftBracket place to
-      → read_suffix text r below header from e place ≡ Some (read_index text r below from e place)
+      → read_suffix text r below header from e place ≡ Some (read_index text r from e place)
   unfolding same_kind
   suffix-index header from e place to t = when_false _ (stands_other t Dot refl) (when_true _ (stands_gives t) refl)
 
@@ -389,7 +291,7 @@ module _ (text : List ℕ) (r : Readers) (below : ℕ) (complete : AreComplete t
   suffix-composite : (header : Bool) (from : Cursor) (e : Expression) (place to : Cursor)
       → TakesToken LeftBrace place to
       → header ≡ false
-      → names_type e ≡ true
+      → takes_braces text.edition e ≡ true
       → read_suffix text r below header from e place ≡ Some (read_composite text r below from e place)
   unfolding same_kind
   suffix-composite header from e place to t h n =
@@ -409,6 +311,8 @@ module _ (text : List ℕ) (r : Readers) (below : ℕ) (complete : AreComplete t
   type_name_primary : (t : Expression) → is_type_name t ≡ true → IsPrimary t
   type_name_primary (expression_node (name_expression name) span) h = refl
   type_name_primary (expression_node (selector_expression e n) span) h = refl
+  type_name_primary (expression_node (index_expression e i) span) h = refl
+  type_name_primary (expression_node (instance_expression e es) span) h = refl
   type_name_primary (expression_node _ span) h = absurd (true≢false (sym h))
 
   -- the name of a type stands as an expression before the braces of a literal
@@ -418,23 +322,33 @@ module _ (text : List ℕ) (r : Readers) (below : ℕ) (complete : AreComplete t
       → SpellsExpression text as_expression t from to
   unfolding SpellsExpression SpellsForm
   type_name_as_expression (expression_node (name_expression name) span) from to h s =
-      ((s.0.0, s.0.1, s.0.2.0), s.1, s.2)
+      ((s.0.0, s.0.1, s.0.2.1.0 ∙ s.0.2.2.0), s.1, s.2)
   type_name_as_expression (expression_node (selector_expression e n) span) from to h s =
-      ((name_primary e s.0.0, s.0.1), s.1, s.2)
+      let rest = s.0.1.2.2 in
+      ((name_primary e s.0.0, (s.0.1.0, s.0.1.1, (s.0.1.2.0, s.0.1.2.1, (rest.0, rest.1, rest.2.0)))), s.1, s.2)
+  type_name_as_expression (expression_node (index_expression e i) span) from to h s = ((tt, s.0.1), s.1, s.2)
+  type_name_as_expression (expression_node (instance_expression e es) span) from to h s =
+      ((s.0.0, (tt, s.0.1.1)), s.1, s.2)
   type_name_as_expression (expression_node _ span) from to h s = absurd (true≢false (sym h))
 
   type_name_names : (t : Expression) (from to : Cursor)
       → is_type_name t ≡ true
       → SpellsExpression text as_type t from to
-      → names_type t ≡ true
-  unfolding SpellsExpression SpellsForm
+      → takes_braces text.edition t ≡ true
+  unfolding SpellsExpression SpellsForm is_type
   type_name_names (expression_node (name_expression name) span) from to h s = refl
-  type_name_names (expression_node (selector_expression e n) span) from to h s = s.0.0
+  type_name_names (expression_node (selector_expression e n) span) from to h s = or_left _ s.0.0
+  type_name_names (expression_node (index_expression e i) span) from to h s =
+      and_true (second_true text.edition s.0.0.0) (and_true s.0.0.1 s.0.0.2)
+  type_name_names (expression_node (instance_expression e es) span) from to h s =
+      and_true (second_true text.edition s.0.0) (and_true s.0.1.0.1 s.0.1.0.2)
   type_name_names (expression_node _ span) from to h s = absurd (true≢false (sym h))
 
   other_takes : (t : Expression) → takes_elements t ≡ true → is_type_name t ≡ false → is_literal_type t ≡ true
   other_takes (expression_node (name_expression name) span) h n = absurd (true≢false n)
   other_takes (expression_node (selector_expression e x) span) h n = absurd (true≢false n)
+  other_takes (expression_node (index_expression e i) span) h n = absurd (true≢false n)
+  other_takes (expression_node (instance_expression e es) span) h n = absurd (true≢false n)
   other_takes (expression_node (array_type x t) span) h n = refl
   other_takes (expression_node (ellipsis_array_type t) span) h n = refl
   other_takes (expression_node (slice_type t) span) h n = refl
@@ -532,7 +446,8 @@ module _ (text : List ℕ) (r : Readers) (below : ℕ) (complete : AreComplete t
   primary_arrives (expression_node (selector_expression e n) span) header from to wanted s h stand d more =
       let place : Cursor = s.0.1.0 in
       let dot = s.0.1.2.1 in
-      let name = s.0.1.2.2 in
+      let end : s.0.1.2.2.0 ≡ to = s.0.1.2.2.2 in
+      let name : identifier text n s.0.1.2.0 to = subst (λ c. identifier text n s.0.1.2.0 c) end s.0.1.2.2.1 in
       let shorter : length to.left < length place.left =
       omega (arith, token_shorter Dot place s.0.1.2.0 dot, identifier_shorter text n s.0.1.2.0 to name) in
       primary_arrives e header from place wanted s.0.1.1 s.0.0 stand (omega arith)
@@ -546,8 +461,19 @@ module _ (text : List ℕ) (r : Readers) (below : ℕ) (complete : AreComplete t
       enclosed LeftBracket RightBracket (weak (expression_shorter text as_expression i)) rule.0 to rule.2 in
       primary_arrives e header from rule.0 wanted rule.1 s.0.1.0 stand (omega arith)
       (grow header from e (expression_node (index_expression e i) span) rule.0 to
-      (read_index text r below from e rule.0) wanted (suffix-index header from e rule.0 rule.2.0 rule.2.1)
-      (omega arith) (read_index-complete e i span from rule.0 to rule.2 (omega arith) s.1 s.2) shorter more)
+      (read_index text r from e rule.0) wanted (suffix-index header from e rule.0 rule.2.0 rule.2.1)
+      (omega arith) (read_index-complete text r below complete e i span from rule.0 to rule.2 (omega arith) s.1 s.2)
+      shorter more)
+  primary_arrives (expression_node (instance_expression e es) span) header from to wanted s h stand d more =
+      let rule = s.0.1.1.1 in
+      let shorter : length to.left < length rule.0.left =
+      enclosed LeftBracket RightBracket (both (expressions_longest text as_expression es) (after_instance_longest es))
+      rule.0 to rule.2 in
+      primary_arrives e header from rule.0 wanted rule.1 s.0.1.1.0 stand (omega arith)
+      (grow header from e (expression_node (instance_expression e es) span) rule.0 to
+      (read_index text r from e rule.0) wanted (suffix-index header from e rule.0 rule.2.0 rule.2.1)
+      (omega arith) (read_instance-complete text r below complete e es span from rule.0 to s.0.0 rule.2
+      (omega arith) s.1 s.2) shorter more)
   primary_arrives (expression_node (slice_expression e low high most) span) header from to wanted s h stand d more =
       let rule = s.0.1.1 in
       let shorter : length to.left < length rule.0.left =
@@ -558,8 +484,8 @@ module _ (text : List ℕ) (r : Readers) (below : ℕ) (complete : AreComplete t
       (third_bound_longest most (optional_expression_longest text most))))) rule.0 to rule.2 in
       primary_arrives e header from rule.0 wanted rule.1 s.0.1.0 stand (omega arith)
       (grow header from e (expression_node (slice_expression e low high most) span) rule.0 to
-      (read_index text r below from e rule.0) wanted (suffix-index header from e rule.0 rule.2.0 rule.2.1)
-      (omega arith) (read_slice-complete e low high most span from rule.0 to rule.2 (omega arith) (omega arith)
+      (read_index text r from e rule.0) wanted (suffix-index header from e rule.0 rule.2.0 rule.2.1)
+      (omega arith) (read_slice-complete text r below complete e low high most span from rule.0 to rule.2 (omega arith) (omega arith)
       (omega arith) s.1 s.2) shorter more)
   primary_arrives (expression_node (type_assertion e t) span) header from to wanted s h stand d more =
       let rule = s.0.1.1 in
@@ -630,7 +556,7 @@ module _ (text : List ℕ) (r : Readers) (below : ℕ) (complete : AreComplete t
     where
       no_literal_here : (h : Bool)
           → (h ≡ false → stands LeftBrace to ≡ false)
-          → (stands LeftBrace to && (not h && names_type e)) ≡ false
+          → (stands LeftBrace to && (not h && takes_braces text.edition e)) ≡ false
       no_literal_here true brace = and_not _ refl
       no_literal_here false brace = and_false _ (brace refl)
 

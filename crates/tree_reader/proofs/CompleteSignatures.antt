@@ -1,16 +1,24 @@
 -- The reader gives each signature that is spelled. A name alone is read as a type first.
+use Rattle.std.proofs.lemmas.Bool.{and_parts}
+use Rattle.std.proofs.Common.{◌⊎◌}
+use Rattle.tree.specs.declared.operator.UnaryOperator.TheVariants.{Tilde}
+use Rattle.tree_reader.specs.Reader.{read_indexed, is_second, opens_index}
+use Rattle.tree_reader.proofs.Steps.{stands-sound}
+use Rattle.tree_reader.proofs.Begins.{begins_expression, expression_begins, first_name}
+use Rattle.tree_reader.proofs.CompleteIndexes.{second_true}
+use Rattle.tree_reader.proofs.CompleteInstances.{read_indexed-array, read_indexed-index, read_indexed-instance}
 use Rattle.std.proofs.Common.{◌≡◌, ℕ, zero, suc, ◌≤◌, ◌<◌, Bool, true, false, true≢false, List, length, Some, None, refl, sym, subst, ap, ◌∙◌, inl, inr, arith}
 use Rattle.std.specs.Prelude.{if◌then◌else◌, not, ◌&&◌, ◌||◌}
 use Rattle.lexer.specs.Spelling.{same_kind}
 use Rattle.lexer.specs.declared.token.TokenKind.{TokenKind}
-use Rattle.lexer.specs.declared.token.TokenKind.TheVariants.{Identifier as identifier_kind, Ellipsis, LeftParenthesis, RightParenthesis, Comma}
+use Rattle.lexer.specs.declared.token.TokenKind.TheVariants.{Identifier as identifier_kind, Ellipsis, LeftParenthesis, RightParenthesis, Comma, LeftBracket, RightBracket, Dot}
 use Rattle.tree.specs.declared.operator.ChanDirection.TheVariants.{Both, Send, Receive as receive_only}
-use Rattle.tree.specs.Syntax.{Identifier, Expression, expression_node, name_expression, basic_literal, key_value, parenthesized, selector_expression, star_expression, array_type, ellipsis_array_type, slice_type, map_type, channel_type, function_type, struct_type, interface_type, Signature, signature_of, Parameters, no_parameter, named_and, unnamed_and, name_alone_and}
+use Rattle.tree.specs.Syntax.{Identifier, Expression, expression_node, name_expression, basic_literal, key_value, parenthesized, selector_expression, star_expression, array_type, ellipsis_array_type, slice_type, map_type, channel_type, function_type, struct_type, interface_type, Signature, signature_of, Parameters, no_parameter, named_and, unnamed_and, name_alone_and, index_expression, instance_expression, unary_expression, Expressions, no_expression, expression_and}
 use Rattle.tree.specs.Depth.{expression_depth, below_expression, signature_depth, parameters_depth}
-use Rattle.meaning.specs.Cursor.{Cursor, TakesToken, token, optional, only_if, is_next, identifier}
-use Rattle.meaning.specs.OperatorTokens.{can_begin_type, is_dot}
-use Rattle.meaning.specs.WellFormed.{is_name, is_parenthesized, has_named_item, IsItem, AreItems, FitTogether}
-use Rattle.meaning.specs.Grammar.{as_type, as_element, in_parentheses, SpellsExpression, SpellsForm, SpellsSignature, SpellsResult, SpellsItems}
+use Rattle.meaning.specs.Cursor.{GoText, Cursor, TakesToken, token, optional, only_if, is_next, identifier}
+use Rattle.meaning.specs.OperatorTokens.{can_begin_type, is_dot, takes_arguments}
+use Rattle.meaning.specs.WellFormed.{is_name, is_parenthesized, has_named_item, IsItem, AreItems, FitTogether, names_type}
+use Rattle.meaning.specs.Grammar.{as_type, as_element, in_parentheses, SpellsExpression, SpellsForm, SpellsSignature, SpellsResult, SpellsItems, as_expression, as_constraint, IsSecond, SpellsExpressions}
 use Rattle.tree_reader.specs.Reading.{Read, ◌>>=◌, stands, behind, past, steps}
 use Rattle.tree_reader.specs.Reader.{Readers, as_identifier, is_no_item, name_alone, with_names, settled, read_item, read_items, read_parameters, read_signature}
 use Rattle.tree_reader.specs.Claims.{AreComplete}
@@ -18,6 +26,9 @@ use Rattle.tree_reader.proofs.Taken.{step, when_true, when_false, only_true, and
 use Rattle.tree_reader.proofs.Lengths.{token_shorter, expression_shorter, identifier_shorter}
 use Rattle.tree_reader.proofs.Begins.{name_token, type_begins}
 use Rattle.tree_reader.proofs.CompleteLists.{optional_follows}
+use Rattle.tree.specs.declared.edition.Edition.{Edition}
+use Rattle.tree.specs.declared.edition.Edition.TheVariants.{First, Second}
+use Rattle.meaning.specs.TypeParameters.{is_no_index}
 
 -- how items are read before it is known whether one has a name
 abbrev pub unsettled : Parameters → Parameters
@@ -94,6 +105,15 @@ end_is_no_dot : (k : TokenKind) → (not (ends_item k) || not (is_dot k)) ≡ tr
 end_is_no_dot identifier_kind = refl
 end_is_no_dot _ = refl
 
+end_takes_none : (edition : Edition) (k : TokenKind) → (not (ends_item k) || not (takes_arguments edition k)) ≡ true
+end_takes_none First k = or_right (not (ends_item k)) refl
+end_takes_none Second identifier_kind = refl
+end_takes_none Second _ = refl
+
+expression_is_no_type : (k : TokenKind) → (not (begins_expression k) || not (is_no_index k)) ≡ true
+expression_is_no_type identifier_kind = refl
+expression_is_no_type _ = refl
+
 -- a name and a type stand here, or may
 abbrev is_named : Cursor → Bool
 is_named place =
@@ -121,49 +141,147 @@ pub only_if_past : (kind : TokenKind) (b : Bool) (from to : Cursor)
 only_if_past kind true from to t h = past_gives t
 only_if_past kind false from to p h = ap (past kind) p ∙ past_other kind h
 
-module _ (text : List ℕ) where
-  -- a type that begins with another token than a name
+module _ (text : GoText) where
+  -- an instance of a name alone
+  abbrev is_alone : Expression → Bool
+  is_alone (expression_node (index_expression e i) span) = is_name e
+  is_alone (expression_node (instance_expression e es) span) = is_name e
+  is_alone (expression_node form span) = false
+
+  -- brackets that can be an index open where an expression stands in them
+  pub opens_there : (place inner : Cursor)
+      → TakesToken LeftBracket place inner
+      → is_next begins_expression inner ≡ true
+      → opens_index place ≡ true
+  opens_there place inner t h =
+      and_true (stands_gives t) (ap not (ap (is_next is_no_index) (behind_gives t)
+      ∙ next_excluded begins_expression is_no_index inner expression_is_no_type h))
+
+  -- with which tokens a type begins: with no name, with one alone, with one before a dot, or as an instance of one
+  abbrev Starts : Expression → Cursor → Cursor → Type 0
+  Starts t from to =
+      (stands identifier_kind from ≡ false) ⊎ ((m : Cursor) × TakesToken identifier_kind from m
+      × ((m ≡ to) ⊎ ((stands Dot m ≡ true)
+      ⊎ (IsSecond text.edition × (opens_index m ≡ true) × (is_alone t ≡ true)))))
+
+  operand_starts : (e t : Expression) (from place inner to : Cursor)
+      → names_type e ≡ true
+      → SpellsExpression text as_expression e from place
+      → TakesToken LeftBracket place inner
+      → is_next begins_expression inner ≡ true
+      → IsSecond text.edition
+      → (is_name e ≡ true → is_alone t ≡ true)
+      → Starts t from to
+  unfolding SpellsExpression SpellsForm
+  operand_starts (expression_node (name_expression name) at) t from place inner to h s bracket begins second alone =
+      inr (
+        s.0.0,
+        s.0.1.0,
+        inr (inr (
+          second,
+          ap opens_index s.0.2 ∙ opens_there place inner bracket begins,
+          alone refl,
+        )),
+      )
+  operand_starts (expression_node (selector_expression (expression_node (name_expression name) at) n) span) t from place inner to h s bracket begins second alone =
+      let e = s.0.1.1 in
+      inr (e.0.0, e.0.1.0, inr (inl (ap (stands Dot) e.0.2 ∙ stands_gives s.0.1.2.1)))
+  operand_starts (expression_node (selector_expression (expression_node _ at) n) span) t from place inner to h s bracket begins second alone =
+      absurd (true≢false (sym h))
+  operand_starts (expression_node _ span) t from place inner to h s bracket begins second alone =
+      absurd (true≢false (sym h))
+
+  expressions_start : (es : Expressions) (from to : Cursor)
+      → SpellsExpressions text as_expression es from to
+      → is_next begins_expression from ≡ true
+  unfolding SpellsExpressions
+  expressions_start no_expression from to s = absurd s
+  expressions_start (expression_and e es) from to s = expression_begins text e from s.0 s.1
+
+  starts : (t : Expression) (from to : Cursor) → SpellsExpression text as_type t from to → Starts t from to
+  unfolding SpellsExpression SpellsForm same_kind
+  starts (expression_node (name_expression name) span) from to s =
+      inr (s.0.0, s.0.1.0, inl (s.0.2.1.0 ∙ s.0.2.2.0))
+  starts (expression_node (selector_expression (expression_node (name_expression _) _) n) span) from to s =
+      let e = s.0.1.1 in
+      inr (e.0.0, e.0.1.0, inr (inl (ap (stands Dot) e.0.2 ∙ stands_gives s.0.1.2.1)))
+  starts (expression_node (selector_expression e n) span) from to s = absurd (true≢false (sym s.0.0))
+  starts (expression_node (index_expression e i) span) from to s =
+      let rule = s.0.1.1 in
+      operand_starts e (expression_node (index_expression e i) span) from rule.0 rule.2.0 to s.0.0.1 rule.1 rule.2.1
+      (expression_begins text i rule.2.0 rule.2.2.0 rule.2.2.1) s.0.0.0 (λ alone. alone)
+  starts (expression_node (instance_expression e es) span) from to s =
+      let rule = s.0.1.1.1 in
+      operand_starts e (expression_node (instance_expression e es) span) from rule.0 rule.2.0 to s.0.1.0.1 rule.1
+      rule.2.1 (expressions_start es rule.2.0 rule.2.2.1.0 rule.2.2.1.1) s.0.0 (λ alone. alone)
+  starts (expression_node (parenthesized e) span) from to s = inl (stands_other s.0.1 identifier_kind refl)
+  starts (expression_node (star_expression e) span) from to s = inl (stands_other s.0.1.1 identifier_kind refl)
+  starts (expression_node (array_type n t) span) from to s = inl (stands_other s.0.1.1 identifier_kind refl)
+  starts (expression_node (ellipsis_array_type t) span) from to s = inl (stands_other s.0.1.1 identifier_kind refl)
+  starts (expression_node (slice_type t) span) from to s = inl (stands_other s.0.1.1 identifier_kind refl)
+  starts (expression_node (map_type k t) span) from to s = inl (stands_other s.0.1 identifier_kind refl)
+  starts (expression_node (channel_type Both t) span) from to s = inl (stands_other s.0.1.1 identifier_kind refl)
+  starts (expression_node (channel_type Send t) span) from to s = inl (stands_other s.0.1.1 identifier_kind refl)
+  starts (expression_node (channel_type receive_only t) span) from to s =
+      inl (stands_other s.0.1.1 identifier_kind refl)
+  starts (expression_node (function_type signature) span) from to s = inl (stands_other s.0.1 identifier_kind refl)
+  starts (expression_node (struct_type fs) span) from to s = inl (stands_other s.0.1 identifier_kind refl)
+  starts (expression_node (interface_type fs) span) from to s = inl (stands_other s.0.1 identifier_kind refl)
+  starts (expression_node (key_value k v) span) from to s = let p : as_type ≡ as_element = s.0.0 in cc
+  starts (expression_node (unary_expression Tilde e) span) from to s = let p : as_type ≡ as_constraint = s.0.0 in cc
+  starts (expression_node form span) from to s = absurd s.0.0
+
+  -- a name with brackets behind it stands here, in the second edition
+  abbrev pub is_indexed : Cursor → Bool
+  is_indexed place =
+      is_second text.edition && (stands identifier_kind place && opens_index (behind place))
+
+  dot_alone : (other : TokenKind) (place : Cursor)
+      → same_kind Dot other ≡ false
+      → stands Dot place ≡ true
+      → stands other place ≡ false
+  dot_alone other place e h = stands_other (stands-sound Dot place h) other e
+
+  -- a type that begins with another token than a name before a type
   type_is_named : (t : Expression) (from to : Cursor)
       → SpellsExpression text as_type t from to
+      → is_indexed from ≡ false
       → is_next ends_item to ≡ true
       → is_named from ≡ false
-  unfolding SpellsExpression SpellsForm same_kind
-  type_is_named (expression_node (name_expression name) span) from to s h =
-      let end : s.0.0 ≡ to = s.0.2.0 in
-      named_after from s.0.0 to s.0.1.0 (ap (stands Ellipsis) end ∙ stands_not ends_item Ellipsis to refl h)
-      (ap (is_next can_begin_type) end ∙ next_excluded ends_item can_begin_type to end_begins_no_type h)
-  type_is_named (expression_node (selector_expression (expression_node (name_expression _) _) n) span) from to s h =
-      let end : s.0.1.1.0.0 ≡ s.0.1.0 = s.0.1.1.0.2 in
-      named_after from s.0.1.1.0.0 to s.0.1.1.0.1.0
-      (ap (stands Ellipsis) end ∙ stands_other s.0.1.2.1 Ellipsis refl)
-      (ap (is_next can_begin_type) end ∙ next_gives s.0.1.2.1 can_begin_type)
-  type_is_named (expression_node (selector_expression e n) span) from to s h = absurd (true≢false (sym s.0.0))
-  type_is_named (expression_node (parenthesized e) span) from to s h =
-      and_false _ (stands_other s.0.1 identifier_kind refl)
-  type_is_named (expression_node (star_expression e) span) from to s h =
-      and_false _ (stands_other s.0.1.1 identifier_kind refl)
-  type_is_named (expression_node (array_type n t) span) from to s h =
-      and_false _ (stands_other s.0.1.1 identifier_kind refl)
-  type_is_named (expression_node (ellipsis_array_type t) span) from to s h =
-      and_false _ (stands_other s.0.1.1 identifier_kind refl)
-  type_is_named (expression_node (slice_type t) span) from to s h =
-      and_false _ (stands_other s.0.1.1 identifier_kind refl)
-  type_is_named (expression_node (map_type k t) span) from to s h =
-      and_false _ (stands_other s.0.1 identifier_kind refl)
-  type_is_named (expression_node (channel_type Both t) span) from to s h =
-      and_false _ (stands_other s.0.1.1 identifier_kind refl)
-  type_is_named (expression_node (channel_type Send t) span) from to s h =
-      and_false _ (stands_other s.0.1.1 identifier_kind refl)
-  type_is_named (expression_node (channel_type receive_only t) span) from to s h =
-      and_false _ (stands_other s.0.1.1 identifier_kind refl)
-  type_is_named (expression_node (function_type signature) span) from to s h =
-      and_false _ (stands_other s.0.1 identifier_kind refl)
-  type_is_named (expression_node (struct_type fs) span) from to s h =
-      and_false _ (stands_other s.0.1 identifier_kind refl)
-  type_is_named (expression_node (interface_type fs) span) from to s h =
-      and_false _ (stands_other s.0.1 identifier_kind refl)
-  type_is_named (expression_node (key_value k v) span) from to s h = let p : as_type ≡ as_element = s.0.0 in cc
-  type_is_named (expression_node form span) from to s h = absurd s.0.0
+  unfolding same_kind
+  type_is_named t from to s b h =
+      elim (starts t from to s) [
+        | inl none ↦ and_false _ none
+        | inr x ↦ elim x.2 [
+          | inl p ↦ named_after from x.0 to x.1 (ap (stands Ellipsis) p ∙ stands_not ends_item Ellipsis to refl h)
+              (ap (is_next can_begin_type) p ∙ next_excluded ends_item can_begin_type to end_begins_no_type h)
+          | inr y ↦ elim y [
+            | inl dot ↦ named_after from x.0 to x.1 (dot_alone Ellipsis x.0 refl dot)
+                (next_gives (stands-sound Dot x.0 dot) can_begin_type)
+            | inr z ↦ absurd (true≢false (sym (and_true (second_true text.edition z.0)
+                (and_true (stands_gives x.1) (ap opens_index (behind_gives x.1) ∙ z.1))) ∙ b))
+          ]
+        ]
+      ]
+
+  -- of other types than instances of a name alone none is indexed
+  not_alone : (t : Expression) (from to : Cursor)
+      → SpellsExpression text as_type t from to
+      → is_alone t ≡ false
+      → stands LeftBracket to ≡ false
+      → is_indexed from ≡ false
+  unfolding same_kind
+  not_alone t from to s alone h =
+      and_not (is_second text.edition) (elim (starts t from to s) [
+        | inl none ↦ and_false _ none
+        | inr x ↦ elim x.2 [
+          | inl p ↦ and_not _ (ap opens_index (behind_gives x.1 ∙ p) ∙ and_false _ h)
+          | inr y ↦ elim y [
+            | inl dot ↦ and_not _ (ap opens_index (behind_gives x.1) ∙ and_false _ (dot_alone LeftBracket x.0 refl dot))
+            | inr z ↦ absurd (true≢false (sym z.2 ∙ alone))
+          ]
+        ]
+      ])
 
   -- a type that does not stand in brackets
   bare_type : (t : Expression) (from to : Cursor)
@@ -174,6 +292,12 @@ module _ (text : List ℕ) where
   bare_type (expression_node (name_expression name) span) from to h s = stands_other s.0.1.0 LeftParenthesis refl
   bare_type (expression_node (selector_expression e n) span) from to h s =
       let name = name_token text e from s.0.1.0 s.0.0 s.0.1.1 in stands_other name.1 LeftParenthesis refl
+  bare_type (expression_node (index_expression e i) span) from to h s =
+      stands_other (first_name text e from s.0.1.1.0 s.0.0.1 s.0.1.1.1).1 LeftParenthesis refl
+  bare_type (expression_node (instance_expression e es) span) from to h s =
+      stands_other (first_name text e from s.0.1.1.1.0 s.0.1.0.1 s.0.1.1.1.1).1 LeftParenthesis refl
+  bare_type (expression_node (unary_expression Tilde e) span) from to h s =
+      let p : as_type ≡ as_constraint = s.0.0 in cc
   bare_type (expression_node (parenthesized e) span) from to h s = absurd (true≢false h)
   bare_type (expression_node (star_expression e) span) from to h s = stands_other s.0.1.1 LeftParenthesis refl
   bare_type (expression_node (array_type n t) span) from to h s = stands_other s.0.1.1 LeftParenthesis refl
@@ -193,13 +317,23 @@ module _ (text : List ℕ) where
   name_type : (n : Identifier) (from to : Cursor)
       → identifier text n from to
       → is_next is_dot to ≡ false
+      → is_next (takes_arguments text.edition) to ≡ false
       → SpellsExpression text as_type (expression_node (name_expression n.text) n.span) from to
   unfolding SpellsExpression SpellsForm
-  name_type n from to s h = ((to, s.0, (refl, h)), s.1, s.2)
+  name_type n from to s h none = ((to, s.0, (to, (refl, h), (refl, none))), s.1, s.2)
 
   name_depth : (n : Identifier) → expression_depth (expression_node (name_expression n.text) n.span) ≡ 1
   unfolding expression_depth below_expression
   name_depth n = refl
+
+  no_instance : (t : Expression) (from to : Cursor)
+      → SpellsExpression text as_type t from to
+      → is_next can_begin_type to ≡ false
+      → is_alone t ≡ false
+      → is_indexed from ≡ true
+      → ⊥
+  no_instance t from to s none alone h =
+      true≢false (sym h ∙ not_alone t from to s alone (stands_none can_begin_type LeftBracket to refl none))
 
   items_follow : (test : TokenKind → Bool) (ps : Parameters) (from close to : Cursor)
       → test Comma ≡ true
@@ -237,29 +371,135 @@ module _ (text : List ℕ) where
   again (name_alone_and n ps) from close i s = record { place = s.0; comma = s.1; spelled = (s.0, refl, s.2) }
 
   module _ (r : Readers) (below : ℕ) (complete : AreComplete text below r) where
+    -- brackets that can be an index open no type but an array
+    opens_none : (t : Expression) (from to : Cursor)
+        → SpellsExpression text as_type t from to
+        → stands LeftBracket from ≡ false
+        → opens_index from ≡ true
+        → ⊥
+    opens_none t from to s none h = true≢false (sym (and_parts (stands LeftBracket from) _ h).0 ∙ none)
+
+    -- a name and the type behind it, where this begins with brackets that can be an index
+    pub array_there : (n : Identifier) (t : Expression) (from middle to : Cursor)
+        → identifier text n from middle
+        → SpellsExpression text as_type t middle to
+        → opens_index middle ≡ true
+        → expression_depth t ≤ below
+        → read_indexed text r from ≡ Some ((Some n, t), to)
+    unfolding SpellsExpression SpellsForm same_kind
+    array_there n (expression_node (array_type m t) span) from middle to name s h d =
+        read_indexed-array text r below complete n m t span from middle to name s d
+    array_there n (expression_node (slice_type t) span) from middle to name s h d =
+        let inner = s.0.1 in
+        let close : TakesToken RightBracket inner.0 s.0.0 =
+        subst (λ place. TakesToken RightBracket place s.0.0) (sym inner.2.1) inner.2.2 in
+        let no_index = ap (is_next is_no_index) (behind_gives inner.1) ∙ next_gives close is_no_index in
+        absurd (true≢false (sym (and_parts (stands LeftBracket middle) _ h).1 ∙ ap not no_index))
+    array_there n (expression_node (ellipsis_array_type t) span) from middle to name s h d =
+        let inner = s.0.1 in
+        let no_index = ap (is_next is_no_index) (behind_gives inner.1) ∙ next_gives inner.2.1 is_no_index in
+        absurd (true≢false (sym (and_parts (stands LeftBracket middle) _ h).1 ∙ ap not no_index))
+    array_there n (expression_node (map_type k t) span) from middle to name s h d =
+        absurd (opens_none (expression_node (map_type k t) span) middle to s (stands_other s.0.1 LeftBracket refl) h)
+    array_there n (expression_node (channel_type Both t) span) from middle to name s h d =
+        absurd (opens_none (expression_node (channel_type Both t) span) middle to s (stands_other s.0.1.1 LeftBracket refl) h)
+    array_there n (expression_node (channel_type Send t) span) from middle to name s h d =
+        absurd (opens_none (expression_node (channel_type Send t) span) middle to s (stands_other s.0.1.1 LeftBracket refl) h)
+    array_there n (expression_node (channel_type receive_only t) span) from middle to name s h d =
+        absurd (opens_none (expression_node (channel_type receive_only t) span) middle to s
+        (stands_other s.0.1.1 LeftBracket refl) h)
+    array_there n (expression_node (parenthesized t) span) from middle to name s h d =
+        absurd (opens_none (expression_node (parenthesized t) span) middle to s (stands_other s.0.1 LeftBracket refl) h)
+    array_there n (expression_node (star_expression t) span) from middle to name s h d =
+        absurd (opens_none (expression_node (star_expression t) span) middle to s (stands_other s.0.1.1 LeftBracket refl) h)
+    array_there n (expression_node (function_type signature) span) from middle to name s h d =
+        absurd (opens_none (expression_node (function_type signature) span) middle to s
+        (stands_other s.0.1 LeftBracket refl) h)
+    array_there n (expression_node (struct_type fs) span) from middle to name s h d =
+        absurd (opens_none (expression_node (struct_type fs) span) middle to s (stands_other s.0.1 LeftBracket refl) h)
+    array_there n (expression_node (interface_type fs) span) from middle to name s h d =
+        absurd (opens_none (expression_node (interface_type fs) span) middle to s (stands_other s.0.1 LeftBracket refl) h)
+    array_there n (expression_node (name_expression x) span) from middle to name s h d =
+        absurd (opens_none (expression_node (name_expression x) span) middle to s
+        (stands_other s.0.1.0 LeftBracket refl) h)
+    array_there n (expression_node (selector_expression e x) span) from middle to name s h d =
+        let first = name_token text e middle s.0.1.0 s.0.0 s.0.1.1 in
+        absurd (opens_none (expression_node (selector_expression e x) span) middle to s
+        (stands_other first.1 LeftBracket refl) h)
+    array_there n (expression_node (index_expression e i) span) from middle to name s h d =
+        let first = first_name text e middle s.0.1.1.0 s.0.0.1 s.0.1.1.1 in
+        absurd (opens_none (expression_node (index_expression e i) span) middle to s
+        (stands_other first.1 LeftBracket refl) h)
+    array_there n (expression_node (instance_expression e es) span) from middle to name s h d =
+        let first = first_name text e middle s.0.1.1.1.0 s.0.1.0.1 s.0.1.1.1.1 in
+        absurd (opens_none (expression_node (instance_expression e es) span) middle to s
+        (stands_other first.1 LeftBracket refl) h)
+    array_there n (expression_node (key_value k v) span) from middle to name s h d =
+        let p : as_type ≡ as_element = s.0.0 in cc
+    array_there n (expression_node (unary_expression Tilde e) span) from middle to name s h d =
+        let p : as_type ≡ as_constraint = s.0.0 in cc
+    array_there n (expression_node form span) from middle to name s h d = absurd s.0.0
+
+    -- a type that begins with a name and brackets is an instance
+    pub instance_there : (t : Expression) (from to : Cursor)
+        → SpellsExpression text as_type t from to
+        → is_next can_begin_type to ≡ false
+        → is_indexed from ≡ true
+        → expression_depth t ≤ below
+        → read_indexed text r from ≡ Some ((None, t), to)
+    instance_there (expression_node (index_expression (expression_node (name_expression name) at) i) span) from to s none h d =
+        read_indexed-index text r below complete name i at span from to s none d
+    instance_there (expression_node (instance_expression (expression_node (name_expression name) at) es) span) from to s none h d =
+        read_indexed-instance text r below complete name es at span from to s none d
+    instance_there (expression_node (index_expression (expression_node form at) i) span) from to s none h d =
+        absurd (no_instance (expression_node (index_expression (expression_node form at) i) span) from to s none refl h)
+    instance_there (expression_node (instance_expression (expression_node form at) es) span) from to s none h d =
+        absurd (no_instance (expression_node (instance_expression (expression_node form at) es) span) from to s none refl h)
+    instance_there (expression_node form span) from to s none h d =
+        absurd (no_instance (expression_node form span) from to s none refl h)
+
     read_item-named : (n : Identifier) (ellipsis : Bool) (t : Expression) (from middle start to : Cursor)
         → identifier text n from middle
         → only_if ellipsis (token Ellipsis) middle start
         → SpellsExpression text as_type t start to
         → expression_depth t ≤ below
         → read_item text r from ≡ Some (named_and n ellipsis t, to)
-    unfolding read_item
-    read_item-named n ellipsis t from middle start to name dots s d =
-        let no_dots : stands Ellipsis start ≡ false =
-        stands_not can_begin_type Ellipsis start refl (type_begins text t start to s) in
-        when_true _ (and_true (stands_gives name.0.0)
-        (ap (λ place. stands Ellipsis place || is_next can_begin_type place) (behind_gives name.0.0)
-        ∙ follows ellipsis dots))
-        (step _ (read_identifier-complete text n from middle name)
-        (step _ (ap r.read_type (only_if_past Ellipsis ellipsis middle start dots no_dots)
-        ∙ complete.type start to t s d)
-        (ap (λ b. Some (named_and n b t, to)) (only_if_stands Ellipsis ellipsis middle start dots no_dots))))
-      where
-        follows : (b : Bool)
-            → only_if b (token Ellipsis) middle start
-            → (stands Ellipsis middle || is_next can_begin_type middle) ≡ true
-        follows true h = or_left _ (stands_gives h)
-        follows false h = or_right _ (ap (is_next can_begin_type) h ∙ type_begins text t start to s)
+    unfolding read_item same_kind
+    read_item-named n ellipsis t from middle start to name dots s d = by_test (is_indexed from) refl where
+      no_dots : stands Ellipsis start ≡ false
+      no_dots = stands_not can_begin_type Ellipsis start refl (type_begins text t start to s)
+
+      follows : (b : Bool)
+          → only_if b (token Ellipsis) middle start
+          → (stands Ellipsis middle || is_next can_begin_type middle) ≡ true
+      follows true h = or_left _ (stands_gives h)
+      follows false h = or_right _ (ap (is_next can_begin_type) h ∙ type_begins text t start to s)
+
+      indexed_type : (b : Bool)
+          → only_if b (token Ellipsis) middle start
+          → opens_index middle ≡ true
+          → (read_indexed text r from ≡ Some ((Some n, t), to)) × (b ≡ false)
+      indexed_type true h opens =
+          absurd (true≢false (sym (and_parts (stands LeftBracket middle) _ opens).0 ∙ stands_other h LeftBracket refl))
+      indexed_type false p opens =
+          let spelled = subst (λ (c : Cursor). SpellsExpression text as_type t c to) (sym p) s in
+          (array_there n t from middle to name spelled opens d, refl)
+
+      by_test : (b : Bool) → is_indexed from ≡ b → read_item text r from ≡ Some (named_and n ellipsis t, to)
+      by_test true h =
+          let places = (and_parts (is_second text.edition) _ h).1 in
+          let opens = ap opens_index (sym (behind_gives name.0.0)) ∙ (and_parts (stands identifier_kind from) _ places).1 in
+          let found = indexed_type ellipsis dots opens in
+          when_true _ h (step _ found.0 (ap (λ b. Some (named_and n b t, to)) (sym found.1)))
+      by_test false h =
+          when_false _ h
+          (when_true _ (and_true (stands_gives name.0.0)
+          (ap (λ place. stands Ellipsis place || is_next can_begin_type place) (behind_gives name.0.0)
+          ∙ follows ellipsis dots))
+          (step _ (read_identifier-complete text n from middle name)
+          (step _ (ap r.read_type (only_if_past Ellipsis ellipsis middle start dots no_dots)
+          ∙ complete.type start to t s d)
+          (ap (λ b. Some (named_and n b t, to)) (only_if_stands Ellipsis ellipsis middle start dots no_dots)))))
 
     read_item-unnamed : (ellipsis : Bool) (t : Expression) (from start to : Cursor)
         → only_if ellipsis (token Ellipsis) from start
@@ -268,17 +508,35 @@ module _ (text : List ℕ) where
         → is_next ends_item to ≡ true
         → read_item text r from ≡ Some (unnamed_and ellipsis t, to)
     unfolding read_item same_kind
-    read_item-unnamed ellipsis t from start to dots s d h =
-        let no_dots : stands Ellipsis start ≡ false =
-        stands_not can_begin_type Ellipsis start refl (type_begins text t start to s) in
-        when_false _ (unnamed ellipsis dots)
-        (step _ (ap r.read_type (only_if_past Ellipsis ellipsis from start dots no_dots)
-        ∙ complete.type start to t s d)
-        (ap (λ b. Some (unnamed_and b t, to)) (only_if_stands Ellipsis ellipsis from start dots no_dots)))
-      where
-        unnamed : (b : Bool) → only_if b (token Ellipsis) from start → is_named from ≡ false
-        unnamed true p = and_false _ (stands_other p identifier_kind refl)
-        unnamed false p = ap is_named p ∙ type_is_named t start to s h
+    read_item-unnamed ellipsis t from start to dots s d ends = by_test (is_indexed from) refl where
+      no_dots : stands Ellipsis start ≡ false
+      no_dots = stands_not can_begin_type Ellipsis start refl (type_begins text t start to s)
+
+      unnamed : (b : Bool) → only_if b (token Ellipsis) from start → is_indexed from ≡ false → is_named from ≡ false
+      unnamed true p h = and_false _ (stands_other p identifier_kind refl)
+      unnamed false p h = ap is_named p ∙ type_is_named t start to s (ap is_indexed (sym p) ∙ h) ends
+
+      indexed_type : (b : Bool)
+          → only_if b (token Ellipsis) from start
+          → is_indexed from ≡ true
+          → (read_indexed text r from ≡ Some ((None, t), to)) × (b ≡ false)
+      indexed_type true p h =
+          let places = (and_parts (is_second text.edition) _ h).1 in
+          absurd (true≢false (sym (and_parts (stands identifier_kind from) _ places).0 ∙ stands_other p identifier_kind refl))
+      indexed_type false p h =
+          let spelled = subst (λ (c : Cursor). SpellsExpression text as_type t c to) (sym p) s in
+          (instance_there t from to spelled (next_excluded ends_item can_begin_type to end_begins_no_type ends) h d, refl)
+
+      by_test : (b : Bool) → is_indexed from ≡ b → read_item text r from ≡ Some (unnamed_and ellipsis t, to)
+      by_test true h =
+          let found = indexed_type ellipsis dots h in
+          when_true _ h (step _ found.0 (ap (λ b. Some (unnamed_and b t, to)) (sym found.1)))
+      by_test false h =
+          when_false _ h
+          (when_false _ (unnamed ellipsis dots h)
+          (step _ (ap r.read_type (only_if_past Ellipsis ellipsis from start dots no_dots)
+          ∙ complete.type start to t s d)
+          (ap (λ b. Some (unnamed_and b t, to)) (only_if_stands Ellipsis ellipsis from start dots no_dots))))
 
     -- what follows an item
     abbrev go_on_items : ℕ → (Parameters → Parameters) → Cursor → Read Parameters
@@ -433,7 +691,8 @@ module _ (text : List ℕ) where
         let name : identifier text x from s.2.0 = moved_name x from s.0 s.2.0 s.1 s.2.1 in
         let place : Cursor = s.2.0 in
         let follows : is_next ends_item place ≡ true = items_follow ends_item ps place close to refl refl s.2.2 t in
-        let spelled = name_type x from place name (next_excluded ends_item is_dot place end_is_no_dot follows) in
+        let none = next_excluded ends_item (takes_arguments text.edition) place (end_takes_none text.edition) follows in
+        let spelled = name_type x from place name (next_excluded ends_item is_dot place end_is_no_dot follows) none in
         let deep : 1 ≤ parameters_depth ps = items_deep named ps h.1 h.2 in
         let shallow : expression_depth (expression_node (name_expression x.text) x.span) ≤ below =
         omega (arith, name_depth x) in

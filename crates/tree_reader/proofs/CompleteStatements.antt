@@ -1,23 +1,23 @@
 -- The reader gives each statement that the tokens spell.
 use Rattle.std.proofs.Common.{◌≡◌, ℕ, suc, ◌≤◌, Bool, true, false, List, Option, Some, None, refl, sym, ap, ◌∙◌, arith}
-use Rattle.std.specs.Prelude.{if◌then◌else◌}
+use Rattle.std.specs.Prelude.{if◌then◌else◌, ◌&&◌}
 use Rattle.std.proofs.lemmas.Bool.{le-leb, and_from}
 use Rattle.lexer.specs.Spelling.{same_kind}
 use Rattle.lexer.specs.declared.token.TokenKind.{TokenKind}
-use Rattle.lexer.specs.declared.token.TokenKind.TheVariants.{Identifier as identifier_kind, BreakKeyword, ContinueKeyword, DeferKeyword, ForKeyword, GoKeyword, IfKeyword, ReturnKeyword, SelectKeyword, SwitchKeyword, LeftBrace, Comma, Colon}
+use Rattle.lexer.specs.declared.token.TokenKind.TheVariants.{Identifier as identifier_kind, BreakKeyword, ContinueKeyword, DeferKeyword, ForKeyword, GoKeyword, IfKeyword, ReturnKeyword, SelectKeyword, SwitchKeyword, LeftBrace, Comma, Colon, GotoKeyword, FallthroughKeyword}
 use Rattle.tree.specs.declared.span.Span.{Span}
 use Rattle.tree.specs.declared.operator.DeclKeyword.{DeclKeyword}
 use Rattle.tree.specs.declared.operator.DeclKeyword.TheVariants.{Const, Var, «Type» as type_keyword}
-use Rattle.tree.specs.Syntax.{Identifier, Expression, expression_node, call_expression, Expressions, no_expression, expression_and, Statements, Statement, statement_node, StatementForm, empty_statement, declaration_statement, labeled_statement, expression_statement, send_statement, increment_statement, decrement_statement, assignment, operator_assignment, define_statement, go_statement, defer_statement, return_statement, break_statement, continue_statement, block_statement, if_statement, for_statement, range_assignment, range_definition, switch_statement, type_switch_statement, select_statement, Declaration, declaration_of, Specs}
+use Rattle.tree.specs.Syntax.{Identifier, Expression, expression_node, call_expression, Expressions, no_expression, expression_and, Statements, Statement, statement_node, StatementForm, empty_statement, declaration_statement, labeled_statement, expression_statement, send_statement, increment_statement, decrement_statement, assignment, operator_assignment, define_statement, go_statement, defer_statement, return_statement, break_statement, continue_statement, block_statement, if_statement, for_statement, range_assignment, range_definition, switch_statement, type_switch_statement, select_statement, Declaration, declaration_of, Specs, goto_statement, fallthrough_statement}
 use Rattle.tree.specs.Depth.{expression_depth, expressions_depth, statements_depth, statement_depth, below_statement, declaration_depth, specs_depth}
-use Rattle.meaning.specs.Cursor.{Cursor, TakesToken, is_next, optional_identifier, start_at}
+use Rattle.meaning.specs.Cursor.{GoText, Cursor, TakesToken, is_next, optional_identifier, start_at, identifier}
 use Rattle.meaning.specs.OperatorTokens.{keyword_token}
 use Rattle.meaning.specs.WellFormed.{level, primary_level, is_call, IsKept}
-use Rattle.meaning.specs.Grammar.{as_expression, block, form_of, SpellsExpression, SpellsStatements, SpellsStatement, SpellsStatementForm, SpellsDeclaration}
-use Rattle.tree_reader.specs.Reading.{stands, spanned_statement, read_optional_identifier}
-use Rattle.tree_reader.specs.Reader.{Readers, of_next, declaration_keyword, is_end, read_after_label, read_labeled, read_started, read_return, read_branch, read_block_statement, read_if, read_for, read_switch, read_select, read_simple, read_other_statement, read_statement_of}
+use Rattle.meaning.specs.Grammar.{as_expression, block, form_of, SpellsExpression, SpellsStatements, SpellsStatement, SpellsStatementForm, SpellsDeclaration, IsSecond}
+use Rattle.tree_reader.specs.Reading.{stands, spanned_statement, read_optional_identifier, behind, read_identifier}
+use Rattle.tree_reader.specs.Reader.{Readers, of_next, declaration_keyword, is_end, read_after_label, read_labeled, read_started, read_return, read_branch, read_block_statement, read_if, read_for, read_switch, read_select, read_simple, read_other_statement, read_statement_of, is_second, read_goto}
 use Rattle.tree_reader.specs.Claims.{AreComplete}
-use Rattle.tree_reader.proofs.Taken.{step, when_true, when_false, only_true, behind_gives, of_next_gives, stands_gives, stands_other, stands_not, read_identifier-complete, read_optional_identifier-complete}
+use Rattle.tree_reader.proofs.Taken.{step, when_true, when_false, only_true, behind_gives, of_next_gives, stands_gives, stands_other, stands_not, read_identifier-complete, read_optional_identifier-complete, and_true, and_not}
 use Rattle.tree_reader.proofs.CompleteLists.{read_expressions-complete, read_block-complete}
 use Rattle.tree_reader.proofs.CompleteDeclarations.{read_declaration-complete}
 use Rattle.tree_reader.proofs.Begins.{begins_expression}
@@ -27,6 +27,7 @@ use Rattle.tree_reader.proofs.CompleteStatementsBegins.{ends, end_stop, no_end_b
 use Rattle.tree_reader.proofs.CompleteStatementsHeaders.{if-complete}
 use Rattle.tree_reader.proofs.CompleteStatementsLoops.{for-complete, range_assignment-complete, range_definition-complete}
 use Rattle.tree_reader.proofs.CompleteStatementsClauses.{switch-complete, type_switch-complete, select-complete}
+use Rattle.tree_reader.proofs.CompleteIndexes.{second_true}
 
 -- A call is a primary expression.
 call-level : (e : Expression) → is_call e ≡ true → primary_level ≤ level e
@@ -38,7 +39,7 @@ keyword_given Const = refl
 keyword_given Var = refl
 keyword_given type_keyword = refl
 
-module _ (text : List ℕ) (r : Readers) (below : ℕ) (complete : AreComplete text below r) where
+module _ (text : GoText) (r : Readers) (below : ℕ) (complete : AreComplete text below r) where
   after_label-complete : (s : Statement) (from to : Cursor) → SpellsStatement text s from to → statement_depth s ≤ below → is_next is_end to ≡ true → read_after_label text r below from ≡ Some (s, to)
   unfolding SpellsStatement SpellsStatementForm statement_depth
   after_label-complete (statement_node empty_statement span) from to s d e =
@@ -95,7 +96,7 @@ module _ (text : List ℕ) (r : Readers) (below : ℕ) (complete : AreComplete t
       let read = read_simple-complete text r below complete false form span from to s h d (ends false to e) in
       record {
         none = no_declaration from begins;
-        read = when_false _ label (when_false _ (stands_not begins_expression LeftBrace from refl begins) (when_false _ (stands_not begins_expression IfKeyword from refl begins) (when_false _ (stands_not begins_expression ForKeyword from refl begins) (when_false _ (stands_not begins_expression SwitchKeyword from refl begins) (when_false _ (stands_not begins_expression SelectKeyword from refl begins) (when_false _ (stands_not begins_expression ReturnKeyword from refl begins) (when_false _ (stands_not begins_expression GoKeyword from refl begins) (when_false _ (stands_not begins_expression DeferKeyword from refl begins) (when_false _ (stands_not begins_expression BreakKeyword from refl begins) (when_false _ (stands_not begins_expression ContinueKeyword from refl begins) read))))))))));
+        read = when_false _ label (when_false _ (stands_not begins_expression LeftBrace from refl begins) (when_false _ (stands_not begins_expression IfKeyword from refl begins) (when_false _ (stands_not begins_expression ForKeyword from refl begins) (when_false _ (stands_not begins_expression SwitchKeyword from refl begins) (when_false _ (stands_not begins_expression SelectKeyword from refl begins) (when_false _ (stands_not begins_expression ReturnKeyword from refl begins) (when_false _ (stands_not begins_expression GoKeyword from refl begins) (when_false _ (stands_not begins_expression DeferKeyword from refl begins) (when_false _ (stands_not begins_expression BreakKeyword from refl begins) (when_false _ (stands_not begins_expression ContinueKeyword from refl begins) (when_false _ (and_not (is_second text.edition) (stands_not begins_expression GotoKeyword from refl begins)) (when_false _ (and_not (is_second text.edition) (stands_not begins_expression FallthroughKeyword from refl begins)) read))))))))))));
       }
 
   block-other : {from after to : Cursor} (s : Statement) → TakesToken LeftBrace from after → read_block_statement text r below from ≡ Some (s, to) → ReadsOther from s to
@@ -143,7 +144,7 @@ module _ (text : List ℕ) (r : Readers) (below : ℕ) (complete : AreComplete t
     no_switch : same_kind kind SwitchKeyword ≡ false
     no_select : same_kind kind SelectKeyword ≡ false
 
-  short-other : {kind : TokenKind} {from after to : Cursor} (s : Statement) → TakesToken kind from after → IsShort kind → (if stands ReturnKeyword from then read_return text r below from else if stands GoKeyword from then read_started text r below go_statement from else if stands DeferKeyword from then read_started text r below defer_statement from else if stands BreakKeyword from then read_branch text r below break_statement from else if stands ContinueKeyword from then read_branch text r below continue_statement from else read_simple text r below false from) ≡ Some (s, to) → ReadsOther from s to
+  short-other : {kind : TokenKind} {from after to : Cursor} (s : Statement) → TakesToken kind from after → IsShort kind → (if stands ReturnKeyword from then read_return text r below from else if stands GoKeyword from then read_started text r below go_statement from else if stands DeferKeyword from then read_started text r below defer_statement from else if stands BreakKeyword from then read_branch text r below break_statement from else if stands ContinueKeyword from then read_branch text r below continue_statement from else if is_second text.edition && stands GotoKeyword from then read_goto text r below from else if is_second text.edition && stands FallthroughKeyword from then Some (spanned_statement from fallthrough_statement (behind from)) else read_simple text r below false from) ≡ Some (s, to) → ReadsOther from s to
   unfolding read_other_statement
   short-other s t h read = record {
     none = of_next_gives t declaration_keyword ∙ h.declares;
@@ -174,6 +175,21 @@ module _ (text : List ℕ) (r : Readers) (below : ℕ) (complete : AreComplete t
   unfolding same_kind
   continue-other s t read =
       short-other s t (record { declares = refl; no_name = refl; no_brace = refl; no_if = refl; no_for = refl; no_switch = refl; no_select = refl }) (when_false _ (stands_other t ReturnKeyword refl) (when_false _ (stands_other t GoKeyword refl) (when_false _ (stands_other t DeferKeyword refl) (when_false _ (stands_other t BreakKeyword refl) (when_true _ (stands_gives t) read)))))
+
+  goto-other : {from after to : Cursor} (s : Statement) → IsSecond text.edition → TakesToken GotoKeyword from after → read_goto text r below from ≡ Some (s, to) → ReadsOther from s to
+  unfolding same_kind
+  goto-other s second t read =
+      short-other s t (record { declares = refl; no_name = refl; no_brace = refl; no_if = refl; no_for = refl; no_switch = refl; no_select = refl }) (when_false _ (stands_other t ReturnKeyword refl) (when_false _ (stands_other t GoKeyword refl) (when_false _ (stands_other t DeferKeyword refl) (when_false _ (stands_other t BreakKeyword refl) (when_false _ (stands_other t ContinueKeyword refl) (when_true _ (and_true (second_true text.edition second) (stands_gives t)) read))))))
+
+  fallthrough-other : {from to : Cursor} (s : Statement) → IsSecond text.edition → TakesToken FallthroughKeyword from to → spanned_statement from fallthrough_statement (behind from) ≡ (s, to) → ReadsOther from s to
+  unfolding same_kind
+  fallthrough-other s second t read =
+      short-other s t (record { declares = refl; no_name = refl; no_brace = refl; no_if = refl; no_for = refl; no_switch = refl; no_select = refl }) (when_false _ (stands_other t ReturnKeyword refl) (when_false _ (stands_other t GoKeyword refl) (when_false _ (stands_other t DeferKeyword refl) (when_false _ (stands_other t BreakKeyword refl) (when_false _ (stands_other t ContinueKeyword refl) (when_false _ (and_not (is_second text.edition) (stands_other t GotoKeyword refl)) (when_true _ (and_true (second_true text.edition second) (stands_gives t)) (ap Some read))))))))
+
+  goto-complete : (n : Identifier) (span : Span) (from start to : Cursor) → TakesToken GotoKeyword from start → identifier text n start to → span.start ≡ start_at from → span.end ≡ to.end → read_goto text r below from ≡ Some (statement_node (goto_statement n) span, to)
+  unfolding read_goto
+  goto-complete n span from start to t s p q =
+      step _ (ap (read_identifier text) (behind_gives t) ∙ read_identifier-complete text n start to s) (ap Some (statement_is (goto_statement n) span from to p q))
 
   labeled-other : {from between after to : Cursor} (s : Statement) → TakesToken identifier_kind from between → TakesToken Colon between after → read_labeled text r below from ≡ Some (s, to) → ReadsOther from s to
   unfolding read_other_statement
@@ -229,6 +245,12 @@ module _ (text : List ℕ) (r : Readers) (below : ℕ) (complete : AreComplete t
   by_form (continue_statement n) span from to s h d e =
       let node : Statement = statement_node (continue_statement n) span in
       by_other from node to (continue-other node s.0.1 (branch-complete continue_statement n span from s.0.0 to s.0.1 s.0.2 e s.1 s.2))
+  by_form (goto_statement n) span from to s h d e =
+      let node : Statement = statement_node (goto_statement n) span in
+      by_other from node to (goto-other node s.0.0 s.0.1.1 (goto-complete n span from s.0.1.0 to s.0.1.1 s.0.1.2 s.1 s.2))
+  by_form fallthrough_statement span from to s h d e =
+      let node : Statement = statement_node fallthrough_statement span in
+      by_other from node to (fallthrough-other node s.0.0 s.0.1 (ap (spanned_statement from fallthrough_statement) (behind_gives s.0.1) ∙ statement_is fallthrough_statement span from to s.1 s.2))
   by_form (block_statement ss braces) span from to s h d e =
       let node : Statement = statement_node (block_statement ss braces) span in
       by_other from node to (block-other node s.0.0.1 (block-complete ss braces span from to s.0 d s.1 s.2))

@@ -5,7 +5,7 @@ use Rattle.lexer.specs.Spelling.{same_kind}
 use Rattle.lexer.specs.declared.token.TokenKind.{TokenKind}
 use Rattle.lexer.specs.declared.token.TokenKind.TheVariants.{Identifier as identifier_kind, RightBrace, RightParenthesis, Semicolon, Colon}
 use Rattle.tree.specs.Syntax.{Identifier, Expressions, no_expression, expression_and, OptionalExpression, missing_expression, present_expression, Statement, StatementForm, expression_statement, send_statement, increment_statement, decrement_statement, assignment, operator_assignment, define_statement}
-use Rattle.meaning.specs.Cursor.{Cursor, TakesToken, TakesSemicolon, semicolon, is_next, is_closing, identifiers}
+use Rattle.meaning.specs.Cursor.{GoText, Cursor, TakesToken, TakesSemicolon, semicolon, is_next, is_closing, identifiers}
 use Rattle.meaning.specs.WellFormed.{StatementFitsHeader, IsCommunication, IsKept}
 use Rattle.meaning.specs.Grammar.{as_expression, SpellsExpressions, SpellsMore, SpellsStatementForm, SpellsStatement, SpellsOptional, form_of}
 use Rattle.tree_reader.specs.Reading.{stands}
@@ -91,7 +91,7 @@ pub semicolon_there : {from to : Cursor} → semicolon from to → is_next is_cl
 semicolon_there (inl t) e = t
 semicolon_there (inr h) e = let both : true ≡ false = sym h.1 ∙ (ap (is_next is_closing) h.0 ∙ e) in cc
 
-module _ (text : List ℕ) where
+module _ (text : GoText) where
   -- A simple statement begins with an expression, or a name.
   pub simple-begins : (header : Bool) (form : StatementForm) (from to : Cursor) → IsSimpleIn header form → SpellsStatementForm text form from to → is_next begins_expression from ≡ true
   unfolding SpellsStatementForm

@@ -8,7 +8,7 @@ use Rattle.lexer.specs.declared.token.TokenKind.TheVariants.{CaseKeyword, Defaul
 use Rattle.tree.specs.declared.span.Span.{Span}
 use Rattle.tree.specs.Syntax.{Identifier, Expression, Expressions, no_expression, expression_and, OptionalExpression, missing_expression, present_expression, Statements, Statement, statement_node, StatementForm, expression_statement, send_statement, assignment, define_statement, switch_statement, type_switch_statement, select_statement, OptionalStatement, missing_statement, present_statement, CaseClauses, no_case, case_and, CommunicationClauses, no_communication, communication_and}
 use Rattle.tree.specs.Depth.{expression_depth, expressions_depth, optional_depth, statement_depth, below_statement, optional_statement_depth, cases_depth, communications_depth}
-use Rattle.meaning.specs.Cursor.{Cursor, ◌⨾◌, TakesToken, token, is_next, is_closing, start_at}
+use Rattle.meaning.specs.Cursor.{GoText, Cursor, ◌⨾◌, TakesToken, token, is_next, is_closing, start_at}
 use Rattle.meaning.specs.WellFormed.{level, primary_level, IsPrimary, FitsHeader, InitFitsHeader, IsOne, IsCommunication}
 use Rattle.meaning.specs.Mentions.{is_one}
 use Rattle.meaning.specs.Grammar.{as_expression, in_braces, in_parentheses, initial, case_head, communication_head, guard_name, CommunicationFits, SpellsExpression, SpellsExpressions, SpellsMore, SpellsOptional, SpellsStatement, SpellsStatementForm, SpellsOptionalStatement, SpellsCases, SpellsCommunications}
@@ -64,7 +64,7 @@ at_guard {first} {inner} dot left word = record {
 primary_is : (e : Expression) → IsPrimary e → nat_le primary_level (level e) ≡ true
 primary_is e h = le-leb primary_level (level e) (omega (arith, h))
 
-module _ (text : List ℕ) where
+module _ (text : GoText) where
   case_head-begins : (es : Expressions) (from to : Cursor) → case_head es (SpellsExpressions text as_expression es) from to → is_next begins_clause from ≡ true
   case_head-begins no_expression from to s = next_gives s begins_clause
   case_head-begins (expression_and e es) from to s = next_gives s.1 begins_clause
@@ -102,7 +102,7 @@ module _ (text : List ℕ) where
   initial-no_brace (present_statement (statement_node form span)) from to s h e =
       stands_not begins_expression LeftBrace from refl (simple-begins text true form from s.0 (fits_header form h) s.1.0)
 
-module _ (text : List ℕ) (r : Readers) (below : ℕ) (complete : AreComplete text below r) where
+module _ (text : GoText) (r : Readers) (below : ℕ) (complete : AreComplete text below r) where
   case_head-complete : (es : Expressions) (from to : Cursor) {after : Cursor} → case_head es (SpellsExpressions text as_expression es) from to → expressions_depth es ≤ below → TakesToken Colon to after → read_case_head text r below from ≡ Some (es, to)
   unfolding same_kind
   case_head-complete no_expression from to s d t = when_true _ (stands_gives s) (ap (λ p. Some (no_expression, p)) (behind_gives s))

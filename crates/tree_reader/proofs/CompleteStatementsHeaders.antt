@@ -7,7 +7,7 @@ use Rattle.lexer.specs.declared.token.TokenKind.TheVariants.{ElseKeyword, IfKeyw
 use Rattle.tree.specs.declared.span.Span.{Span}
 use Rattle.tree.specs.Syntax.{Expression, Statements, Statement, statement_node, StatementForm, expression_statement, block_statement, if_statement, OptionalStatement, missing_statement, present_statement}
 use Rattle.tree.specs.Depth.{expression_depth, statement_depth, below_statement, optional_statement_depth, else_depth, else_branch_depth}
-use Rattle.meaning.specs.Cursor.{Cursor, TakesToken, TakesSemicolon, is_next, is_closing, start_at}
+use Rattle.meaning.specs.Cursor.{GoText, Cursor, TakesToken, TakesSemicolon, is_next, is_closing, start_at}
 use Rattle.meaning.specs.WellFormed.{FitsHeader, StatementFitsHeader, InitFitsHeader}
 use Rattle.meaning.specs.Grammar.{as_expression, initial, SpellsExpression, SpellsStatement, SpellsStatementForm, SpellsOptionalStatement, SpellsElse}
 use Rattle.tree_reader.specs.Reading.{stands, span_between}
@@ -30,7 +30,7 @@ header_of init has_semicolon first = record { init = init; has_semicolon = has_s
 abbrev pub as_statement : Expression → Cursor → Cursor → Statement
 as_statement e from to = statement_node (expression_statement e) (span_between from to)
 
-module _ (text : List ℕ) (r : Readers) (below : ℕ) (complete : AreComplete text below r) where
+module _ (text : GoText) (r : Readers) (below : ℕ) (complete : AreComplete text below r) where
   pub as_part-gives : (s : Statement) → statement_depth s ≤ below → as_part text r below s ≡ Some (present_statement s)
   as_part-gives s d = only_true (le-leb (statement_depth s) below d) refl
 

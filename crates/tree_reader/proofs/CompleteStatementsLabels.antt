@@ -11,10 +11,10 @@ use Rattle.tree.specs.declared.operator.BinaryOperator.TheVariants.{LogicalOr}
 use Rattle.tree.specs.declared.operator.UnaryOperator.{UnaryOperator}
 use Rattle.tree.specs.declared.operator.UnaryOperator.TheVariants.{Plus}
 use Rattle.tree.specs.declared.operator.ChanDirection.TheVariants.{Both, Send, Receive as receive_only}
-use Rattle.tree.specs.Syntax.{Expression, expression_node, ExpressionForm, name_expression, basic_literal, function_literal, composite_literal, literal_value, key_value, parenthesized, selector_expression, index_expression, slice_expression, type_assertion, call_expression, star_expression, unary_expression, binary_expression, array_type, ellipsis_array_type, slice_type, map_type, channel_type, function_type, struct_type, interface_type}
-use Rattle.meaning.specs.Cursor.{Cursor, TakesToken, is_next}
+use Rattle.tree.specs.Syntax.{Expression, expression_node, ExpressionForm, name_expression, basic_literal, function_literal, composite_literal, literal_value, key_value, parenthesized, selector_expression, index_expression, slice_expression, type_assertion, call_expression, star_expression, unary_expression, binary_expression, array_type, ellipsis_array_type, slice_type, map_type, channel_type, function_type, struct_type, interface_type, instance_expression}
+use Rattle.meaning.specs.Cursor.{GoText, Cursor, TakesToken, is_next}
 use Rattle.meaning.specs.OperatorTokens.{operator_token, unary_token, literal_token}
-use Rattle.meaning.specs.Grammar.{Position, as_type, as_expression, as_value, as_element, SpellsExpression, SpellsForm}
+use Rattle.meaning.specs.Grammar.{Position, as_type, as_expression, as_value, as_element, SpellsExpression, SpellsForm, as_constraint}
 use Rattle.tree_reader.specs.Reading.{stands, behind}
 use Rattle.tree_reader.specs.Reader.{of_next, declaration_keyword}
 use Rattle.tree_reader.proofs.Taken.{behind_gives, stands_other, of_next_none}
@@ -67,7 +67,7 @@ IsPlain as_type = Unit {0}
 IsPlain as_expression = Unit {0}
 IsPlain place = ⊥
 
-module _ (text : List ℕ) where
+module _ (text : GoText) where
   mutual
     unfolding SpellsExpression SpellsForm same_kind
 
@@ -75,7 +75,7 @@ module _ (text : List ℕ) where
     expression-label place (expression_node form span) from to h s = form-label place form from to h s.0
 
     form-label : (place : Position) (form : ExpressionForm) (from to : Cursor) → IsPlain place → SpellsForm text place form from to → BeginsNoLabel from to
-    form-label as_type (name_expression name) from to h s = subst (BeginsNoLabel from) s.2.0 (after_name s.1.0)
+    form-label as_type (name_expression name) from to h s = subst (BeginsNoLabel from) (s.2.1.0 ∙ s.2.2.0) (after_name s.1.0)
     form-label as_expression (name_expression name) from to h s = subst (BeginsNoLabel from) s.2 (after_name s.1.0)
     form-label place (basic_literal kind) from to h s = λ colon. no_label s.1 (literal-no_name kind)
     form-label place (function_literal signature ss braces) from to h s = λ colon. no_label s.1.1 refl
@@ -87,12 +87,14 @@ module _ (text : List ℕ) where
     form-label place (parenthesized e) from to h s = λ colon. no_label s.1 refl
     form-label place (selector_expression e n) from to h s = λ colon. expression-label as_expression e from s.1.0 tt s.1.1 (stands_other s.1.2.1 Colon refl)
     form-label place (index_expression e i) from to h s = λ colon. expression-label as_expression e from s.1.1.0 tt s.1.1.1 (stands_other s.1.1.2.1 Colon refl)
+    form-label place (instance_expression e es) from to h s = λ colon. expression-label as_expression e from s.1.1.1.0 tt s.1.1.1.1 (stands_other s.1.1.1.2.1 Colon refl)
     form-label place (slice_expression e low high most) from to h s = λ colon. expression-label as_expression e from s.1.1.0 tt s.1.1.1 (stands_other s.1.1.2.1 Colon refl)
     form-label place (type_assertion e t) from to h s = λ colon. expression-label as_expression e from s.1.1.0 tt s.1.1.1 (stands_other s.1.1.2.1 Colon refl)
     form-label place (call_expression e es ellipsis) from to h s = λ colon. expression-label as_expression e from s.1.1.0 tt s.1.1.1 (stands_other s.1.1.2.1 Colon refl)
     form-label place (star_expression e) from to h s = λ colon. no_label s.1.1 refl
     form-label place (unary_expression op e) from to h s = λ colon. no_label s.1.1.1 (unary-no_name op)
-    form-label place (binary_expression op l r) from to h s = λ colon. expression-label as_expression l from s.1.1.0 tt s.1.1.1 (stands_other s.1.1.2.1 Colon (operator-no_colon op))
+    form-label as_type (binary_expression op l r) from to h s = absurd s.0
+    form-label as_expression (binary_expression op l r) from to h s = λ colon. expression-label as_expression l from s.1.1.0 tt s.1.1.1 (stands_other s.1.1.2.1 Colon (operator-no_colon op))
     form-label place (array_type n t) from to h s = λ colon. no_label s.1.1 refl
     form-label place (ellipsis_array_type t) from to h s = λ colon. no_label s.1.1 refl
     form-label place (slice_type t) from to h s = λ colon. no_label s.1.1 refl
@@ -108,3 +110,4 @@ module _ (text : List ℕ) where
     form-label place (interface_type fs) from to h s = λ colon. no_label s.1 refl
     form-label as_value form from to h s = absurd h
     form-label as_element form from to h s = absurd h
+    form-label as_constraint form from to h s = absurd h

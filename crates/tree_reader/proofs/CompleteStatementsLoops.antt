@@ -7,7 +7,7 @@ use Rattle.lexer.specs.declared.token.TokenKind.TheVariants.{RangeKeyword, Assig
 use Rattle.tree.specs.declared.span.Span.{Span}
 use Rattle.tree.specs.Syntax.{Identifier, Expression, Expressions, no_expression, expression_and, OptionalExpression, missing_expression, present_expression, Statements, Statement, statement_node, StatementForm, expression_statement, for_statement, range_assignment, range_definition, OptionalStatement, missing_statement, present_statement}
 use Rattle.tree.specs.Depth.{expression_depth, expressions_depth, optional_depth, statements_depth, statement_depth, below_statement, optional_statement_depth}
-use Rattle.meaning.specs.Cursor.{Cursor, TakesToken, TakesSemicolon, is_next, is_closing, semicolon, start_at}
+use Rattle.meaning.specs.Cursor.{GoText, Cursor, TakesToken, TakesSemicolon, is_next, is_closing, semicolon, start_at}
 use Rattle.meaning.specs.WellFormed.{FitsHeader, OptionalFitsHeader, StatementFitsHeader, InitFitsHeader}
 use Rattle.meaning.specs.Grammar.{as_expression, block, SpellsExpression, SpellsOptional, SpellsStatements, SpellsStatement, SpellsStatementForm, SpellsOptionalStatement}
 use Rattle.tree_reader.specs.Reading.{stands, behind, take, span_between}
@@ -24,7 +24,7 @@ pub semicolon_no : (other : TokenKind) {from to : Cursor} → TakesSemicolon fro
 unfolding stands
 semicolon_no other t e = next_semicolon t (λ k. same_kind k other) ∙ e
 
-module _ (text : List ℕ) (r : Readers) (below : ℕ) (complete : AreComplete text below r) where
+module _ (text : GoText) (r : Readers) (below : ℕ) (complete : AreComplete text below r) where
   -- a node that ends with a block
   loop-complete : (form : Statements → Span → StatementForm) (ss : Statements) (braces span : Span) (from place to : Cursor) → block braces (SpellsStatements text ss) place to → statements_depth ss ≤ below → span.start ≡ start_at from → span.end ≡ to.end → read_loop text r below from form place ≡ Some (statement_node (form ss braces) span, to)
   unfolding read_loop

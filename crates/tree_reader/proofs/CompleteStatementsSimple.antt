@@ -9,7 +9,7 @@ use Rattle.tree.specs.declared.operator.BinaryOperator.TheVariants.{Add, Subtrac
 use Rattle.tree.specs.declared.span.Span.{Span}
 use Rattle.tree.specs.Syntax.{Identifier, Expression, expression_node, name_expression, key_value, Expressions, no_expression, expression_and, Statement, statement_node, StatementForm, expression_statement, send_statement, increment_statement, decrement_statement, assignment, operator_assignment, define_statement}
 use Rattle.tree.specs.Depth.{expression_depth, expressions_depth, below_statement}
-use Rattle.meaning.specs.Cursor.{Cursor, TakesToken, is_next, start_at, identifier, identifiers, more_identifiers}
+use Rattle.meaning.specs.Cursor.{GoText, Cursor, TakesToken, is_next, start_at, identifier, identifiers, more_identifiers}
 use Rattle.meaning.specs.OperatorTokens.{assign_operator}
 use Rattle.meaning.specs.WellFormed.{has_bare_literal}
 use Rattle.meaning.specs.Grammar.{as_element, as_expression, SpellsExpression, SpellsExpressions, SpellsMore, SpellsStatement, SpellsStatementForm, SpellsForm}
@@ -166,7 +166,7 @@ no_range first {place = place} {from = from} t e =
 pub statement_is : (form : StatementForm) (span : Span) (from to : Cursor) → span.start ≡ start_at from → span.end ≡ to.end → spanned_statement from form to ≡ (statement_node form span, to)
 statement_is form span from to p q = λ i. (statement_node form (span_is span from to p q i), to)
 
-module _ (text : List ℕ) where
+module _ (text : GoText) where
   pub expression_depth-least : (e : Expression) (from to : Cursor) → SpellsExpression text as_expression e from to → 1 ≤ expression_depth e
   unfolding SpellsExpression SpellsForm expression_depth
   expression_depth-least (expression_node (key_value k v) span) from to s = let no_element : as_expression ≡ as_element = s.0.0 in cc
@@ -232,7 +232,7 @@ module _ (text : List ℕ) where
         depth = omega (arith, more.depth);
       }
 
-module _ (text : List ℕ) (r : Readers) (below : ℕ) (complete : AreComplete text below r) where
+module _ (text : GoText) (r : Readers) (below : ℕ) (complete : AreComplete text below r) where
   -- How a simple statement is read: expressions, and what follows them.
   pub record ReadsSimple (header : Bool) (from : Cursor) (s : Statement) (to : Cursor) : Type 0 where
     pub es : Expressions

@@ -1,24 +1,32 @@
 -- The reader gives each type that is spelled.
+use Rattle.std.specs.Prelude.{◌&&◌}
+use Rattle.tree.specs.declared.operator.UnaryOperator.TheVariants.{Tilde}
+use Rattle.tree_reader.specs.Reading.{Read}
+use Rattle.tree_reader.specs.Reader.{read_index, is_second, read_type_arguments}
+use Rattle.tree_reader.proofs.CompleteIndexes.{second_true, read_index-complete, read_instance-complete}
 use Rattle.std.proofs.Common.{◌≡◌, ℕ, suc, ◌≤◌, Bool, true, false, true≢false, List, Some, refl, sym, subst, ap, ◌∙◌, arith}
 use Rattle.lexer.specs.Spelling.{same_kind}
 use Rattle.lexer.specs.declared.token.TokenKind.{TokenKind}
 use Rattle.lexer.specs.declared.token.TokenKind.TheVariants.{Identifier as identifier_kind, ChanKeyword, FuncKeyword, InterfaceKeyword, MapKeyword, StructKeyword, Star, Arrow, Ellipsis, LeftParenthesis, LeftBracket, RightBracket, Dot}
 use Rattle.tree.specs.declared.span.Span.{Span}
 use Rattle.tree.specs.declared.operator.ChanDirection.TheVariants.{Both, Send, Receive as receive_only}
-use Rattle.tree.specs.Syntax.{Identifier, Expression, expression_node, name_expression, key_value, parenthesized, selector_expression, star_expression, array_type, ellipsis_array_type, slice_type, map_type, channel_type, function_type, struct_type, interface_type, Fields}
+use Rattle.tree.specs.Syntax.{Identifier, Expression, expression_node, name_expression, key_value, parenthesized, selector_expression, star_expression, array_type, ellipsis_array_type, slice_type, map_type, channel_type, function_type, struct_type, interface_type, Fields, index_expression, instance_expression, unary_expression}
 use Rattle.tree.specs.Depth.{expression_depth, below_expression}
-use Rattle.meaning.specs.Cursor.{Cursor, TakesToken, is_next, identifier, word, start_at}
-use Rattle.meaning.specs.OperatorTokens.{is_dot, is_arrow}
-use Rattle.meaning.specs.Grammar.{Position, as_type, as_expression, as_value, as_element, in_braces, end_of_type, Owner, of_struct, of_interface, SpellsExpression, SpellsForm, SpellsSignature, SpellsFields}
-use Rattle.tree_reader.specs.Reading.{take, spanned, word_between, read_identifier}
+use Rattle.meaning.specs.Cursor.{GoText, Cursor, TakesToken, is_next, identifier, word, start_at}
+use Rattle.meaning.specs.OperatorTokens.{is_dot, is_arrow, takes_arguments}
+use Rattle.meaning.specs.Grammar.{Position, as_type, as_expression, as_value, as_element, in_braces, end_of_type, Owner, of_struct, of_interface, SpellsExpression, SpellsForm, SpellsSignature, SpellsFields, as_constraint, IsSecond}
+use Rattle.tree_reader.specs.Reading.{stands, take, spanned, word_between, read_identifier}
 use Rattle.tree_reader.specs.Reader.{Readers, read_signature, read_braced_fields, read_bracket_type, read_map_type, read_channel_type, read_literal_type, around, read_selector, read_named_type, read_type_of}
 use Rattle.tree_reader.specs.Claims.{AreComplete}
-use Rattle.tree_reader.proofs.Taken.{step, when_true, when_false, only_true, take_gives, stands_gives, stands_other, behind_gives, next_gives, stands_not, stands_none, span_is, node_is, read_identifier-complete}
+use Rattle.tree_reader.proofs.Taken.{step, when_true, when_false, only_true, take_gives, stands_gives, stands_other, behind_gives, next_gives, stands_not, stands_none, span_is, node_is, read_identifier-complete, and_true}
 use Rattle.tree_reader.proofs.Begins.{begins_expression, expression_begins}
 use Rattle.tree_reader.proofs.CompleteLists.{ends_expression, read_any-complete}
 use Rattle.tree_reader.proofs.CompleteSignatures.{read_signature-complete}
 use Rattle.std.proofs.lemmas.Bool.{le-leb}
 use Rattle.tree_reader.proofs.CompleteFields.{read_braced_fields-complete}
+use Rattle.tree.specs.declared.edition.Edition.{Edition}
+use Rattle.tree.specs.declared.edition.Edition.TheVariants.{First, Second}
+use Rattle.meaning.specs.WellFormed.{is_name, names_type, is_instance, is_type}
 
 -- a type that begins with a bracket or a keyword, but for `func`
 abbrev pub is_literal_type : Expression → Bool
@@ -45,8 +53,16 @@ end_same as_type from to p = p
 end_same as_expression from to s = s.0
 end_same as_value from to s = s.0
 end_same as_element from to s = s.0
+end_same as_constraint from to s = s.0
 
-module _ (text : List ℕ) where
+-- no brackets of an instance stand there
+no_brackets : (edition : Edition) (place : Cursor)
+    → is_next (takes_arguments edition) place ≡ false
+    → (is_second edition && stands LeftBracket place) ≡ false
+no_brackets First place h = refl
+no_brackets Second place h = stands_none (takes_arguments Second) LeftBracket place refl h
+
+module _ (text : GoText) where
   -- a type up to where the type ends that it is the last part of
   to_end : (position : Position) (t : Expression) (from middle to : Cursor)
       → SpellsExpression text as_type t from middle
@@ -264,45 +280,101 @@ module _ (text : List ℕ) where
         step _ (ap (read_identifier text) (behind_gives dot) ∙ read_identifier-complete text n after to name)
         (ap Some (node_is (selector_expression e n) span from to p q))
 
-    qualified_type : (e : Expression) (n : Identifier) (span : Span) (from to : Cursor)
-        → SpellsExpression text as_type (expression_node (selector_expression e n) span) from to
-        → expression_depth (expression_node (selector_expression e n) span) ≤ suc below
-        → read_type_of text r below from ≡ Some (expression_node (selector_expression e n) span, to)
+    -- the name of a type, and what is read behind it
+    named_type : (e : Expression) (from place : Cursor) (wanted : Read Expression)
+        → names_type e ≡ true
+        → (is_name e ≡ true → stands Dot place ≡ false)
+        → SpellsExpression text as_expression e from place
+        → expression_depth e ≤ suc below
+        → read_type_arguments text r below from e place ≡ wanted
+        → read_type_of text r below from ≡ wanted
     unfolding read_type_of read_named_type SpellsExpression SpellsForm expression_depth below_expression
-    qualified_type (expression_node (name_expression name) inner) n span from to s d =
+    named_type (expression_node (name_expression name) span) from place wanted h no_dot s d read =
+        let spelled : word text name from place = subst (λ c. word text name from c) s.0.2 s.0.1 in
+        when_true _ (stands_gives spelled.0)
+        (rw (behind_gives spelled.0)
+        (when_false _ (no_dot refl)
+        (ap (λ (x : Expression × Cursor). read_type_arguments text r below from x.0 x.1)
+        (name_read name span from place spelled s.1 s.2) ∙ read)))
+    named_type (expression_node (selector_expression (expression_node (name_expression name) at) n) span) from place wanted h no_dot s d read =
         let e = s.0.1.1 in
         let after : Cursor = s.0.1.0 in
-        let spelled : word text name from after = subst (λ place. word text name from place) e.0.2 e.0.1 in
-        let found : spanned from
-        (name_expression (word_between text from after)) after ≡ (
-          expression_node
-              (name_expression name) inner,
-          after,
-        ) =
-        name_read name inner from after spelled e.1 e.2 in
+        let spelled : word text name from after = subst (λ c. word text name from c) e.0.2 e.0.1 in
+        let last : identifier text n s.0.1.2.0 place =
+        subst (λ c. identifier text n s.0.1.2.0 c) s.0.1.2.2.2 s.0.1.2.2.1 in
+        let found : spanned from (name_expression (word_between text from after)) after
+        ≡ (expression_node (name_expression name) at, after) = name_read name at from after spelled e.1 e.2 in
         when_true _ (stands_gives spelled.0)
         (rw (behind_gives spelled.0)
         (when_true _ (stands_gives s.0.1.2.1)
-        (ap (λ (part : Expression × Cursor). around text r below part.0
+        (step _ (ap (λ (part : Expression × Cursor). around text r below part.0
         (read_selector text r below from part.0 after)) found ∙ only_true (le-leb 1 below (omega arith))
         (read_selector-complete
-        (expression_node (name_expression name) inner) n span from after s.0.1.2.0 to s.0.1.2.1 s.0.1.2.2 s.1
-        s.2))))
-    qualified_type (expression_node _ inner) n span from to s d = absurd (true≢false (sym s.0.0))
+        (expression_node (name_expression name) at) n span from after s.0.1.2.0 place s.0.1.2.1 last s.1 s.2))
+        read)))
+    named_type (expression_node (selector_expression (expression_node _ at) n) span) from place wanted h no_dot s d read =
+        absurd (true≢false (sym h))
+    named_type (expression_node _ span) from place wanted h no_dot s d read = absurd (true≢false (sym h))
+
+    -- the brackets of an instance
+    arguments-read : (e t : Expression) (from place inner to : Cursor)
+        → IsSecond text.edition
+        → TakesToken LeftBracket place inner
+        → is_instance t ≡ true
+        → is_type t ≡ true
+        → expression_depth e ≤ below
+        → read_index text r from e place ≡ Some (t, to)
+        → read_type_arguments text r below from e place ≡ Some (t, to)
+    unfolding read_type_arguments
+    arguments-read e t from place inner to second bracket instance types d read =
+        when_true _ (and_true (second_true text.edition second) (stands_gives bracket))
+        (step _ (only_true (le-leb (expression_depth e) below d) read) (only_true (and_true instance types) refl))
+
+    no_arguments-read : (e : Expression) (from place : Cursor)
+        → is_next (takes_arguments text.edition) place ≡ false
+        → read_type_arguments text r below from e place ≡ Some (e, place)
+    unfolding read_type_arguments
+    no_arguments-read e from place none = when_false _ (no_brackets text.edition place none) refl
 
     pub read_type_of-complete : (from to : Cursor) (t : Expression)
         → SpellsExpression text as_type t from to
         → expression_depth t ≤ suc below
         → read_type_of text r below from ≡ Some (t, to)
-    unfolding read_type_of read_named_type SpellsExpression SpellsForm expression_depth below_expression same_kind
+    unfolding read_type_of SpellsExpression SpellsForm expression_depth below_expression is_type same_kind
     read_type_of-complete from to (expression_node (name_expression name) span) s d =
-        let spelled : word text name from to = subst (λ place. word text name from place) s.0.2.0 s.0.1 in
-        when_true _ (stands_gives spelled.0)
-        (rw (behind_gives spelled.0)
-        (when_false _ (stands_none is_dot Dot to refl (ap (is_next is_dot) (sym s.0.2.0) ∙ s.0.2.1))
-        (ap Some (name_read name span from to spelled s.1 s.2))))
-    read_type_of-complete from to (expression_node (selector_expression e n) span) s d =
-        qualified_type e n span from to s d
+        let end : s.0.0 ≡ to = s.0.2.1.0 ∙ s.0.2.2.0 in
+        let no_dot : stands Dot to ≡ false =
+        stands_none is_dot Dot to refl (ap (is_next is_dot) (sym end) ∙ s.0.2.1.1) in
+        let none : is_next (takes_arguments text.edition) to ≡ false =
+        ap (is_next (takes_arguments text.edition)) (sym s.0.2.2.0) ∙ s.0.2.2.1 in
+        let e = expression_node (name_expression name) span in
+        named_type e from to (Some (e, to)) refl (λ alone. no_dot) ((s.0.0, s.0.1, end), s.1, s.2) d
+        (no_arguments-read e from to none)
+    read_type_of-complete from to (expression_node (selector_expression (expression_node (name_expression name) at) n) span) s d =
+        let rest = s.0.1.2.2 in
+        let none : is_next (takes_arguments text.edition) to ≡ false =
+        ap (is_next (takes_arguments text.edition)) (sym rest.2.0) ∙ rest.2.1 in
+        let e = expression_node (selector_expression (expression_node (name_expression name) at) n) span in
+        named_type e from to (Some (e, to)) refl (λ alone. absurd (true≢false (sym alone)))
+        ((refl, (s.0.1.0, s.0.1.1, (s.0.1.2.0, s.0.1.2.1, (rest.0, rest.1, rest.2.0)))), s.1, s.2) d
+        (no_arguments-read e from to none)
+    read_type_of-complete from to (expression_node (selector_expression (expression_node _ at) n) span) s d =
+        absurd (true≢false (sym s.0.0))
+    read_type_of-complete from to (expression_node (index_expression e i) span) s d =
+        let rule = s.0.1.1 in
+        let t = expression_node (index_expression e i) span in
+        named_type e from rule.0 (Some (t, to)) s.0.0.1 (λ alone. stands_other rule.2.1 Dot refl) rule.1 (omega arith)
+        (arguments-read e t from rule.0 rule.2.0 to s.0.0.0 rule.2.1 refl (and_true s.0.0.1 s.0.0.2) (omega arith)
+        (read_index-complete text r below complete e i span from rule.0 to rule.2 (omega arith) s.1 s.2))
+    read_type_of-complete from to (expression_node (instance_expression e es) span) s d =
+        let rule = s.0.1.1.1 in
+        let can = s.0.1.0 in
+        let t = expression_node (instance_expression e es) span in
+        named_type e from rule.0 (Some (t, to)) can.1 (λ alone. stands_other rule.2.1 Dot refl) rule.1 (omega arith)
+        (arguments-read e t from rule.0 rule.2.0 to s.0.0 rule.2.1 refl (and_true can.1 can.2) (omega arith)
+        (read_instance-complete text r below complete e es span from rule.0 to s.0.0 rule.2 (omega arith) s.1 s.2))
+    read_type_of-complete from to (expression_node (unary_expression Tilde e) span) s d =
+        let p : as_type ≡ as_constraint = s.0.0 in cc
     read_type_of-complete from to (expression_node (star_expression t) span) s d =
         let star = s.0.1.1 in
         when_false _ (stands_other star identifier_kind refl)

@@ -1,5 +1,5 @@
 -- What is spelled takes tokens: an expression, a type and a statement that is kept take one at least.
-use Rattle.std.proofs.Common.{ℕ, ◌≤◌, ◌<◌, Bool, true, false, List, [], ◌∷◌, length, Option, Some, None, ap, arith, inl, inr}
+use Rattle.std.proofs.Common.{◌≡◌, ℕ, ◌≤◌, ◌<◌, Bool, true, false, List, [], ◌∷◌, length, Option, Some, None, ap, arith, inl, inr}
 use Rattle.lexer.specs.declared.token.TokenKind.{TokenKind}
 use Rattle.tree.specs.declared.span.Span.{Span}
 use Rattle.tree.specs.declared.operator.BinaryOperator.{BinaryOperator}
@@ -7,11 +7,14 @@ use Rattle.tree.specs.declared.operator.BinaryOperator.TheVariants.{Add, Subtrac
 use Rattle.tree.specs.declared.operator.ChanDirection.{ChanDirection}
 use Rattle.tree.specs.declared.operator.ChanDirection.TheVariants.{Both, Send, Receive}
 use Rattle.tree.specs.declared.operator.DeclKeyword.{DeclKeyword}
-use Rattle.tree.specs.Syntax.{Identifier, TypeName, Expression, expression_node, ExpressionForm, name_expression, basic_literal, function_literal, composite_literal, literal_value, key_value, parenthesized, selector_expression, index_expression, slice_expression, type_assertion, call_expression, star_expression, unary_expression, binary_expression, array_type, ellipsis_array_type, slice_type, map_type, channel_type, function_type, struct_type, interface_type, Expressions, no_expression, expression_and, OptionalExpression, missing_expression, present_expression, Signature, signature_of, Parameters, no_parameter, named_and, unnamed_and, name_alone_and, Fields, no_field, fields_and, embedded_and, method_and, Statement, statement_node, StatementForm, empty_statement, declaration_statement, labeled_statement, expression_statement, send_statement, increment_statement, decrement_statement, assignment, operator_assignment, define_statement, go_statement, defer_statement, return_statement, break_statement, continue_statement, block_statement, if_statement, for_statement, range_assignment, range_definition, switch_statement, type_switch_statement, select_statement, Statements, no_statement, statement_and, OptionalStatement, missing_statement, present_statement, CaseClauses, no_case, case_and, CommunicationClauses, no_communication, communication_and, Declaration, declaration_of, Specs, no_spec, value_and, type_and}
-use Rattle.meaning.specs.Cursor.{Cursor, Rule, ◌⨾◌, ◌⇒◌, nothing, never, one_of, optional, chosen, token, string_token, not_before, semicolon, TakesSemicolon, Semicolons, no_semicolon, semicolon_and, spanning, identifier, optional_identifier, more_identifiers, identifiers}
+use Rattle.tree.specs.Syntax.{Identifier, TypeName, Expression, expression_node, ExpressionForm, name_expression, basic_literal, function_literal, composite_literal, literal_value, key_value, parenthesized, selector_expression, index_expression, slice_expression, type_assertion, call_expression, star_expression, unary_expression, binary_expression, array_type, ellipsis_array_type, slice_type, map_type, channel_type, function_type, struct_type, interface_type, Expressions, no_expression, expression_and, OptionalExpression, missing_expression, present_expression, Signature, signature_of, Parameters, no_parameter, named_and, unnamed_and, name_alone_and, Fields, no_field, fields_and, embedded_and, method_and, Statement, statement_node, StatementForm, empty_statement, declaration_statement, labeled_statement, expression_statement, send_statement, increment_statement, decrement_statement, assignment, operator_assignment, define_statement, go_statement, defer_statement, return_statement, break_statement, continue_statement, block_statement, if_statement, for_statement, range_assignment, range_definition, switch_statement, type_switch_statement, select_statement, Statements, no_statement, statement_and, OptionalStatement, missing_statement, present_statement, CaseClauses, no_case, case_and, CommunicationClauses, no_communication, communication_and, Declaration, declaration_of, Specs, no_spec, value_and, type_and, instance_expression, element_and, goto_statement, fallthrough_statement}
+use Rattle.meaning.specs.Cursor.{GoText, Cursor, Rule, ◌⨾◌, ◌⇒◌, nothing, never, one_of, optional, chosen, token, string_token, not_before, semicolon, TakesSemicolon, Semicolons, no_semicolon, semicolon_and, spanning, identifier, optional_identifier, more_identifiers, identifiers}
 use Rattle.meaning.specs.OperatorTokens.{assign_operator}
 use Rattle.meaning.specs.WellFormed.{IsKept}
-use Rattle.meaning.specs.Grammar.{Position, as_type, as_expression, as_value, as_element, end_of_name, end_of_type, channel, arguments, perhaps, inside, of_struct, of_interface, elements, third_bound, guard_name, initial, range_left, case_head, communication_head, form_of, Owner, optional_tag, before_item, after_items, qualifier, type_name, SpellsExpression, SpellsForm, SpellsExpressions, SpellsMore, SpellsOptional, SpellsSignature, SpellsResult, SpellsItems, SpellsFields, SpellsStatement, SpellsStatementForm, SpellsOptionalStatement, SpellsElse, SpellsStatements, SpellsCases, SpellsCommunications, SpellsDeclaration, SpellsSpecs}
+use Rattle.meaning.specs.Grammar.{Position, as_type, as_expression, as_value, as_element, end_of_name, end_of_type, channel, arguments, perhaps, inside, of_struct, of_interface, elements, third_bound, guard_name, initial, range_left, case_head, communication_head, form_of, Owner, optional_tag, before_item, after_items, qualifier, type_name, SpellsExpression, SpellsForm, SpellsExpressions, SpellsMore, SpellsOptional, SpellsSignature, SpellsResult, SpellsItems, SpellsFields, SpellsStatement, SpellsStatementForm, SpellsOptionalStatement, SpellsElse, SpellsStatements, SpellsCases, SpellsCommunications, SpellsDeclaration, SpellsSpecs, as_constraint, IsSecond, after_instance, operand, end_of_selector, element_place, type_parameters, parameters_stand, length_stands, no_type_parameters, after_type_name, SpellsTypeParameters}
+use Rattle.tree.specs.declared.edition.Edition.{Edition}
+use Rattle.tree.specs.declared.edition.Edition.TheVariants.{First, Second}
+use Rattle.meaning.specs.TypeParameters.{is_one_parameter}
 
 abbrev pub NoLonger : Rule → Type 0
 NoLonger rule = (from to : Cursor) → rule from to → length to.left ≤ length from.left
@@ -87,33 +90,94 @@ pub semicolons_longest : {from to : Cursor} → Semicolons from to → length to
 semicolons_longest no_semicolon = omega arith
 semicolons_longest (semicolon_and t more) = omega (arith, takes_semicolon_shorter _ _ t, semicolons_longest more)
 
-pub identifier_shorter : (text : List ℕ) (n : Identifier) → Shorter (identifier text n)
+pub identifier_shorter : (text : GoText) (n : Identifier) → Shorter (identifier text n)
 identifier_shorter text n from to s = token_shorter _ from to s.0.0
 
-pub optional_identifier_longest : (text : List ℕ) (n : Option Identifier) → NoLonger (optional_identifier text n)
+pub optional_identifier_longest : (text : GoText) (n : Option Identifier) → NoLonger (optional_identifier text n)
 optional_identifier_longest text None = same_length
 optional_identifier_longest text (Some n) = weak (identifier_shorter text n)
 
-pub more_identifiers_longest : (text : List ℕ) (ns : List Identifier) → NoLonger (more_identifiers text ns)
+pub more_identifiers_longest : (text : GoText) (ns : List Identifier) → NoLonger (more_identifiers text ns)
 more_identifiers_longest text [] = same_length
 more_identifiers_longest text (n ∷ ns) =
     both (weak (token_shorter _)) (both (weak (identifier_shorter text n)) (more_identifiers_longest text ns))
 
-pub identifiers_shorter : (text : List ℕ) (ns : List Identifier) → Shorter (identifiers text ns)
+pub identifiers_shorter : (text : GoText) (ns : List Identifier) → Shorter (identifiers text ns)
 identifiers_shorter text [] = never_shorter
 identifiers_shorter text (n ∷ ns) = first_then (identifier_shorter text n) (more_identifiers_longest text ns)
 
-end_of_name_longest : (place : Position) → NoLonger (end_of_name place)
-end_of_name_longest as_type = not_before_longest _
-end_of_name_longest as_expression = same_length
-end_of_name_longest as_value = same_length
-end_of_name_longest as_element = same_length
+end_of_name_longest : (edition : Edition) (place : Position) → NoLonger (end_of_name edition place)
+end_of_name_longest edition as_type = both (not_before_longest _) (not_before_longest _)
+end_of_name_longest edition as_expression = same_length
+end_of_name_longest edition as_value = same_length
+end_of_name_longest edition as_element = same_length
+end_of_name_longest edition as_constraint = same_length
+
+end_of_selector_longest : (edition : Edition) (place : Position) → NoLonger (end_of_selector edition place)
+end_of_selector_longest edition as_type = not_before_longest _
+end_of_selector_longest edition as_expression = same_length
+end_of_selector_longest edition as_value = same_length
+end_of_selector_longest edition as_element = same_length
+end_of_selector_longest edition as_constraint = same_length
+
+pub after_instance_longest : (es : Expressions) → NoLonger (after_instance es)
+after_instance_longest no_expression = optional_longest (weak (token_shorter _))
+after_instance_longest (expression_and e no_expression) = weak (token_shorter _)
+after_instance_longest (expression_and e (expression_and f es)) = optional_longest (weak (token_shorter _))
+
+pub type_parameters_longest : (allowed : Type 0) (ps : Parameters) {list : Rule}
+    → NoLonger list
+    → NoLonger (type_parameters allowed ps list)
+type_parameters_longest allowed no_parameter h = same_length
+type_parameters_longest allowed (named_and n ellipsis t ps) h =
+    where_no_longer (where_no_longer (weak (enclosed _ _ h)))
+type_parameters_longest allowed (unnamed_and ellipsis t ps) h =
+    where_no_longer (where_no_longer (weak (enclosed _ _ h)))
+type_parameters_longest allowed (name_alone_and n ps) h = where_no_longer (where_no_longer (weak (enclosed _ _ h)))
+
+parameters_stand_longest : (stand : Bool) → NoLonger (parameters_stand stand)
+parameters_stand_longest stand from to s = same_length from to s.0
+
+one_longest : {first second : Rule} → NoLonger first → NoLonger second → NoLonger (one_of first second)
+one_longest h k from to (inl s) = h from to s
+one_longest h k from to (inr s) = k from to s
+
+length_stands_longest : (form : ExpressionForm) → NoLonger (length_stands form)
+length_stands_longest (array_type n t) = where_no_longer (parameters_stand_longest false)
+length_stands_longest (name_expression name) = same_length
+length_stands_longest _ = same_length
+
+no_type_parameters_longest : (edition : Edition) (is_alias : Bool) (t : Expression)
+    → NoLonger (no_type_parameters edition is_alias t)
+no_type_parameters_longest First is_alias t = same_length
+no_type_parameters_longest Second true t = same_length
+no_type_parameters_longest Second false (expression_node form span) = length_stands_longest form
+
+parameters_or_not : (ps : Parameters)
+    → NoLonger (one_of (parameters_stand true) ((is_one_parameter ps ≡ true) ⇒ parameters_stand false))
+parameters_or_not ps =
+    one_longest (parameters_stand_longest true) (where_no_longer (parameters_stand_longest false))
+
+pub after_type_name_longest : (edition : Edition) (ps : Parameters) (is_alias : Bool) (t : Expression) {list : Rule}
+    → NoLonger list
+    → NoLonger (after_type_name edition ps is_alias t list)
+after_type_name_longest edition no_parameter is_alias t h = no_type_parameters_longest edition is_alias t
+after_type_name_longest edition (named_and n ellipsis c ps) is_alias t h =
+    both (parameters_or_not (named_and n ellipsis c ps))
+    (type_parameters_longest (IsSecond edition) (named_and n ellipsis c ps) h)
+after_type_name_longest edition (unnamed_and ellipsis c ps) is_alias t h =
+    both (parameters_or_not (unnamed_and ellipsis c ps))
+    (type_parameters_longest (IsSecond edition) (unnamed_and ellipsis c ps) h)
+after_type_name_longest edition (name_alone_and n ps) is_alias t h =
+    both (parameters_or_not (name_alone_and n ps))
+    (type_parameters_longest (IsSecond edition) (name_alone_and n ps) h)
 
 end_of_type_longest : (place : Position) → NoLonger (end_of_type place)
 end_of_type_longest as_type = same_length
 end_of_type_longest as_expression = not_before_longest _
 end_of_type_longest as_value = not_before_longest _
 end_of_type_longest as_element = not_before_longest _
+end_of_type_longest as_constraint = not_before_longest _
 
 channel_shorter : (place : Position) (direction : ChanDirection) → Shorter (channel place direction)
 channel_shorter place Both = first_then (token_shorter _) (not_before_longest _)
@@ -142,7 +206,7 @@ pub third_bound_longest : (e : OptionalExpression) {bound : Rule} → NoLonger b
 third_bound_longest missing_expression h = same_length
 third_bound_longest (present_expression e) h = both (weak (token_shorter _)) h
 
-guard_name_longest : (text : List ℕ) (n : Option Identifier) → NoLonger (guard_name text n)
+guard_name_longest : (text : GoText) (n : Option Identifier) → NoLonger (guard_name text n)
 guard_name_longest text None = same_length
 guard_name_longest text (Some n) = both (weak (identifier_shorter text n)) (weak (token_shorter _))
 
@@ -194,15 +258,15 @@ assign_operator_longest And = weak (token_shorter _)
 assign_operator_longest AndNot = weak (token_shorter _)
 assign_operator_longest op = never_longer
 
-qualifier_longest : (text : List ℕ) (n : Option Identifier) → NoLonger (qualifier text n)
+qualifier_longest : (text : GoText) (n : Option Identifier) → NoLonger (qualifier text n)
 qualifier_longest text None = same_length
 qualifier_longest text (Some n) = both (weak (identifier_shorter text n)) (weak (token_shorter _))
 
-pub type_name_shorter : (text : List ℕ) (n : TypeName) → Shorter (type_name text n)
+pub type_name_shorter : (text : GoText) (n : TypeName) → Shorter (type_name text n)
 type_name_shorter text n =
     spanning_shorter (then_last (qualifier_longest text n.qualifier) (identifier_shorter text n.name))
 
-module _ (text : List ℕ) where
+module _ (text : GoText) where
   form_longest : (form : StatementForm)
       → (IsKept form → Shorter (SpellsStatementForm text form))
       → NoLonger (SpellsStatementForm text form)
@@ -212,7 +276,7 @@ module _ (text : List ℕ) where
 
   mutual
     unfolding SpellsExpression SpellsForm SpellsExpressions SpellsMore SpellsOptional SpellsSignature SpellsResult
-        SpellsItems SpellsFields SpellsStatement SpellsStatementForm SpellsOptionalStatement SpellsElse SpellsStatements
+        SpellsItems SpellsTypeParameters SpellsFields SpellsStatement SpellsStatementForm SpellsOptionalStatement SpellsElse SpellsStatements
         SpellsCases SpellsCommunications SpellsDeclaration SpellsSpecs
 
     pub expression_shorter : (place : Position) (e : Expression) → Shorter (SpellsExpression text place e)
@@ -220,7 +284,7 @@ module _ (text : List ℕ) where
 
     form_shorter : (place : Position) (form : ExpressionForm) → Shorter (SpellsForm text place form)
     form_shorter place (name_expression name) from to s =
-        omega (arith, token_shorter _ from s.0 s.1.0, end_of_name_longest place s.0 to s.2)
+        omega (arith, token_shorter _ from s.0 s.1.0, end_of_name_longest text.edition place s.0 to s.2)
     form_shorter place (basic_literal kind) from to s = token_shorter _ from to s.1
     form_shorter place (function_literal signature ss braces) from to s =
         first_then (token_shorter _)
@@ -237,10 +301,14 @@ module _ (text : List ℕ) where
     form_shorter place (parenthesized e) from to s = enclosed _ _ (weak (expression_shorter (inside place) e)) from to s
     form_shorter place (selector_expression e n) from to s =
         first_then (expression_shorter as_expression e)
-        (both (weak (token_shorter _)) (weak (identifier_shorter text n))) from to s.1
+        (both (weak (token_shorter _))
+        (both (weak (identifier_shorter text n)) (end_of_selector_longest text.edition place))) from to s.1
     form_shorter place (index_expression e i) from to s =
         first_then (expression_shorter as_expression e)
         (weak (enclosed _ _ (weak (expression_shorter as_expression i)))) from to s.1.1
+    form_shorter place (instance_expression e es) from to s =
+        first_then (expression_shorter as_expression e)
+        (weak (enclosed _ _ (both (expressions_longest as_expression es) (after_instance_longest es)))) from to s.1.1.1
     form_shorter place (slice_expression e low high most) from to s =
         first_then (expression_shorter as_expression e)
         (weak (enclosed _ _ (both (optional_expression_longest low)
@@ -258,8 +326,8 @@ module _ (text : List ℕ) where
     form_shorter place (unary_expression op e) from to s =
         first_then (token_shorter _) (weak (expression_shorter as_expression e)) from to s.1.1
     form_shorter place (binary_expression op l r) from to s =
-        first_then (expression_shorter as_expression l)
-        (both (weak (token_shorter _)) (weak (expression_shorter as_expression r))) from to s.1.1
+        first_then (expression_shorter (operand place) l)
+        (both (weak (token_shorter _)) (weak (expression_shorter (operand place) r))) from to s.1.1
     form_shorter place (array_type n t) from to s =
         first_then (enclosed _ _ (weak (expression_shorter as_expression n)))
         (both (weak (expression_shorter as_type t)) (end_of_type_longest place)) from to s
@@ -329,6 +397,16 @@ module _ (text : List ℕ) where
     items_longest first (name_alone_and n ps) =
         both (before_item_longest first) (both (weak (identifier_shorter text n)) (items_longest false ps))
 
+    pub type_items_longest : (first : Bool) (ps : Parameters) → NoLonger (SpellsTypeParameters text first ps)
+    type_items_longest first no_parameter = after_items_longest first
+    type_items_longest first (named_and n ellipsis t ps) =
+        where_no_longer (where_no_longer (both (before_item_longest first)
+        (both (weak (identifier_shorter text n))
+        (both (weak (expression_shorter as_constraint t)) (type_items_longest false ps)))))
+    type_items_longest first (unnamed_and ellipsis t ps) = never_longer
+    type_items_longest first (name_alone_and n ps) =
+        both (before_item_longest first) (both (weak (identifier_shorter text n)) (type_items_longest false ps))
+
     pub fields_longest : (owner : Owner) (fs : Fields) → NoLonger (SpellsFields text owner fs)
     fields_longest owner no_field = same_length
     fields_longest owner (fields_and ns t tag span fs) =
@@ -340,6 +418,11 @@ module _ (text : List ℕ) where
         where_no_longer (both
         (spanning_no_longer (both (chosen_longest star (weak (token_shorter _)) same_length)
         (both (weak (type_name_shorter text n)) (optional_tag_longest tag))))
+        (both semicolon_longest (fields_longest owner fs)))
+    fields_longest owner (element_and star t tag span fs) =
+        where_no_longer (both
+        (spanning_no_longer (both (chosen_longest star (weak (token_shorter _)) same_length)
+        (both (weak (expression_shorter (element_place owner) t)) (optional_tag_longest tag))))
         (both semicolon_longest (fields_longest owner fs)))
     fields_longest owner (method_and n signature span fs) =
         where_no_longer (both
@@ -381,6 +464,9 @@ module _ (text : List ℕ) where
         first_then (token_shorter _) (optional_identifier_longest text n) from to s
     statement_form_shorter (continue_statement n) h from to s =
         first_then (token_shorter _) (optional_identifier_longest text n) from to s
+    statement_form_shorter (goto_statement n) h from to s =
+        first_then (token_shorter _) (weak (identifier_shorter text n)) from to s.1
+    statement_form_shorter fallthrough_statement h from to s = token_shorter _ from to s.1
     statement_form_shorter (block_statement ss braces) h from to s = enclosed _ _ (statements_longest ss) from to s.0
     statement_form_shorter (if_statement init has_semicolon c ss braces otherwise) h from to s =
         first_then (token_shorter _)
@@ -474,11 +560,12 @@ module _ (text : List ℕ) where
         (perhaps_longest es (both (weak (token_shorter _)) (expressions_longest as_expression es))))))
         (chosen_longest is_grouped (both semicolon_longest (specs_longest keyword true specs))
         (where_no_longer same_length)))
-    specs_longest keyword is_grouped (type_and n is_alias t span specs) =
+    specs_longest keyword is_grouped (type_and n ps is_alias t span specs) =
         where_no_longer (both
         (spanning_no_longer (both (weak (identifier_shorter text n))
+        (both (after_type_name_longest text.edition ps is_alias t (type_items_longest true ps))
         (both (chosen_longest is_alias (weak (token_shorter _)) same_length)
-        (weak (expression_shorter as_type t)))))
+        (weak (expression_shorter as_type t))))))
         (chosen_longest is_grouped (both semicolon_longest (specs_longest keyword true specs))
         (where_no_longer same_length)))
 

@@ -1,6 +1,8 @@
 pub mod Steps
 pub mod Tables
 pub mod SoundLists
+pub mod SoundIndexes
+pub mod SoundInstances
 pub mod SoundBlocks
 pub mod SoundSignatures
 pub mod SoundFields
@@ -20,6 +22,8 @@ pub mod Taken
 pub mod Begins
 pub mod Lengths
 pub mod CompleteLists
+pub mod CompleteIndexes
+pub mod CompleteInstances
 pub mod CompleteTypes
 pub mod CompleteSignatures
 pub mod CompleteFields

@@ -6,7 +6,7 @@ use Rattle.std.proofs.lemmas.Option.{same_Some}
 use Rattle.lexer.specs.declared.token.Token.{Token}
 use Rattle.lexer.proofs.Whole.{one_token_list}
 use Rattle.tree.specs.Depth.{file_depth}
-use Rattle.meaning.specs.Cursor.{Cursor}
+use Rattle.meaning.specs.Cursor.{GoText, Cursor}
 use Rattle.meaning.specs.Grammar.{SpellsFile}
 use Rattle.meaning.specs.TreeOfText.{first_place}
 use Rattle.tree_reader.specs.Reading.{Read}
@@ -28,8 +28,9 @@ one_tree_of_any_depth text from to last f g s none t no_more =
     (read_file_within-complete text deeper from last g t no_more (omega arith))
 
 pub one_tree : OneTree
-one_tree text f g t u =
-    let same = one_token_list text t.tokens u.tokens t.cut u.cut in
+one_tree edition bytes f g t u =
+    let same = one_token_list bytes t.tokens u.tokens t.cut u.cut in
+    let text : GoText = record { edition = edition; bytes = bytes } in
     let Spells : List Token → Type 0 = λ tokens. SpellsFile text f (first_place tokens) t.last in
     one_tree_of_any_depth text (first_place u.tokens) t.last u.last f g
     (subst Spells same t.spelled) t.none_left u.spelled u.none_left

@@ -5,14 +5,14 @@ use Rattle.std.proofs.lemmas.Option.{none-some, option_and_then_some}
 use Rattle.lexer.specs.declared.token.TokenKind.TheVariants.{LeftBrace, RightBrace}
 use Rattle.tree.specs.Syntax.{Statements, statement_and}
 use Rattle.tree.specs.Depth.{statements_depth}
-use Rattle.meaning.specs.Cursor.{Cursor, is_next}
+use Rattle.meaning.specs.Cursor.{GoText, Cursor, is_next}
 use Rattle.meaning.specs.Grammar.{block, SpellsStatements}
 use Rattle.tree_reader.specs.Reading.{skip_semicolons, steps}
 use Rattle.tree_reader.specs.Reader.{ends_statements, Readers, Braced, read_statements, read_block}
 use Rattle.tree_reader.specs.Claims.{AreSound}
 use Rattle.tree_reader.proofs.Steps.{given, two_ways, take-sound, take_semicolon-sound, skip_semicolons-sound}
 
-module _ (text : List ℕ) (r : Readers) (below : ℕ) (sound : AreSound text below r) where
+module _ (text : GoText) (r : Readers) (below : ℕ) (sound : AreSound text below r) where
   abbrev pub ReadsStatements : Cursor → Statements × Cursor → Type 0
   ReadsStatements from x = SpellsStatements text x.0 from x.1 × (statements_depth x.0 ≤ below)
 

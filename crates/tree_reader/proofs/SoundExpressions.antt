@@ -8,16 +8,17 @@ use Rattle.lexer.specs.declared.token.TokenKind.TheVariants.{Star, LeftBrace}
 use Rattle.tree.specs.declared.operator.BinaryOperator.{BinaryOperator}
 use Rattle.tree.specs.declared.operator.BinaryOperator.TheVariants.{LogicalOr}
 use Rattle.tree.specs.declared.operator.ChanDirection.TheVariants.{Both, Send, Receive}
+use Rattle.tree.specs.declared.operator.UnaryOperator.TheVariants.{Tilde}
 use Rattle.tree.specs.Syntax.{Expression, expression_node, name_expression, literal_value, key_value, star_expression, unary_expression, binary_expression, channel_type}
 use Rattle.tree.specs.Depth.{expression_depth}
-use Rattle.meaning.specs.Cursor.{Cursor}
+use Rattle.meaning.specs.Cursor.{GoText, Cursor}
 use Rattle.meaning.specs.WellFormed.{operator_level, level, unary_level, primary_level, IsUnaryOperand, has_bare_literal}
-use Rattle.meaning.specs.Grammar.{as_expression, as_value, SpellsExpression, SpellsForm}
+use Rattle.meaning.specs.Grammar.{as_expression, as_value, as_constraint, SpellsExpression, SpellsForm}
 use Rattle.tree_reader.specs.Reading.{Read, ◌>>=◌, stands, behind, steps, spanned}
 use Rattle.tree_reader.specs.Reader.{of_next, unary_operator, binary_operator, Readers, read_braced_elements, read_unary, read_operator, read_operators, read_expression_of, read_value_of}
 use Rattle.tree_reader.specs.Claims.{StandsIn, IsLooser, AreSound}
 use Rattle.tree_reader.proofs.Steps.{given, two_ways, option_ways, stands-sound}
-use Rattle.tree_reader.proofs.Tables.{unary_operator-sound, binary_operator-sound}
+use Rattle.tree_reader.proofs.Tables.{unary_operator-sound, unary_operator-operates, binary_operator-sound}
 use Rattle.tree_reader.proofs.SoundLists.{read_braced_elements-sound}
 use Rattle.tree_reader.proofs.SoundSuffixes.{stands_in-same, ReadsPrimary, go_on-sound, read_primary-sound}
 
@@ -40,19 +41,21 @@ stands_in-both true l r grown same h k = same ∙ (ap (λ (b : Bool). b || has_b
 stands_in-both false l r grown same h k = tt
 
 -- an expression can stand at a key or a value
-expression_is_value : (text : List ℕ) (e : Expression) (from to : Cursor)
+expression_is_value : (text : GoText) (e : Expression) (from to : Cursor)
     → SpellsExpression text as_expression e from to
     → SpellsExpression text as_value e from to
 unfolding SpellsExpression SpellsForm
 expression_is_value text (expression_node (name_expression n) span) from to h = h
 expression_is_value text (expression_node (literal_value es) span) from to h = absurd h.0.0
 expression_is_value text (expression_node (key_value k v) span) from to h = cc
+expression_is_value text (expression_node (unary_expression Tilde e) span) from to h =
+    let p : as_expression ≡ as_constraint = h.0.0 in cc
 expression_is_value text (expression_node (channel_type Both t) span) from to h = h
 expression_is_value text (expression_node (channel_type Send t) span) from to h = h
 expression_is_value text (expression_node (channel_type Receive t) span) from to h = h
 expression_is_value text (expression_node _ span) from to h = h
 
-module _ (text : List ℕ) (r : Readers) (below : ℕ) (sound : AreSound text below r) where
+module _ (text : GoText) (r : Readers) (below : ℕ) (sound : AreSound text below r) where
   -- an operator's operand
   record ReadsOperand (header : Bool) (from : Cursor) (x : Expression × Cursor) : Type 0 where
     spelled : SpellsExpression text as_expression x.0 from x.1
@@ -88,7 +91,8 @@ module _ (text : List ℕ) (r : Readers) (below : ℕ) (sound : AreSound text be
               let h = sound.expression header unary_level (behind from) v.1 v.0 v-read in
               let a = h.3 in
               given (ReadsOperand header from) (spanned from (unary_expression c.0 v.0) v.1) x v-then record {
-                spelled = ((tt, (h.1 (omega arith), (_, unary_operator-sound from c.0 c.1, h.0))), refl, refl);
+                spelled =
+                    ((unary_operator-operates from c.0 c.1, (h.1 (omega arith), (_, unary_operator-sound from c.0 c.1, h.0))), refl, refl);
                 tight = omega arith;
                 stands_in = stands_in-same header v.0 (spanned from (unary_expression c.0 v.0) v.1).0 refl h.2;
                 shallow = omega arith;

@@ -1,22 +1,30 @@
 -- The lines of struct types and interface types that the reader reads are spelled by their tokens, and no deeper than
 -- their parts may be.
-use Rattle.std.proofs.Common.{◌≡◌, ℕ, zero, suc, ◌≤◌, Bool, true, false, if◌then◌else◌, ◌&&◌, ◌||◌, inl, inr, refl, List, arith}
+use Rattle.std.proofs.Common.{◌≡◌, ℕ, zero, suc, ◌≤◌, Bool, true, false, if◌then◌else◌, ◌&&◌, ◌||◌, not, true≢false, inl, inr, refl, sym, List, arith}
 use Rattle.std.specs.Prelude.{Option, Some, None}
 use Rattle.std.proofs.lemmas.Option.{none-some, option_and_then_some}
-use Rattle.lexer.specs.declared.token.TokenKind.TheVariants.{Identifier as identifier_kind, Star, LeftParenthesis, LeftBrace, RightBrace, Dot}
+use Rattle.std.proofs.lemmas.Bool.{and_parts}
+use Rattle.lexer.specs.declared.token.TokenKind.TheVariants.{Identifier as identifier_kind, Star, LeftParenthesis, LeftBracket, LeftBrace, RightBrace, Dot}
 use Rattle.tree.specs.declared.span.Span.{Span}
-use Rattle.tree.specs.Syntax.{TypeName, Fields, no_field}
-use Rattle.tree.specs.Depth.{fields_depth}
-use Rattle.meaning.specs.Cursor.{Cursor, string_token, semicolon, is_next}
-use Rattle.meaning.specs.Grammar.{optional_tag, type_name, in_braces, Owner, of_struct, of_interface, SpellsFields}
+use Rattle.tree.specs.Syntax.{Identifier, TypeName, Expression, Fields, no_field}
+use Rattle.tree.specs.Depth.{expression_depth, fields_depth}
+use Rattle.meaning.specs.Cursor.{GoText, Cursor, string_token, semicolon, is_next}
+use Rattle.meaning.specs.WellFormed.{names_type, is_instance}
+use Rattle.meaning.specs.Grammar.{IsSecond, optional_tag, type_name, in_braces, Owner, of_struct, of_interface, SpellsFields}
 use Rattle.tree_reader.specs.Reading.{stands, behind, past, steps, span_between, read_identifier, read_identifiers}
-use Rattle.tree_reader.specs.Reader.{is_string, follows_embedded, Readers, read_type_name, read_tag, read_struct_field, read_interface_field, read_field, read_fields, read_braced_fields, read_signature}
+use Rattle.tree_reader.specs.Reader.{is_string, follows_embedded, is_second, opens_index, is_no_name, field_of, Readers, read_indexed, read_constraint, read_type_name, read_tag, read_struct_field, read_interface_field, read_field, read_fields, read_braced_fields, read_signature}
 use Rattle.tree_reader.specs.Claims.{AreSound}
-use Rattle.tree_reader.proofs.Steps.{given, two_ways, stands-sound, take-sound, past-sound, take_semicolon-sound, read_identifier-sound, read_identifiers-sound}
+use Rattle.tree_reader.proofs.Steps.{given, two_ways, only_where_some, stands-sound, take-sound, past-sound, take_semicolon-sound, read_identifier-sound, read_identifiers-sound}
 use Rattle.tree_reader.proofs.Tables.{is_string-sound}
+use Rattle.tree_reader.proofs.SoundIndexes.{second_is}
+use Rattle.tree_reader.proofs.SoundInstances.{IsIndexed, read_indexed-sound, read_constraint-sound}
 use Rattle.tree_reader.proofs.SoundSignatures.{read_signature-sound}
 
-module _ (text : List ℕ) (r : Readers) (below : ℕ) (sound : AreSound text below r) where
+not_so : (b : Bool) → not b ≡ true → b ≡ false
+not_so true h = absurd (true≢false (sym h))
+not_so false h = refl
+
+module _ (text : GoText) (r : Readers) (below : ℕ) (sound : AreSound text below r) where
   abbrev ReadsTypeName : Cursor → TypeName × Cursor → Type 0
   ReadsTypeName from x = type_name text x.0 from x.1
 
@@ -52,31 +60,73 @@ module _ (text : List ℕ) (r : Readers) (below : ℕ) (sound : AreSound text be
         → SpellsFields text owner (x.0 fs) from to
     shallow : (fs : Fields) → fields_depth fs ≤ below → fields_depth (x.0 fs) ≤ below
 
+  -- a name with an array's type, or an instance that is embedded
+  field_of-sound : (n : Option Identifier) (t : Expression) (tag : Option Span) (from middle to : Cursor)
+      → IsSecond text.edition
+      → IsIndexed text n t from middle × (expression_depth t ≤ below)
+      → optional_tag tag middle to
+      → ReadsField of_struct from (field_of n t tag (span_between from to), to)
+  unfolding SpellsFields fields_depth
+  field_of-sound None t tag from middle to second (h, d) tagged = record {
+    spelled = λ fs end last semi more.
+        ((second, h.1), (to, ((from, refl, (middle, h.0, tagged)), refl, refl), (end, semi, more)));
+    shallow = λ fs deep. omega arith;
+  }
+  field_of-sound (Some n) t tag from middle to second (h, d) tagged = record {
+    spelled = λ fs end last semi more.
+        (tt, (to, ((h.0, (h.0, h.1, refl), (middle, h.2, tagged)), refl, refl), (end, semi, more)));
+    shallow = λ fs deep. omega arith;
+  }
+
   read_struct_field-sound : (from : Cursor) (x : (Fields → Fields) × Cursor)
       → read_struct_field text r from ≡ Some x
       → ReadsField of_struct from x
   unfolding read_struct_field SpellsFields fields_depth
   read_struct_field-sound from x e =
+      let indexes = stands identifier_kind from && opens_index (behind from) in
       let embeds = stands Star from || (stands identifier_kind from && is_next follows_embedded (behind from)) in
-      elim (two_ways embeds _ _ (Some x) e) [
-        | inl c ↦ option_and_then_some _ (read_type_name text r (past Star from)) x c.1 λ n n-read n-then.
-            let h = read_type_name-sound (past Star from) n n-read in
-            let star = past-sound Star from in
-            let tag = read_tag-sound n.1 in
-            given (ReadsField of_struct from) _ x n-then record {
-              spelled = λ fs end to semi more. (tt, (_, ((_, star, (_, h, tag)), refl, refl), (end, semi, more)));
-              shallow = λ fs d. d;
-            }
-        | inr c ↦ option_and_then_some _ (read_identifiers text from) x c.1 λ ns ns-read ns-then.
-            option_and_then_some _ (r.read_type ns.1) x ns-then λ t t-read t-then.
-            let h = read_identifiers-sound text from ns ns-read in
-            let k = sound.type ns.1 t.1 t.0 t-read in
+      elim (two_ways (is_second text.edition && indexes) _ _ (Some x) e) [
+        | inl b ↦ (let second = and_parts (is_second text.edition) indexes b.0 in
+            let places = and_parts (stands identifier_kind from) (opens_index (behind from)) second.1 in
+            let edition = second_is text.edition second.0 in
+            option_and_then_some _ (read_indexed text r from) x b.1 λ t t-read t-then.
+            let h = read_indexed-sound text r below sound from t edition places.0 places.1 t-read in
             let tag = read_tag-sound t.1 in
-            let a = k.1 in
-            given (ReadsField of_struct from) _ x t-then record {
-              spelled = λ fs end to semi more. (tt, (_, ((_, h, (_, k.0, tag)), refl, refl), (end, semi, more)));
-              shallow = λ fs d. omega arith;
-            }
+            given (ReadsField of_struct from) _ x t-then
+            (field_of-sound t.0.0 t.0.1 (read_tag text r t.1).0 from t.1 (read_tag text r t.1).1 edition h tag))
+        | inr b ↦ elim (two_ways embeds _ _ (Some x) b.1) [
+          | inl c ↦ option_and_then_some _ (read_type_name text r (past Star from)) x c.1 λ n n-read n-then.
+              let star = past-sound Star from in
+              elim (two_ways (is_second text.edition && stands LeftBracket n.1) _ _ (Some x) n-then) [
+                | inl d ↦ option_and_then_some _ (r.read_type (past Star from)) x d.1 λ t t-read t-then.
+                    let k = only_where_some (is_instance t.0) _ x t-then in
+                    let edition = second_is text.edition (and_parts (is_second text.edition) (stands LeftBracket n.1) d.0).0 in
+                    let h = sound.type (past Star from) t.1 t.0 t-read in
+                    let tag = read_tag-sound t.1 in
+                    let a = h.1 in
+                    given (ReadsField of_struct from) _ x k.1 record {
+                      spelled = λ fs end to semi more.
+                          ((edition, k.0), (_, ((_, star, (_, h.0, tag)), refl, refl), (end, semi, more)));
+                      shallow = λ fs d. omega arith;
+                    }
+                | inr d ↦ (let h = read_type_name-sound (past Star from) n n-read in
+                    let tag = read_tag-sound n.1 in
+                    given (ReadsField of_struct from) _ x d.1 record {
+                      spelled = λ fs end to semi more. (tt, (_, ((_, star, (_, h, tag)), refl, refl), (end, semi, more)));
+                      shallow = λ fs d. d;
+                    })
+              ]
+          | inr c ↦ option_and_then_some _ (read_identifiers text from) x c.1 λ ns ns-read ns-then.
+              option_and_then_some _ (r.read_type ns.1) x ns-then λ t t-read t-then.
+              let h = read_identifiers-sound text from ns ns-read in
+              let k = sound.type ns.1 t.1 t.0 t-read in
+              let tag = read_tag-sound t.1 in
+              let a = k.1 in
+              given (ReadsField of_struct from) _ x t-then record {
+                spelled = λ fs end to semi more. (tt, (_, ((_, h, (_, k.0, tag)), refl, refl), (end, semi, more)));
+                shallow = λ fs d. omega arith;
+              }
+        ]
       ]
 
   read_interface_field-sound : (from : Cursor) (x : (Fields → Fields) × Cursor)
@@ -84,7 +134,7 @@ module _ (text : List ℕ) (r : Readers) (below : ℕ) (sound : AreSound text be
       → ReadsField of_interface from x
   unfolding read_interface_field SpellsFields fields_depth
   read_interface_field-sound from x e =
-      elim (two_ways (stands LeftParenthesis (behind from)) _ _ (Some x) e) [
+      elim (two_ways (stands identifier_kind from && stands LeftParenthesis (behind from)) _ _ (Some x) e) [
         | inl c ↦ option_and_then_some _ (read_identifier text from) x c.1 λ n n-read n-then.
             option_and_then_some _ (read_signature text r n.1) x n-then λ s s-read s-then.
             let h = read_identifier-sound text from n n-read in
@@ -94,13 +144,27 @@ module _ (text : List ℕ) (r : Readers) (below : ℕ) (sound : AreSound text be
               spelled = λ fs end to semi more. (tt, (_, ((_, h, k.0), refl, refl), (end, semi, more)));
               shallow = λ fs d. omega arith;
             }
-        | inr c ↦ option_and_then_some _ (read_type_name text r from) x c.1 λ n n-read n-then.
-            let h = read_type_name-sound from n n-read in
-            given (ReadsField of_interface from) _ x n-then record {
-              spelled = λ fs end to semi more.
-                  ((refl, refl), (_, ((from, refl, (_, h, refl)), refl, refl), (end, semi, more)));
-              shallow = λ fs d. d;
-            }
+        | inr c ↦ elim (two_ways (is_second text.edition && is_no_name from) _ _ (Some x) c.1) [
+          | inl d ↦ option_and_then_some _ (read_constraint text r from) x d.1 λ t t-read t-then.
+              let h = read_constraint-sound text r below sound from t t-read in
+              let k = only_where_some (not (names_type t.0)) _ x t-then in
+              let edition = second_is text.edition (and_parts (is_second text.edition) (is_no_name from) d.0).0 in
+              let a = h.2 in
+              given (ReadsField of_interface from) _ x k.1 record {
+                spelled = λ fs end to semi more. (
+                  (edition, refl, refl, h.1, not_so (names_type t.0) k.0),
+                  (_, ((from, refl, (_, h.0, refl)), refl, refl), (end, semi, more)),
+                );
+                shallow = λ fs d. omega arith;
+              }
+          | inr d ↦ option_and_then_some _ (read_type_name text r from) x d.1 λ n n-read n-then.
+              let h = read_type_name-sound from n n-read in
+              given (ReadsField of_interface from) _ x n-then record {
+                spelled = λ fs end to semi more.
+                    ((refl, refl), (_, ((from, refl, (_, h, refl)), refl, refl), (end, semi, more)));
+                shallow = λ fs d. d;
+              }
+        ]
       ]
 
   read_field-sound : (owner : Owner) (from : Cursor) (x : (Fields → Fields) × Cursor)

@@ -1,25 +1,27 @@
 -- The files that are read are spelled by all of their tokens and no deeper than they may be, where the parts of their
 -- declarations are so.
-use Rattle.std.proofs.Common.{◌≡◌, ℕ, zero, suc, ◌≤◌, true, List, [], ◌∷◌, inl, inr, refl, arith}
-use Rattle.std.specs.Prelude.{Option, Some}
+use Rattle.std.proofs.Common.{◌≡◌, ℕ, zero, suc, ◌≤◌, Bool, true, false, true≢false, ◌&&◌, List, [], ◌∷◌, inl, inr, refl, sym, arith}
+use Rattle.std.specs.Prelude.{Option, Some, None}
 use Rattle.std.proofs.lemmas.Option.{option_and_then_some, none-some}
-use Rattle.std.proofs.lemmas.Bool.{false≢true}
+use Rattle.std.proofs.lemmas.Bool.{false≢true, and_parts}
 use Rattle.lexer.specs.declared.token.Token.{Token}
-use Rattle.lexer.specs.declared.token.TokenKind.TheVariants.{FuncKeyword, ImportKeyword, PackageKeyword, LeftParenthesis, RightParenthesis, LeftBrace}
-use Rattle.tree.specs.Syntax.{Parameters, Block, Function, TopLevelDeclaration, ImportSpec, ImportDeclaration, SourceFile}
-use Rattle.tree.specs.Depth.{receiver_depth, body_depth, function_depth, top_level_depth, top_levels_depth, file_depth}
-use Rattle.meaning.specs.Cursor.{Cursor, ◌⨾◌, token, chosen, spanning, is_next}
-use Rattle.meaning.specs.Grammar.{in_parentheses, SpellsOneImport, SpellsImportSpec, SpellsImportSpecs, SpellsImports, SpellsReceiver, SpellsBody, SpellsFunction, SpellsTopLevel, SpellsTopLevels, SpellsFile}
+use Rattle.lexer.specs.declared.token.TokenKind.TheVariants.{FuncKeyword, ImportKeyword, PackageKeyword, LeftParenthesis, RightParenthesis, LeftBracket, LeftBrace, Dot}
+use Rattle.tree.specs.Syntax.{Identifier, Parameters, no_parameter, Block, Function, TopLevelDeclaration, ImportSpec, ImportDeclaration, SourceFile}
+use Rattle.tree.specs.Depth.{parameters_depth, receiver_depth, body_depth, function_depth, top_level_depth, top_levels_depth, file_depth}
+use Rattle.meaning.specs.Cursor.{GoText, Cursor, ◌⨾◌, token, chosen, spanning, is_next, optional_identifier}
+use Rattle.meaning.specs.Grammar.{IsSecond, IsNoMethod, type_parameters, import_name, SpellsTypeParameters, in_parentheses, SpellsOneImport, SpellsImportSpec, SpellsImportSpecs, SpellsImports, SpellsReceiver, SpellsBody, SpellsFunction, SpellsTopLevel, SpellsTopLevels, SpellsFile}
 use Rattle.tree_reader.specs.Reading.{stands, behind, take, take_semicolon, steps, read_identifier, read_optional_identifier}
-use Rattle.tree_reader.specs.Reader.{of_next, declaration_keyword, is_string, read_parameters, read_signature, read_block, read_declaration, top, read_import_spec, read_import_specs, read_import, read_imports, read_receiver_within, read_body_within, read_function_declaration_within, read_top_level_within, is_over, read_top_levels_within, read_file_within}
+use Rattle.tree_reader.specs.Reader.{of_next, declaration_keyword, is_string, is_second, is_no_method, read_import_name, read_type_parameters, read_function_parameters, read_parameters, read_signature, read_block, read_declaration, top, read_import_spec, read_import_specs, read_import, read_imports, read_receiver_within, read_body_within, read_function_declaration_within, read_top_level_within, is_over, read_top_levels_within, read_file_within}
 use Rattle.tree_reader.specs.Claims.{AreSound}
 use Rattle.tree_reader.proofs.Steps.{given, two_ways, only_where_some, option_ways, stands-sound, take-sound, take_semicolon-sound, read_identifier-sound, read_optional_identifier-sound}
 use Rattle.tree_reader.proofs.Tables.{is_string-sound}
+use Rattle.tree_reader.proofs.SoundIndexes.{second_is}
+use Rattle.tree_reader.proofs.SoundInstances.{parameters_there, read_type_parameters-sound}
 use Rattle.tree_reader.proofs.SoundBlocks.{read_block-sound}
 use Rattle.tree_reader.proofs.SoundSignatures.{read_parameters-sound, read_signature-sound}
 use Rattle.tree_reader.proofs.SoundDeclarations.{read_declaration-sound}
 
-module _ (text : List ℕ) where
+module _ (text : GoText) where
   abbrev ReadsImportSpec : Cursor → ImportSpec × Cursor → Type 0
   ReadsImportSpec from x = SpellsImportSpec text x.0 from x.1
 
@@ -36,16 +38,31 @@ module _ (text : List ℕ) where
   abbrev ReadsImports : Cursor → List ImportDeclaration × Cursor → Type 0
   ReadsImports from x = SpellsImports text x.0 from x.1
 
+  plain_name : (n : Option Identifier) (from to : Cursor) → optional_identifier text n from to → import_name text n from to
+  plain_name None from to h = h
+  plain_name (Some n) from to h = inl h
+
+  read_import_name-sound : (from : Cursor) (x : Option Identifier × Cursor)
+      → read_import_name text from ≡ Some x → import_name text x.0 from x.1
+  unfolding read_import_name
+  read_import_name-sound from x e =
+      elim (two_ways (is_second text.edition && stands Dot from) _ _ (Some x) e) [
+        | inl c ↦ (let tests = and_parts (is_second text.edition) (stands Dot from) c.0 in
+            given (λ (x : Option Identifier × Cursor). import_name text x.0 from x.1) _ x c.1
+            (inr (second_is text.edition tests.0, (refl, (stands-sound Dot from tests.1, refl, refl)))))
+        | inr c ↦ plain_name x.0 from x.1 (read_optional_identifier-sound text from x c.1)
+      ]
+
   read_import_spec-sound : (from : Cursor) (x : ImportSpec × Cursor)
       → read_import_spec text from ≡ Some x → ReadsImportSpec from x
   unfolding read_import_spec
   read_import_spec-sound from x e =
-      option_and_then_some _ (read_optional_identifier text from) x e λ n n-read n-then.
+      option_and_then_some _ (read_import_name text from) x e λ n n-read n-then.
       let h = only_where_some (is_next is_string n.1) _ x n-then in
       given (ReadsImportSpec from) _ x h.1 (
         refl,
         (
-          (n.1, read_optional_identifier-sound text from n n-read, (is_string-sound n.1 h.0, refl, refl)),
+          (n.1, read_import_name-sound from n n-read, (is_string-sound n.1 h.0, refl, refl)),
           refl,
           refl,
         ),
@@ -123,12 +140,12 @@ module _ (text : List ℕ) where
       ]
 
 -- no token is left
-is_over-sound : (text : List ℕ) (left : List Token) (end : ℕ)
+is_over-sound : (text : GoText) (left : List Token) (end : ℕ)
     → is_over text (record { left = left; end = end }) ≡ true → left ≡ []
 is_over-sound text [] end o = refl
 is_over-sound text (t ∷ rest) end o = absurd (false≢true o)
 
-module _ (text : List ℕ) (most : ℕ) (sound : AreSound text most (top text most)) where
+module _ (text : GoText) (most : ℕ) (sound : AreSound text most (top text most)) where
   abbrev ReadsReceiver : Cursor → Option Parameters × Cursor → Type 0
   ReadsReceiver from x = SpellsReceiver text x.0 from x.1 × (receiver_depth x.0 ≤ most)
 
@@ -159,6 +176,32 @@ module _ (text : List ℕ) (most : ℕ) (sound : AreSound text most (top text mo
         | inr c ↦ given (ReadsBody from) _ x c.1 (refl, omega arith)
       ]
 
+  is_no_method-true : (receiver : Option Parameters) → is_no_method receiver ≡ true → IsNoMethod receiver
+  is_no_method-true None e = tt
+  is_no_method-true (Some ps) e = absurd (true≢false (sym e))
+
+  abbrev ReadsFunctionParameters : Option Parameters → Cursor → Parameters × Cursor → Type 0
+  ReadsFunctionParameters receiver from x =
+      type_parameters (IsSecond text.edition × IsNoMethod receiver) x.0 (SpellsTypeParameters text true x.0) from x.1
+      × (parameters_depth x.0 ≤ most)
+
+  read_function_parameters-sound : (receiver : Option Parameters) (from : Cursor) (x : Parameters × Cursor)
+      → read_function_parameters text most receiver from ≡ Some x → ReadsFunctionParameters receiver from x
+  unfolding read_function_parameters parameters_depth
+  read_function_parameters-sound receiver from x e =
+      let opens = is_no_method receiver && stands LeftBracket from in
+      elim (two_ways (is_second text.edition && opens) _ _ (Some x) e) [
+        | inl c ↦ (let tests = and_parts (is_second text.edition) opens c.0 in
+            let alone = is_no_method-true receiver (and_parts (is_no_method receiver) (stands LeftBracket from) tests.1).0 in
+            let h = read_type_parameters-sound text (top text most) most sound from x c.1 in
+            let allowed : IsSecond text.edition × IsNoMethod receiver = (second_is text.edition tests.0, alone) in (
+              parameters_there text (IsSecond text.edition × IsNoMethod receiver) x.0 (SpellsTypeParameters text true x.0)
+                  from x.1 allowed h.0 h.1,
+              h.2,
+            ))
+        | inr c ↦ given (ReadsFunctionParameters receiver from) (no_parameter, from) x c.1 (refl, omega arith)
+      ]
+
   abbrev ReadsFunction : Cursor → Function × Cursor → Type 0
   ReadsFunction from x = SpellsFunction text x.0 from x.1 × (function_depth x.0 ≤ most)
 
@@ -168,20 +211,27 @@ module _ (text : List ℕ) (most : ℕ) (sound : AreSound text most (top text mo
   read_function_declaration_within-sound from x k e =
       option_and_then_some _ (read_receiver_within text most (behind from)) x e λ receiver receiver-read receiver-then.
       option_and_then_some _ (read_identifier text receiver.1) x receiver-then λ n n-read n-then.
-      option_and_then_some _ (read_signature text (top text most) n.1) x n-then λ signature signature-read signature-then.
+      option_and_then_some _ (read_function_parameters text most receiver.0 n.1) x n-then λ ps ps-read ps-then.
+      option_and_then_some _ (read_signature text (top text most) ps.1) x ps-then λ signature signature-read signature-then.
       option_and_then_some _ (read_body_within text most signature.1) x signature-then λ body body-read body-then.
       let r = read_receiver_within-sound (behind from) receiver receiver-read in
-      let s = read_signature-sound text (top text most) most sound n.1 signature signature-read in
+      let p = read_function_parameters-sound receiver.0 n.1 ps ps-read in
+      let s = read_signature-sound text (top text most) most sound ps.1 signature signature-read in
       let b = read_body_within-sound signature.1 body body-read in
       let first = r.1 in
       let second = s.1 in
       let third = b.1 in
+      let fourth = p.1 in
       given (ReadsFunction from) _ x body-then (
         (
           (
             behind from,
             stands-sound FuncKeyword from k,
-            (receiver.1, r.0, (n.1, read_identifier-sound text receiver.1 n n-read, (signature.1, s.0, b.0))),
+            (
+              receiver.1,
+              r.0,
+              (n.1, read_identifier-sound text receiver.1 n n-read, (ps.1, p.0, (signature.1, s.0, b.0))),
+            ),
           ),
           refl,
           refl,

@@ -5,11 +5,12 @@ use Rattle.std.proofs.lemmas.Option.{none-some, option_and_then_some}
 use Rattle.lexer.specs.declared.token.TokenKind.{TokenKind}
 use Rattle.lexer.specs.declared.token.TokenKind.TheVariants.{Ellipsis, RightParenthesis, LeftBrace, RightBrace, Comma, Colon}
 use Rattle.tree.specs.declared.operator.ChanDirection.TheVariants.{Both, Send, Receive}
-use Rattle.tree.specs.Syntax.{Expression, expression_node, name_expression, key_value, channel_type, Expressions, no_expression, expression_and, OptionalExpression, missing_expression, present_expression}
+use Rattle.tree.specs.declared.operator.UnaryOperator.TheVariants.{Tilde}
+use Rattle.tree.specs.Syntax.{Expression, expression_node, name_expression, key_value, channel_type, Expressions, no_expression, expression_and, OptionalExpression, missing_expression, present_expression, unary_expression}
 use Rattle.tree.specs.Depth.{expression_depth, expressions_depth, optional_depth}
-use Rattle.meaning.specs.Cursor.{Cursor, ◌⨾◌, token, optional, only_if}
+use Rattle.meaning.specs.Cursor.{GoText, Cursor, ◌⨾◌, token, optional, only_if}
 use Rattle.meaning.specs.WellFormed.{FitHeader, OptionalFitsHeader}
-use Rattle.meaning.specs.Grammar.{as_expression, as_value, as_element, arguments, in_braces, elements, SpellsExpression, SpellsForm, SpellsExpressions, SpellsMore, SpellsOptional}
+use Rattle.meaning.specs.Grammar.{as_expression, as_value, as_element, arguments, in_braces, elements, SpellsExpression, SpellsForm, SpellsExpressions, SpellsMore, SpellsOptional, as_constraint}
 use Rattle.tree_reader.specs.Reading.{stands, behind, steps}
 use Rattle.tree_reader.specs.Reader.{Readers, read_more_expressions, read_expressions, read_expression_unless, read_element, read_elements, read_braced_elements, read_arguments}
 use Rattle.tree_reader.specs.Claims.{StandsIn, AreSound}
@@ -46,18 +47,20 @@ optional_stands_in-present true e h = h
 optional_stands_in-present false e h = tt
 
 -- what stands at a key or a value is an element
-value_is_element : (text : List ℕ) (e : Expression) (from to : Cursor)
+value_is_element : (text : GoText) (e : Expression) (from to : Cursor)
     → SpellsExpression text as_value e from to
     → SpellsExpression text as_element e from to
 unfolding SpellsExpression SpellsForm
 value_is_element text (expression_node (name_expression n) span) from to h = h
 value_is_element text (expression_node (key_value k v) span) from to h = cc
+value_is_element text (expression_node (unary_expression Tilde e) span) from to h =
+    let p : as_value ≡ as_constraint = h.0.0 in cc
 value_is_element text (expression_node (channel_type Both t) span) from to h = h
 value_is_element text (expression_node (channel_type Send t) span) from to h = h
 value_is_element text (expression_node (channel_type Receive t) span) from to h = h
 value_is_element text (expression_node _ span) from to h = h
 
-module _ (text : List ℕ) (r : Readers) (below : ℕ) (sound : AreSound text below r) where
+module _ (text : GoText) (r : Readers) (below : ℕ) (sound : AreSound text below r) where
   abbrev pub ReadsMore : Bool → Cursor → Expressions × Cursor → Type 0
   ReadsMore header from x =
       SpellsMore text as_expression x.0 from x.1 × StandIn header x.0 × (expressions_depth x.0 ≤ below)

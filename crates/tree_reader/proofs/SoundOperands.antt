@@ -6,7 +6,7 @@ use Rattle.std.proofs.lemmas.Bool.{leb-true}
 use Rattle.lexer.specs.declared.token.TokenKind.TheVariants.{Identifier as identifier_kind, FuncKeyword, LeftParenthesis, RightParenthesis, LeftBrace}
 use Rattle.tree.specs.Syntax.{Expression, name_expression, basic_literal, function_literal, composite_literal, parenthesized, function_type}
 use Rattle.tree.specs.Depth.{expression_depth}
-use Rattle.meaning.specs.Cursor.{Cursor}
+use Rattle.meaning.specs.Cursor.{GoText, Cursor}
 use Rattle.meaning.specs.WellFormed.{IsPrimary, has_bare_literal}
 use Rattle.meaning.specs.Grammar.{as_type, as_expression, SpellsExpression, SpellsForm}
 use Rattle.tree_reader.specs.Reading.{stands, behind, take, spanned, word_between}
@@ -19,7 +19,7 @@ use Rattle.tree_reader.proofs.SoundBlocks.{read_block-sound}
 use Rattle.tree_reader.proofs.SoundSignatures.{read_signature-sound}
 use Rattle.tree_reader.proofs.SoundTypes.{stands-left_brace, read_literal_type-sound, name-sound}
 
-module _ (text : List ℕ) (r : Readers) (below : ℕ) (sound : AreSound text below r) where
+module _ (text : GoText) (r : Readers) (below : ℕ) (sound : AreSound text below r) where
   pub record ReadsOperand (from : Cursor) (x : Expression × Cursor) : Type 0 where
     pub spelled : SpellsExpression text as_expression x.0 from x.1
     pub plain : has_bare_literal x.0 ≡ false

@@ -3,22 +3,24 @@
 use Rattle.std.proofs.Common.{◌≡◌, ℕ, zero, suc, ◌≤◌, Bool, true, false, ◌&&◌, ◌||◌, not, inl, inr, refl, sym, ◌∙◌, ap, subst, List, arith}
 use Rattle.std.specs.Prelude.{Option, Some, None}
 use Rattle.std.proofs.lemmas.Option.{none-some, option_and_then_some}
-use Rattle.std.proofs.lemmas.Bool.{true≢false}
+use Rattle.std.proofs.lemmas.Bool.{true≢false, and_parts}
 use Rattle.lexer.specs.Spelling.{same_kind}
 use Rattle.lexer.specs.declared.token.TokenKind.{TokenKind}
 use Rattle.lexer.specs.declared.token.TokenKind.TheVariants.{Identifier as identifier_kind, Ellipsis, LeftParenthesis, RightParenthesis, Comma}
 use Rattle.tree.specs.Syntax.{Identifier, Expression, expression_node, name_expression, parenthesized, Signature, Parameters, no_parameter, named_and, unnamed_and, name_alone_and}
 use Rattle.tree.specs.Depth.{expression_depth, signature_depth, parameters_depth}
-use Rattle.meaning.specs.Cursor.{Cursor, token, word, identifier, first_is, is_next}
+use Rattle.meaning.specs.Cursor.{GoText, Cursor, token, word, identifier, first_is, is_next}
 use Rattle.meaning.specs.OperatorTokens.{can_begin_type}
 use Rattle.meaning.specs.WellFormed.{is_name, is_parenthesized, has_named_item, IsItem, AreItems, FitTogether}
 use Rattle.meaning.specs.Grammar.{as_type, in_parentheses, before_item, SpellsExpression, SpellsForm, SpellsSignature, SpellsResult, SpellsItems}
 use Rattle.tree_reader.specs.Reading.{stands, behind, past, steps, read_identifier}
-use Rattle.tree_reader.specs.Reader.{as_identifier, is_no_item, name_alone, with_names, settled, Readers, read_item, read_items, read_parameters, read_signature}
+use Rattle.tree_reader.specs.Reader.{as_identifier, is_no_item, name_alone, with_names, settled, is_second, opens_index, item_of, Readers, read_indexed, read_item, read_items, read_parameters, read_signature}
 use Rattle.tree_reader.specs.Claims.{AreSound}
 use Rattle.tree_reader.proofs.Steps.{given, two_ways, only_where_some, stands-sound, take-sound, past-sound, read_identifier-sound}
+use Rattle.tree_reader.proofs.SoundIndexes.{second_is}
+use Rattle.tree_reader.proofs.SoundInstances.{IsIndexed, read_indexed-sound}
 
-module _ (text : List ℕ) where
+module _ (text : GoText) where
   -- the first items of a list stand behind a comma as well
   items_rest : (ps : Parameters) (from inner to : Cursor)
       → token Comma from inner
@@ -39,8 +41,8 @@ module _ (text : List ℕ) where
       → SpellsExpression text as_type t from to
       → identifier text n from to
   unfolding SpellsExpression SpellsForm
-  named_type (expression_node (name_expression name) span) n from to e ((end, h, (stays, dot)), start_is, end_is) =
-      let spelled = subst (λ (c : Cursor). word text name from c) stays h in
+  named_type (expression_node (name_expression name) span) n from to e ((end, h, (after, (stays, dot), (stay, none))), start_is, end_is) =
+      let spelled = subst (λ (c : Cursor). word text name from c) (stays ∙ stay) h in
       given (λ (n : Identifier). identifier text n from to) _ n e (spelled, start_is, end_is)
   named_type (expression_node _ span) n from to e h = absurd (none-some n e)
 
@@ -60,7 +62,7 @@ unnamed_item : (ellipsis : Bool) (t : Expression) (ps : Parameters)
 unnamed_item true t ps h = h
 unnamed_item false t ps h = (refl, h)
 
-module _ (text : List ℕ) (r : Readers) (below : ℕ) where
+module _ (text : GoText) (r : Readers) (below : ℕ) where
   -- what stays true where items get their names
   abbrev IsNamed : Bool → Cursor → Cursor → Parameters → Parameters → Type 0
   IsNamed first from to ps named =
@@ -133,7 +135,7 @@ module _ (text : List ℕ) (r : Readers) (below : ℕ) where
       ]
 
 -- a type that begins with no bracket stands in none
-not_parenthesized : (text : List ℕ) (t : Expression) (from to : Cursor)
+not_parenthesized : (text : GoText) (t : Expression) (from to : Cursor)
     → SpellsExpression text as_type t from to
     → stands LeftParenthesis from ≡ false
     → is_parenthesized t ≡ false
@@ -142,7 +144,7 @@ not_parenthesized text (expression_node (parenthesized e) span) from to (h, star
     absurd (true≢false (sym (ap (first_is (λ (k : TokenKind). same_kind k LeftParenthesis)) h.1.taken) ∙ f))
 not_parenthesized text (expression_node _ span) from to h f = refl
 
-module _ (text : List ℕ) (r : Readers) (below : ℕ) (sound : AreSound text below r) where
+module _ (text : GoText) (r : Readers) (below : ℕ) (sound : AreSound text below r) where
   -- an item is one where it is before other items
   record ReadsItem (from : Cursor) (x : (Parameters → Parameters) × Cursor) : Type 0 where
     spelled : (ps : Parameters) (to : Cursor)
@@ -151,32 +153,55 @@ module _ (text : List ℕ) (r : Readers) (below : ℕ) (sound : AreSound text be
     formed : (ps : Parameters) → AreItems false ps → AreItems false (x.0 ps)
     shallow : (ps : Parameters) → parameters_depth ps ≤ below → parameters_depth (x.0 ps) ≤ below
 
+  item_of-sound : (n : Option Identifier) (t : Expression) (from to : Cursor)
+      → IsIndexed text n t from to × (expression_depth t ≤ below)
+      → ReadsItem from (item_of n t, to)
+  unfolding SpellsItems parameters_depth
+  item_of-sound None t from to (h, d) = record {
+    spelled = λ ps end more. (from, refl, (from, refl, (to, h.0, more)));
+    formed = λ ps items. unnamed_item false t ps items;
+    shallow = λ ps deep. omega arith;
+  }
+  item_of-sound (Some n) t from to (h, d) = record {
+    spelled = λ ps end more. (from, refl, (h.0, h.1, (h.0, refl, (to, h.2, more))));
+    formed = λ ps items. items;
+    shallow = λ ps deep. omega arith;
+  }
+
   read_item-sound : (from : Cursor) (x : (Parameters → Parameters) × Cursor)
       → read_item text r from ≡ Some x
       → ReadsItem from x
   unfolding read_item SpellsItems parameters_depth
   read_item-sound from x e =
+      let indexes = stands identifier_kind from && opens_index (behind from) in
       let goes_on = stands Ellipsis (behind from) || is_next can_begin_type (behind from) in
-      elim (two_ways (stands identifier_kind from && goes_on) _ _ (Some x) e) [
-        | inl c ↦ option_and_then_some _ (read_identifier text from) x c.1 λ n n-read n-then.
-            option_and_then_some _ (r.read_type (past Ellipsis n.1)) x n-then λ t t-read t-then.
-            let h = sound.type (past Ellipsis n.1) t.1 t.0 t-read in
-            let name = read_identifier-sound text from n n-read in
-            let dots = past-sound Ellipsis n.1 in
-            let a = h.1 in
-            given (ReadsItem from) _ x t-then record {
-              spelled = λ ps to more. (from, refl, (_, name, (_, dots, (_, h.0, more))));
-              formed = λ ps items. items;
-              shallow = λ ps d. omega arith;
-            }
-        | inr c ↦ option_and_then_some _ (r.read_type (past Ellipsis from)) x c.1 λ t t-read t-then.
-            let h = sound.type (past Ellipsis from) t.1 t.0 t-read in
-            let a = h.1 in
-            given (ReadsItem from) _ x t-then record {
-              spelled = λ ps to more. (from, refl, (_, past-sound Ellipsis from, (_, h.0, more)));
-              formed = λ ps items. unnamed_item (stands Ellipsis from) t.0 ps items;
-              shallow = λ ps d. omega arith;
-            }
+      elim (two_ways (is_second text.edition && indexes) _ _ (Some x) e) [
+        | inl b ↦ (let second = and_parts (is_second text.edition) indexes b.0 in
+            let places = and_parts (stands identifier_kind from) (opens_index (behind from)) second.1 in
+            option_and_then_some _ (read_indexed text r from) x b.1 λ t t-read t-then.
+            let h = read_indexed-sound text r below sound from t (second_is text.edition second.0) places.0 places.1 t-read in
+            given (ReadsItem from) _ x t-then (item_of-sound t.0.0 t.0.1 from t.1 h))
+        | inr b ↦ elim (two_ways (stands identifier_kind from && goes_on) _ _ (Some x) b.1) [
+          | inl c ↦ option_and_then_some _ (read_identifier text from) x c.1 λ n n-read n-then.
+              option_and_then_some _ (r.read_type (past Ellipsis n.1)) x n-then λ t t-read t-then.
+              let h = sound.type (past Ellipsis n.1) t.1 t.0 t-read in
+              let name = read_identifier-sound text from n n-read in
+              let dots = past-sound Ellipsis n.1 in
+              let a = h.1 in
+              given (ReadsItem from) _ x t-then record {
+                spelled = λ ps to more. (from, refl, (_, name, (_, dots, (_, h.0, more))));
+                formed = λ ps items. items;
+                shallow = λ ps d. omega arith;
+              }
+          | inr c ↦ option_and_then_some _ (r.read_type (past Ellipsis from)) x c.1 λ t t-read t-then.
+              let h = sound.type (past Ellipsis from) t.1 t.0 t-read in
+              let a = h.1 in
+              given (ReadsItem from) _ x t-then record {
+                spelled = λ ps to more. (from, refl, (_, past-sound Ellipsis from, (_, h.0, more)));
+                formed = λ ps items. unnamed_item (stands Ellipsis from) t.0 ps items;
+                shallow = λ ps d. omega arith;
+              }
+        ]
       ]
 
   abbrev ReadsItems : Cursor → Parameters × Cursor → Type 0

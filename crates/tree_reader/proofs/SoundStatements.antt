@@ -6,17 +6,18 @@ use Rattle.std.proofs.lemmas.Option.{option_and_then_some, none-some, same_Some}
 use Rattle.std.proofs.lemmas.Bool.{leb-true, and_parts, cases_Bool}
 use Rattle.lexer.specs.declared.token.Token.{Token}
 use Rattle.lexer.specs.declared.token.TokenKind.{TokenKind}
-use Rattle.lexer.specs.declared.token.TokenKind.TheVariants.{Identifier as identifier_kind, BreakKeyword, ContinueKeyword, DeferKeyword, ForKeyword, GoKeyword, IfKeyword, ReturnKeyword, SelectKeyword, SwitchKeyword, LeftBrace, Colon}
-use Rattle.tree.specs.Syntax.{Identifier, Expression, Expressions, no_expression, expression_and, Statement, StatementForm, declaration_statement, labeled_statement, go_statement, defer_statement, return_statement, break_statement, continue_statement, block_statement}
+use Rattle.lexer.specs.declared.token.TokenKind.TheVariants.{Identifier as identifier_kind, BreakKeyword, ContinueKeyword, DeferKeyword, FallthroughKeyword, ForKeyword, GoKeyword, GotoKeyword, IfKeyword, ReturnKeyword, SelectKeyword, SwitchKeyword, LeftBrace, Colon}
+use Rattle.tree.specs.Syntax.{Identifier, Expression, Expressions, no_expression, expression_and, Statement, StatementForm, declaration_statement, labeled_statement, go_statement, defer_statement, return_statement, break_statement, continue_statement, goto_statement, fallthrough_statement, block_statement}
 use Rattle.tree.specs.Depth.{expression_depth, expressions_depth, statement_depth, below_statement}
-use Rattle.meaning.specs.Cursor.{Cursor, is_next, optional_identifier}
+use Rattle.meaning.specs.Cursor.{GoText, Cursor, is_next, optional_identifier}
 use Rattle.meaning.specs.WellFormed.{primary_level, is_call, IsElse, IsKept}
-use Rattle.meaning.specs.Grammar.{as_expression, perhaps, form_of, SpellsExpression, SpellsExpressions, SpellsStatement, SpellsStatementForm}
+use Rattle.meaning.specs.Grammar.{as_expression, IsSecond, perhaps, form_of, SpellsExpression, SpellsExpressions, SpellsStatement, SpellsStatementForm}
 use Rattle.tree_reader.specs.Reading.{stands, behind, take, read_identifier, read_optional_identifier}
-use Rattle.tree_reader.specs.Reader.{Readers, of_first, of_next, is_end, declaration_keyword, read_expressions, read_block, read_declaration, read_after_label, read_labeled, read_started, read_return, read_branch, read_block_statement, read_other_statement, read_statement_of}
+use Rattle.tree_reader.specs.Reader.{is_second, Readers, of_first, of_next, is_end, declaration_keyword, read_expressions, read_block, read_declaration, read_after_label, read_labeled, read_started, read_return, read_branch, read_goto, read_block_statement, read_other_statement, read_statement_of}
 use Rattle.tree_reader.specs.Claims.{AreSound}
 use Rattle.tree_reader.proofs.Steps.{given, two_ways, only_where_some, option_ways, stands-sound, read_identifier-sound, read_optional_identifier-sound}
 use Rattle.tree_reader.proofs.SoundLists.{read_expressions-sound}
+use Rattle.tree_reader.proofs.SoundIndexes.{second_is}
 use Rattle.tree_reader.proofs.SoundBlocks.{read_block-sound}
 use Rattle.tree_reader.proofs.SoundDeclarations.{read_declaration-sound}
 use Rattle.tree_reader.proofs.SoundStatementsSimple.{IsReadStatement, node-read, read_simple-sound}
@@ -37,7 +38,7 @@ no-declaration : (place : Cursor) → stands IfKeyword place ≡ true → of_nex
 no-declaration place s = ap (λ l. of_first declaration_keyword l) (stands-sound IfKeyword place s).taken
 
 -- the place behind a name is the place behind one token
-identifier-behind : (text : List ℕ) (place : Cursor) (x : Identifier × Cursor)
+identifier-behind : (text : GoText) (place : Cursor) (x : Identifier × Cursor)
     → read_identifier text place ≡ Some x → behind place ≡ x.1
 unfolding read_identifier take
 identifier-behind text place x e =
@@ -46,17 +47,17 @@ identifier-behind text place x e =
     same_Some (behind place) end t.1 ∙ ap (λ (x : Identifier × Cursor). x.1) (same_Some _ x end-then)
 
 -- expressions that are there
-perhaps-there : (text : List ℕ) (es : Expressions) (from to : Cursor)
+perhaps-there : (text : GoText) (es : Expressions) (from to : Cursor)
     → SpellsExpressions text as_expression es from to → perhaps es (SpellsExpressions text as_expression es) from to
 unfolding SpellsExpressions
 perhaps-there text no_expression from to h = absurd h
 perhaps-there text (expression_and e es) from to h = h
 
 -- a form with what is in it
-abbrev Fills : List ℕ → ℕ → StatementForm → Cursor → Cursor → Type 0
+abbrev Fills : GoText → ℕ → StatementForm → Cursor → Cursor → Type 0
 Fills text below form from to = SpellsStatementForm text form from to × IsKept form × (below_statement form ≤ below)
 
-module _ (text : List ℕ) (r : Readers) (below : ℕ) (sound : AreSound text below r) where
+module _ (text : GoText) (r : Readers) (below : ℕ) (sound : AreSound text below r) where
   abbrev Reads : Cursor → Statement × Cursor → Type 0
   Reads from x = IsReadStatement text (suc below) from x.0 x.1
 
@@ -128,6 +129,17 @@ module _ (text : List ℕ) (r : Readers) (below : ℕ) (sound : AreSound text be
       let whole = f n.0 n.1 (read_optional_identifier-sound text (behind from) n n-read) in
       given (Reads from) _ x n-then (node-read text below (form n.0) from n.1 whole.0 whole.1 whole.2)
 
+  read_goto-sound : (from : Cursor) (x : Statement × Cursor)
+      → IsSecond text.edition
+      → stands GotoKeyword from ≡ true → read_goto text r below from ≡ Some x → Reads from x
+  unfolding read_goto SpellsStatementForm below_statement
+  read_goto-sound from x second k e =
+      option_and_then_some _ (read_identifier text (behind from)) x e λ n n-read n-then.
+      let name = read_identifier-sound text (behind from) n n-read in
+      given (Reads from) _ x n-then
+      (node-read text below (goto_statement n.0) from n.1
+      (second, (behind from, stands-sound GotoKeyword from k, name)) tt (omega arith))
+
   read_block_statement-sound : (from : Cursor) (x : Statement × Cursor)
       → read_block_statement text r below from ≡ Some x → Reads from x
   unfolding read_block_statement SpellsStatementForm below_statement
@@ -172,7 +184,18 @@ module _ (text : List ℕ) (r : Readers) (below : ℕ) (sound : AreSound text be
                                   tt,
                                   omega arith,
                                 )) c.1
-                            | inr c ↦ (read_simple-sound text r below sound false from x c.1).read
+                            | inr c11 ↦ elim (two_ways (is_second text.edition && stands GotoKeyword from) _ _ (Some x) c11.1) [
+                              | inl c ↦ (let tests = and_parts (is_second text.edition) (stands GotoKeyword from) c.0 in
+                                  read_goto-sound from x (second_is text.edition tests.0) tests.1 c.1)
+                              | inr c12 ↦ elim (two_ways (is_second text.edition && stands FallthroughKeyword from) _ _ (Some x) c12.1) [
+                                | inl c ↦ (let tests = and_parts (is_second text.edition) (stands FallthroughKeyword from) c.0 in
+                                    given (Reads from) _ x c.1
+                                    (node-read text below fallthrough_statement from (behind from)
+                                    (second_is text.edition tests.0, stands-sound FallthroughKeyword from tests.1) tt
+                                    (omega arith)))
+                                | inr c ↦ (read_simple-sound text r below sound false from x c.1).read
+                              ]
+                            ]
                           ]
                         ]
                       ]

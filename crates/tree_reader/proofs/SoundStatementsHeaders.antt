@@ -8,7 +8,7 @@ use Rattle.lexer.specs.declared.token.TokenKind.TheVariants.{ElseKeyword, IfKeyw
 use Rattle.tree.specs.Syntax.{Expression, Statement, statement_node, StatementForm, expression_statement, block_statement, if_statement, OptionalStatement, present_statement}
 use Rattle.tree.specs.Depth.{expression_depth, statement_depth, below_statement, optional_statement_depth, else_depth, else_branch_depth}
 use Rattle.tree.specs.declared.span.Span.{Span}
-use Rattle.meaning.specs.Cursor.{Cursor, semicolon}
+use Rattle.meaning.specs.Cursor.{GoText, Cursor, semicolon}
 use Rattle.meaning.specs.WellFormed.{FitsHeader, StatementFitsHeader, InitFitsHeader, IsElse}
 use Rattle.meaning.specs.Grammar.{as_expression, initial, form_of, SpellsExpression, SpellsElse, SpellsOptionalStatement, SpellsStatement, SpellsStatementForm}
 use Rattle.tree_reader.specs.Reading.{stands, behind, behind_semicolon}
@@ -19,18 +19,18 @@ use Rattle.tree_reader.proofs.SoundBlocks.{read_block-sound}
 use Rattle.tree_reader.proofs.SoundStatementsSimple.{IsReadStatement, IsReadSimple, node-read, read_simple-sound}
 
 -- an expression in a header
-pub record IsCondition (text : List ℕ) (below : ℕ) (from : Cursor) (e : Expression) (to : Cursor) : Type 0 where
+pub record IsCondition (text : GoText) (below : ℕ) (from : Cursor) (e : Expression) (to : Cursor) : Type 0 where
   pub spelled : SpellsExpression text as_expression e from to
   pub fits : FitsHeader e
   pub shallow : expression_depth e ≤ below
 
 -- what was read of a header and is no statement with its semicolon
-abbrev pub ReadsFirst : List ℕ → ℕ → Option Statement → Cursor → Cursor → Type 0
+abbrev pub ReadsFirst : GoText → ℕ → Option Statement → Cursor → Cursor → Type 0
 ReadsFirst text below None from to = from ≡ to
 ReadsFirst text below (Some s) from to = IsReadSimple text (suc below) true from s to
 
 -- a header: a statement with its semicolon up to a place, and then what stands there without one
-pub record IsReadHeader (text : List ℕ) (below : ℕ) (from : Cursor) (h : Header) (to : Cursor) : Type 0 where
+pub record IsReadHeader (text : GoText) (below : ℕ) (from : Cursor) (h : Header) (to : Cursor) : Type 0 where
   pub between : Cursor
   pub spelled : initial h.init h.has_semicolon (SpellsOptionalStatement text h.init) from between
   pub fits : InitFitsHeader h.init
@@ -38,7 +38,7 @@ pub record IsReadHeader (text : List ℕ) (below : ℕ) (from : Cursor) (h : Hea
   pub first : ReadsFirst text below h.first between to
 
 -- a statement of a header, as a part
-pub record IsReadPart (text : List ℕ) (below : ℕ) (from : Cursor) (part : OptionalStatement)
+pub record IsReadPart (text : GoText) (below : ℕ) (from : Cursor) (part : OptionalStatement)
     (to : Cursor) : Type 0 where
   pub spelled : SpellsOptionalStatement text part from to
   pub fits : InitFitsHeader part
@@ -50,13 +50,13 @@ init-fits : (s : Statement) → StatementFitsHeader (form_of s) → InitFitsHead
 init-fits (statement_node form span) f = f
 
 -- what is not too deep can be a part
-pub as_part-sound : (text : List ℕ) (r : Readers) (below : ℕ) (s : Statement) (part : OptionalStatement)
+pub as_part-sound : (text : GoText) (r : Readers) (below : ℕ) (s : Statement) (part : OptionalStatement)
     → as_part text r below s ≡ Some part → (present_statement s ≡ part) × (statement_depth s ≤ below)
 as_part-sound text r below s part e =
     let h = only_where_some (nat_le (statement_depth s) below) (Some (present_statement s)) part e in
     (same_Some (present_statement s) part h.1, leb-true (statement_depth s) below h.0)
 
-pub read_part-sound : (text : List ℕ) (r : Readers) (below : ℕ) (from to : Cursor) (s : Statement)
+pub read_part-sound : (text : GoText) (r : Readers) (below : ℕ) (from to : Cursor) (s : Statement)
     (part : OptionalStatement)
     → IsReadSimple text (suc below) true from s to → as_part text r below s ≡ Some part
     → IsReadPart text below from part to
@@ -71,7 +71,7 @@ read_part-sound text r below from to s part h e =
     })
 
 -- a statement that is only an expression
-expression_of-sound : (text : List ℕ) (r : Readers) (below : ℕ) (form : StatementForm) (span : Span) (e : Expression)
+expression_of-sound : (text : GoText) (r : Readers) (below : ℕ) (form : StatementForm) (span : Span) (e : Expression)
     (from to : Cursor)
     → IsReadSimple text (suc below) true from (statement_node form span) to → expression_of text r below form ≡ Some e
     → IsCondition text below from e to
@@ -82,14 +82,14 @@ expression_of-sound text r below (expression_statement c) span e from to h t =
     (record { spelled = h.read.spelled.0; fits = h.fits refl; shallow = omega arith })
 expression_of-sound text r below form span e from to h t = absurd (none-some e t)
 
-pub statement_expression-sound : (text : List ℕ) (r : Readers) (below : ℕ) (s : Statement) (e : Expression)
+pub statement_expression-sound : (text : GoText) (r : Readers) (below : ℕ) (s : Statement) (e : Expression)
     (from to : Cursor)
     → IsReadSimple text (suc below) true from s to → statement_expression text r below s ≡ Some e
     → IsCondition text below from e to
 statement_expression-sound text r below
     (statement_node form span) e from to h t = expression_of-sound text r below form span e from to h t
 
-module _ (text : List ℕ) (r : Readers) (below : ℕ) (sound : AreSound text below r) where
+module _ (text : GoText) (r : Readers) (below : ℕ) (sound : AreSound text below r) where
   pub read_header-sound : (from : Cursor) (x : Header × Cursor)
       → read_header text r below from ≡ Some x → IsReadHeader text below from x.0 x.1
   unfolding read_header optional_statement_depth

@@ -8,7 +8,7 @@ use Rattle.lexer.specs.declared.token.TokenKind.TheVariants.{Assign, Define, For
 use Rattle.tree.specs.declared.span.Span.{Span}
 use Rattle.tree.specs.Syntax.{Expression, Expressions, no_expression, expression_and, missing_expression, present_expression, Statement, StatementForm, for_statement, range_assignment, range_definition, Statements, OptionalStatement, missing_statement}
 use Rattle.tree.specs.Depth.{expressions_depth, optional_depth, statements_depth, below_statement, optional_statement_depth}
-use Rattle.meaning.specs.Cursor.{Cursor, ◌⨾◌, token, semicolon}
+use Rattle.meaning.specs.Cursor.{GoText, Cursor, ◌⨾◌, token, semicolon}
 use Rattle.meaning.specs.WellFormed.{FitHeader, InitFitsHeader, IsKept}
 use Rattle.meaning.specs.Grammar.{as_expression, block, range_left, SpellsExpressions, SpellsOptional, SpellsStatements, SpellsOptionalStatement, SpellsStatementForm}
 use Rattle.tree_reader.specs.Reading.{stands, behind, behind_semicolon, take}
@@ -20,21 +20,21 @@ use Rattle.tree_reader.proofs.SoundBlocks.{read_block-sound}
 use Rattle.tree_reader.proofs.SoundStatementsSimple.{IsReadStatement, node-read, as_identifiers-sound, read_simple-sound, read_simple_after-sound}
 use Rattle.tree_reader.proofs.SoundStatementsHeaders.{IsReadPart, IsCondition, read_part-sound, statement_expression-sound}
 
-abbrev Reads : List ℕ → ℕ → Cursor → Statement × Cursor → Type 0
+abbrev Reads : GoText → ℕ → Cursor → Statement × Cursor → Type 0
 Reads text below from x = IsReadStatement text (suc below) from x.0 x.1
 
 take-stands : (kind : TokenKind) (from to : Cursor) → take kind from ≡ Some to → stands kind from ≡ true
 unfolding take
 take-stands kind from to e = (only_where_some (stands kind from) (Some (behind from)) to e).0
 
-range-left : (text : List ℕ) (es : Expressions) (from place : Cursor)
+range-left : (text : GoText) (es : Expressions) (from place : Cursor)
     → SpellsExpressions text as_expression es from place → stands Assign place ≡ true
     → range_left es (SpellsExpressions text as_expression es) from (behind place)
 unfolding SpellsExpressions
 range-left text no_expression from place h a = absurd h
 range-left text (expression_and e es) from place h a = (place, h, stands-sound Assign place a)
 
-module _ (text : List ℕ) (r : Readers) (below : ℕ) (sound : AreSound text below r) where
+module _ (text : GoText) (r : Readers) (below : ℕ) (sound : AreSound text below r) where
   -- a loop's block closes what was read of its header
   read_loop-sound : (from place : Cursor) (form : Statements → Span → StatementForm) (x : Statement × Cursor)
       → ((ss : Statements) (braces : Span) (to : Cursor) → block braces (SpellsStatements text ss) place to

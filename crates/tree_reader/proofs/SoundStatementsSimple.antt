@@ -7,7 +7,7 @@ use Rattle.std.proofs.lemmas.Bool.{false≢true}
 use Rattle.lexer.specs.declared.token.TokenKind.TheVariants.{Define, Assign, Arrow, Increment, Decrement}
 use Rattle.tree.specs.Syntax.{Identifier, Expression, expression_node, name_expression, Expressions, no_expression, expression_and, Statement, statement_node, StatementForm, empty_statement, expression_statement, send_statement, increment_statement, decrement_statement, assignment, operator_assignment, define_statement}
 use Rattle.tree.specs.Depth.{expression_depth, expressions_depth, statement_depth, below_statement}
-use Rattle.meaning.specs.Cursor.{Cursor, start_at, word, identifier, more_identifiers, identifiers}
+use Rattle.meaning.specs.Cursor.{GoText, Cursor, start_at, word, identifier, more_identifiers, identifiers}
 use Rattle.meaning.specs.WellFormed.{FitsHeader, FitHeader, StatementFitsHeader, IsKept}
 use Rattle.meaning.specs.Grammar.{as_expression, form_of, statement_start, SpellsExpression, SpellsForm, SpellsExpressions, SpellsMore, SpellsStatement, SpellsStatementForm}
 use Rattle.tree_reader.specs.Reading.{stands, behind, spanned_statement, span_between}
@@ -18,18 +18,18 @@ use Rattle.tree_reader.proofs.Tables.{assigning_operator-sound}
 use Rattle.tree_reader.proofs.SoundLists.{StandIn, read_expressions-sound}
 
 -- a statement that was read is spelled, kept and at most this deep
-pub record IsReadStatement (text : List ℕ) (n : ℕ) (from : Cursor) (s : Statement) (to : Cursor) : Type 0 where
+pub record IsReadStatement (text : GoText) (n : ℕ) (from : Cursor) (s : Statement) (to : Cursor) : Type 0 where
   pub spelled : SpellsStatement text s from to
   pub kept : IsKept (form_of s)
   pub shallow : statement_depth s ≤ n
 
 -- a simple statement, which fits a header where it stands in one
-pub record IsReadSimple (text : List ℕ) (n : ℕ) (header : Bool) (from : Cursor) (s : Statement)
+pub record IsReadSimple (text : GoText) (n : ℕ) (header : Bool) (from : Cursor) (s : Statement)
     (to : Cursor) : Type 0 where
   pub read : IsReadStatement text n from s to
   pub fits : header ≡ true → StatementFitsHeader (form_of s)
 
-abbrev pub ReadsSimple : List ℕ → ℕ → Bool → Cursor → Statement × Cursor → Type 0
+abbrev pub ReadsSimple : GoText → ℕ → Bool → Cursor → Statement × Cursor → Type 0
 ReadsSimple text n header from x = IsReadSimple text n header from x.0 x.1
 
 kept-start : (form : StatementForm) (from : Cursor) → IsKept form → statement_start form from ≡ start_at from
@@ -37,7 +37,7 @@ kept-start empty_statement from k = absurd k
 kept-start form from k = refl
 
 -- a statement round what its form spells
-pub node-read : (text : List ℕ) (below : ℕ) (form : StatementForm) (from to : Cursor)
+pub node-read : (text : GoText) (below : ℕ) (form : StatementForm) (from to : Cursor)
     → SpellsStatementForm text form from to → IsKept form → below_statement form ≤ below
     → IsReadStatement text (suc below) from (statement_node form (span_between from to)) to
 unfolding SpellsStatement statement_depth
@@ -45,7 +45,7 @@ node-read text below form from to h k d =
     record { spelled = (h, sym (kept-start form from k), refl); kept = k; shallow = omega arith }
 
 -- Names that were read as expressions are spelled as names.
-as_identifier-sound : (text : List ℕ) (e : Expression) (n : Identifier) (from to : Cursor)
+as_identifier-sound : (text : GoText) (e : Expression) (n : Identifier) (from to : Cursor)
     → as_identifier e ≡ Some n → SpellsExpression text as_expression e from to → identifier text n from to
 unfolding SpellsExpression SpellsForm
 as_identifier-sound text (expression_node (name_expression name) span) n from to e h =
@@ -53,7 +53,7 @@ as_identifier-sound text (expression_node (name_expression name) span) n from to
     (subst (λ (c : Cursor). word text name from c) h.0.2 h.0.1, h.1, h.2)
 as_identifier-sound text (expression_node form span) n from to e h = absurd (none-some n e)
 
-as_more_identifiers-sound : (text : List ℕ) (es : Expressions) (ns : List Identifier) (from to : Cursor)
+as_more_identifiers-sound : (text : GoText) (es : Expressions) (ns : List Identifier) (from to : Cursor)
     → as_identifiers es ≡ Some ns → SpellsMore text as_expression es from to → more_identifiers text ns from to
 unfolding SpellsMore
 as_more_identifiers-sound text no_expression ns from to e h =
@@ -71,7 +71,7 @@ as_more_identifiers-sound text (expression_and first es) ns from to e h =
       ),
     )
 
-pub as_identifiers-sound : (text : List ℕ) (es : Expressions) (ns : List Identifier) (from to : Cursor)
+pub as_identifiers-sound : (text : GoText) (es : Expressions) (ns : List Identifier) (from to : Cursor)
     → as_identifiers es ≡ Some ns → SpellsExpressions text as_expression es from to → identifiers text ns from to
 unfolding SpellsExpressions
 as_identifiers-sound text no_expression ns from to e h = absurd h
@@ -85,7 +85,7 @@ as_identifiers-sound text (expression_and first es) ns from to e h =
     )
 
 -- the only one of some expressions
-pub record IsSingle (text : List ℕ) (below : ℕ) (header : Bool) (from : Cursor) (e : Expression)
+pub record IsSingle (text : GoText) (below : ℕ) (header : Bool) (from : Cursor) (e : Expression)
     (to : Cursor) : Type 0 where
   pub spelled : SpellsExpression text as_expression e from to
   pub fits : header ≡ true → FitsHeader e
@@ -99,7 +99,7 @@ pub stand-fit : (header : Bool) (es : Expressions) → StandIn header es → hea
 stand-fit true es h t = h
 stand-fit false es h t = absurd (false≢true t)
 
-single-sound : (text : List ℕ) (below : ℕ) (header : Bool) (es : Expressions) (e : Expression) (from to : Cursor)
+single-sound : (text : GoText) (below : ℕ) (header : Bool) (es : Expressions) (e : Expression) (from to : Cursor)
     → single es ≡ Some e → SpellsExpressions text as_expression es from to → StandIn header es
     → expressions_depth es ≤ below → IsSingle text below header from e to
 unfolding SpellsExpressions SpellsMore expressions_depth
@@ -113,7 +113,7 @@ single-sound text below header (expression_and first no_expression) e from to s 
 single-sound text below header (expression_and first (expression_and second es)) e from to s h f d = absurd
     (none-some e s)
 
-module _ (text : List ℕ) (r : Readers) (below : ℕ) (sound : AreSound text below r) where
+module _ (text : GoText) (r : Readers) (below : ℕ) (sound : AreSound text below r) where
   -- a simple statement round what its form spells
   simple-given : (header : Bool) (form : StatementForm) (from to : Cursor) (x : Statement × Cursor)
       → Some (spanned_statement from form to) ≡ Some x → SpellsStatementForm text form from to → IsKept form

@@ -9,7 +9,7 @@ use Rattle.tree.specs.declared.operator.BinaryOperator.{BinaryOperator}
 use Rattle.tree.specs.declared.operator.BinaryOperator.TheVariants.{LogicalOr}
 use Rattle.tree.specs.Syntax.{Identifier, Expression, expression_node, ExpressionForm, binary_expression, Expressions, no_expression, expression_and, OptionalExpression, Statement, statement_node, StatementForm, expression_statement, send_statement, assignment, define_statement, select_statement, OptionalStatement, CaseClauses, CommunicationClauses}
 use Rattle.tree.specs.Depth.{expression_depth, expressions_depth, optional_depth, statement_depth, below_statement, optional_statement_depth, cases_depth, communications_depth}
-use Rattle.meaning.specs.Cursor.{Cursor, ◌⨾◌, token, identifier}
+use Rattle.meaning.specs.Cursor.{GoText, Cursor, ◌⨾◌, token, identifier}
 use Rattle.meaning.specs.WellFormed.{operator_level, form_level, level, primary_level, IsPrimary, FitsHeader, OptionalFitsHeader, IsOne, IsCommunication}
 use Rattle.meaning.specs.Mentions.{is_one}
 use Rattle.meaning.specs.Grammar.{as_expression, in_parentheses, in_braces, guard_name, case_head, communication_head, form_of, CommunicationFits, SpellsExpression, SpellsExpressions, SpellsMore, SpellsOptional, SpellsOptionalStatement, SpellsStatement, SpellsStatementForm, SpellsCases, SpellsCommunications}
@@ -23,7 +23,7 @@ use Rattle.tree_reader.proofs.SoundStatementsSimple.{IsReadStatement, IsReadSimp
 use Rattle.tree_reader.proofs.SoundStatementsHeaders.{IsReadHeader, ReadsFirst, as_part-sound, statement_expression-sound, read_header-sound}
 
 -- an operand, perhaps after a name that is declared, in a header
-pub record IsNamedOperand (text : List ℕ) (below : ℕ) (from : Cursor) (n : Option Identifier) (e : Expression)
+pub record IsNamedOperand (text : GoText) (below : ℕ) (from : Cursor) (n : Option Identifier) (e : Expression)
     (to : Cursor) : Type 0 where
   pub spelled : (guard_name text n ⨾ SpellsExpression text as_expression e) from to
   pub fits : FitsHeader e
@@ -31,18 +31,18 @@ pub record IsNamedOperand (text : List ℕ) (below : ℕ) (from : Cursor) (n : O
   pub shallow : expression_depth e ≤ below
 
 -- what the type is asked of, before the dot
-abbrev pub IsTypeGuard : List ℕ → ℕ → Cursor → Guard → Cursor → Type 0
+abbrev pub IsTypeGuard : GoText → ℕ → Cursor → Guard → Cursor → Type 0
 IsTypeGuard text below from (of_value tag) to = ⊥
 IsTypeGuard text below from (of_type n e) to = IsNamedOperand text below from n e to
 
 -- a value, or nothing
-pub record IsTag (text : List ℕ) (below : ℕ) (from : Cursor) (tag : OptionalExpression) (to : Cursor) : Type 0 where
+pub record IsTag (text : GoText) (below : ℕ) (from : Cursor) (tag : OptionalExpression) (to : Cursor) : Type 0 where
   pub spelled : SpellsOptional text as_expression tag from to
   pub fits : OptionalFitsHeader tag
   pub shallow : optional_depth tag ≤ below
 
 -- a value or nothing, or a type that is asked for
-abbrev pub IsReadGuard : List ℕ → ℕ → Cursor → Guard → Cursor → Type 0
+abbrev pub IsReadGuard : GoText → ℕ → Cursor → Guard → Cursor → Type 0
 IsReadGuard text below from (of_value tag) to = IsTag text below from tag to
 IsReadGuard text below from (of_type n e) to =
     (dot : Cursor) × IsNamedOperand text below from n e dot × (token Dot ⨾ in_parentheses (token TypeKeyword)) dot to
@@ -58,7 +58,7 @@ form_level-most form = omega arith
 level-most : (e : Expression) → level e ≤ primary_level
 level-most (expression_node form span) = form_level-most form
 
-primary_guard-sound : (text : List ℕ) (below : ℕ) (from to : Cursor) (n : Option Identifier) (e : Expression)
+primary_guard-sound : (text : GoText) (below : ℕ) (from to : Cursor) (n : Option Identifier) (e : Expression)
     (g : Guard)
     → (guard_name text n ⨾ SpellsExpression text as_expression e) from to → FitsHeader e → expression_depth e ≤ below
     → primary_guard n e ≡ Some g → IsTypeGuard text below from g to
@@ -73,7 +73,7 @@ primary_guard-sound text below from to n e g h f d p =
       shallow = d;
     })
 
-type_guard-sound : (text : List ℕ) (below : ℕ) (from to : Cursor) (form : StatementForm) (span : Span) (g : Guard)
+type_guard-sound : (text : GoText) (below : ℕ) (from to : Cursor) (form : StatementForm) (span : Span) (g : Guard)
     → IsReadSimple text (suc below) true from (statement_node form span) to → type_guard form ≡ Some g
     → IsTypeGuard text below from g to
 unfolding SpellsStatement SpellsStatementForm SpellsExpressions SpellsMore statement_depth below_statement expressions_depth
@@ -105,7 +105,7 @@ is_communication-sound form t = absurd (false≢true t)
 communication-of : (s : Statement) → is_communication (form_of s) ≡ true → IsCommunication (form_of s)
 communication-of (statement_node form span) t = is_communication-sound form t
 
-module _ (text : List ℕ) (r : Readers) (below : ℕ) (sound : AreSound text below r) where
+module _ (text : GoText) (r : Readers) (below : ℕ) (sound : AreSound text below r) where
   -- the expressions of a clause, none of `default`
   abbrev ReadsCaseHead : Cursor → Expressions × Cursor → Type 0
   ReadsCaseHead from x = case_head x.0 (SpellsExpressions text as_expression x.0) from x.1

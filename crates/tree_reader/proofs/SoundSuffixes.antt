@@ -1,31 +1,24 @@
 -- The primary expressions that the reader reads are spelled by their tokens, and no deeper than they may be.
-use Rattle.std.proofs.Common.{◌≡◌, ℕ, zero, suc, ◌≤◌, Bool, true, false, if◌then◌else◌, ◌&&◌, not, ◌⊎◌, inl, inr, refl, sym, ◌∙◌, subst, List, arith}
+use Rattle.std.proofs.Common.{◌≡◌, ℕ, zero, suc, ◌≤◌, max, Bool, true, false, ◌&&◌, ◌||◌, not, inl, inr, refl, sym, ap, ◌∙◌, List, arith}
 use Rattle.std.specs.Prelude.{Option, Some, None}
 use Rattle.std.proofs.lemmas.Option.{none-some, same_Some, option_and_then_some}
-use Rattle.std.proofs.lemmas.Bool.{and_parts, leb-true}
-use Rattle.lexer.specs.declared.token.TokenKind.TheVariants.{LeftParenthesis, RightParenthesis, LeftBracket, RightBracket, LeftBrace, Dot, Colon}
-use Rattle.tree.specs.Syntax.{Expression, expression_node, name_expression, composite_literal, selector_expression, index_expression, slice_expression, type_assertion, call_expression, OptionalExpression, missing_expression, present_expression}
-use Rattle.tree.specs.Depth.{expression_depth, optional_depth}
-use Rattle.meaning.specs.Cursor.{Cursor, ◌⨾◌, token, is_next}
-use Rattle.meaning.specs.OperatorTokens.{is_dot}
-use Rattle.meaning.specs.WellFormed.{IsPrimary, takes_elements, has_bare_literal}
-use Rattle.meaning.specs.Grammar.{as_type, as_expression, third_bound, SpellsExpression, SpellsForm, SpellsOptional}
-use Rattle.tree_reader.specs.Reading.{Read, ◌>>=◌, stands, behind, take, steps, spanned}
-use Rattle.tree_reader.specs.Reader.{names_type, is_guard, Readers, read_any, read_expression_unless, read_braced_elements, read_arguments, around, go_on, read_operand, read_slice, read_index, read_call, read_assertion, read_selector, read_composite, read_suffix, read_suffixes, read_primary}
+use Rattle.std.proofs.lemmas.Bool.{and_parts, leb-true, cases_Bool}
+use Rattle.lexer.specs.declared.token.TokenKind.TheVariants.{LeftParenthesis, RightParenthesis, LeftBracket, LeftBrace, Dot}
+use Rattle.tree.specs.Syntax.{Expression, expression_node, name_expression, composite_literal, selector_expression, index_expression, instance_expression, type_assertion, call_expression}
+use Rattle.tree.specs.Depth.{expression_depth}
+use Rattle.meaning.specs.Cursor.{GoText, Cursor}
+use Rattle.meaning.specs.WellFormed.{IsPrimary, names_type, is_instance, is_type, takes_elements, has_bare_literal}
+use Rattle.meaning.specs.Grammar.{as_type, as_expression, SpellsExpression, SpellsForm}
+use Rattle.tree_reader.specs.Reading.{Read, stands, behind, take, steps, spanned}
+use Rattle.tree_reader.specs.Reader.{is_second, takes_braces, is_guard, Readers, read_braced_elements, read_arguments, around, go_on, read_operand, read_index, read_call, read_assertion, read_selector, read_composite, read_suffix, read_suffixes, read_primary}
 use Rattle.tree_reader.specs.Claims.{StandsIn, AreSound}
 use Rattle.tree_reader.proofs.Steps.{given, two_ways, only_where_some, stands-sound, take-sound}
-use Rattle.tree_reader.proofs.SoundLists.{read_expression_unless-sound, read_braced_elements-sound, read_arguments-sound}
-use Rattle.tree_reader.proofs.SoundTypes.{stands-dot, Grows, read_selector-sound}
+use Rattle.tree_reader.proofs.Taken.{and_not}
+use Rattle.tree_reader.proofs.SoundLists.{read_braced_elements-sound, read_arguments-sound}
+use Rattle.tree_reader.proofs.SoundIndexes.{second_is, read_index-sound}
+use Rattle.tree_reader.proofs.SoundInstances.{instance_type-sound}
+use Rattle.tree_reader.proofs.SoundTypes.{no_arguments, names_type-sound, Grows, read_selector-sound}
 use Rattle.tree_reader.proofs.SoundOperands.{read_operand-sound}
-
--- an expression that stands there, or none
-optional_ways : {B : Type 0} (absent : Cursor → B) (present : Expression → Cursor → B) (o : OptionalExpression)
-    → (at : Cursor) (z : B)
-    → (elim o as (λ x. Cursor → B) [ missing_expression ↦ absent | present_expression e ↦ present e ]) at ≡ z
-    → ((o ≡ missing_expression) × (absent at ≡ z))
-    ⊎ ((e : Expression) × (o ≡ present_expression e) × (present e at ≡ z))
-optional_ways absent present missing_expression at z e = inl (refl, e)
-optional_ways absent present (present_expression v) at z e = inr (v, refl, e)
 
 -- what has as few bare literals as something that stands there can stand there
 pub stands_in-same : (header : Bool) (e grown : Expression)
@@ -44,25 +37,38 @@ names_type-takes (expression_node (name_expression n) span) h = refl
 names_type-takes (expression_node (selector_expression e n) span) h = refl
 names_type-takes (expression_node _ span) h = cc
 
--- a name that was read as an expression is a type's, where no dot follows it
-names_type-sound : (text : List ℕ) (e : Expression) (from to : Cursor)
-    → names_type e ≡ true
+instance-takes : (e : Expression) → is_instance e ≡ true → takes_elements e ≡ true
+instance-takes (expression_node (index_expression e i) span) h = refl
+instance-takes (expression_node (instance_expression e es) span) h = refl
+instance-takes (expression_node _ span) h = cc
+
+-- what takes braces was read as an expression, and is a type
+takes_braces-sound : (text : GoText) (e : Expression) (from to : Cursor)
+    → takes_braces text.edition e ≡ true
     → stands Dot to ≡ false
+    → stands LeftBracket to ≡ false
     → SpellsExpression text as_expression e from to
-    → SpellsExpression text as_type e from to
-unfolding SpellsExpression SpellsForm
-names_type-sound text (expression_node (name_expression n) span) from to h dot ((end, name, stays), starts, ends) =
-    let no_dot = subst (λ (c : Cursor). is_next is_dot c ≡ false) (sym stays) (sym (stands-dot to) ∙ dot) in
-    ((end, name, (stays, no_dot)), starts, ends)
-names_type-sound text (expression_node (selector_expression e n) span) from to h dot (spelled, starts, ends) =
-    ((h, spelled.1), starts, ends)
-names_type-sound text (expression_node _ span) from to h dot spelled = cc
+    → (takes_elements e ≡ true) × SpellsExpression text as_type e from to
+takes_braces-sound text e from to h dot bracket spelled =
+    elim (cases_Bool (names_type e)) [
+      | inl k ↦ (
+        names_type-takes e k,
+        names_type-sound text e from to k (λ alone. dot)
+            (no_arguments text.edition to (and_not (is_second text.edition) bracket)) spelled,
+      )
+      | inr k ↦ (let instance = sym (ap (λ b. b || (is_second text.edition && (is_instance e && is_type e))) k) ∙ h in
+          let tests = and_parts (is_second text.edition) (is_instance e && is_type e) instance in
+          let parts = and_parts (is_instance e) (is_type e) tests.1 in (
+            instance-takes e parts.0,
+            instance_type-sound text e from to (second_is text.edition tests.0) parts.0 parts.1 spelled,
+          ))
+    ]
 
 stands_outside_header : (header : Bool) (e : Expression) → not header ≡ true → StandsIn header e
 stands_outside_header true e h = cc
 stands_outside_header false e h = tt
 
-module _ (text : List ℕ) (r : Readers) (below : ℕ) where
+module _ (text : GoText) (r : Readers) (below : ℕ) where
   pub record ReadsPrimary (header : Bool) (from : Cursor) (x : Expression × Cursor) : Type 0 where
     pub spelled : SpellsExpression text as_expression x.0 from x.1
     pub primary : IsPrimary x.0
@@ -87,7 +93,7 @@ module _ (text : List ℕ) (r : Readers) (below : ℕ) where
       let fits = only_where_some _ grown g g-read in
       goes grown g refl fits.1 (leb-true _ below fits.0) g-then
 
-module _ (text : List ℕ) (r : Readers) (below : ℕ) (sound : AreSound text below r) (from at : Cursor) (e : Expression)
+module _ (text : GoText) (r : Readers) (below : ℕ) (sound : AreSound text below r) (from at : Cursor) (e : Expression)
     (primary : IsPrimary e) (spelled : SpellsExpression text as_expression e from at)
     (shallow : expression_depth e ≤ below) where
   abbrev Grown : Expression × Cursor → Type 0
@@ -135,99 +141,16 @@ module _ (text : List ℕ) (r : Readers) (below : ℕ) (sound : AreSound text be
         shallow = omega arith;
       }
 
-  abbrev ReadsBound : Cursor → OptionalExpression × Cursor → Type 0
-  ReadsBound start x = SpellsOptional text as_expression x.0 start x.1 × (optional_depth x.0 ≤ below)
-
-  -- the second bound of a slice
-  bound-sound : (start : Cursor) (x : OptionalExpression × Cursor)
-      → (if stands Colon start
-      then Some (missing_expression, start)
-      else read_expression_unless text r RightBracket false start) ≡ Some x
-      → ReadsBound start x
-  unfolding SpellsOptional optional_depth
-  bound-sound start x read =
-      elim (two_ways (stands Colon start) _ _ (Some x) read) [
-        | inl c ↦ given (ReadsBound start) (missing_expression, start) x c.1 (refl, omega arith)
-        | inr c ↦ (let h = read_expression_unless-sound text r below sound RightBracket false start x c.1 in (h.0, h.2))
-      ]
-
-  abbrev ReadsMost : Cursor → OptionalExpression × Cursor → Type 0
-  ReadsMost start x = third_bound x.0 (SpellsOptional text as_expression x.0) start x.1 × (optional_depth x.0 ≤ below)
-
-  most-sound : (start : Cursor) (x : OptionalExpression × Cursor)
-      → (if stands Colon start
-      then read_any text r (behind start) >>= (λ bound. Some (present_expression bound.0, bound.1))
-      else Some (missing_expression, start)) ≡ Some x
-      → ReadsMost start x
-  unfolding SpellsOptional optional_depth
-  most-sound start x read =
-      elim (two_ways (stands Colon start) _ _ (Some x) read) [
-        | inl c ↦ option_and_then_some _ (read_any text r (behind start)) x c.1 λ bound bound-read bound-then.
-            let h = sound.expression false 1 (behind start) bound.1 bound.0 bound-read in
-            given (ReadsMost start) (present_expression bound.0, bound.1) x bound-then
-            ((_, stands-sound Colon start c.0, h.0), h.3)
-        | inr c ↦ given (ReadsMost start) (missing_expression, start) x c.1 (refl, omega arith)
-      ]
-
-  abbrev Bounds : OptionalExpression → OptionalExpression → OptionalExpression → Cursor → Cursor → Type 0
-  Bounds low high most =
-      SpellsOptional text as_expression low ⨾ token Colon ⨾ SpellsOptional text as_expression high
-      ⨾ third_bound most (SpellsOptional text as_expression most)
-
-  read_slice-sound : (low : OptionalExpression) (colon : Cursor) (x : Expression × Cursor)
+  -- what stands in brackets
+  indexed_grown : (x : Expression × Cursor)
       → stands LeftBracket at ≡ true
-      → ReadsBound (behind at) (low, colon)
-      → stands Colon colon ≡ true
-      → read_slice text r below from e low colon ≡ Some x
+      → read_index text r from e at ≡ Some x
       → Grown x
-  unfolding read_slice SpellsExpression SpellsForm expression_depth has_bare_literal
-  read_slice-sound low colon x bracket first c read =
-      option_and_then_some _ _ x read λ high high-read high-then.
-      option_and_then_some _ _ x high-then λ most most-read most-then.
-      option_and_then_some _ (take RightBracket most.1) x most-then λ end end-read end-then.
-      let h = bound-sound (behind colon) high high-read in
-      let k = most-sound high.1 most most-read in
-      let left = stands-sound LeftBracket at bracket in
-      let right = take-sound RightBracket most.1 end end-read in
-      let sign = stands-sound Colon colon c in
-      let bounds : Bounds low high.0 most.0 (behind at) most.1 = (colon, first.0, (_, sign, (_, h.0, k.0))) in
+  indexed_grown x bracket read =
+      let h = read_index-sound text r below sound from at e primary spelled x bracket read in
       let a = shallow in
-      let b = first.1 in
-      let d = h.1 in
-      let f = k.1 in
-      given Grown (spanned from (slice_expression e low high.0 most.0) end) x end-then record {
-        spelled = ((tt, (primary, (at, spelled, (_, left, (most.1, bounds, right))))), refl, refl);
-        same = refl;
-        primary = refl;
-        shallow = omega arith;
-      }
-
-  read_index-sound : (x : Expression × Cursor)
-      → stands LeftBracket at ≡ true
-      → read_index text r below from e at ≡ Some x
-      → Grown x
-  unfolding read_index SpellsExpression SpellsForm SpellsOptional expression_depth optional_depth has_bare_literal
-  read_index-sound x bracket read =
-      option_and_then_some _ (read_expression_unless text r Colon false (behind at)) x read λ low low-read low-then.
-      let h = read_expression_unless-sound text r below sound Colon false (behind at) low low-read in
-      elim (two_ways (stands Colon low.1) _ _ (Some x) low-then) [
-        | inl c ↦ read_slice-sound low.0 low.1 x bracket (h.0, h.2) c.0 c.1
-        | inr c ↦ elim (optional_ways _ _ low.0 low.1 (Some x) c.1) [
-          | inl c ↦ absurd (none-some x c.1)
-          | inr c ↦ option_and_then_some _ (take RightBracket low.1) x c.2 λ end end-read end-then.
-              let left = stands-sound LeftBracket at bracket in
-              let right = take-sound RightBracket low.1 end end-read in
-              let i = subst (λ (o : OptionalExpression). ReadsBound (behind at) (o, low.1)) c.1 (h.0, h.2) in
-              let a = shallow in
-              let b = i.1 in
-              given Grown (spanned from (index_expression e c.0) end) x end-then record {
-                spelled = ((tt, (primary, (at, spelled, (_, left, (low.1, i.0, right))))), refl, refl);
-                same = refl;
-                primary = refl;
-                shallow = omega arith;
-              }
-        ]
-      ]
+      let b = h.shallow in
+      record { spelled = h.spelled; same = h.same; primary = h.primary; shallow = omega arith }
 
   grown_primary : (header : Bool) (x : Expression × Cursor)
       → StandsIn header e
@@ -243,19 +166,20 @@ module _ (text : List ℕ) (r : Readers) (below : ℕ) (sound : AreSound text be
 
   read_composite-sound : (header : Bool) (x : Expression × Cursor)
       → stands Dot at ≡ false
+      → stands LeftBracket at ≡ false
       → not header ≡ true
-      → names_type e ≡ true
+      → takes_braces text.edition e ≡ true
       → read_composite text r below from e at ≡ Some x
       → ReadsPrimary text r below header from x
   unfolding read_composite SpellsExpression SpellsForm expression_depth has_bare_literal
-  read_composite-sound header x dot outside names read =
+  read_composite-sound header x dot bracket outside names read =
       option_and_then_some _ (read_braced_elements text r at) x read λ es es-read es-then.
       let h = read_braced_elements-sound text r below sound at es es-read in
-      let named = names_type-sound text e from at names dot spelled in
+      let named = takes_braces-sound text e from at names dot bracket spelled in
       let a = shallow in
       let b = h.1 in
       given (ReadsPrimary text r below header from) (spanned from (composite_literal e es.0) es.1) x es-then record {
-        spelled = ((tt, (names_type-takes e names, (at, named, h.0))), refl, refl);
+        spelled = ((tt, (named.0, (at, named.1, h.0))), refl, refl);
         primary = refl;
         stands_in = stands_outside_header header (spanned from (composite_literal e es.0) es.1).0 outside;
         shallow = omega arith;
@@ -274,24 +198,24 @@ module _ (text : List ℕ) (r : Readers) (below : ℕ) (sound : AreSound text be
             | inl c ↦ grown_primary header x stands_in (read_assertion-sound x dot.0 c.0 (same_Some _ grown c.1 ∙ is_x))
             | inr c ↦ (let select = same_Some (read_selector text r below from e at) grown c.1 ∙ is_x in
                 grown_primary header x stands_in
-                (read_selector-sound text r below sound as_expression from at e x primary spelled dot.0 shallow select))
+                (read_selector-sound text r below sound from at e x primary spelled dot.0 shallow select))
           ]
         ]
         | inr dot ↦ elim (two_ways (stands LeftBracket at) _ _ (Some grown) dot.1) [
-          | inl c ↦ grown_primary header x stands_in (read_index-sound x c.0 (same_Some _ grown c.1 ∙ is_x))
-          | inr c ↦ elim (two_ways (stands LeftParenthesis at) _ _ (Some grown) c.1) [
+          | inl c ↦ grown_primary header x stands_in (indexed_grown x c.0 (same_Some _ grown c.1 ∙ is_x))
+          | inr bracket ↦ elim (two_ways (stands LeftParenthesis at) _ _ (Some grown) bracket.1) [
             | inl c ↦ grown_primary header x stands_in (read_call-sound x c.0 (same_Some _ grown c.1 ∙ is_x))
-            | inr c ↦ elim (two_ways (stands LeftBrace at && (not header && names_type e)) _ _ (Some grown) c.1) [
-              | inl c ↦ (let parts = and_parts (stands LeftBrace at) (not header && names_type e) c.0 in
-                  let last = and_parts (not header) (names_type e) parts.1 in
-                  read_composite-sound header x dot.0 last.0 last.1 (same_Some _ grown c.1 ∙ is_x))
+            | inr c ↦ elim (two_ways (stands LeftBrace at && (not header && takes_braces text.edition e)) _ _ (Some grown) c.1) [
+              | inl c ↦ (let parts = and_parts (stands LeftBrace at) (not header && takes_braces text.edition e) c.0 in
+                  let last = and_parts (not header) (takes_braces text.edition e) parts.1 in
+                  read_composite-sound header x dot.0 bracket.0 last.0 last.1 (same_Some _ grown c.1 ∙ is_x))
               | inr c ↦ absurd (none-some grown c.1)
             ]
           ]
         ]
       ]
 
-module _ (text : List ℕ) (r : Readers) (below : ℕ) (sound : AreSound text below r) (header : Bool) (from : Cursor) where
+module _ (text : GoText) (r : Readers) (below : ℕ) (sound : AreSound text below r) (header : Bool) (from : Cursor) where
   read_suffixes-sound : (n : ℕ) (e : Expression) (at : Cursor) (x : Expression × Cursor)
       → ReadsPrimary text r below header from (e, at)
       → read_suffixes text r below header from n e at ≡ Some x

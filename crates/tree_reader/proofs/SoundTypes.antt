@@ -1,23 +1,27 @@
 -- The types that the reader reads are spelled by their tokens, and no deeper than they may be.
-use Rattle.std.proofs.Common.{◌≡◌, ℕ, suc, ◌≤◌, Bool, true, false, inl, inr, refl, sym, ◌∙◌, List, [], ◌∷◌, arith}
-use Rattle.std.specs.Prelude.{Some}
+use Rattle.std.proofs.Common.{◌≡◌, ℕ, suc, ◌≤◌, max, Bool, true, false, true≢false, ◌&&◌, inl, inr, refl, sym, ◌∙◌, subst, List, [], ◌∷◌, arith}
+use Rattle.std.specs.Prelude.{Some, nat_le}
 use Rattle.std.proofs.lemmas.Option.{option_and_then_some}
-use Rattle.std.proofs.lemmas.Bool.{leb-true}
+use Rattle.std.proofs.lemmas.Bool.{and_parts, leb-true}
 use Rattle.lexer.specs.Spelling.{same_kind}
 use Rattle.lexer.specs.declared.token.Token.{Token}
 use Rattle.lexer.specs.declared.token.TokenKind.{TokenKind}
 use Rattle.lexer.specs.declared.token.TokenKind.TheVariants.{Identifier as identifier_kind, ChanKeyword, FuncKeyword, InterfaceKeyword, MapKeyword, StructKeyword, Star, Arrow, Ellipsis, LeftParenthesis, RightParenthesis, LeftBracket, RightBracket, LeftBrace, Dot}
 use Rattle.tree.specs.declared.operator.ChanDirection.TheVariants.{Receive}
-use Rattle.tree.specs.Syntax.{Expression, name_expression, parenthesized, star_expression, channel_type, function_type}
+use Rattle.tree.specs.declared.edition.Edition.{Edition}
+use Rattle.tree.specs.declared.edition.Edition.TheVariants.{First, Second}
+use Rattle.tree.specs.Syntax.{Expression, expression_node, name_expression, selector_expression, parenthesized, star_expression, channel_type, function_type}
 use Rattle.tree.specs.Depth.{expression_depth}
-use Rattle.meaning.specs.Cursor.{Cursor, first_is, is_next}
-use Rattle.meaning.specs.OperatorTokens.{is_dot, is_arrow, is_left_brace}
-use Rattle.meaning.specs.WellFormed.{IsPrimary, takes_elements, is_type_name, has_bare_literal}
-use Rattle.meaning.specs.Grammar.{CanSelect, Position, as_type, as_expression, end_of_type, of_struct, of_interface, SpellsExpression, SpellsForm}
+use Rattle.meaning.specs.Cursor.{GoText, Cursor, first_is, is_next}
+use Rattle.meaning.specs.OperatorTokens.{is_dot, takes_arguments, is_arrow, is_left_brace}
+use Rattle.meaning.specs.WellFormed.{IsPrimary, is_name, names_type, is_instance, is_type, takes_elements, is_type_name, has_bare_literal}
+use Rattle.meaning.specs.Grammar.{Position, as_type, as_expression, end_of_type, of_struct, of_interface, SpellsExpression, SpellsForm}
 use Rattle.tree_reader.specs.Reading.{stands, behind, take, spanned, word_between, read_identifier}
-use Rattle.tree_reader.specs.Reader.{Readers, read_any, read_signature, read_braced_fields, read_bracket_type, read_map_type, read_channel_type, read_literal_type, read_selector, read_named_type, read_type_of}
+use Rattle.tree_reader.specs.Reader.{is_second, Readers, around, read_index, read_type_arguments, read_any, read_signature, read_braced_fields, read_bracket_type, read_map_type, read_channel_type, read_literal_type, read_selector, read_named_type, read_type_of}
 use Rattle.tree_reader.specs.Claims.{AreSound}
 use Rattle.tree_reader.proofs.Steps.{given, two_ways, only_where_some, stands-sound, take-sound, read_identifier-sound}
+use Rattle.tree_reader.proofs.SoundIndexes.{second_is, read_index-sound}
+use Rattle.tree_reader.proofs.SoundInstances.{instance_type-sound}
 use Rattle.tree_reader.proofs.SoundSignatures.{read_signature-sound}
 use Rattle.tree_reader.proofs.SoundFields.{read_braced_fields-sound}
 
@@ -53,7 +57,37 @@ stands-left_brace place = stands_as LeftBrace is_left_brace same place where
   same LeftBrace = refl
   same _ = refl
 
-module _ (text : List ℕ) (r : Readers) (below : ℕ) (sound : AreSound text below r) where
+pub no_arguments : (edition : Edition) (place : Cursor)
+    → (is_second edition && stands LeftBracket place) ≡ false
+    → is_next (takes_arguments edition) place ≡ false
+unfolding same_kind
+no_arguments First place h = none place.left where
+  none : (left : List Token) → first_is (takes_arguments First) left ≡ false
+  none [] = refl
+  none (t ∷ rest) = refl
+no_arguments Second place h = sym (stands_as LeftBracket (takes_arguments Second) same place) ∙ h where
+  same : (k : TokenKind) → same_kind k LeftBracket ≡ takes_arguments Second k
+  same LeftBracket = refl
+  same _ = refl
+
+-- a name that was read as an expression is a type's, where nothing follows that continues it
+pub names_type-sound : (text : GoText) (e : Expression) (from to : Cursor)
+    → names_type e ≡ true
+    → (is_name e ≡ true → stands Dot to ≡ false)
+    → is_next (takes_arguments text.edition) to ≡ false
+    → SpellsExpression text as_expression e from to
+    → SpellsExpression text as_type e from to
+unfolding SpellsExpression SpellsForm
+names_type-sound text (expression_node (name_expression n) span) from to h dot none ((end, name, stays), starts, ends) =
+    let no_dot = subst (λ (c : Cursor). is_next is_dot c ≡ false) (sym stays) (sym (stands-dot to) ∙ dot refl) in
+    ((end, name, (to, (stays, no_dot), (refl, none))), starts, ends)
+names_type-sound text (expression_node (selector_expression e n) span) from to h dot none
+    ((selects, (at, operand, (behind_dot, point, (last, name, stays)))), starts, ends) =
+    let no_more = subst (λ (c : Cursor). is_next (takes_arguments text.edition) c ≡ false) (sym stays) none in
+    ((h, (at, operand, (behind_dot, point, (last, name, (stays, no_more))))), starts, ends)
+names_type-sound text (expression_node _ span) from to h dot none spelled = cc
+
+module _ (text : GoText) (r : Readers) (below : ℕ) (sound : AreSound text below r) where
   -- a type that begins with a bracket or a keyword, but for `func`: it can stand at each place where it ends
   pub record ReadsLiteralType (from : Cursor) (x : Expression × Cursor) : Type 0 where
     pub spelled : (place : Position) → end_of_type place x.1 x.1 → SpellsExpression text place x.0 from x.1
@@ -224,6 +258,18 @@ module _ (text : List ℕ) (r : Readers) (below : ℕ) (sound : AreSound text be
   abbrev pub ReadsType : Cursor → Expression × Cursor → Type 0
   ReadsType from x = SpellsExpression text as_type x.0 from x.1 × (expression_depth x.0 ≤ suc below)
 
+  abbrev named : Cursor → Expression
+  named from = (spanned from (name_expression (word_between text from (behind from))) (behind from)).0
+
+  -- a selector of a name is a type's name, and no name alone
+  read_selector-names : (from at : Cursor) (x : Expression × Cursor)
+      → read_selector text r below from (named from) at ≡ Some x
+      → (names_type x.0 ≡ true) × (is_name x.0 ≡ false)
+  unfolding read_selector
+  read_selector-names from at x read =
+      option_and_then_some _ (read_identifier text (behind at)) x read λ n n-read n-then.
+      given (λ (x : Expression × Cursor). (names_type x.0 ≡ true) × (is_name x.0 ≡ false)) _ x n-then (refl, refl)
+
   -- what grows around an operand
   pub record Grows (place : Position) (from : Cursor) (e : Expression) (x : Expression × Cursor) : Type 0 where
     pub spelled : SpellsExpression text place x.0 from x.1
@@ -231,26 +277,23 @@ module _ (text : List ℕ) (r : Readers) (below : ℕ) (sound : AreSound text be
     pub primary : IsPrimary x.0
     pub shallow : expression_depth x.0 ≤ suc below
 
-  pub read_selector-sound : (place : Position) (from at : Cursor) (e : Expression) (x : Expression × Cursor)
-      → CanSelect place e
+  pub read_selector-sound : (from at : Cursor) (e : Expression) (x : Expression × Cursor)
+      → IsPrimary e
       → SpellsExpression text as_expression e from at
       → stands Dot at ≡ true
       → expression_depth e ≤ below
       → read_selector text r below from e at ≡ Some x
-      → Grows place from e x
+      → Grows as_expression from e x
   unfolding read_selector SpellsExpression SpellsForm expression_depth has_bare_literal
-  read_selector-sound place from at e x selects spelled dot d read =
+  read_selector-sound from at e x primary spelled dot d read =
       option_and_then_some _ (read_identifier text (behind at)) x read λ n n-read n-then.
       let h = read_identifier-sound text (behind at) n n-read in
-      given (Grows place from e) _ x n-then record {
-        spelled = ((selects, (at, spelled, (_, stands-sound Dot at dot, h))), refl, refl);
+      given (Grows as_expression from e) _ x n-then record {
+        spelled = ((primary, (at, spelled, (_, stands-sound Dot at dot, (_, h, refl)))), refl, refl);
         same = refl;
         primary = refl;
         shallow = omega arith;
       }
-
-  abbrev named : Cursor → Expression
-  named from = (spanned from (name_expression (word_between text from (behind from))) (behind from)).0
 
   -- a name among expressions
   pub name-sound : (from : Cursor)
@@ -259,17 +302,36 @@ module _ (text : List ℕ) (r : Readers) (below : ℕ) (sound : AreSound text be
   unfolding SpellsExpression SpellsForm
   name-sound from e = ((_, (stands-sound identifier_kind from e, refl), refl), refl, refl)
 
-  type_name-sound : (from : Cursor)
-      → stands identifier_kind from ≡ true
-      → stands Dot (behind from) ≡ false
-      → SpellsExpression text as_type (named from) from (behind from)
-  unfolding SpellsExpression SpellsForm
-  type_name-sound from e dot =
-      ((_, (stands-sound identifier_kind from e, refl), (refl, sym (stands-dot (behind from)) ∙ dot)), refl, refl)
-
   name_shallow : (from : Cursor) → expression_depth (named from) ≤ suc below
   unfolding expression_depth
   name_shallow from = omega arith
+
+  -- a type's name that was read as an expression, with the brackets that follow it
+  read_type_arguments-sound : (from at : Cursor) (e : Expression) (x : Expression × Cursor)
+      → names_type e ≡ true
+      → (is_name e ≡ true → stands Dot at ≡ false)
+      → IsPrimary e
+      → SpellsExpression text as_expression e from at
+      → expression_depth e ≤ suc below
+      → read_type_arguments text r below from e at ≡ Some x
+      → ReadsType from x
+  unfolding read_type_arguments
+  read_type_arguments-sound from at e x named_so no_dot primary spelled d read =
+      elim (two_ways (is_second text.edition && stands LeftBracket at) _ _ (Some x) read) [
+        | inl c ↦ (let tests = and_parts (is_second text.edition) (stands LeftBracket at) c.0 in
+            option_and_then_some _ (around text r below e (read_index text r from e at)) x c.1 λ t t-read t-then.
+            let fits = only_where_some (nat_le (expression_depth e) below) (read_index text r from e at) t t-read in
+            let shallow = leb-true (expression_depth e) below fits.0 in
+            let h = read_index-sound text r below sound from at e primary spelled t tests.1 fits.1 in
+            let k = only_where_some (is_instance t.0 && is_type t.0) (Some t) x t-then in
+            let types = and_parts (is_instance t.0) (is_type t.0) k.0 in
+            let deep = h.shallow in
+            let second = second_is text.edition tests.0 in
+            given (ReadsType from) t x k.1
+            (instance_type-sound text t.0 from t.1 second types.0 types.1 h.spelled, omega arith))
+        | inr c ↦ given (ReadsType from) (e, at) x c.1
+            (names_type-sound text e from at named_so no_dot (no_arguments text.edition at c.0) spelled, d)
+      ]
 
   read_named_type-sound : (from : Cursor) (x : Expression × Cursor)
       → stands identifier_kind from ≡ true
@@ -279,12 +341,16 @@ module _ (text : List ℕ) (r : Readers) (below : ℕ) (sound : AreSound text be
   read_named_type-sound from x name e =
       elim (two_ways (stands Dot (behind from)) _ _ (Some x) e) [
         | inl c ↦ (let at = behind from in
-            let k = only_where_some _ (read_selector text r below from (named from) at) x c.1 in
+            option_and_then_some _ (around text r below (named from) (read_selector text r below from (named from) at)) x
+            c.1 λ t t-read t-then.
+            let k = only_where_some (nat_le (expression_depth (named from)) below) (read_selector text r below from (named from) at) t t-read in
             let fits = leb-true _ below k.0 in
-            let h = read_selector-sound as_type from at (named from) x refl (name-sound from name) c.0 fits k.1 in
-            (h.spelled, h.shallow))
-        | inr c ↦ given (ReadsType from) (named from, behind from) x c.1
-            (type_name-sound from name c.0, name_shallow from)
+            let h = read_selector-sound from at (named from) t refl (name-sound from name) c.0 fits k.1 in
+            let is = read_selector-names from at t k.1 in
+            read_type_arguments-sound from t.1 t.0 x is.0 (λ alone. absurd (true≢false (sym alone ∙ is.1))) h.primary
+            h.spelled h.shallow t-then)
+        | inr c ↦ read_type_arguments-sound from (behind from) (named from) x refl (λ alone. c.0) refl
+            (name-sound from name) (name_shallow from) c.1
       ]
 
   pub read_type_of-sound : (from : Cursor) (x : Expression × Cursor)

@@ -8,7 +8,7 @@ use Rattle.lexer.specs.declared.token.Token.{Token}
 use Rattle.lexer.specs.declared.token.TokenKind.{TokenKind}
 use Rattle.lexer.specs.Spelling.{same_kind}
 use Rattle.tree.specs.Syntax.{Identifier}
-use Rattle.meaning.specs.Cursor.{Cursor, TakesToken, token, TakesSemicolon, semicolon, Semicolons, no_semicolon, semicolon_and, optional, only_if, identifier, optional_identifier, more_identifiers, identifiers}
+use Rattle.meaning.specs.Cursor.{GoText, Cursor, TakesToken, token, TakesSemicolon, semicolon, Semicolons, no_semicolon, semicolon_and, optional, only_if, identifier, optional_identifier, more_identifiers, identifiers}
 use Rattle.lexer.specs.declared.token.TokenKind.TheVariants.{Identifier as identifier_kind, Comma, Semicolon}
 use Rattle.tree_reader.specs.Reader.{of_next}
 use Rattle.tree_reader.specs.Reading.{only_where, stands, behind, take, past, take_semicolon, behind_semicolon, skip_from, skip_semicolons, steps, read_identifier, read_optional_identifier, read_more_identifiers, read_identifiers}
@@ -136,7 +136,7 @@ of_next-sound f place a e = by_list place.end place.left e where
   by_list end [] e = absurd (none-some a e)
   by_list end (t ∷ rest) e = (t.kind, e, record { start = t.start; taken = refl })
 
-module _ (text : List ℕ) where
+module _ (text : GoText) where
   pub read_identifier-sound : (from : Cursor) (x : Identifier × Cursor)
       → read_identifier text from ≡ Some x
       → identifier text x.0 from x.1

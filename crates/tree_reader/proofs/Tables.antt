@@ -13,7 +13,8 @@ use Rattle.meaning.specs.Cursor.{Cursor, TakesToken, string_token, first_is, is_
 use Rattle.meaning.specs.OperatorTokens.{operator_token, assign_operator, unary_token, literal_token, keyword_token}
 use Rattle.tree_reader.specs.Reading.{behind}
 use Rattle.tree_reader.specs.Reader.{of_next, unary_operator, binary_operator, assigning_operator, literal_kind, declaration_keyword, is_string}
-use Rattle.tree_reader.proofs.Steps.{of_next-sound}
+use Rattle.meaning.specs.Grammar.{as_expression, CanOperate}
+use Rattle.tree_reader.proofs.Steps.{given, of_next-sound}
 
 literal_kind-token : (kind : TokenKind) (a : BasicLitKind) → literal_kind kind ≡ Some a → kind ≡ literal_token a
 literal_kind-token number_token a e = ap literal_token (same_Some _ a e)
@@ -44,6 +45,23 @@ pub unary_operator-sound : (place : Cursor) (a : UnaryOperator)
 unary_operator-sound place a e =
     let h = of_next-sound unary_operator place a e in
     subst (λ (k : TokenKind). TakesToken k place (behind place)) (unary_operator-token h.0 a h.1) h.2
+
+-- no operator of the table stands in constraints alone
+operates : (kind : TokenKind) (a : UnaryOperator) → unary_operator kind ≡ Some a → CanOperate as_expression a
+operates plus_token a e = given (CanOperate as_expression) _ a e tt
+operates Minus a e = given (CanOperate as_expression) _ a e tt
+operates Bang a e = given (CanOperate as_expression) _ a e tt
+operates Caret a e = given (CanOperate as_expression) _ a e tt
+operates Ampersand a e = given (CanOperate as_expression) _ a e tt
+operates Arrow a e = given (CanOperate as_expression) _ a e tt
+operates _ a e = absurd (none-some a e)
+
+pub unary_operator-operates : (place : Cursor) (a : UnaryOperator)
+    → of_next unary_operator place ≡ Some a
+    → CanOperate as_expression a
+unary_operator-operates place a e =
+    let h = of_next-sound unary_operator place a e in
+    operates h.0 a h.1
 
 binary_operator-token : (kind : TokenKind) (a : BinaryOperator)
     → binary_operator kind ≡ Some a

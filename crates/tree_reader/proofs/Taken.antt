@@ -9,7 +9,7 @@ use Rattle.lexer.specs.declared.token.TokenKind.{TokenKind}
 use Rattle.lexer.specs.declared.token.TokenKind.TheVariants.{Identifier as identifier_kind, Comma, Semicolon}
 use Rattle.tree.specs.declared.span.Span.{Span}
 use Rattle.tree.specs.Syntax.{Identifier, expression_node, ExpressionForm}
-use Rattle.meaning.specs.Cursor.{Cursor, identifier, optional_identifier, more_identifiers, identifiers, TakesToken, TakesSemicolon, Semicolons, no_semicolon, semicolon_and, first_is, is_next, is_closing, semicolon, start_at}
+use Rattle.meaning.specs.Cursor.{GoText, Cursor, identifier, optional_identifier, more_identifiers, identifiers, TakesToken, TakesSemicolon, Semicolons, no_semicolon, semicolon_and, first_is, is_next, is_closing, semicolon, start_at}
 use Rattle.tree_reader.specs.Reading.{◌>>=◌, only_where, stands, behind_first, behind, take, past, take_semicolon, behind_semicolon, skip_from, skip_semicolons, span_between, spanned, steps, read_identifier, read_optional_identifier, read_more_identifiers, read_identifiers}
 use Rattle.tree_reader.specs.Reader.{of_first, of_next}
 
@@ -238,7 +238,7 @@ pub node_is : (form : ExpressionForm) (span : Span) (from to : Cursor)
     → spanned from form to ≡ (expression_node form span, to)
 node_is form span from to p q = λ i. (expression_node form (span_is span from to p q i), to)
 
-module _ (text : List ℕ) where
+module _ (text : GoText) where
   pub read_identifier-complete : (n : Identifier) (from to : Cursor)
       → identifier text n from to
       → read_identifier text from ≡ Some (n, to)

@@ -3,9 +3,10 @@
 use Rattle.std.specs.Prelude.{◌≡◌, ℕ, ◌≤◌, ◌<◌, Bool, true, false, List, [], Some}
 use Rattle.lexer.specs.declared.token.TokenKind.TheVariants.{IfKeyword, LeftParenthesis, LeftBracket, LeftBrace, Dot}
 use Rattle.tree.specs.declared.operator.BinaryOperator.{BinaryOperator}
+use Rattle.tree.specs.declared.edition.Edition.{Edition}
 use Rattle.tree.specs.Syntax.{Expression, Statement, SourceFile}
 use Rattle.tree.specs.Depth.{expression_depth, statement_depth, file_depth}
-use Rattle.meaning.specs.Cursor.{Cursor, is_next}
+use Rattle.meaning.specs.Cursor.{GoText, Cursor, is_next}
 use Rattle.meaning.specs.WellFormed.{operator_level, level, primary_level, has_bare_literal, IsElse, IsKept}
 use Rattle.meaning.specs.Grammar.{as_type, as_expression, as_value, form_of, SpellsExpression, SpellsStatement, SpellsFile}
 use Rattle.meaning.specs.TreeOfText.{IsTreeOf}
@@ -33,8 +34,9 @@ pub record CannotGoOn (header : Bool) (least : ℕ) (place : Cursor) : Type 0 wh
   pub brace : header ≡ false → stands LeftBrace place ≡ false
   pub operator : IsLooser least (of_next binary_operator place)
 
-module _ (text : List ℕ) where
+module _ (text : GoText) where
   pub record AreSound (n : ℕ) (r : Readers) : Type 0 where
+    pub most : r.most ≡ n
     pub expression : (header : Bool) (least : ℕ) (from to : Cursor) (e : Expression)
         → r.read_expression header least from ≡ Some (e, to)
         → SpellsExpression text as_expression e from to
@@ -52,6 +54,7 @@ module _ (text : List ℕ) where
         × (stands IfKeyword from ≡ true → IsElse (form_of s))
 
   pub record AreComplete (n : ℕ) (r : Readers) : Type 0 where
+    pub most : r.most ≡ n
     pub expression : (header : Bool) (least : ℕ) (from to : Cursor) (e : Expression)
         → SpellsExpression text as_expression e from to
         → least ≤ level e
@@ -91,13 +94,16 @@ module _ (text : List ℕ) where
 
 -- tokens spell one file at most, however deep it is
 abbrev pub OneTreeOfAnyDepth : Type 0
-OneTreeOfAnyDepth = (text : List ℕ) (from to last : Cursor) (f g : SourceFile)
+OneTreeOfAnyDepth = (text : GoText) (from to last : Cursor) (f g : SourceFile)
     → SpellsFile text f from to
     → to.left ≡ []
     → SpellsFile text g from last
     → last.left ≡ []
     → f ≡ g
 
--- a text has one tree at most
+-- in each edition a text has one tree at most
 abbrev pub OneTree : Type 0
-OneTree = (text : List ℕ) (f g : SourceFile) → IsTreeOf text f → IsTreeOf text g → f ≡ g
+OneTree = (edition : Edition) (text : List ℕ) (f g : SourceFile)
+    → IsTreeOf edition text f
+    → IsTreeOf edition text g
+    → f ≡ g

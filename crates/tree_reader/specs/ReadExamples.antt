@@ -5,16 +5,18 @@ use Rattle.std.specs.Prelude.{◌≡◌, ℕ, ◌≤◌, false, List, [], ◌∷
 use Rattle.lexer.specs.declared.token.TokenKind.TheVariants.{Ampersand, AmpersandAssign, AndNotAssign, Arrow, Assign, Bang, BreakKeyword, Caret, CaretAssign, CaseKeyword, ChanKeyword, Colon, Comma, ConstKeyword, ContinueKeyword, Decrement, DefaultKeyword, DeferKeyword, Define, Dot, Ellipsis, ElseKeyword, EqualEqual, FallthroughKeyword, ForKeyword, FuncKeyword, GoKeyword, GotoKeyword, GreaterThan, IfKeyword, ImportKeyword, Increment, InterfaceKeyword, LeftBrace, LeftBracket, LeftParenthesis, LessThan, MapKeyword, Minus, MinusAssign, PackageKeyword, Percent, PercentAssign, Pipe, PipeAssign, PlusAssign, RangeKeyword, ReturnKeyword, RightBrace, RightBracket, RightParenthesis, SelectKeyword, Semicolon, ShiftLeftAssign, ShiftRightAssign, Slash, SlashAssign, Star, StarAssign, StructKeyword, SwitchKeyword, Tilde, TypeKeyword, VarKeyword, AndNot as and_not_token, GreaterOrEqual as greater_or_equal_token, LessOrEqual as less_or_equal_token, LogicalAnd as logical_and_token, LogicalOr as logical_or_token, Identifier as name_token, NotEqual as not_equal_token, Number as number_token, Plus as plus_token, RawString as raw_string_token, Rune as rune_token, ShiftLeft as shift_left_token, ShiftRight as shift_right_token, InterpretedString as string_token}
 use Rattle.tree.specs.declared.operator.BasicLitKind.TheVariants.{InterpretedString, Number, RawString, Rune}
 use Rattle.tree.specs.declared.operator.BinaryOperator.TheVariants.{Add, And, AndNot, Divide, Equal, Greater, GreaterOrEqual, Less, LessOrEqual, LogicalAnd, LogicalOr, Multiply, NotEqual, Or, Remainder, ShiftLeft, ShiftRight, Subtract, Xor}
-use Rattle.tree.specs.declared.operator.UnaryOperator.TheVariants.{Address, Complement, Negate, Not, Plus, Receive}
+use Rattle.tree.specs.declared.operator.UnaryOperator.TheVariants.{Address, Complement, Negate, Not, Plus, Receive, Tilde as tilde_operator}
 use Rattle.tree.specs.declared.operator.ChanDirection.TheVariants.{Both, Send, Receive as receive_only}
 use Rattle.tree.specs.declared.operator.DeclKeyword.TheVariants.{Const, Var, «Type» as type_keyword}
-use Rattle.tree.specs.Syntax.{Expression, Statement, SourceFile, array_type, assignment, basic_literal, binary_expression, block_statement, break_statement, call_expression, case_and, channel_type, communication_and, composite_literal, continue_statement, declaration_of, declaration_statement, decrement_statement, defer_statement, define_statement, ellipsis_array_type, embedded_and, empty_statement, expression_and, expression_statement, fields_and, for_statement, function_declaration, function_literal, function_type, general_declaration, go_statement, if_statement, increment_statement, index_expression, interface_type, key_value, labeled_statement, literal_value, map_type, method_and, missing_expression, missing_statement, name_alone_and, named_and, no_case, no_communication, no_expression, no_field, no_parameter, no_spec, no_statement, operator_assignment, parenthesized, present_expression, present_statement, range_assignment, range_definition, return_statement, select_statement, selector_expression, send_statement, signature_of, slice_expression, slice_type, star_expression, statement_and, struct_type, switch_statement, type_and, type_assertion, type_switch_statement, unary_expression, unnamed_and, value_and}
+use Rattle.tree.specs.declared.edition.Edition.{Edition}
+use Rattle.tree.specs.declared.edition.Edition.TheVariants.{First, Second}
+use Rattle.tree.specs.Syntax.{Expression, Statement, SourceFile, array_type, assignment, basic_literal, binary_expression, block_statement, break_statement, call_expression, case_and, channel_type, communication_and, composite_literal, continue_statement, declaration_of, declaration_statement, decrement_statement, defer_statement, define_statement, ellipsis_array_type, embedded_and, empty_statement, expression_and, expression_statement, fields_and, for_statement, function_declaration, function_literal, function_type, general_declaration, go_statement, if_statement, increment_statement, index_expression, interface_type, key_value, labeled_statement, literal_value, map_type, method_and, missing_expression, missing_statement, name_alone_and, named_and, no_case, no_communication, no_expression, no_field, no_parameter, no_spec, no_statement, operator_assignment, parenthesized, present_expression, present_statement, range_assignment, range_definition, return_statement, select_statement, selector_expression, send_statement, signature_of, slice_expression, slice_type, star_expression, statement_and, struct_type, switch_statement, type_and, type_assertion, type_switch_statement, unary_expression, unnamed_and, value_and, instance_expression, element_and, goto_statement, fallthrough_statement}
 use Rattle.tree.specs.Depth.{expression_depth, file_depth}
-use Rattle.meaning.specs.Cursor.{Cursor}
+use Rattle.meaning.specs.Cursor.{Cursor, read_in}
 use Rattle.meaning.specs.WellFormed.{IsKept}
 use Rattle.meaning.specs.Grammar.{as_type, as_expression, form_of, SpellsExpression, SpellsStatement, SpellsFile}
 use Rattle.meaning.specs.TreeOfText.{first_place}
-use Rattle.meaning.specs.TreeExamples.{Example, Piece, IsSpelled, begin, expression, type_of, laid_out, doing, from_to, name, node, only, use_of}
+use Rattle.meaning.specs.TreeExamples.{Example, Piece, IsSpelledIn, in_edition, begin, expression, type_of, laid_out, doing, from_to, name, node, only, use_of}
 use Rattle.meaning.specs.declared.TheConstants.{MOST_DEPTH}
 use Rattle.tree_reader.specs.Reader.{readers, read_file}
 
@@ -44,52 +46,52 @@ Each P [] = Unit {0}
 Each P (x ∷ xs) = P x × Each P xs
 
 -- Computing reads this tree, and so all tokens spell it, and no other, however deep.
-pub record IsReadExpression (c : Case Expression) : Type 0 where
-  pub read : (readers c.text depth).read_expression false 1 (start_of c) ≡ Some (c.tree, end_of c)
-  pub spelled : SpellsExpression c.text as_expression c.tree (start_of c) (end_of c)
+pub record IsReadExpression (edition : Edition) (c : Case Expression) : Type 0 where
+  pub read : (readers (read_in edition c.text) depth).read_expression false 1 (start_of c) ≡ Some (c.tree, end_of c)
+  pub spelled : SpellsExpression (read_in edition c.text) as_expression c.tree (start_of c) (end_of c)
   pub only_tree : (other : Expression)
-      → SpellsExpression c.text as_expression other (start_of c) (end_of c)
+      → SpellsExpression (read_in edition c.text) as_expression other (start_of c) (end_of c)
       → other ≡ c.tree
 
 -- So it is of types.
-pub record IsReadType (c : Case Expression) : Type 0 where
-  pub read : (readers c.text depth).read_type (start_of c) ≡ Some (c.tree, end_of c)
-  pub spelled : SpellsExpression c.text as_type c.tree (start_of c) (end_of c)
+pub record IsReadType (edition : Edition) (c : Case Expression) : Type 0 where
+  pub read : (readers (read_in edition c.text) depth).read_type (start_of c) ≡ Some (c.tree, end_of c)
+  pub spelled : SpellsExpression (read_in edition c.text) as_type c.tree (start_of c) (end_of c)
   pub only_tree : (other : Expression)
-      → SpellsExpression c.text as_type other (start_of c) (end_of c)
+      → SpellsExpression (read_in edition c.text) as_type other (start_of c) (end_of c)
       → other ≡ c.tree
 
 -- So it is of statements, each before a semicolon. (`IsKept` leaves out the empty statement, which takes no tokens.)
-pub record IsReadStatement (c : Case Statement) : Type 0 where
-  pub read : (readers c.text depth).read_statement (start_of c) ≡ Some (c.tree, end_of_statement c)
-  pub spelled : SpellsStatement c.text c.tree (start_of c) (end_of_statement c)
+pub record IsReadStatement (edition : Edition) (c : Case Statement) : Type 0 where
+  pub read : (readers (read_in edition c.text) depth).read_statement (start_of c) ≡ Some (c.tree, end_of_statement c)
+  pub spelled : SpellsStatement (read_in edition c.text) c.tree (start_of c) (end_of_statement c)
   pub only_tree : (other : Statement)
       → IsKept (form_of other)
-      → SpellsStatement c.text other (start_of c) (end_of_statement c)
+      → SpellsStatement (read_in edition c.text) other (start_of c) (end_of_statement c)
       → other ≡ c.tree
 
 -- So it is of files.
-pub record IsReadFile (c : Case SourceFile) : Type 0 where
-  pub read : read_file c.text (start_of c) ≡ Some (c.tree, end_of c)
-  pub spelled : SpellsFile c.text c.tree (start_of c) (end_of c)
+pub record IsReadFile (edition : Edition) (c : Case SourceFile) : Type 0 where
+  pub read : read_file (read_in edition c.text) (start_of c) ≡ Some (c.tree, end_of c)
+  pub spelled : SpellsFile (read_in edition c.text) c.tree (start_of c) (end_of c)
   pub only_tree : (other : SourceFile)
-      → SpellsFile c.text other (start_of c) (end_of c)
+      → SpellsFile (read_in edition c.text) other (start_of c) (end_of c)
       → other ≡ c.tree
 
 -- Computing reads nothing, and so all tokens spell no tree within the limit of depth.
-pub record IsNoExpression (example : Example) : Type 0 where
-  pub read : (readers example.text depth).read_expression false 1 (begin example) ≡ None
-  pub none_spelled : (e : Expression) → expression_depth e ≤ depth → IsSpelled example (expression e) → ⊥
+pub record IsNoExpression (edition : Edition) (example : Example) : Type 0 where
+  pub read : (readers (in_edition edition example) depth).read_expression false 1 (begin example) ≡ None
+  pub none_spelled : (e : Expression) → expression_depth e ≤ depth → IsSpelledIn edition example (expression e) → ⊥
 
-pub record IsNoType (example : Example) : Type 0 where
-  pub read : (readers example.text depth).read_type (begin example) ≡ None
-  pub none_spelled : (t : Expression) → expression_depth t ≤ depth → IsSpelled example (type_of t) → ⊥
+pub record IsNoType (edition : Edition) (example : Example) : Type 0 where
+  pub read : (readers (in_edition edition example) depth).read_type (begin example) ≡ None
+  pub none_spelled : (t : Expression) → expression_depth t ≤ depth → IsSpelledIn edition example (type_of t) → ⊥
 
-pub record IsNoFile (example : Example) : Type 0 where
-  pub read : read_file example.text (begin example) ≡ None
+pub record IsNoFile (edition : Edition) (example : Example) : Type 0 where
+  pub read : read_file (in_edition edition example) (begin example) ≡ None
   pub none_spelled : (file : SourceFile)
       → file_depth file ≤ MOST_DEPTH
-      → IsSpelled example (λ text. SpellsFile text file)
+      → IsSpelledIn edition example (λ text. SpellsFile text file)
       → ⊥
 
 -- Expressions.
@@ -1261,8 +1263,8 @@ types_in_group = record {
       doing 0 21
       (declaration_statement
       (declaration_of type_keyword
-      (type_and (name (codes "T") 7) false (use_of (codes "int") 9) (from_to 7 12)
-      (type_and (name (codes "U") 14) true (use_of (codes "T") 18) (from_to 14 19) no_spec))
+      (type_and (name (codes "T") 7) no_parameter false (use_of (codes "int") 9) (from_to 7 12)
+      (type_and (name (codes "U") 14) no_parameter true (use_of (codes "T") 18) (from_to 14 19) no_spec))
       true (from_to 0 21)));
 }
 
@@ -1304,6 +1306,7 @@ method_with_receiver = record {
                   (named_and (name (codes "t") 17) false (node 19 21 (star_expression (use_of (codes "T") 20)))
                   no_parameter);
               name = name (codes "M") 23;
+              type_parameters = no_parameter;
               signature = signature_of no_parameter no_parameter false;
               body = Some record { statements = no_statement; braces = from_to 27 29 };
               span = from_to 11 29;
@@ -1327,6 +1330,7 @@ function_without_body = record {
             record {
               receiver = None;
               name = name (codes "f") 16;
+              type_parameters = no_parameter;
               signature = signature_of (unnamed_and false (use_of (codes "int") 18) no_parameter)
                   (unnamed_and false (use_of (codes "string") 23) no_parameter) false;
               body = None;
@@ -1366,6 +1370,7 @@ whole_file = record {
             record {
               receiver = None;
               name = name (codes "f") 34;
+              type_parameters = no_parameter;
               signature = signature_of no_parameter no_parameter false;
               body = Some record { statements = no_statement; braces = from_to 38 40 };
               span = from_to 29 40;
@@ -1374,6 +1379,7 @@ whole_file = record {
             record {
               receiver = None;
               name = name (codes "g") 46;
+              type_parameters = no_parameter;
               signature = signature_of no_parameter no_parameter false;
               body = Some
                   record {
@@ -1427,7 +1433,7 @@ groups = record {
             true (from_to 32 50)))
             ∷ (general_declaration
             (declaration_of type_keyword
-            (type_and (name (codes "T") 56) false (node 58 66 (struct_type no_field)) (from_to 56 66)
+            (type_and (name (codes "T") 56) no_parameter false (node 58 66 (struct_type no_field)) (from_to 56 66)
             no_spec)
             false (from_to 51 66))) ∷ [];
         span = from_to 0 66;
@@ -1639,12 +1645,530 @@ abbrev pub not_files : List Example
 not_files =
     import_of_all_names ∷ import_after_declaration ∷ type_parameters ∷ []
 
+-- What the second edition reads beside, or otherwise.
+
+-- x[a, b]
+abbrev pub two_arguments : Case Expression
+two_arguments = record {
+  text = codes "x[a, b]";
+  pieces = (0, name_token, 1) ∷ (0, LeftBracket, 1) ∷ (0, name_token, 1) ∷ (0, Comma, 1) ∷ (1, name_token, 1)
+      ∷ (0, RightBracket, 1) ∷ [];
+  tree =
+      node 0 7 (instance_expression (use_of (codes "x") 0) (expression_and (use_of (codes "a") 2)
+      (expression_and (use_of (codes "b") 5) no_expression)));
+}
+
+-- x[a,]
+abbrev pub one_argument_and_comma : Case Expression
+one_argument_and_comma = record {
+  text = codes "x[a,]";
+  pieces = (0, name_token, 1) ∷ (0, LeftBracket, 1) ∷ (0, name_token, 1) ∷ (0, Comma, 1)
+      ∷ (0, RightBracket, 1) ∷ [];
+  tree =
+      node 0 5 (instance_expression (use_of (codes "x") 0) (expression_and (use_of (codes "a") 2) no_expression));
+}
+
+-- g[int, []T](1)
+abbrev pub called_instance : Case Expression
+called_instance = record {
+  text = codes "g[int, []T](1)";
+  pieces = (0, name_token, 1) ∷ (0, LeftBracket, 1) ∷ (0, name_token, 3) ∷ (0, Comma, 1) ∷ (1, LeftBracket, 1)
+      ∷ (0, RightBracket, 1) ∷ (0, name_token, 1) ∷ (0, RightBracket, 1) ∷ (0, LeftParenthesis, 1)
+      ∷ (0, number_token, 1) ∷ (0, RightParenthesis, 1) ∷ [];
+  tree =
+      node 0 14 (call_expression (node 0 11 (instance_expression (use_of (codes "g") 0) (expression_and (use_of
+      (codes "int") 2) (expression_and (node 7 10 (slice_type (use_of (codes "T") 9))) no_expression))))
+      (expression_and (node 12 13 (basic_literal Number)) no_expression) false);
+}
+
+-- T[int]{}
+abbrev pub literal_of_instance : Case Expression
+literal_of_instance = record {
+  text = codes "T[int]{}";
+  pieces = (0, name_token, 1) ∷ (0, LeftBracket, 1) ∷ (0, name_token, 3) ∷ (0, RightBracket, 1)
+      ∷ (0, LeftBrace, 1) ∷ (0, RightBrace, 1) ∷ [];
+  tree =
+      node 0 8 (composite_literal (node 0 6 (index_expression (use_of (codes "T") 0) (use_of (codes "int") 2)))
+      no_expression);
+}
+
+-- []T[i]
+abbrev pub slice_of_instances_as_operand : Case Expression
+slice_of_instances_as_operand = record {
+  text = codes "[]T[i]";
+  pieces = (0, LeftBracket, 1) ∷ (0, RightBracket, 1) ∷ (0, name_token, 1) ∷ (0, LeftBracket, 1)
+      ∷ (0, name_token, 1) ∷ (0, RightBracket, 1) ∷ [];
+  tree =
+      node 0 6 (slice_type (node 2 6 (index_expression (use_of (codes "T") 2) (use_of (codes "i") 4))));
+}
+
+-- f(w < x, y > (z))
+abbrev pub comparisons_in_call : Case Expression
+comparisons_in_call = record {
+  text = codes "f(w < x, y > (z))";
+  pieces = (0, name_token, 1) ∷ (0, LeftParenthesis, 1) ∷ (0, name_token, 1) ∷ (1, LessThan, 1)
+      ∷ (1, name_token, 1) ∷ (0, Comma, 1) ∷ (1, name_token, 1) ∷ (1, GreaterThan, 1)
+      ∷ (1, LeftParenthesis, 1) ∷ (0, name_token, 1) ∷ (0, RightParenthesis, 1) ∷ (0, RightParenthesis, 1)
+      ∷ [];
+  tree =
+      node 0 17 (call_expression (use_of (codes "f") 0) (expression_and (node 2 7 (binary_expression Less
+      (use_of (codes "w") 2) (use_of (codes "x") 6))) (expression_and (node 9 16 (binary_expression Greater
+      (use_of (codes "y") 9) (node 13 16 (parenthesized (use_of (codes "z") 14))))) no_expression)) false);
+}
+
+-- []T[i]
+abbrev pub index_of_slice_type : Case Expression
+index_of_slice_type = record {
+  text = codes "[]T[i]";
+  pieces = (0, LeftBracket, 1) ∷ (0, RightBracket, 1) ∷ (0, name_token, 1) ∷ (0, LeftBracket, 1)
+      ∷ (0, name_token, 1) ∷ (0, RightBracket, 1) ∷ [];
+  tree =
+      node 0 6 (index_expression (node 0 3 (slice_type (use_of (codes "T") 2))) (use_of (codes "i") 4));
+}
+
+-- map[T[int]]U[*p.V, W[X]]
+abbrev pub map_of_instances : Case Expression
+map_of_instances = record {
+  text = codes "map[T[int]]U[*p.V, W[X]]";
+  pieces = (0, MapKeyword, 3) ∷ (0, LeftBracket, 1) ∷ (0, name_token, 1) ∷ (0, LeftBracket, 1)
+      ∷ (0, name_token, 3) ∷ (0, RightBracket, 1) ∷ (0, RightBracket, 1) ∷ (0, name_token, 1)
+      ∷ (0, LeftBracket, 1) ∷ (0, Star, 1) ∷ (0, name_token, 1) ∷ (0, Dot, 1) ∷ (0, name_token, 1)
+      ∷ (0, Comma, 1) ∷ (1, name_token, 1) ∷ (0, LeftBracket, 1) ∷ (0, name_token, 1) ∷ (0, RightBracket, 1)
+      ∷ (0, RightBracket, 1) ∷ [];
+  tree =
+      node 0 24 (map_type (node 4 10 (index_expression (use_of (codes "T") 4) (use_of (codes "int") 6))) (node
+      11 24 (instance_expression (use_of (codes "U") 11) (expression_and (node 13 17 (star_expression (node 14
+      17 (selector_expression (use_of (codes "p") 14) (name (codes "V") 16))))) (expression_and (node 19 23
+      (index_expression (use_of (codes "W") 19) (use_of (codes "X") 21))) no_expression)))));
+}
+
+-- func(a [n]int, T[n])
+abbrev pub array_and_instance : Case Expression
+array_and_instance = record {
+  text = codes "func(a [n]int, T[n])";
+  pieces = (0, FuncKeyword, 4) ∷ (0, LeftParenthesis, 1) ∷ (0, name_token, 1) ∷ (1, LeftBracket, 1)
+      ∷ (0, name_token, 1) ∷ (0, RightBracket, 1) ∷ (0, name_token, 3) ∷ (0, Comma, 1) ∷ (1, name_token, 1)
+      ∷ (0, LeftBracket, 1) ∷ (0, name_token, 1) ∷ (0, RightBracket, 1) ∷ (0, RightParenthesis, 1) ∷ [];
+  tree =
+      node 0 20 (function_type (signature_of (named_and (name (codes "a") 5) false (node 7 13 (array_type
+      (use_of (codes "n") 8) (use_of (codes "int") 10))) (unnamed_and false (node 15 19 (index_expression
+      (use_of (codes "T") 15) (use_of (codes "n") 17))) no_parameter)) no_parameter false));
+}
+
+-- struct { a [n]int; T[n]; *p.U[n, m] "tag" }
+abbrev pub array_and_embedded : Case Expression
+array_and_embedded = record {
+  text = codes "struct { a [n]int; T[n]; *p.U[n, m] \"tag\" }";
+  pieces = (0, StructKeyword, 6) ∷ (1, LeftBrace, 1) ∷ (1, name_token, 1) ∷ (1, LeftBracket, 1)
+      ∷ (0, name_token, 1) ∷ (0, RightBracket, 1) ∷ (0, name_token, 3) ∷ (0, Semicolon, 1)
+      ∷ (1, name_token, 1) ∷ (0, LeftBracket, 1) ∷ (0, name_token, 1) ∷ (0, RightBracket, 1)
+      ∷ (0, Semicolon, 1) ∷ (1, Star, 1) ∷ (0, name_token, 1) ∷ (0, Dot, 1) ∷ (0, name_token, 1)
+      ∷ (0, LeftBracket, 1) ∷ (0, name_token, 1) ∷ (0, Comma, 1) ∷ (1, name_token, 1) ∷ (0, RightBracket, 1)
+      ∷ (1, string_token, 5) ∷ (1, RightBrace, 1) ∷ [];
+  tree =
+      node 0 43 (struct_type (fields_and ((name (codes "a") 9) ∷ []) (node 11 17 (array_type (use_of (codes "n")
+      12) (use_of (codes "int") 14))) None (from_to 9 17) (element_and false (node 19 23 (index_expression
+      (use_of (codes "T") 19) (use_of (codes "n") 21))) None (from_to 19 23) (element_and true (node 26 35
+      (instance_expression (node 26 29 (selector_expression (use_of (codes "p") 26) (name (codes "U") 28)))
+      (expression_and (use_of (codes "n") 30) (expression_and (use_of (codes "m") 33) no_expression)))) (Some
+      (from_to 36 41)) (from_to 25 41) no_field))));
+}
+
+-- interface { ~int | T[int]; A; m() }
+abbrev pub union_and_name : Case Expression
+union_and_name = record {
+  text = codes "interface { ~int | T[int]; A; m() }";
+  pieces = (0, InterfaceKeyword, 9) ∷ (1, LeftBrace, 1) ∷ (1, Tilde, 1) ∷ (0, name_token, 3) ∷ (1, Pipe, 1)
+      ∷ (1, name_token, 1) ∷ (0, LeftBracket, 1) ∷ (0, name_token, 3) ∷ (0, RightBracket, 1)
+      ∷ (0, Semicolon, 1) ∷ (1, name_token, 1) ∷ (0, Semicolon, 1) ∷ (1, name_token, 1)
+      ∷ (0, LeftParenthesis, 1) ∷ (0, RightParenthesis, 1) ∷ (1, RightBrace, 1) ∷ [];
+  tree =
+      node 0 35 (interface_type (element_and false (node 12 25 (binary_expression Or (node 12 16
+      (unary_expression tilde_operator (use_of (codes "int") 13))) (node 19 25 (index_expression (use_of (codes "T") 19)
+      (use_of (codes "int") 21))))) None (from_to 12 25) (embedded_and false record {
+        qualifier = None;
+        name =
+            (name (codes "A") 27);
+        span = (from_to 27 28);
+      } None (from_to 27 28) (method_and (name (codes "m") 30)
+      (signature_of no_parameter no_parameter false) (from_to 30 33) no_field))));
+}
+
+-- type T[P, Q any, R comparable] U
+abbrev pub parameters_with_one_constraint : Case Statement
+parameters_with_one_constraint = record {
+  text = codes "type T[P, Q any, R comparable] U";
+  pieces = (0, TypeKeyword, 4) ∷ (1, name_token, 1) ∷ (0, LeftBracket, 1) ∷ (0, name_token, 1) ∷ (0, Comma, 1)
+      ∷ (1, name_token, 1) ∷ (1, name_token, 3) ∷ (0, Comma, 1) ∷ (1, name_token, 1) ∷ (1, name_token, 10)
+      ∷ (0, RightBracket, 1) ∷ (1, name_token, 1) ∷ (0, Semicolon, 0) ∷ [];
+  tree =
+      doing 0 32 (declaration_statement (declaration_of type_keyword (type_and (name (codes "T") 5)
+      (name_alone_and (name (codes "P") 7) (named_and (name (codes "Q") 10) false (use_of (codes "any") 12)
+      (named_and (name (codes "R") 17) false (use_of (codes "comparable") 19) no_parameter))) false (use_of
+      (codes "U") 31) (from_to 5 32) no_spec) false (from_to 0 32)));
+}
+
+-- type T[P any] = U[P]
+abbrev pub alias_with_parameter : Case Statement
+alias_with_parameter = record {
+  text = codes "type T[P any] = U[P]";
+  pieces = (0, TypeKeyword, 4) ∷ (1, name_token, 1) ∷ (0, LeftBracket, 1) ∷ (0, name_token, 1)
+      ∷ (1, name_token, 3) ∷ (0, RightBracket, 1) ∷ (1, Assign, 1) ∷ (1, name_token, 1) ∷ (0, LeftBracket, 1)
+      ∷ (0, name_token, 1) ∷ (0, RightBracket, 1) ∷ (0, Semicolon, 0) ∷ [];
+  tree =
+      doing 0 20 (declaration_statement (declaration_of type_keyword (type_and (name (codes "T") 5) (named_and
+      (name (codes "P") 7) false (use_of (codes "any") 9) no_parameter) true (node 16 20 (index_expression
+      (use_of (codes "U") 16) (use_of (codes "P") 18))) (from_to 5 20) no_spec) false (from_to 0 20)));
+}
+
+-- type T[P *C] D
+abbrev pub product_as_length : Case Statement
+product_as_length = record {
+  text = codes "type T[P *C] D";
+  pieces = (0, TypeKeyword, 4) ∷ (1, name_token, 1) ∷ (0, LeftBracket, 1) ∷ (0, name_token, 1) ∷ (1, Star, 1)
+      ∷ (0, name_token, 1) ∷ (0, RightBracket, 1) ∷ (1, name_token, 1) ∷ (0, Semicolon, 0) ∷ [];
+  tree =
+      doing 0 14 (declaration_statement (declaration_of type_keyword (type_and (name (codes "T") 5) no_parameter
+      false (node 6 14 (array_type (node 7 11 (binary_expression Multiply (use_of (codes "P") 7) (use_of (codes
+      "C") 10))) (use_of (codes "D") 13))) (from_to 5 14) no_spec) false (from_to 0 14)));
+}
+
+-- type T[P (C)] D
+abbrev pub call_as_length : Case Statement
+call_as_length = record {
+  text = codes "type T[P (C)] D";
+  pieces = (0, TypeKeyword, 4) ∷ (1, name_token, 1) ∷ (0, LeftBracket, 1) ∷ (0, name_token, 1)
+      ∷ (1, LeftParenthesis, 1) ∷ (0, name_token, 1) ∷ (0, RightParenthesis, 1) ∷ (0, RightBracket, 1)
+      ∷ (1, name_token, 1) ∷ (0, Semicolon, 0) ∷ [];
+  tree =
+      doing 0 15 (declaration_statement (declaration_of type_keyword (type_and (name (codes "T") 5) no_parameter
+      false (node 6 15 (array_type (node 7 12 (call_expression (use_of (codes "P") 7) (expression_and (use_of
+      (codes "C") 10) no_expression) false)) (use_of (codes "D") 14))) (from_to 5 15) no_spec) false (from_to 0
+      15)));
+}
+
+-- type T[P *C,] D
+abbrev pub pointer_and_comma : Case Statement
+pointer_and_comma = record {
+  text = codes "type T[P *C,] D";
+  pieces = (0, TypeKeyword, 4) ∷ (1, name_token, 1) ∷ (0, LeftBracket, 1) ∷ (0, name_token, 1) ∷ (1, Star, 1)
+      ∷ (0, name_token, 1) ∷ (0, Comma, 1) ∷ (0, RightBracket, 1) ∷ (1, name_token, 1) ∷ (0, Semicolon, 0)
+      ∷ [];
+  tree =
+      doing 0 15 (declaration_statement (declaration_of type_keyword (type_and (name (codes "T") 5) (named_and
+      (name (codes "P") 7) false (node 9 11 (star_expression (use_of (codes "C") 10))) no_parameter) false
+      (use_of (codes "D") 14) (from_to 5 15) no_spec) false (from_to 0 15)));
+}
+
+-- type T[P *C|~D] E
+abbrev pub pointer_or_tilde : Case Statement
+pointer_or_tilde = record {
+  text = codes "type T[P *C|~D] E";
+  pieces = (0, TypeKeyword, 4) ∷ (1, name_token, 1) ∷ (0, LeftBracket, 1) ∷ (0, name_token, 1) ∷ (1, Star, 1)
+      ∷ (0, name_token, 1) ∷ (0, Pipe, 1) ∷ (0, Tilde, 1) ∷ (0, name_token, 1) ∷ (0, RightBracket, 1)
+      ∷ (1, name_token, 1) ∷ (0, Semicolon, 0) ∷ [];
+  tree =
+      doing 0 17 (declaration_statement (declaration_of type_keyword (type_and (name (codes "T") 5) (named_and
+      (name (codes "P") 7) false (node 9 14 (binary_expression Or (node 9 11 (star_expression (use_of (codes
+      "C") 10))) (node 12 14 (unary_expression tilde_operator (use_of (codes "D") 13))))) no_parameter) false (use_of
+      (codes "E") 16) (from_to 5 17) no_spec) false (from_to 0 17)));
+}
+
+-- type T[P *[]int] D
+abbrev pub pointer_to_slice : Case Statement
+pointer_to_slice = record {
+  text = codes "type T[P *[]int] D";
+  pieces = (0, TypeKeyword, 4) ∷ (1, name_token, 1) ∷ (0, LeftBracket, 1) ∷ (0, name_token, 1) ∷ (1, Star, 1)
+      ∷ (0, LeftBracket, 1) ∷ (0, RightBracket, 1) ∷ (0, name_token, 3) ∷ (0, RightBracket, 1)
+      ∷ (1, name_token, 1) ∷ (0, Semicolon, 0) ∷ [];
+  tree =
+      doing 0 18 (declaration_statement (declaration_of type_keyword (type_and (name (codes "T") 5) (named_and
+      (name (codes "P") 7) false (node 9 15 (star_expression (node 10 15 (slice_type (use_of (codes "int")
+      12))))) no_parameter) false (use_of (codes "D") 17) (from_to 5 18) no_spec) false (from_to 0 18)));
+}
+
+-- type T[P (func())] D
+abbrev pub function_type_in_parentheses : Case Statement
+function_type_in_parentheses = record {
+  text = codes "type T[P (func())] D";
+  pieces = (0, TypeKeyword, 4) ∷ (1, name_token, 1) ∷ (0, LeftBracket, 1) ∷ (0, name_token, 1)
+      ∷ (1, LeftParenthesis, 1) ∷ (0, FuncKeyword, 4) ∷ (0, LeftParenthesis, 1) ∷ (0, RightParenthesis, 1)
+      ∷ (0, RightParenthesis, 1) ∷ (0, RightBracket, 1) ∷ (1, name_token, 1) ∷ (0, Semicolon, 0) ∷ [];
+  tree =
+      doing 0 20 (declaration_statement (declaration_of type_keyword (type_and (name (codes "T") 5) (named_and
+      (name (codes "P") 7) false (node 9 17 (parenthesized (node 10 16 (function_type (signature_of no_parameter
+      no_parameter false))))) no_parameter) false (use_of (codes "D") 19) (from_to 5 20) no_spec) false (from_to
+      0 20)));
+}
+
+-- type T[P *chan Q|C] D
+abbrev pub pointer_to_channel_or_name : Case Statement
+pointer_to_channel_or_name = record {
+  text = codes "type T[P *chan Q|C] D";
+  pieces = (0, TypeKeyword, 4) ∷ (1, name_token, 1) ∷ (0, LeftBracket, 1) ∷ (0, name_token, 1) ∷ (1, Star, 1)
+      ∷ (0, ChanKeyword, 4) ∷ (1, name_token, 1) ∷ (0, Pipe, 1) ∷ (0, name_token, 1) ∷ (0, RightBracket, 1)
+      ∷ (1, name_token, 1) ∷ (0, Semicolon, 0) ∷ [];
+  tree =
+      doing 0 21 (declaration_statement (declaration_of type_keyword (type_and (name (codes "T") 5) (named_and
+      (name (codes "P") 7) false (node 9 18 (binary_expression Or (node 9 16 (star_expression (node 10 16
+      (channel_type Both (use_of (codes "Q") 15))))) (use_of (codes "C") 17))) no_parameter) false (use_of
+      (codes "D") 20) (from_to 5 21) no_spec) false (from_to 0 21)));
+}
+
+-- type T[P [3]int] D
+abbrev pub array_as_constraint : Case Statement
+array_as_constraint = record {
+  text = codes "type T[P [3]int] D";
+  pieces = (0, TypeKeyword, 4) ∷ (1, name_token, 1) ∷ (0, LeftBracket, 1) ∷ (0, name_token, 1)
+      ∷ (1, LeftBracket, 1) ∷ (0, number_token, 1) ∷ (0, RightBracket, 1) ∷ (0, name_token, 3)
+      ∷ (0, RightBracket, 1) ∷ (1, name_token, 1) ∷ (0, Semicolon, 0) ∷ [];
+  tree =
+      doing 0 18 (declaration_statement (declaration_of type_keyword (type_and (name (codes "T") 5) (named_and
+      (name (codes "P") 7) false (node 9 15 (array_type (node 10 11 (basic_literal Number)) (use_of (codes
+      "int") 12))) no_parameter) false (use_of (codes "D") 17) (from_to 5 18) no_spec) false (from_to 0 18)));
+}
+
+-- type T[P[3]] D
+abbrev pub index_as_length : Case Statement
+index_as_length = record {
+  text = codes "type T[P[3]] D";
+  pieces = (0, TypeKeyword, 4) ∷ (1, name_token, 1) ∷ (0, LeftBracket, 1) ∷ (0, name_token, 1)
+      ∷ (0, LeftBracket, 1) ∷ (0, number_token, 1) ∷ (0, RightBracket, 1) ∷ (0, RightBracket, 1)
+      ∷ (1, name_token, 1) ∷ (0, Semicolon, 0) ∷ [];
+  tree =
+      doing 0 14 (declaration_statement (declaration_of type_keyword (type_and (name (codes "T") 5) no_parameter
+      false (node 6 14 (array_type (node 7 11 (index_expression (use_of (codes "P") 7) (node 9 10 (basic_literal
+      Number)))) (use_of (codes "D") 13))) (from_to 5 14) no_spec) false (from_to 0 14)));
+}
+
+-- goto l
+abbrev pub jump_to_label : Case Statement
+jump_to_label = record {
+  text = codes "goto l";
+  pieces = (0, GotoKeyword, 4) ∷ (1, name_token, 1) ∷ (0, Semicolon, 0) ∷ [];
+  tree =
+      doing 0 6 (goto_statement (name (codes "l") 5));
+}
+
+-- fallthrough
+abbrev pub fall : Case Statement
+fall = record {
+  text = codes "fallthrough";
+  pieces = (0, FallthroughKeyword, 11) ∷ (0, Semicolon, 0) ∷ [];
+  tree =
+      doing 0 11 fallthrough_statement;
+}
+
+-- type T[P *[]int] D
+abbrev pub product_of_slice_type : Case Statement
+product_of_slice_type = record {
+  text = codes "type T[P *[]int] D";
+  pieces = (0, TypeKeyword, 4) ∷ (1, name_token, 1) ∷ (0, LeftBracket, 1) ∷ (0, name_token, 1) ∷ (1, Star, 1)
+      ∷ (0, LeftBracket, 1) ∷ (0, RightBracket, 1) ∷ (0, name_token, 3) ∷ (0, RightBracket, 1)
+      ∷ (1, name_token, 1) ∷ (0, Semicolon, 0) ∷ [];
+  tree =
+      doing 0 18 (declaration_statement (declaration_of type_keyword (type_and (name (codes "T") 5) no_parameter
+      false (node 6 18 (array_type (node 7 15 (binary_expression Multiply (use_of (codes "P") 7) (node 10 15
+      (slice_type (use_of (codes "int") 12))))) (use_of (codes "D") 17))) (from_to 5 18) no_spec) false (from_to
+      0 18)));
+}
+
+-- (a[i + 1]{})
+abbrev pub sum_in_brackets_of_literal : Example
+sum_in_brackets_of_literal = record {
+  text = codes "(a[i + 1]{})";
+  pieces = (0, LeftParenthesis, 1) ∷ (0, name_token, 1) ∷ (0, LeftBracket, 1) ∷ (0, name_token, 1)
+      ∷ (1, plus_token, 1) ∷ (1, number_token, 1) ∷ (0, RightBracket, 1) ∷ (0, LeftBrace, 1) ∷ (0, RightBrace, 1)
+      ∷ (0, RightParenthesis, 1) ∷ [];
+}
+
+-- ~y
+abbrev pub tilde_in_expression : Example
+tilde_in_expression = record {
+  text = codes "~y";
+  pieces = (0, Tilde, 1) ∷ (0, name_token, 1) ∷ [];
+}
+
+-- func() { if x == T[int]{} { } }
+abbrev pub literal_of_instance_in_header : Example
+literal_of_instance_in_header = record {
+  text = codes "func() { if x == T[int]{} { } }";
+  pieces = (0, FuncKeyword, 4) ∷ (0, LeftParenthesis, 1) ∷ (0, RightParenthesis, 1) ∷ (1, LeftBrace, 1)
+      ∷ (1, IfKeyword, 2) ∷ (1, name_token, 1) ∷ (1, EqualEqual, 2) ∷ (1, name_token, 1) ∷ (0, LeftBracket, 1)
+      ∷ (0, name_token, 3) ∷ (0, RightBracket, 1) ∷ (0, LeftBrace, 1) ∷ (0, RightBrace, 1) ∷ (1, LeftBrace, 1)
+      ∷ (1, RightBrace, 1) ∷ (1, RightBrace, 1) ∷ [];
+}
+
+-- func(T[1 + 2])
+abbrev pub sum_as_argument : Example
+sum_as_argument = record {
+  text = codes "func(T[1 + 2])";
+  pieces = (0, FuncKeyword, 4) ∷ (0, LeftParenthesis, 1) ∷ (0, name_token, 1) ∷ (0, LeftBracket, 1)
+      ∷ (0, number_token, 1) ∷ (1, plus_token, 1) ∷ (1, number_token, 1) ∷ (0, RightBracket, 1)
+      ∷ (0, RightParenthesis, 1) ∷ [];
+}
+
+-- func(T[a, b] int)
+abbrev pub two_arguments_and_type : Example
+two_arguments_and_type = record {
+  text = codes "func(T[a, b] int)";
+  pieces = (0, FuncKeyword, 4) ∷ (0, LeftParenthesis, 1) ∷ (0, name_token, 1) ∷ (0, LeftBracket, 1)
+      ∷ (0, name_token, 1) ∷ (0, Comma, 1) ∷ (1, name_token, 1) ∷ (0, RightBracket, 1) ∷ (1, name_token, 3)
+      ∷ (0, RightParenthesis, 1) ∷ [];
+}
+
+-- interface { m[P any]() }
+abbrev pub parameters_of_element : Example
+parameters_of_element = record {
+  text = codes "interface { m[P any]() }";
+  pieces = (0, InterfaceKeyword, 9) ∷ (1, LeftBrace, 1) ∷ (1, name_token, 1) ∷ (0, LeftBracket, 1)
+      ∷ (0, name_token, 1) ∷ (1, name_token, 3) ∷ (0, RightBracket, 1) ∷ (0, LeftParenthesis, 1)
+      ∷ (0, RightParenthesis, 1) ∷ (1, RightBrace, 1) ∷ [];
+}
+
+-- []T[0]
+abbrev pub number_as_argument : Example
+number_as_argument = record {
+  text = codes "[]T[0]";
+  pieces = (0, LeftBracket, 1) ∷ (0, RightBracket, 1) ∷ (0, name_token, 1) ∷ (0, LeftBracket, 1)
+      ∷ (0, number_token, 1) ∷ (0, RightBracket, 1) ∷ [];
+}
+
+-- package p; func f[P any](x P) {}
+abbrev pub function_with_parameters : Case SourceFile
+function_with_parameters = record {
+  text = codes "package p; func f[P any](x P) {}";
+  pieces = (0, PackageKeyword, 7) ∷ (1, name_token, 1) ∷ (0, Semicolon, 1) ∷ (1, FuncKeyword, 4)
+      ∷ (1, name_token, 1) ∷ (0, LeftBracket, 1) ∷ (0, name_token, 1) ∷ (1, name_token, 3)
+      ∷ (0, RightBracket, 1) ∷ (0, LeftParenthesis, 1) ∷ (0, name_token, 1) ∷ (1, name_token, 1)
+      ∷ (0, RightParenthesis, 1) ∷ (1, LeftBrace, 1) ∷ (0, RightBrace, 1) ∷ (0, Semicolon, 0) ∷ [];
+  tree =
+      record {
+        package_name = (name (codes "p") 8);
+        imports = [];
+        declarations = (function_declaration record {
+          receiver = None;
+          name = (name (codes "f") 16);
+          type_parameters = named_and (name (codes "P") 18) false (use_of (codes "any") 20) no_parameter;
+          signature = signature_of (named_and (name (codes "x") 25) false (use_of (codes "P") 27) no_parameter)
+              no_parameter false;
+          body = Some record { statements = no_statement; braces = (from_to 30 32) };
+          span =
+              (from_to 11 32);
+        }) ∷ [];
+        span = (from_to 0 32);
+      };
+}
+
+-- package p; import . "a"
+abbrev pub dot_import : Case SourceFile
+dot_import = record {
+  text = codes "package p; import . \"a\"";
+  pieces = (0, PackageKeyword, 7) ∷ (1, name_token, 1) ∷ (0, Semicolon, 1) ∷ (1, ImportKeyword, 6)
+      ∷ (1, Dot, 1) ∷ (1, string_token, 3) ∷ (0, Semicolon, 0) ∷ [];
+  tree =
+      record {
+        package_name = (name (codes "p") 8);
+        imports = record {
+          specs = record {
+            name = Some (name (codes ".") 18);
+            path = codes "a";
+            path_span =
+                (from_to 20 23);
+            span = (from_to 18 23);
+          } ∷ [];
+          is_grouped = false;
+          span = (from_to 11 23);
+        } ∷ [];
+        declarations = [];
+        span = (from_to 0 23);
+      };
+}
+
+-- package p; func (t T) m[P any]() {}
+abbrev pub method_with_parameters : Example
+method_with_parameters = record {
+  text = codes "package p; func (t T) m[P any]() {}";
+  pieces = (0, PackageKeyword, 7) ∷ (1, name_token, 1) ∷ (0, Semicolon, 1) ∷ (1, FuncKeyword, 4)
+      ∷ (1, LeftParenthesis, 1) ∷ (0, name_token, 1) ∷ (1, name_token, 1) ∷ (0, RightParenthesis, 1)
+      ∷ (1, name_token, 1) ∷ (0, LeftBracket, 1) ∷ (0, name_token, 1) ∷ (1, name_token, 3)
+      ∷ (0, RightBracket, 1) ∷ (0, LeftParenthesis, 1) ∷ (0, RightParenthesis, 1) ∷ (1, LeftBrace, 1)
+      ∷ (0, RightBrace, 1) ∷ (0, Semicolon, 0) ∷ [];
+}
+
+-- package p; func f[]() {}
+abbrev pub no_type_parameter : Example
+no_type_parameter = record {
+  text = codes "package p; func f[]() {}";
+  pieces = (0, PackageKeyword, 7) ∷ (1, name_token, 1) ∷ (0, Semicolon, 1) ∷ (1, FuncKeyword, 4)
+      ∷ (1, name_token, 1) ∷ (0, LeftBracket, 1) ∷ (0, RightBracket, 1) ∷ (0, LeftParenthesis, 1)
+      ∷ (0, RightParenthesis, 1) ∷ (1, LeftBrace, 1) ∷ (0, RightBrace, 1) ∷ (0, Semicolon, 0) ∷ [];
+}
+
+-- package p; type T[P *C]
+abbrev pub length_without_element : Example
+length_without_element = record {
+  text = codes "package p; type T[P *C]";
+  pieces = (0, PackageKeyword, 7) ∷ (1, name_token, 1) ∷ (0, Semicolon, 1) ∷ (1, TypeKeyword, 4)
+      ∷ (1, name_token, 1) ∷ (0, LeftBracket, 1) ∷ (0, name_token, 1) ∷ (1, Star, 1) ∷ (0, name_token, 1)
+      ∷ (0, RightBracket, 1) ∷ (0, Semicolon, 0) ∷ [];
+}
+
+abbrev pub second_expressions : List (Case Expression)
+second_expressions =
+    two_arguments ∷ one_argument_and_comma ∷ called_instance ∷ literal_of_instance
+    ∷ slice_of_instances_as_operand ∷ comparisons_in_call ∷ []
+
+abbrev pub second_types : List (Case Expression)
+second_types =
+    map_of_instances ∷ array_and_instance ∷ array_and_embedded ∷ union_and_name ∷ []
+
+abbrev pub second_statements : List (Case Statement)
+second_statements =
+    parameters_with_one_constraint ∷ alias_with_parameter ∷ product_as_length ∷ call_as_length
+    ∷ pointer_and_comma ∷ pointer_or_tilde ∷ pointer_to_slice ∷ function_type_in_parentheses
+    ∷ pointer_to_channel_or_name ∷ array_as_constraint ∷ index_as_length ∷ jump_to_label ∷ fall ∷ []
+
+abbrev pub second_files : List (Case SourceFile)
+second_files =
+    function_with_parameters ∷ dot_import ∷ []
+
+abbrev pub first_expressions : List (Case Expression)
+first_expressions =
+    index_of_slice_type ∷ []
+
+abbrev pub first_statements : List (Case Statement)
+first_statements =
+    product_of_slice_type ∷ []
+
+abbrev pub no_second_expressions : List Example
+no_second_expressions =
+    sum_in_brackets_of_literal ∷ tilde_in_expression ∷ literal_of_instance_in_header ∷ []
+
+abbrev pub no_second_types : List Example
+no_second_types =
+    sum_as_argument ∷ two_arguments_and_type ∷ parameters_of_element ∷ number_as_argument ∷ []
+
+abbrev pub no_second_files : List Example
+no_second_files =
+    method_with_parameters ∷ no_type_parameter ∷ length_without_element ∷ []
+
 -- All the examples are as computing finds them.
 pub record ComputedTrees : Type 0 where
-  pub expressions_are_read : Each IsReadExpression expressions
-  pub types_are_read : Each IsReadType types
-  pub statements_are_read : Each IsReadStatement statements
-  pub files_are_read : Each IsReadFile files
-  pub no_expression_is_read : Each IsNoExpression not_expressions
-  pub no_type_is_read : Each IsNoType not_types
-  pub no_file_is_read : Each IsNoFile not_files
+  pub expressions_are_read : Each (IsReadExpression First) expressions
+  pub types_are_read : Each (IsReadType First) types
+  pub statements_are_read : Each (IsReadStatement First) statements
+  pub files_are_read : Each (IsReadFile First) files
+  pub no_expression_is_read : Each (IsNoExpression First) not_expressions
+  pub no_type_is_read : Each (IsNoType First) not_types
+  pub no_file_is_read : Each (IsNoFile First) not_files
+  pub second_expressions_are_read : Each (IsReadExpression Second) second_expressions
+  pub second_types_are_read : Each (IsReadType Second) second_types
+  pub second_statements_are_read : Each (IsReadStatement Second) second_statements
+  pub second_files_are_read : Each (IsReadFile Second) second_files
+  -- The first edition reads these otherwise.
+  pub first_expressions_are_read : Each (IsReadExpression First) first_expressions
+  pub first_statements_are_read : Each (IsReadStatement First) first_statements
+  pub no_second_expression_is_read : Each (IsNoExpression Second) no_second_expressions
+  pub no_second_type_is_read : Each (IsNoType Second) no_second_types
+  pub no_second_file_is_read : Each (IsNoFile Second) no_second_files

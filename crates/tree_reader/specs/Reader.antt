@@ -4,23 +4,26 @@
 use Rattle.std.specs.Prelude.{ℕ, zero, suc, ◌+◌, ◌-◌, nat_le, Bool, true, false, ◌&&◌, ◌||◌, not, if◌then◌else◌, List, [], ◌∷◌, Option, Some, None, slice_range}
 use Rattle.lexer.specs.declared.token.Token.{Token}
 use Rattle.lexer.specs.declared.token.TokenKind.{TokenKind}
-use Rattle.lexer.specs.declared.token.TokenKind.TheVariants.{Identifier as identifier_kind, Number as number_token, Rune as rune_token, InterpretedString as interpreted_string_token, RawString as raw_string_token, BreakKeyword, CaseKeyword, ChanKeyword, ConstKeyword, ContinueKeyword, DefaultKeyword, DeferKeyword, ElseKeyword, ForKeyword, FuncKeyword, GoKeyword, IfKeyword, ImportKeyword, InterfaceKeyword, MapKeyword, PackageKeyword, RangeKeyword, ReturnKeyword, SelectKeyword, StructKeyword, SwitchKeyword, TypeKeyword, VarKeyword, Plus as plus_token, Minus, Star, Slash, Percent, Ampersand, Pipe, Caret, ShiftLeft as shift_left_token, ShiftRight as shift_right_token, AndNot as and_not_token, PlusAssign, MinusAssign, StarAssign, SlashAssign, PercentAssign, AmpersandAssign, PipeAssign, CaretAssign, ShiftLeftAssign, ShiftRightAssign, AndNotAssign, LogicalAnd as logical_and_token, LogicalOr as logical_or_token, Arrow, Increment, Decrement, EqualEqual, LessThan, GreaterThan, Assign, Bang, NotEqual as not_equal_token, LessOrEqual as less_or_equal_token, GreaterOrEqual as greater_or_equal_token, Define, Ellipsis, LeftParenthesis, RightParenthesis, LeftBracket, RightBracket, LeftBrace, RightBrace, Comma, Semicolon, Dot, Colon}
+use Rattle.lexer.specs.declared.token.TokenKind.TheVariants.{Identifier as identifier_kind, Number as number_token, Rune as rune_token, InterpretedString as interpreted_string_token, RawString as raw_string_token, BreakKeyword, CaseKeyword, ChanKeyword, ConstKeyword, ContinueKeyword, DefaultKeyword, DeferKeyword, ElseKeyword, FallthroughKeyword, ForKeyword, FuncKeyword, GoKeyword, GotoKeyword, IfKeyword, ImportKeyword, InterfaceKeyword, MapKeyword, PackageKeyword, RangeKeyword, ReturnKeyword, SelectKeyword, StructKeyword, SwitchKeyword, TypeKeyword, VarKeyword, Plus as plus_token, Minus, Star, Slash, Percent, Ampersand, Pipe, Caret, ShiftLeft as shift_left_token, ShiftRight as shift_right_token, AndNot as and_not_token, PlusAssign, MinusAssign, StarAssign, SlashAssign, PercentAssign, AmpersandAssign, PipeAssign, CaretAssign, ShiftLeftAssign, ShiftRightAssign, AndNotAssign, LogicalAnd as logical_and_token, LogicalOr as logical_or_token, Arrow, Increment, Decrement, EqualEqual, LessThan, GreaterThan, Assign, Bang, NotEqual as not_equal_token, LessOrEqual as less_or_equal_token, GreaterOrEqual as greater_or_equal_token, Define, Ellipsis, LeftParenthesis, RightParenthesis, LeftBracket, RightBracket, LeftBrace, RightBrace, Comma, Semicolon, Dot, Colon, Tilde as tilde_token}
+use Rattle.tree.specs.declared.edition.Edition.{Edition}
+use Rattle.tree.specs.declared.edition.Edition.TheVariants.{First, Second}
 use Rattle.tree.specs.declared.span.Span.{Span}
 use Rattle.tree.specs.declared.operator.BasicLitKind.{BasicLitKind}
 use Rattle.tree.specs.declared.operator.BasicLitKind.TheVariants.{Number, Rune, InterpretedString, RawString}
 use Rattle.tree.specs.declared.operator.BinaryOperator.{BinaryOperator}
 use Rattle.tree.specs.declared.operator.BinaryOperator.TheVariants.{LogicalOr, LogicalAnd, Equal, NotEqual, Less, LessOrEqual, Greater, GreaterOrEqual, Add, Subtract, Or, Xor, Multiply, Divide, Remainder, ShiftLeft, ShiftRight, And, AndNot}
 use Rattle.tree.specs.declared.operator.UnaryOperator.{UnaryOperator}
-use Rattle.tree.specs.declared.operator.UnaryOperator.TheVariants.{Plus, Negate, Not, Complement, Address, Receive}
+use Rattle.tree.specs.declared.operator.UnaryOperator.TheVariants.{Plus, Negate, Not, Complement, Address, Receive, Tilde}
 use Rattle.tree.specs.declared.operator.ChanDirection.TheVariants.{Both, Send, Receive as receive_only}
 use Rattle.tree.specs.declared.operator.DeclKeyword.{DeclKeyword}
 use Rattle.tree.specs.declared.operator.DeclKeyword.TheVariants.{Const, Var, «Type» as type_keyword}
-use Rattle.tree.specs.Syntax.{Identifier, TypeName, Expression, expression_node, ExpressionForm, name_expression, basic_literal, function_literal, composite_literal, literal_value, key_value, parenthesized, selector_expression, index_expression, slice_expression, type_assertion, call_expression, star_expression, unary_expression, binary_expression, array_type, ellipsis_array_type, slice_type, map_type, channel_type, function_type, struct_type, interface_type, Expressions, no_expression, expression_and, OptionalExpression, missing_expression, present_expression, Signature, signature_of, Parameters, no_parameter, named_and, unnamed_and, name_alone_and, Fields, no_field, fields_and, embedded_and, method_and, Statement, statement_node, StatementForm, empty_statement, declaration_statement, labeled_statement, expression_statement, send_statement, increment_statement, decrement_statement, assignment, operator_assignment, define_statement, go_statement, defer_statement, return_statement, break_statement, continue_statement, block_statement, if_statement, for_statement, range_assignment, range_definition, switch_statement, type_switch_statement, select_statement, Statements, no_statement, statement_and, OptionalStatement, missing_statement, present_statement, CaseClauses, no_case, case_and, CommunicationClauses, no_communication, communication_and, Declaration, declaration_of, Specs, no_spec, value_and, type_and, Block, Function, TopLevelDeclaration, function_declaration, general_declaration, ImportSpec, ImportDeclaration, SourceFile}
+use Rattle.tree.specs.Syntax.{Identifier, TypeName, Expression, expression_node, ExpressionForm, name_expression, basic_literal, function_literal, composite_literal, literal_value, key_value, parenthesized, selector_expression, index_expression, instance_expression, slice_expression, type_assertion, call_expression, star_expression, unary_expression, binary_expression, array_type, ellipsis_array_type, slice_type, map_type, channel_type, function_type, struct_type, interface_type, Expressions, no_expression, expression_and, OptionalExpression, missing_expression, present_expression, Signature, signature_of, Parameters, no_parameter, named_and, unnamed_and, name_alone_and, Fields, no_field, fields_and, embedded_and, element_and, method_and, Statement, statement_node, StatementForm, empty_statement, declaration_statement, labeled_statement, expression_statement, send_statement, increment_statement, decrement_statement, assignment, operator_assignment, define_statement, go_statement, defer_statement, return_statement, break_statement, continue_statement, goto_statement, fallthrough_statement, block_statement, if_statement, for_statement, range_assignment, range_definition, switch_statement, type_switch_statement, select_statement, Statements, no_statement, statement_and, OptionalStatement, missing_statement, present_statement, CaseClauses, no_case, case_and, CommunicationClauses, no_communication, communication_and, Declaration, declaration_of, Specs, no_spec, value_and, type_and, Block, Function, TopLevelDeclaration, function_declaration, general_declaration, ImportSpec, ImportDeclaration, SourceFile}
 use Rattle.tree.specs.Depth.{expression_depth, statement_depth}
-use Rattle.meaning.specs.Cursor.{Cursor, is_next, start_at}
+use Rattle.meaning.specs.Cursor.{GoText, Cursor, is_next, start_at}
 use Rattle.meaning.specs.OperatorTokens.{can_begin_type}
-use Rattle.meaning.specs.WellFormed.{operator_level, level, primary_level, unary_level, is_name, is_call, has_named_item}
-use Rattle.meaning.specs.Grammar.{Owner, of_struct, of_interface, form_of}
+use Rattle.meaning.specs.WellFormed.{operator_level, level, primary_level, unary_level, is_name, names_type, is_instance, is_type, is_constraint, is_call, has_named_item, end_constrained}
+use Rattle.meaning.specs.TypeParameters.{is_no_index, is_identifier, begins_parameters, is_parameter, is_one_parameter}
+use Rattle.meaning.specs.Grammar.{Owner, of_struct, of_interface, form_of, dot_text}
 use Rattle.meaning.specs.Mentions.{is_one}
 use Rattle.meaning.specs.declared.TheConstants.{MOST_DEPTH}
 use Rattle.tree_reader.specs.Reading.{Read, ◌>>=◌, only_where, stands, behind, take, past, take_semicolon, behind_semicolon, skip_semicolons, steps, span_between, spanned, spanned_statement, word_between, read_identifier, read_optional_identifier, read_identifiers}
@@ -124,14 +127,13 @@ follows_embedded interpreted_string_token = true
 follows_embedded raw_string_token = true
 follows_embedded _ = false
 
--- `name` or `package.name`, which braces can make a composite literal
-abbrev pub names_type_form : ExpressionForm → Bool
-names_type_form (name_expression text) = true
-names_type_form (selector_expression e n) = is_name e
-names_type_form form = false
+abbrev pub is_second : Edition → Bool
+is_second First = false
+is_second Second = true
 
-abbrev pub names_type : Expression → Bool
-names_type (expression_node form span) = names_type_form form
+-- the name of a type, or in the second edition an instance of it, which braces can make a composite literal
+abbrev pub takes_braces : Edition → Expression → Bool
+takes_braces edition e = names_type e || (is_second edition && (is_instance e && is_type e))
 
 -- Names that were read as expressions.
 abbrev pub form_identifier : Span → ExpressionForm → Option Identifier
@@ -147,6 +149,47 @@ as_identifiers (expression_and e es) = do
   n ← as_identifier e
   ns ← as_identifiers es
   Some (n ∷ ns)
+
+-- a name and what stands in brackets behind it, of an index
+abbrev pub indexed_form : ExpressionForm → Option (Identifier × Expression)
+indexed_form (index_expression e i) = do
+  n ← as_identifier e
+  Some (n, i)
+indexed_form form = None
+
+abbrev pub indexed : Expression → Option (Identifier × Expression)
+indexed (expression_node form span) = indexed_form form
+
+-- where the name of a type ends
+abbrev pub behind_name : Cursor → Cursor
+behind_name place = if stands Dot (behind place) then behind (behind (behind place)) else behind place
+
+-- with these a constraint goes on behind a type's name
+abbrev pub joins_terms : TokenKind → Bool
+joins_terms LeftBracket = true
+joins_terms Pipe = true
+joins_terms _ = false
+
+-- what stands here is more than the name of a type, which an interface embeds
+abbrev pub is_no_name : Cursor → Bool
+is_no_name place = not (stands identifier_kind place) || is_next joins_terms (behind_name place)
+
+-- a name with an array's type, or an instance
+abbrev pub item_of : Option Identifier → Expression → Parameters → Parameters
+item_of None t = unnamed_and false t
+item_of (Some n) t = named_and n false t
+
+abbrev pub field_of : Option Identifier → Expression → Option Span → Span → Fields → Fields
+field_of None t = element_and false t
+field_of (Some n) t = fields_and (n ∷ []) t
+
+-- brackets open that can be an index, and no type's
+abbrev pub opens_index : Cursor → Bool
+opens_index place = stands LeftBracket place && not (is_next is_no_index (behind place))
+
+abbrev pub is_no_method : Option Parameters → Bool
+is_no_method None = true
+is_no_method (Some ps) = false
 
 -- the only one of some expressions
 abbrev pub single : Expressions → Option Expression
@@ -200,9 +243,10 @@ is_communication (assignment ls rs) = is_one rs
 is_communication (define_statement ns rs) = is_one rs
 is_communication form = false
 
--- How parts are read. In a header no composite literal of a bare type name is read; the number is the least level of
--- the expression that is read.
+-- How parts are read, and how deep they may be. In a header no composite literal of a bare type name is read; the
+-- number is the least level of the expression that is read.
 pub record Readers : Type 0 where
+  pub most : ℕ
   pub read_expression : Bool → ℕ → Cursor → Read Expression
   pub read_type : Cursor → Read Expression
   -- an expression, or elements in braces
@@ -211,6 +255,7 @@ pub record Readers : Type 0 where
 
 abbrev pub no_readers : Readers
 no_readers = record {
+  most = 0;
   read_expression = λ header least place. None;
   read_type = λ place. None;
   read_value = λ place. None;
@@ -222,7 +267,7 @@ pub record Braced : Type 0 where
   pub statements : Statements
   pub braces : Span
 
-module _ (text : List ℕ) (r : Readers) where
+module _ (text : GoText) (r : Readers) where
   abbrev pub read_any : Cursor → Read Expression
   read_any place = r.read_expression false 1 place
 
@@ -295,10 +340,142 @@ module _ (text : List ℕ) (r : Readers) where
             ) else Some ((expression_and first.0 no_expression, false), first.1)
       )
 
+  -- arguments of an instance, each behind a comma, with the comma behind the last one
+  unfoldable pub read_more_arguments : ℕ → Cursor → Read Expressions
+  read_more_arguments zero place = None
+  read_more_arguments (suc n) place =
+      if stands Comma place then (
+      if stands RightBracket (behind place) then Some (no_expression, behind place)
+      else (do
+        first ← read_any (behind place)
+        more ← read_more_arguments n first.1
+        Some (expression_and first.0 more.0, more.1)
+      )
+      ) else Some (no_expression, place)
+
+  unfoldable pub read_instance : Cursor → Expression → Expression → Cursor → Read Expression
+  read_instance from e first place = do
+    more ← read_more_arguments (steps place) place
+    end ← take RightBracket more.1
+    Some (spanned from (instance_expression e (expression_and first more.0)) end)
+
+  -- `[index]`, or the bounds of a slice
+  unfoldable pub read_slice : Cursor → Expression → OptionalExpression → Cursor → Read Expression
+  read_slice from e low place = do
+    high ← read_bound (behind place)
+    most ← read_most high.1
+    end ← take RightBracket most.1
+    Some (spanned from (slice_expression e low high.0 most.0) end)
+    where
+      read_bound : Cursor → Read OptionalExpression
+      read_bound at =
+          if stands Colon at then Some (missing_expression, at) else read_expression_unless RightBracket false at
+
+      read_most : Cursor → Read OptionalExpression
+      read_most at =
+          if stands Colon at then (do
+            bound ← read_any (behind at)
+            Some (present_expression bound.0, bound.1)
+          ) else Some (missing_expression, at)
+
+  unfoldable pub read_index : Cursor → Expression → Cursor → Read Expression
+  read_index from e place = do
+    low ← read_expression_unless Colon false (behind place)
+    if stands Colon low.1
+        then read_slice from e low.0 low.1
+        else index_end low.0 low.1
+    where
+      index_end : OptionalExpression → Cursor → Read Expression
+      index_end missing_expression at = None
+      index_end (present_expression i) at =
+          if is_second text.edition && stands Comma at then read_instance from e i at
+          else (do
+            end ← take RightBracket at
+            Some (spanned from (index_expression e i) end)
+          )
+
+  -- no deeper than what is read here may be
+  abbrev pub within : Expression × Cursor → Read Expression
+  within e = only_where (nat_le (expression_depth e.0) r.most) (Some e)
+
+  -- a name, as an expression
+  abbrev pub name_at : Cursor → Expression
+  name_at place = (spanned place (name_expression (word_between text place (behind place))) (behind place)).0
+
+  -- a name with brackets behind it: where a type follows, the name and the type of an array, else an instance
+  unfoldable pub read_indexed : Cursor → Read (Option Identifier × Expression)
+  read_indexed place = do
+    x ← read_index place (name_at place) (behind place)
+    if is_next can_begin_type x.1 then (do
+      n ← indexed x.0
+      t ← r.read_type x.1
+      a ← within (spanned (behind place) (array_type n.1 t.0) t.1)
+      Some ((Some n.0, a.0), a.1)
+      ) else (do
+        t ← within x
+        only_where (is_instance t.0 && is_type t.0) (Some ((None, t.0), t.1))
+        )
+
+  -- a term of a constraint
+  unfoldable pub read_term : Cursor → Read Expression
+  read_term place =
+      if stands tilde_token place then (do
+        t ← r.read_expression false unary_level (behind place)
+        Some (spanned place (unary_expression Tilde t.0) t.1)
+      ) else r.read_expression false unary_level place
+
+  -- terms, each behind `|`
+  unfoldable pub read_terms : Cursor → ℕ → Expression → Cursor → Read Expression
+  read_terms from zero e place = None
+  read_terms from (suc n) e place =
+      if stands Pipe place then (do
+        t ← read_term (behind place)
+        read_terms from n (spanned from (binary_expression Or e t.0) t.1).0 t.1
+      ) else Some (e, place)
+
+  unfoldable pub read_constraint : Cursor → Read Expression
+  read_constraint place = do
+    t ← read_term place
+    c ← read_terms place (steps t.1) t.0 t.1
+    only_where (is_constraint c.0) (within c)
+
+  -- a type parameter, before what follows it
+  unfoldable pub read_type_parameter : Cursor → Read (Parameters → Parameters)
+  read_type_parameter place = do
+    n ← read_identifier text place
+    if stands Comma n.1 then Some (name_alone_and n.0, n.1) else (do
+      t ← read_constraint n.1
+      Some (named_and n.0 false t.0, t.1)
+      )
+
+  -- type parameters up to a closing bracket
+  unfoldable pub read_type_items : ℕ → Cursor → Read Parameters
+  read_type_items zero place = None
+  read_type_items (suc n) place =
+      if stands RightBracket place then Some (no_parameter, place)
+      else (do
+        first ← read_type_parameter place
+        if stands Comma first.1 then (do
+          more ← read_type_items n (behind first.1)
+          Some (first.0 more.0, more.1)
+          ) else Some (first.0 no_parameter, first.1)
+      )
+
+  unfoldable pub read_type_parameters : Cursor → Read Parameters
+  read_type_parameters place = do
+    inner ← take LeftBracket place
+    ps ← read_type_items (steps inner) inner
+    end ← take RightBracket ps.1
+    only_where (end_constrained ps.0) (Some (ps.0, end))
+
   -- an item of a list of parameters, before what follows it
   unfoldable pub read_item : Cursor → Read (Parameters → Parameters)
   read_item place =
-      if stands identifier_kind place && (stands Ellipsis (behind place) || is_next can_begin_type (behind place))
+      if is_second text.edition && (stands identifier_kind place && opens_index (behind place)) then (do
+        t ← read_indexed place
+        Some (item_of t.0.0 t.0.1, t.1)
+      ) else if stands identifier_kind place
+      && (stands Ellipsis (behind place) || is_next can_begin_type (behind place))
       then (do
         n ← read_identifier text place
         t ← r.read_type (past Ellipsis n.1)
@@ -356,10 +533,21 @@ module _ (text : List ℕ) (r : Readers) where
   -- a line of a struct type, before what follows it
   unfoldable pub read_struct_field : Cursor → Read (Fields → Fields)
   read_struct_field place =
-      if stands Star place || (stands identifier_kind place && is_next follows_embedded (behind place)) then (do
+      if is_second text.edition && (stands identifier_kind place && opens_index (behind place)) then (do
+        t ← read_indexed place
+        let tag = read_tag t.1
+        Some (field_of t.0.0 t.0.1 tag.0 (span_between place tag.1), tag.1)
+      ) else if stands Star place || (stands identifier_kind place && is_next follows_embedded (behind place)) then (do
         n ← read_type_name (past Star place)
-        let tag = read_tag n.1
-        Some (embedded_and (stands Star place) n.0 tag.0 (span_between place tag.1), tag.1)
+        if is_second text.edition && stands LeftBracket n.1 then (do
+          t ← r.read_type (past Star place)
+          let tag = read_tag t.1
+          only_where (is_instance t.0)
+              (Some (element_and (stands Star place) t.0 tag.0 (span_between place tag.1), tag.1))
+          ) else (do
+            let tag = read_tag n.1
+            Some (embedded_and (stands Star place) n.0 tag.0 (span_between place tag.1), tag.1)
+            )
       ) else (do
         ns ← read_identifiers text place
         t ← r.read_type ns.1
@@ -370,10 +558,13 @@ module _ (text : List ℕ) (r : Readers) where
   -- a line of an interface type, before what follows it
   unfoldable pub read_interface_field : Cursor → Read (Fields → Fields)
   read_interface_field place =
-      if stands LeftParenthesis (behind place) then (do
+      if stands identifier_kind place && stands LeftParenthesis (behind place) then (do
         n ← read_identifier text place
         signature ← read_signature n.1
         Some (method_and n.0 signature.0 (span_between place signature.1), signature.1)
+      ) else if is_second text.edition && is_no_name place then (do
+        c ← read_constraint place
+        only_where (not (names_type c.0)) (Some (element_and false c.0 None (span_between place c.1), c.1))
       ) else (do
         n ← read_type_name place
         Some (embedded_and false n.0 None (span_between place n.1), n.1)
@@ -492,11 +683,36 @@ module _ (text : List ℕ) (r : Readers) where
       read_spec_values place =
           if stands Assign place then read_expressions false (behind place) else Some (no_expression, place)
 
+  -- a type, or `=` and a type
+  unfoldable pub read_plain_type : Cursor → Identifier → Parameters → Cursor → Read (Specs → Specs)
+  read_plain_type from n ps place = do
+    t ← r.read_type (past Assign place)
+    Some (type_and n ps (stands Assign place) t.0 (span_between from t.1), t.1)
+
+  unfoldable pub read_generic_type : Cursor → Identifier → Cursor → Read (Specs → Specs)
+  read_generic_type from n place = do
+    ps ← read_type_parameters place
+    only_where (begins_parameters place.left || is_one_parameter ps.0) (read_plain_type from n ps.0 ps.1)
+
+  -- a type that begins with the length of an array, unless this is read as a type parameter
+  unfoldable pub read_length_or_parameter : Cursor → Identifier → Cursor → Read (Specs → Specs)
+  read_length_or_parameter from n place = do
+    e ← read_any (behind place)
+    if is_parameter e.0 then read_generic_type from n place else (do
+      end ← take RightBracket e.1
+      t ← r.read_type end
+      a ← within (spanned place (array_type e.0 t.0) t.1)
+      Some (type_and n no_parameter false a.0 (span_between from a.1), a.1)
+      )
+
   unfoldable pub read_type_spec : Cursor → Read (Specs → Specs)
   read_type_spec place = do
     n ← read_identifier text place
-    t ← r.read_type (past Assign n.1)
-    Some (type_and n.0 (stands Assign n.1) t.0 (span_between place t.1), t.1)
+    if is_second text.edition && (stands LeftBracket n.1 && is_next is_identifier (behind n.1))
+        then if begins_parameters n.1.left
+        then read_generic_type place n.0 n.1
+        else read_length_or_parameter place n.0 n.1
+        else read_plain_type place n.0 no_parameter n.1
 
   -- a spec, before what follows it
   abbrev pub read_spec : DeclKeyword → Cursor → Read (Specs → Specs)
@@ -528,7 +744,7 @@ module _ (text : List ℕ) (r : Readers) where
       )
 
 -- How a node is read whose parts may be `below` deep.
-module _ (text : List ℕ) (r : Readers) (below : ℕ) where
+module _ (text : GoText) (r : Readers) (below : ℕ) where
   -- a node that grows around what was read already
   abbrev pub around : Expression → Read Expression → Read Expression
   around e grown = only_where (nat_le (expression_depth e) below) grown
@@ -565,38 +781,6 @@ module _ (text : List ℕ) (r : Readers) (below : ℕ) where
       read_literal (Some kind) = Some (spanned place (basic_literal kind) (behind place))
       read_literal None = read_typed place
 
-  -- `[index]`, or the bounds of a slice
-  unfoldable pub read_slice : Cursor → Expression → OptionalExpression → Cursor → Read Expression
-  read_slice from e low place = do
-    high ← read_bound (behind place)
-    most ← read_most high.1
-    end ← take RightBracket most.1
-    Some (spanned from (slice_expression e low high.0 most.0) end)
-    where
-      read_bound : Cursor → Read OptionalExpression
-      read_bound at =
-          if stands Colon at then Some (missing_expression, at) else read_expression_unless text r RightBracket false at
-
-      read_most : Cursor → Read OptionalExpression
-      read_most at =
-          if stands Colon at then (do
-            bound ← read_any text r (behind at)
-            Some (present_expression bound.0, bound.1)
-          ) else Some (missing_expression, at)
-
-  unfoldable pub read_index : Cursor → Expression → Cursor → Read Expression
-  read_index from e place = do
-    low ← read_expression_unless text r Colon false (behind place)
-    if stands Colon low.1
-        then read_slice from e low.0 low.1
-        else index_end low.0 low.1
-    where
-      index_end : OptionalExpression → Cursor → Read Expression
-      index_end missing_expression at = None
-      index_end (present_expression i) at = do
-        end ← take RightBracket at
-        Some (spanned from (index_expression e i) end)
-
   unfoldable pub read_call : Cursor → Expression → Cursor → Read Expression
   read_call from e place = do
     es ← read_arguments text r (steps (behind place)) (behind place)
@@ -626,9 +810,10 @@ module _ (text : List ℕ) (r : Readers) (below : ℕ) where
       if is_guard place then None
       else if stands LeftParenthesis (behind place) then Some (read_assertion from e place)
       else Some (read_selector from e place)
-      ) else if stands LeftBracket place then Some (read_index from e place)
+      ) else if stands LeftBracket place then Some (read_index text r from e place)
       else if stands LeftParenthesis place then Some (read_call from e place)
-      else if stands LeftBrace place && (not header && names_type e) then Some (read_composite from e place)
+      else if stands LeftBrace place && (not header && takes_braces text.edition e)
+      then Some (read_composite from e place)
       else None
 
   -- what follows, up to where the primary expression ends
@@ -696,12 +881,23 @@ module _ (text : List ℕ) (r : Readers) (below : ℕ) where
         Some (spanned place (literal_value es.0) es.1)
       ) else read_expression_of false 1 place
 
-  -- a type's name, perhaps of another package
+  -- the brackets of an instance, where they follow a type's name
+  unfoldable pub read_type_arguments : Cursor → Expression → Cursor → Read Expression
+  read_type_arguments from e place =
+      if is_second text.edition && stands LeftBracket place then (do
+        t ← around e (read_index text r from e place)
+        only_where (is_instance t.0 && is_type t.0) (Some t)
+      ) else Some (e, place)
+
+  -- a type's name, perhaps of another package, and perhaps an instance of it
   unfoldable pub read_named_type : Cursor → Read Expression
   read_named_type place =
       let end = behind place in
       let name = spanned place (name_expression (word_between text place end)) end in
-      if stands Dot end then around name.0 (read_selector place name.0 end) else Some name
+      if stands Dot end then (do
+        t ← around name.0 (read_selector place name.0 end)
+        read_type_arguments place t.0 t.1
+      ) else read_type_arguments place name.0 name.1
 
   unfoldable pub read_type_of : Cursor → Read Expression
   read_type_of place =
@@ -786,7 +982,7 @@ type_guard (define_statement (n ∷ []) (expression_and e no_expression)) = prim
 type_guard form = None
 
 -- How a statement is read whose parts may be `below` deep.
-module _ (text : List ℕ) (r : Readers) (below : ℕ) where
+module _ (text : GoText) (r : Readers) (below : ℕ) where
   unfoldable pub read_header : Cursor → Read Header
   read_header place =
       if stands Semicolon place
@@ -1029,6 +1225,11 @@ module _ (text : List ℕ) (r : Readers) (below : ℕ) where
     n ← read_optional_identifier text (behind place)
     Some (spanned_statement place (form n.0) n.1)
 
+  unfoldable pub read_goto : Cursor → Read Statement
+  read_goto place = do
+    n ← read_identifier text (behind place)
+    Some (spanned_statement place (goto_statement n.0) n.1)
+
   unfoldable pub read_block_statement : Cursor → Read Statement
   read_block_statement place = do
     b ← read_block text r place
@@ -1048,6 +1249,9 @@ module _ (text : List ℕ) (r : Readers) (below : ℕ) where
       else if stands DeferKeyword place then read_started defer_statement place
       else if stands BreakKeyword place then read_branch break_statement place
       else if stands ContinueKeyword place then read_branch continue_statement place
+      else if is_second text.edition && stands GotoKeyword place then read_goto place
+      else if is_second text.edition && stands FallthroughKeyword place
+      then Some (spanned_statement place fallthrough_statement (behind place))
       else read_simple text r below false place
 
   unfoldable pub read_statement_of : Cursor → Read Statement
@@ -1059,27 +1263,35 @@ module _ (text : List ℕ) (r : Readers) (below : ℕ) where
         d ← read_declaration text r keyword place
         Some (spanned_statement place (declaration_statement d.0) d.1)
 
-module _ (text : List ℕ) where
+module _ (text : GoText) where
   -- how what may be this deep is read
   unfoldable pub readers : ℕ → Readers
   readers zero = no_readers
   readers (suc below) =
       let r = readers below in
       record {
+        most = suc below;
         read_expression = read_expression_of text r below;
         read_type = read_type_of text r below;
         read_value = read_value_of text r below;
         read_statement = read_statement_of text r below;
       }
 
+  -- an import's name, if there is one, or a dot
+  unfoldable pub read_import_name : Cursor → Read (Option Identifier)
+  read_import_name place =
+      if is_second text.edition && stands Dot place
+      then Some (Some record { text = dot_text; span = span_between place (behind place) }, behind place)
+      else read_optional_identifier text place
+
   unfoldable pub read_import_spec : Cursor → Read ImportSpec
   read_import_spec place = do
-    n ← read_optional_identifier text place
+    n ← read_import_name place
     let end = behind n.1
     only_where (is_next is_string n.1) (Some (
       record {
         name = n.0;
-        path = slice_range text (start_at n.1 + 1) (end.end - 1);
+        path = slice_range text.bytes (start_at n.1 + 1) (end.end - 1);
         path_span = span_between n.1 end;
         span = span_between place end;
       },
@@ -1129,7 +1341,7 @@ module _ (text : List ℕ) where
       is_none_left (t ∷ rest) = false
 
 -- A file with this limit of depth, and what it declares.
-module _ (text : List ℕ) (most : ℕ) where
+module _ (text : GoText) (most : ℕ) where
   abbrev pub top : Readers
   top = readers text most
 
@@ -1147,16 +1359,25 @@ module _ (text : List ℕ) (most : ℕ) where
         Some (Some record { statements = b.0.statements; braces = b.0.braces }, b.1)
       ) else Some (None, place)
 
+  -- type parameters, which no method has
+  unfoldable pub read_function_parameters : Option Parameters → Cursor → Read Parameters
+  read_function_parameters receiver place =
+      if is_second text.edition && (is_no_method receiver && stands LeftBracket place)
+      then read_type_parameters text top place
+      else Some (no_parameter, place)
+
   unfoldable pub read_function_declaration_within : Cursor → Read Function
   read_function_declaration_within place = do
     receiver ← read_receiver_within (behind place)
     n ← read_identifier text receiver.1
-    signature ← read_signature text top n.1
+    ps ← read_function_parameters receiver.0 n.1
+    signature ← read_signature text top ps.1
     body ← read_body_within signature.1
     Some (
       record {
         receiver = receiver.0;
         name = n.0;
+        type_parameters = ps.0;
         signature = signature.0;
         body = body.0;
         span = span_between place body.1;
@@ -1208,7 +1429,7 @@ module _ (text : List ℕ) (most : ℕ) where
     )
 
 -- The same with the limit that the tree of a text has.
-module _ (text : List ℕ) where
+module _ (text : GoText) where
   abbrev pub read_receiver : Cursor → Read (Option Parameters)
   read_receiver = read_receiver_within text MOST_DEPTH
 

@@ -7,7 +7,7 @@ use Rattle.lexer.specs.declared.token.TokenKind.{TokenKind}
 use Rattle.lexer.specs.declared.token.TokenKind.TheVariants.{Identifier as identifier_kind, Comma, Semicolon}
 use Rattle.tree.specs.declared.span.Span.{Span}
 use Rattle.tree.specs.Syntax.{Identifier, Expression, expression_node, ExpressionForm, Statement, statement_node, StatementForm}
-use Rattle.meaning.specs.Cursor.{Cursor, is_next, is_closing, start_at}
+use Rattle.meaning.specs.Cursor.{GoText, Cursor, is_next, is_closing, start_at}
 
 abbrev pub Read : Type 0 → Type 0
 Read A = Option (A × Cursor)
@@ -74,9 +74,9 @@ spanned from form to = (expression_node form (span_between from to), to)
 abbrev pub spanned_statement : Cursor → StatementForm → Cursor → Statement × Cursor
 spanned_statement from form to = (statement_node form (span_between from to), to)
 
-module _ (text : List ℕ) where
+module _ (text : GoText) where
   abbrev pub word_between : Cursor → Cursor → List ℕ
-  word_between from to = slice_range text (start_at from) to.end
+  word_between from to = slice_range text.bytes (start_at from) to.end
 
   unfoldable pub read_identifier : Cursor → Read Identifier
   read_identifier place = do

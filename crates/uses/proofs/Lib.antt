@@ -1,3 +1,4 @@
+pub mod HiddenLefts
 pub mod LeftSides
 pub mod NamedResults
 pub mod OutcomesOfEntries

@@ -3,7 +3,7 @@ use Rattle.std.proofs.Common.{◌≡◌, ℕ, List, [], Option, Some, None, opti
 use Rattle.tracked.specs.LocalViews.{SeenLocal, entry_of, tracked_kind_of_entry}
 use Rattle.uses.specs.OutcomeViews.{binding_outcome_of, mention_outcome_of, row_outcome_of, role_outcome_of}
 use Rattle.meaning.specs.FunctionFacts.{VariableKind, CancelResult}
-use Rattle.meaning.specs.Mentions.{BodyPlace, Row, Role, elsewhere, called, called_in_brackets, argument, returned, left, names_type, new_literal, parameter_pointer, Mention}
+use Rattle.meaning.specs.Mentions.{BodyPlace, Row, Role, elsewhere, exposed, found_nil, found_error, called, called_in_brackets, argument, returned, left, names_type, new_literal, parameter_pointer, Mention}
 use Rattle.meaning.specs.Tracked.{LocalRole, parameter, receiver, variadic, result, in_block, Local}
 use Rattle.meaning.specs.BodyEvents.{handed_at, handed_there}
 use Rattle.meaning.specs.Uses.{Seen, Binding, tracked_kind, kind_of, binding_at, binding_outcome, mention_outcome, row_outcome, role_outcome, local_outcome}
@@ -31,6 +31,9 @@ module _ (s : Seen) (l : Local) (bs : List BodyPlace) (m : Mention) where
   role_same : (r : Role) → role_outcome_of s (entry_of s l) bs m r ≡ role_outcome s l bs m r
   role_same (left k row) = row_same (kind_of s (Some l)) row (binding_at s row k)
   role_same elsewhere = mention_same (tracked_kind s (Some l))
+  role_same exposed = mention_same (tracked_kind s (Some l))
+  role_same (found_nil nil) = mention_same (tracked_kind s (Some l))
+  role_same (found_error nil row) = mention_same (tracked_kind s (Some l))
   role_same (called c) = mention_same (tracked_kind s (Some l))
   role_same called_in_brackets = mention_same (tracked_kind s (Some l))
   role_same (argument k has_address c) = mention_same (tracked_kind s (Some l))

@@ -1,7 +1,8 @@
 -- What the program keeps of faults and outcomes, and what it stands for.
-use Rattle.std.specs.Prelude.{◌≡◌, not, ◌&&◌, if◌then◌else◌, List, [], ◌∷◌, ◌++◌, Option, Some, None, is_some, map}
+use Rattle.std.specs.Prelude.{ℕ, ◌≡◌, Bool, not, ◌&&◌, if◌then◌else◌, List, [], ◌∷◌, ◌++◌, Option, Some, None, is_some, map, codes}
+use Rattle.std.specs.Str.{bytes_eq}
 use Rattle.uses.specs.declared.faults.UseCode.{UseCode as KeptCode}
-use Rattle.uses.specs.declared.faults.UseCode.TheVariants.{RecoverUsed, CancelDiscarded, CancelUsedOtherwise, GroupUsedOtherwise, BoundAgain, TooManyVariables}
+use Rattle.uses.specs.declared.faults.UseCode.TheVariants.{RecoverUsed, GotoUsed, CancelDiscarded, CancelUsedOtherwise, GroupUsedOtherwise, BoundAgain, TooManyVariables}
 use Rattle.uses.specs.declared.faults.UseFault.{UseFault as KeptFault}
 use Rattle.uses.specs.declared.bindings.Binding.{Binding as KeptBinding}
 use Rattle.uses.specs.declared.bindings.Binding.TheVariants.{Obtained, Cleared, Made}
@@ -10,12 +11,14 @@ use Rattle.tracked_rows.specs.EventViews.{event_view}
 use Rattle.tracked.specs.LocalViews.{SeenLocal, kind_of_entry, tracked_kind_of_entry}
 use Rattle.tracked_rows.specs.RowViews.{state_view}
 use Rattle.meaning.specs.FunctionFacts.{VariableKind}
-use Rattle.meaning.specs.Mentions.{Row, BodyPlace, Role, left, Mention}
-use Rattle.meaning.specs.Tracked.{Known, declared_by, LocalRole, parameter, receiver, variadic, result, in_block}
-use Rattle.meaning.specs.Uses.{Seen, Binding, obtained, cleared, made, Event, UseCode, recover_used, cancel_discarded, cancel_used_otherwise, group_used_otherwise, bound_again, too_many_variables, UseFault, fault_at, otherwise, Outcome, nothing, only_faults, binding_event, first_faults, type_faults, event_here, use_outcome, kind_use, binding_at}
+use Rattle.meaning.specs.Mentions.{Row, BodyPlace, Role, left, Mention, Mark, mentions, defers_literal, returns, opens, closes}
+use Rattle.meaning.specs.Tracked.{Known, is_universe, declared_by, body_locals, LocalRole, parameter, receiver, variadic, result, in_block}
+use Rattle.meaning.specs.Uses.{Seen, Binding, obtained, cleared, made, Event, UseCode, recover_used, goto_used, cancel_discarded, cancel_used_otherwise, group_used_otherwise, bound_again, too_many_variables, UseFault, fault_at, otherwise, defer_literal, return_event, body_gives, Outcome, nothing, only_faults, binding_event, error_events, first_faults, type_faults, event_here, use_outcome, kind_use, binding_at, variable_outcome, mention_faults, result_faults}
+use Rattle.meaning.specs.BodyEvents.{handed_on}
 
 abbrev pub code_view : KeptCode → UseCode
 code_view RecoverUsed = recover_used
+code_view GotoUsed = goto_used
 code_view CancelDiscarded = cancel_discarded
 code_view CancelUsedOtherwise = cancel_used_otherwise
 code_view GroupUsedOtherwise = group_used_otherwise
@@ -82,3 +85,39 @@ role_outcome_of seen e bodies m role = mention_outcome_of seen e (tracked_kind_o
 abbrev pub entry_outcome : Seen → List BodyPlace → Mention → Option SeenLocal → Outcome
 entry_outcome seen bodies m None = nothing
 entry_outcome seen bodies m (Some e) = role_outcome_of seen e bodies m m.role
+
+-- Faults of marks
+
+-- the faults of a mark but for those that go by the variables of bodies, of `recover` and `goto`
+abbrev pub plain_faults : Seen → List BodyPlace → Mark → List UseFault
+plain_faults seen bodies (mentions m) = mention_faults seen bodies m
+plain_faults seen bodies (defers_literal site at) = []
+plain_faults seen bodies (returns at es) = []
+plain_faults seen bodies (opens b) = result_faults (body_locals seen.known b)
+plain_faults seen bodies closes = []
+
+-- Events of marks
+
+-- those that are no calls behind a row with an error
+abbrev pub plain_events : Seen → List BodyPlace → Mark → List Event
+plain_events seen bodies (mentions m) = (variable_outcome seen bodies m).events
+plain_events seen bodies (defers_literal site at) = defer_literal at ∷ []
+plain_events seen bodies (returns at es) = return_event (handed_on seen (body_gives seen.known bodies) 0 es) ∷ []
+plain_events seen bodies (opens b) = []
+plain_events seen bodies closes = []
+
+-- those calls
+abbrev pub error_calls : Seen → Mark → List Event
+error_calls seen (mentions m) = error_events seen m m.role
+error_calls seen (defers_literal site at) = []
+error_calls seen (returns at es) = []
+error_calls seen (opens b) = []
+error_calls seen closes = []
+
+abbrev pub listed_number : Option ℕ → List ℕ
+listed_number None = []
+listed_number (Some number) = number ∷ []
+
+-- a mention of the universe's `recover`
+abbrev pub is_recover : Known → Mention → Bool
+is_recover known m = bytes_eq m.named.name (codes "recover") && is_universe (known.means m.named.at)

@@ -4,6 +4,7 @@ ghost use Rattle.std.specs.Prelude.{◌≡◌, IfOk, option_map, Some};
 ghost use Rattle.std.specs.List.{list_all};
 ghost use Rattle.facts.specs.FactViews.{kind_view};
 ghost use Rattle.tracked.specs.LocalViews.{seen_view, Sees};
+ghost use Rattle.meaning.specs.Mentions.{is_none_left};
 ghost use Rattle.meaning.specs.Tracked.{lefts_of, left_local};
 ghost use Rattle.meaning.specs.Uses.{is_second_free, made_binding, binding_at, makes_group, is_group, is_group_or_none, are_groups, is_made};
 ghost use Rattle.mentions.specs.MarkViews.{form_view, row_view};
@@ -35,7 +36,13 @@ fn is_group(kind: Option<VariableKind>) -> bool
     }
 }
 
-/// Whether x of `g, x := errgroup.WithContext(..)` has no tracked name, in literals neither.
+fn has_no_value(row: Row<'_>) -> bool
+    ensures { result ≡ is_none_left (row_view row.entry).values }
+{
+    row.values.is_empty()
+}
+
+/// Whether x of `g, x := errgroup.WithContext(..)`, or of `var`, has no tracked name, in literals neither.
 fn is_second_free(alloc: Global, seen: &Seen<'_, '_, '_>, row: Row<'_>) -> Result<bool, AllocError>
     requires { Sees seen.now }
     ensures { IfOk result (λ free. free ≡ is_second_free (seen_view seen.now) (row_view row.entry)
@@ -43,7 +50,9 @@ fn is_second_free(alloc: Global, seen: &Seen<'_, '_, '_>, row: Row<'_>) -> Resul
 {
     match row.form {
         RowForm::Defines(_) => Ok(!seen.is_tracked(local_at(seen.known, row, 1))),
-        RowForm::Declares(_, _, _) => Ok(true),
+        RowForm::Declares(_, _, _) => {
+            Ok(has_no_value(row) || !seen.is_tracked(local_at(seen.known, row, 1)))
+        }
         RowForm::Assigns(left) => match left.get(1) {
             Some(second) => {
                 let has = has_tracked(alloc, seen, second)?;
@@ -84,7 +93,13 @@ fn are_groups(seen: &Seen<'_, '_, '_>, row: Row<'_>) -> bool
     ensures { result ≡ are_groups (seen_view seen.now) (row_view row.entry) (form_view row.entry.form) }
 {
     match row.form {
-        RowForm::Declares(_, _, _) => are_all_groups(seen, row),
+        RowForm::Declares(_, _, _) => {
+            if has_no_value(row) {
+                are_all_groups(seen, row)
+            } else {
+                is_group(kind_at(seen, row, 0))
+            }
+        }
         _ => is_group(kind_at(seen, row, 0)),
     }
 }
@@ -136,7 +151,7 @@ pub fn binding_at(
             Ok(None)
         };
     }
-    if row_clears(seen.known, row) && is_cancel(kind_at(seen, row, index)) {
+    if row_clears(seen.known, row, index) && is_cancel(kind_at(seen, row, index)) {
         return Ok(Some(Binding::Cleared));
     }
     made_binding(alloc, seen, row, row_makes(seen.known, row, index))

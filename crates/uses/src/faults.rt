@@ -15,6 +15,7 @@ use tracked_rows::last_name;
 #[derive(Clone, Copy)]
 pub enum UseCode {
     RecoverUsed,
+    GotoUsed,
     CancelDiscarded,
     CancelUsedOtherwise,
     GroupUsedOtherwise,
@@ -31,6 +32,10 @@ pub struct UseFault<'a> {
 }
 
 /// Adds a fault.
+///
+/// # Errors
+///
+/// Memory was refused.
 pub fn add_fault<'a>(
     faults: &mut Vec<UseFault<'a>>,
     at: u32,

@@ -1,10 +1,10 @@
 //! Mentions of makers and givers.
 
-ghost use Rattle.std.specs.Prelude.{OnOk, map};
+ghost use Rattle.std.specs.Prelude.{◌≡◌, OnOk, map};
 ghost use Rattle.tracked.specs.LocalViews.{seen_view, Sees};
-ghost use Rattle.meaning.specs.Uses.{fault_at, cancel_discarded, last_name, row_call_faults, call_faults, giving_role_faults, giving_faults, if_not, hands_on, body_gives, last_fault, cancel_used_otherwise};
+ghost use Rattle.meaning.specs.Uses.{fault_at, cancel_discarded, last_name, row_call_faults, call_faults, is_only_called, giving_role_faults, giving_faults, if_not, hands_on, body_gives, last_fault, cancel_used_otherwise};
 ghost use Rattle.mentions.specs.MarkViews.{named_view, row_view, place_view, body_view, role_view, mention_view};
-ghost use Rattle.tracked_rows.specs.RowViews.{giving_view};
+ghost use Rattle.tracked_rows.specs.RowViews.{known_view, giving_view};
 ghost use Rattle.uses.specs.OutcomeViews.{AddsFaults};
 ghost use Rattle.meaning.specs.Tracked.{row_giving, giving_of};
 
@@ -15,7 +15,8 @@ use allowed_uses::{body_gives, hands_on};
 use mentions::{CallPlace, Named, Role, Row};
 use std::alloc::{AllocError, Global};
 use tracked::{Seen, row_binds};
-use tracked_rows::{Giving, are_locals, giving_of, is_maker, last_name, row_giving};
+use tracked_rows::{Giving, Known, are_locals, giving_of, is_maker, last_name, row_giving};
+use tree::Edition;
 
 /// A maker or giver whose cancel function nothing obtains.
 fn add_discarded<'a>(
@@ -95,7 +96,18 @@ fn add_call<'a>(
     }
 }
 
-/// A maker or giver in its role: a giver may be named where it is not called, a maker not.
+/// Whether a maker or a giver may be named only where it is called: in the first edition a maker, in the second each.
+fn is_only_called(known: Known<'_, '_>, named: Named<'_>) -> bool
+    ensures { result ≡ is_only_called (known_view known.entry).edition (known_view known.entry)
+        (named_view named.entry) }
+{
+    match known.edition {
+        Edition::First => is_maker(known, named),
+        Edition::Second => true,
+    }
+}
+
+/// A maker or giver in its role. A call of an instance is no call here, so that what it names stands elsewhere.
 fn add_role<'a>(
     alloc: Global,
     at: At<'_, '_, 'a>,
@@ -112,7 +124,7 @@ fn add_role<'a>(
         Role::Called(call) => add_call(alloc, at, giving, call.place, faults),
         Role::CalledInBrackets => add_last(faults, UseCode::CancelUsedOtherwise, named),
         _ => {
-            if is_maker(at.seen.known, named) {
+            if is_only_called(at.seen.known, named) {
                 return add_last(faults, UseCode::CancelUsedOtherwise, named);
             }
             Ok(())

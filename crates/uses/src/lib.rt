@@ -8,6 +8,7 @@ mod blanks;
 mod faults;
 mod givings;
 mod group_names;
+mod losses;
 mod mark;
 mod outcomes;
 mod recover;
@@ -15,5 +16,7 @@ mod tracked_names;
 mod variables;
 
 pub use bindings::Binding;
-pub use faults::{UseCode, UseFault};
+pub use faults::{UseCode, UseFault, add_fault};
+pub use losses::lost_at;
 pub use mark::mark_outcome;
+pub use recover::is_recover;

@@ -4,21 +4,20 @@ ghost use Rattle.std.specs.Prelude.{◌≡◌, OnOk, IfOk, map, ◌∷◌, [], �
 ghost use Rattle.tracked_rows.specs.EventViews.{handed_view};
 ghost use Rattle.facts.specs.FactViews.{item_view, cancel_result_view};
 ghost use Rattle.tracked.specs.LocalViews.{local_view, entry_view, tracked_kind_of_entry, seen_view, Sees};
-ghost use Rattle.meaning.specs.BodyEvents.{mark_faults, mark_events, item_variable, handed_at, handed_item, handed_on};
+ghost use Rattle.meaning.specs.BodyEvents.{item_variable, handed_at, handed_item, handed_on};
 ghost use Rattle.meaning.specs.Tracked.{result_locals, body_locals};
 ghost use Rattle.meaning.specs.Uses.{mention_faults, variable_outcome, result_faults};
 ghost use Rattle.meaning.specs.Mentions.{as_bare};
 ghost use Rattle.mentions.specs.MarkViews.{body_view, mention_view, mark_view};
 ghost use Rattle.tracked_rows.specs.RowViews.{known_view};
 ghost use Rattle.tree.specs.View.{expression_syntax, expressions_syntax};
-ghost use Rattle.uses.specs.OutcomeViews.{AddsFaults, Gives};
+ghost use Rattle.uses.specs.OutcomeViews.{AddsFaults, Gives, plain_events, plain_faults};
 
 use crate::at::At;
 use crate::faults::{UseCode, UseFault, add_fault};
 use crate::givings::add_giving;
 use crate::group_names::add_errgroup;
 use crate::outcomes::variable_outcome;
-use crate::recover::add_recover;
 use allowed_uses::{body_gives, is_given_as};
 use facts::{CancelResult, Item, TrackedType, VariableKind, item_type, parameter_items};
 use mentions::{BodyPlace, Mark, as_bare};
@@ -27,7 +26,7 @@ use tracked::{Seen, SeenLocal, tracked_kind};
 use tracked_rows::{Event, Handed, Known, local_meant};
 use tree::{BLANK, Expr};
 
-/// What a mention gives: faults, and at most one event.
+/// What a mention gives: faults, but for that of `recover`, and at most one event.
 fn mention_outcome<'a>(
     alloc: Global,
     at: At<'_, '_, 'a>,
@@ -44,7 +43,6 @@ fn mention_outcome<'a>(
     let event = variable_outcome(alloc, at, faults)?;
     add_giving(alloc, at, faults)?;
     add_errgroup(alloc, at.seen, at.mention, faults)?;
-    add_recover(at.seen.known, at.mention, faults)?;
     Ok(event)
 }
 
@@ -172,7 +170,8 @@ fn handed_on(
     Ok(handed)
 }
 
-/// What a mark in these bodies gives: faults, which are added, and at most one event.
+/// What a mark in these bodies gives: faults, which are added, and at most one event. Those of `recover` and `goto` are
+/// not among them, since they go by the variables of bodies, and neither are the calls of `lost_at`.
 ///
 /// # Errors
 ///
@@ -186,8 +185,8 @@ pub fn mark_outcome<'m, 'a>(
 ) -> Result<Option<Event<'a>>, AllocError>
     requires { Sees seen.now }
     ensures { IfOk result (λ event. Gives faults.old.items faults.new.items event record {
-      faults = mark_faults (seen_view seen.now) (map body_view bodies.now) (mark_view mark.entry);
-      events = mark_events (seen_view seen.now) (map body_view bodies.now) (mark_view mark.entry);
+      faults = plain_faults (seen_view seen.now) (map body_view bodies.now) (mark_view mark.entry);
+      events = plain_events (seen_view seen.now) (map body_view bodies.now) (mark_view mark.entry);
     }) }
 {
     match mark {

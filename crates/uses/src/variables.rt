@@ -9,7 +9,7 @@ ghost use Rattle.meaning.specs.Uses.{group_called, group_use, kind_use};
 
 use crate::tracked_names::is_free;
 use allowed_uses::{
-    LocalMention, Use, cancel_use, group_awaited, group_lent, group_limited, group_started,
+    LocalMention, Use, cancel_use_by, group_awaited, group_lent, group_limited, group_started,
     group_tried, only_argument,
 };
 use facts::VariableKind;
@@ -64,6 +64,8 @@ fn group_use<'a>(
     match here.mention.role {
         Role::Called(call) => group_called(alloc, seen, here, *call),
         Role::Argument(_, position, call) => Ok(group_lent(seen.known, here, position, *call)),
+        Role::FoundNil(_) => Ok(Use::Silent),
+        Role::FoundError(_, _) => Ok(Use::Silent),
         _ => Ok(Use::NotAllowed),
     }
 }
@@ -86,7 +88,7 @@ pub fn kind_use<'a>(
 {
     match kind {
         VariableKind::Cancel => {
-            cancel_use(alloc, seen.known, seen.cancel_type_of(here.local), here)
+            cancel_use_by(alloc, seen.known, seen.cancel_type_of(here.local), here)
         }
         VariableKind::Group => group_use(alloc, seen, here),
     }

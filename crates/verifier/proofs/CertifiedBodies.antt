@@ -1,4 +1,4 @@
--- Where nothing is said of a file, each of its bodies has a certificate that holds, if it has not too many variables. Who
+-- Where nothing is said of a file, each of its bodies has a certificate that holds, if its paths are followed. Who
 -- looks for certificates can only say that it is not so that there is none; but a fault is refuted, and whether a claim
 -- is kept is a matter of faults.
 use Rattle.std.proofs.Common.{◌≡◌, ℕ, Bool, true, List, [], Some, Contains, refl, ap, ◌∙◌}
@@ -8,7 +8,7 @@ use Rattle.calls_flags.specs.Claims.{function_name}
 use Rattle.checker.specs.Certificates.{is_claimed}
 use Rattle.checker.specs.CheckerLaws.{IsOf, LeavesNoFault, KeepsClaims}
 use Rattle.flow.specs.declared.order.NodePlace.{NodePlace}
-use Rattle.meaning.specs.BodyEvents.{Variable, VariableRole, own_parameter, bodies_of, variables_of, too_many_faults}
+use Rattle.meaning.specs.BodyEvents.{Variable, VariableRole, own_parameter, bodies_of, variables_of, unfollowed_faults}
 use Rattle.meaning.specs.FunctionFacts.{cancel}
 use Rattle.meaning.specs.Mentions.{BodyPlace}
 use Rattle.meaning.specs.Uses.{Callee}
@@ -40,17 +40,17 @@ module _ (given : Given) (own : Flags) (calls : Callee → ℕ → Bool) (number
   paths_in b = paths_of file.seen (promises_in calls file.credits b.at) b
 
   -- what a certificate refutes is not so
-  refuted : (b : BodyPlace) → Contains (bodies_of file.seen) b → too_many_faults (variables_of file.seen b.at) ≡ []
+  refuted : (b : BodyPlace) → Contains (bodies_of file.seen) b → unfollowed_faults file.seen b ≡ []
       → (IsCertified given own calls number file b → ⊥)
       → ⊥
-  refuted b there few none = nothing _ (verified.not_certified b there few none)
+  refuted b there followed none = nothing _ (verified.not_certified b there followed none)
 
   no_path_fault : LeavesNoFault → (b : BodyPlace) → Contains (bodies_of file.seen) b
-      → too_many_faults (variables_of file.seen b.at) ≡ []
+      → unfollowed_faults file.seen b ≡ []
       → (f : PathFault) → IsPathFault (paths_in b) f
       → ⊥
-  no_path_fault leaves b there few f fault =
-      refuted b there few λ c.
+  no_path_fault leaves b there followed f fault =
+      refuted b there followed λ c.
       leaves (paths_in b) (checked (paths_in b) (flags_of_body own b) c.order) c.rows
       (is_of (paths_in b) (flags_of_body own b) c.order) (places b (promises_in calls file.credits b.at) there)
       c.holds f fault
@@ -59,7 +59,7 @@ module _ (given : Given) (own : Flags) (calls : Callee → ℕ → Bool) (number
       → (f : PathFault) → IsFaultOf file.seen (promises_in calls file.credits b.at) b f
       → ⊥
   no_fault leaves b there f (of_a_pass g fault) = nothing _ (verified.of_pass b g there fault)
-  no_fault leaves b there f (of_a_path g few fault) = no_path_fault leaves b there few g fault
+  no_fault leaves b there f (of_a_path g followed fault) = no_path_fault leaves b there followed g fault
 
   no_finding : LeavesNoFault → (x : Entry) → IsFileFinding calls number file x → ⊥
   no_finding leaves x (outside_bodies f h) = nothing _ (verified.outside_bodies f h)
@@ -67,14 +67,14 @@ module _ (given : Given) (own : Flags) (calls : Callee → ℕ → Bool) (number
   no_finding leaves x (of_path b f there h) = no_fault leaves b there f h
 
   keeps_claim : KeepsClaims → (b : BodyPlace) → Contains (bodies_of file.seen) b
-      → too_many_faults (variables_of file.seen b.at) ≡ []
+      → unfollowed_faults file.seen b ≡ []
       → (i : ℕ) (v : Variable) → slice_get (variables_of file.seen b.at) i ≡ Some v
       → v.kind ≡ cancel
       → is_claimed (flags_of_body own b) v.role ≡ true
       → KeepsCall (paths_in b) v
-  keeps_claim keeps b there few i v is_there is_cancel claimed = record {
-    never_open = λ handed t o comes same. refuted b there few λ c. (kept c).never_open handed t o comes same;
-    never_left = λ handed t o comes left. refuted b there few λ c. (kept c).never_left handed t o comes left;
+  keeps_claim keeps b there followed i v is_there is_cancel claimed = record {
+    never_open = λ handed t o comes same. refuted b there followed λ c. (kept c).never_open handed t o comes same;
+    never_left = λ handed t o comes left. refuted b there followed λ c. (kept c).never_left handed t o comes left;
   }
     where
       kept : IsCertified given own calls number file b → KeepsCall (paths_in b) v
@@ -104,7 +104,7 @@ module _ (keeps : KeepsClaims) (given : Given) (files : List FileWithCredits) (i
         is_claim = h.is_claim;
         keeps =
             keeps_claim given flags (calls_by flags imported) file.0 h.file (places h.file h.is_of_package)
-            (nothing file.0 h.file file.1) keeps h.body h.is_claim.is_body h.is_claim.are_few variable.0 h.variable
+            (nothing file.0 h.file file.1) keeps h.body h.is_claim.is_body h.is_claim.is_followed variable.0 h.variable
             variable.1 h.is_claim.is_cancel_variable
             (claimed_so flags h.body name k h.variable.role (so_function h.body name h.is_claim.is_of_function)
             h.is_claim.is_parameter known);

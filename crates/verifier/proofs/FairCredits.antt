@@ -151,7 +151,7 @@ module _ (settles : SettlesWhatItSays) (given : Given) (own : Flags) (calls : Ca
         body = b;
         variable = k.found;
         is_there = subst (λ at. body_at at (bodies_of file.seen) ≡ Some b) (sym same) h.is_there;
-        are_few = c.are_few;
+        is_followed = c.is_followed;
         is_of_body = among;
         is_captured = k.is_captured;
         is_it = k.is_it;

@@ -49,7 +49,7 @@ module _ (given : Given) (own : Flags) (calls : Callee → ℕ → Bool) (number
       → IsNot before b x
       → IsNot after b x
   uncertified_too before after b x same h = record {
-    are_few = h.are_few;
+    is_followed = h.is_followed;
     is_not = λ c. h.is_not (certified_too given own calls number seen after before b (sym same) c);
     is_entry = h.is_entry;
   }

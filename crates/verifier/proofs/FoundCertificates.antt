@@ -18,7 +18,7 @@ use Rattle.flow.specs.GraphOfCode.{nodes}
 use Rattle.flow.specs.GraphViews.{occurrences_of}
 use Rattle.flow.specs.NodeOrder.{places}
 use Rattle.flow.specs.Walks.{Graph}
-use Rattle.meaning.specs.BodyEvents.{variables_of, too_many_faults}
+use Rattle.meaning.specs.BodyEvents.{unfollowed_faults}
 use Rattle.meaning.specs.Code.{Occurrence}
 use Rattle.meaning.specs.Mentions.{BodyPlace}
 use Rattle.meaning.specs.Uses.{Callee, Event, Seen}
@@ -36,7 +36,7 @@ same_places n [] = refl
 same_places n (o ∷ os) = ap (λ ps. record { at = o.at; order = o.order; node = n } ∷ ps) (same_places (n + 1) os)
 
 module _ (given : Given) (own : Flags) (calls : Callee → ℕ → Bool) (number : ℕ) (seen : Seen) (credits : Credits)
-    (b : BodyPlace) (few : too_many_faults (variables_of seen b.at) ≡ []) (rows : List (List ℕ))
+    (b : BodyPlace) (followed : unfollowed_faults seen b ≡ []) (rows : List (List ℕ))
     (are_given : given.rows number b.at ≡ Some rows) (kept : KeptGraph) (is : IsOrderedGraph (code_in seen b) kept) where
   abbrev paths : Paths
   paths = paths_of seen (promises_in calls credits b.at) b
@@ -58,7 +58,7 @@ module _ (given : Given) (own : Flags) (calls : Callee → ℕ → Bool) (number
   certified h = record {
     rows = rows;
     order = kept.order.items;
-    are_few = few;
+    is_followed = followed;
     are_given = are_given;
     is_order = is_order;
     holds = h;

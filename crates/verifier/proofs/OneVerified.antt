@@ -70,7 +70,7 @@ module _ (given : Given) (own : Flags) (calls : Callee → ℕ → Bool) (number
   certified_too one other b same h = record {
     rows = h.rows;
     order = h.order;
-    are_few = h.are_few;
+    is_followed = h.is_followed;
     are_given = h.are_given;
     is_order = record { same = h.is_order.same; ordered = h.is_order.ordered };
     holds =
@@ -143,6 +143,7 @@ same_files given own calls n (f ∷ fs) (g ∷ gs) same are too =
 abbrev pub seen_by : List LoadedPackage → LoadedPackage → Tables → List Seen
 seen_by ps p known =
     seen_from (λ number. record {
+      edition = p.edition;
       means = means_in ps p number;
       functions = signatures_of ps p;
       imported = λ path. (known path).signatures;

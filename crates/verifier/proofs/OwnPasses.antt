@@ -6,9 +6,9 @@ use Rattle.std.proofs.lemmas.Bool.Decides.{Decides-eqb}
 use Rattle.meaning.specs.BodyEvents.{Variable, captured, variables_of, handed_on, mark_events}
 use Rattle.meaning.specs.Mentions.{BodyPlace, Mark, mentions, defers_literal, returns, opens, closes}
 use Rattle.meaning.specs.Tracked.{variable_of, Local}
-use Rattle.meaning.specs.Uses.{Seen, found, Event, defer_literal, return_event, is_body, body_gives}
+use Rattle.meaning.specs.Uses.{Seen, found, Event, call, defer_literal, return_event, is_body, body_gives}
 use Rattle.meaning_runs.proofs.Captured.{captured_is_none_of_its_own}
-use Rattle.meaning_runs.proofs.MentionEvents.{passes, none_given, one_fits, variable_fits}
+use Rattle.meaning_runs.proofs.MentionEvents.{passes, none_given, one_fits, variable_fits, mention_events_fit}
 use Rattle.meaning_runs.proofs.OwnVariables.{find_is}
 use Rattle.meaning_runs.specs.Bodies.{Body}
 use Rattle.meaning_runs.specs.EventSources.{HasSource, says_nothing, falls_off, of_mark}
@@ -36,10 +36,11 @@ by_mark : (seen : Seen) (body : ℕ) (bodies : List BodyPlace) (mark : Mark) →
     → (e : Event) → Contains (mark_events seen bodies mark) e
     → PassesItsOwn seen body e
 by_mark seen body bodies (mentions m) here =
-    variable_fits (PassesItsOwn seen body) seen bodies m λ l is e told own n passed.
+    mention_events_fit (PassesItsOwn seen body) seen bodies m (λ v. passes_none seen body (call v) refl)
+    (variable_fits (PassesItsOwn seen body) seen bodies m λ l is e told own n passed.
     let it = own n passed in
     subst (DeclaresIt seen body) it.1
-    (l, found_so seen (variable_of seen.known m) l is, same_body bodies l.body body it.0 here)
+    (l, found_so seen (variable_of seen.known m) l is, same_body bodies l.body body it.0 here))
 by_mark seen body bodies (defers_literal site at) here =
     one_fits (PassesItsOwn seen body) (defer_literal at) (passes_none seen body (defer_literal at) refl)
 by_mark seen body bodies (returns at es) here =

@@ -4,14 +4,14 @@ use Rattle.std.specs.Prelude.{◌↔◌, ◌==◌, not}
 use Rattle.std.proofs.lemmas.Bool.{false≢true}
 use Rattle.std.proofs.lemmas.Bool.Decides.{Decides-eqb}
 use Rattle.std.proofs.lemmas.List.{nil_from_length}
-use Rattle.bodies.specs.Bodies.{TellsBody, has_too_many}
+use Rattle.bodies.specs.Bodies.{TellsBody, is_unfollowed}
 use Rattle.bodies.specs.declared.body.Body.{Body as KeptBody}
 use Rattle.credits.specs.CreditViews.{has, is_among, SettlesThese}
 use Rattle.credits.specs.declared.table.Credits.{Credits as KeptCredits}
 use Rattle.findings.proofs.FoundParts.{adds_list, adds_so, adds_none, adds_both}
 use Rattle.findings.specs.FoundEntries.{use_entries, AddsEntries, IsPassEntry}
 use Rattle.meaning.proofs.Membership.{contains_nil, contains_here, contains_cases, contains_map, contains_unmap}
-use Rattle.meaning.specs.BodyEvents.{Variable, bodies_of, variables_of, too_many_faults, outer_faults, body_faults}
+use Rattle.meaning.specs.BodyEvents.{bodies_of, unfollowed_faults, outer_faults, body_faults}
 use Rattle.meaning.specs.Mentions.{BodyPlace}
 use Rattle.meaning.specs.Uses.{Callee, Seen}
 use Rattle.meaning_packages.specs.CallsFlags.{Flags, FileWithCredits}
@@ -26,11 +26,13 @@ use Rattle.verifier.specs.Verified.{Given, IsCertified, AreGivenCredits, IsSaid,
 
 -- A body
 
-few_not : (vs : List Variable) → too_many_faults vs ≡ [] → has_too_many vs ≡ false
-few_not vs few = ap (λ fs. not (length fs == 0)) few
+followed_not : (seen : Seen) (b : BodyPlace) → unfollowed_faults seen b ≡ [] → is_unfollowed seen b ≡ false
+followed_not seen b followed = ap (λ fs. not (length fs == 0)) followed
 
-pub few_so : (vs : List Variable) → has_too_many vs ≡ false → too_many_faults vs ≡ []
-few_so vs e = nil_from_length (too_many_faults vs) ((Decides-eqb (length (too_many_faults vs)) 0).0 (not_not (length (too_many_faults vs) == 0) e))
+pub followed_so : (seen : Seen) (b : BodyPlace) → is_unfollowed seen b ≡ false → unfollowed_faults seen b ≡ []
+followed_so seen b e =
+    nil_from_length (unfollowed_faults seen b)
+    ((Decides-eqb (length (unfollowed_faults seen b)) 0).0 (not_not (length (unfollowed_faults seen b) == 0) e))
   where
     not_not : (t : Bool) → not t ≡ false → t ≡ true
     not_not true e = refl
@@ -41,31 +43,32 @@ only_one x y h = elim (contains_cases x y [] h) [ inl same ↦ same | inr bad �
 
 module _ (given : Given) (own : Flags) (calls : Callee → ℕ → Bool) (number : ℕ) (seen : Seen) (b : BodyPlace)
     (body : KeptBody) (tells : TellsBody number seen b body) where
-  -- that it has no certificate is added, if it has not too many variables
+  -- that it has no certificate is added, if its paths are followed
   uncertified_so : (file : FileWithCredits) → file.seen ≡ seen → (IsCertified given own calls number file b → ⊥)
-      → (x : Entry) → Contains (uncertified_entries body.has_too_many body.file (body_view body.place)) x
+      → (x : Entry) → Contains (uncertified_entries body.is_unfollowed body.file (body_view body.place)) x
       ↔ IsUncertified given own calls number file b x
   uncertified_so file same none x =
-      subst (λ es. Contains es x ↔ IsUncertified given own calls number file b x) (sym moved) (by (has_too_many vs) refl)
+      subst (λ es. Contains es x ↔ IsUncertified given own calls number file b x) (sym moved) (by (is_unfollowed file.seen b) refl)
     where
-      vs : List Variable
-      vs = variables_of file.seen b.at
+      unfollowed : body.is_unfollowed ≡ is_unfollowed file.seen b
+      unfollowed = tells.unfollowed ∙ ap (λ s. is_unfollowed s b) (sym same)
 
-      too_many : body.has_too_many ≡ has_too_many vs
-      too_many = tells.too_many ∙ ap (λ s. has_too_many (variables_of s b.at)) (sym same)
+      moved : uncertified_entries body.is_unfollowed body.file (body_view body.place)
+          ≡ uncertified_entries (is_unfollowed file.seen b) number b
+      moved = λ i. uncertified_entries (unfollowed i) (tells.is_file i) (tells.is_place i)
 
-      moved : uncertified_entries body.has_too_many body.file (body_view body.place)
-          ≡ uncertified_entries (has_too_many vs) number b
-      moved = λ i. uncertified_entries (too_many i) (tells.is_file i) (tells.is_place i)
-
-      by : (t : Bool) → has_too_many vs ≡ t
+      by : (t : Bool) → is_unfollowed file.seen b ≡ t
           → Contains (uncertified_entries t number b) x ↔ IsUncertified given own calls number file b x
       by true e = (
         λ h. absurd (contains_nil x h),
-        λ h. absurd (false≢true (sym (few_not vs h.are_few) ∙ e)),
+        λ h. absurd (false≢true (sym (followed_not file.seen b h.is_followed) ∙ e)),
       )
       by false e = (
-        λ h. record { are_few = few_so vs e; is_not = none; is_entry = sym (only_one (uncertified_entry number b) x h) },
+        λ h. record {
+          is_followed = followed_so file.seen b e;
+          is_not = none;
+          is_entry = sym (only_one (uncertified_entry number b) x h);
+        },
         λ h. subst (Contains (uncertified_entry number b ∷ [])) (sym h.is_entry) (contains_here (uncertified_entry number b) []),
       )
 
@@ -87,7 +90,7 @@ module _ (given : Given) (own : Flags) (calls : Callee → ℕ → Bool) (number
 
     pub found_none : (said_then : List Diagnostic) → numbers ≡ []
         → map entry_of said_then
-        ≡ map entry_of said ++ uncertified_entries body.has_too_many body.file (body_view body.place)
+        ≡ map entry_of said ++ uncertified_entries body.is_unfollowed body.file (body_view body.place)
         → IsFound given own calls number (with_table seen (has before)) b None
         → FindsBody given own calls number seen b (has before) (has after) said said_then
     found_none said_then no_number added none = record {
@@ -97,10 +100,10 @@ module _ (given : Given) (own : Flags) (calls : Callee → ℕ → Bool) (number
       );
       others = its_these.others;
       entries =
-          adds_so said said_then (Contains (uncertified_entries body.has_too_many body.file (body_view body.place)))
+          adds_so said said_then (Contains (uncertified_entries body.is_unfollowed body.file (body_view body.place)))
           (IsUncertified given own calls number (with_table seen (has before)) b)
           (uncertified_so (with_table seen (has before)) refl none)
-          (adds_list said said_then (uncertified_entries body.has_too_many body.file (body_view body.place)) added);
+          (adds_list said said_then (uncertified_entries body.is_unfollowed body.file (body_view body.place)) added);
     }
 
 -- A file
@@ -126,7 +129,7 @@ module _ (given : Given) (own : Flags) (calls : Callee → ℕ → Bool) (number
   is_said : (x : Entry) → OneOfAll x → IsSaid given own calls number file x
   is_said x (inl (inl h)) =
       subst (IsSaid given own calls number file) (sym h.is_entry.is_entry)
-      (not_certified h.body h.is_there h.is_entry.are_few h.is_entry.is_not)
+      (not_certified h.body h.is_there h.is_entry.is_followed h.is_entry.is_not)
   is_said x (inl (inr h)) =
       let w = contains_unmap (use_entry number) (outer_faults file.seen) x h in
       subst (IsSaid given own calls number file) w.2 (outside_bodies w.0 w.1)
@@ -149,11 +152,11 @@ module _ (given : Given) (own : Flags) (calls : Callee → ℕ → Bool) (number
         is_there = there;
         is_entry = inr (record { fault = f; is_fault = h; is_entry = refl });
       })
-  one_of_all x (not_certified b there few none) =
+  one_of_all x (not_certified b there followed none) =
       inl (inl (record {
         body = b;
         is_there = there;
-        is_entry = record { are_few = few; is_not = none; is_entry = refl };
+        is_entry = record { is_followed = followed; is_not = none; is_entry = refl };
       }))
 
   said_so : (x : Entry) → OneOfAll x ↔ IsSaid given own calls number file x

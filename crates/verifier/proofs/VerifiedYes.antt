@@ -38,7 +38,7 @@ nodes_are (either a b) = λ i. nodes_are b i ++ nodes_are a i
 nodes_are (repeats a) = nodes_are a
 nodes_are (up_to w a) = nodes_are a
 
-pub places_of_text : (text : List ℕ) (tree : SourceFile) (known : Known) → IsTreeOf text tree
+pub places_of_text : (text : List ℕ) (tree : SourceFile) (known : Known) → IsTreeOf known.edition text tree
     → BodiesHaveOwnPlaces (seen_file known tree)
 places_of_text text tree known is b promises there n m o p is_o is_p same same_order =
     let code = (paths_of (seen_file known tree) promises b).code in

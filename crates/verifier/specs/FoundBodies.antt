@@ -2,7 +2,7 @@
 use Rattle.std.specs.Prelude.{ℕ, ◌≡◌, ◌↔◌, Bool, true, false, List, [], take, drop, Option, Some, None, nat_eq}
 use Rattle.credits.specs.CreditViews.{is_among}
 use Rattle.findings.specs.FoundEntries.{AddsEntries, IsOfBodies}
-use Rattle.meaning.specs.BodyEvents.{bodies_of, variables_of, too_many_faults}
+use Rattle.meaning.specs.BodyEvents.{bodies_of, unfollowed_faults}
 use Rattle.meaning.specs.Mentions.{BodyPlace}
 use Rattle.meaning.specs.Uses.{Callee, Seen}
 use Rattle.meaning_packages.specs.CallsFlags.{Flags, FileWithCredits}
@@ -25,7 +25,7 @@ module _ (given : Given) (own : Flags) (calls : Callee → ℕ → Bool) (number
 
   -- it is said of the body that it has no certificate that holds
   pub record IsUncertified (b : BodyPlace) (x : Entry) : Type 0 where
-    pub are_few : too_many_faults (variables_of file.seen b.at) ≡ []
+    pub is_followed : unfollowed_faults file.seen b ≡ []
     pub is_not : IsCertified given own calls number file b → ⊥
     pub is_entry : x ≡ uncertified_entry number b
 

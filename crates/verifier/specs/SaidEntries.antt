@@ -11,9 +11,9 @@ use Rattle.report.specs.declared.diagnostics.Diagnostic.{Diagnostic}
 use Rattle.verifier.specs.FoundBodies.{with_table}
 use Rattle.verifier.specs.Verified.{Given, AreGivenCredits, IsSaid, uncertified_entry}
 
--- a body with too many variables has no certificate, and nothing is said of that
+-- a body of which the paths are not followed has no certificate, and nothing is said of that
 abbrev pub uncertified_entries : Bool → ℕ → BodyPlace → List Entry
-uncertified_entries has_too_many number b = if has_too_many then [] else uncertified_entry number b ∷ []
+uncertified_entries is_unfollowed number b = if is_unfollowed then [] else uncertified_entry number b ∷ []
 
 module _ (calls : Callee → ℕ → Bool) (number : ℕ) (file : FileWithCredits) where
   abbrev pub IsUseOrPass : BodyPlace → Entry → Type 0

@@ -4,8 +4,9 @@
 --    parameter (`IsClaim`), and the claim has its type.
 --  - A literal is relied on for a variable that it captures where its own certificate holds and leaves the variable
 --    settled at each return. It relies on the literals in it, as the body around it does.
---  - The paths of a body, if it has not too many variables, are not looked for: it has a certificate that holds, or
---    this is said of it. All else is said as by `check`.
+--  - The paths of a body are not looked for: it has a certificate that holds, or this is said of it. A body of which no
+--    paths are followed, with too many variables, or with variables and a `goto`, needs none. All else is said as by
+--    `check`.
 -- (This tool's rules.)
 use Rattle.std.specs.Prelude.{ℕ, ◌≡◌, ◌↔◌, Bool, true, false, List, [], Option, Some, None, codes, slice_get, Contains}
 use Rattle.std.specs.List.Sorted.{IsPermutation}
@@ -16,7 +17,7 @@ use Rattle.flow.specs.declared.order.NodePlace.{NodePlace}
 use Rattle.flow.specs.NodeOrder.{places, AreInOrder}
 use Rattle.flow.specs.Walks.{graph_of}
 use Rattle.flow.specs.GraphOfCode.{nodes}
-use Rattle.meaning.specs.BodyEvents.{Variable, captured, bodies_of, variables_of, outer_faults, body_faults, too_many_faults}
+use Rattle.meaning.specs.BodyEvents.{Variable, captured, bodies_of, variables_of, outer_faults, body_faults, unfollowed_faults}
 use Rattle.meaning.specs.FunctionFacts.{CancelType, cancel_type}
 use Rattle.meaning.specs.Mentions.{BodyPlace}
 use Rattle.meaning.specs.Uses.{Callee, UseFault, facts_take_type}
@@ -80,7 +81,7 @@ pub record IsCertified
     : Type 0 where
   pub rows : List (List ℕ)
   pub order : List NodePlace
-  pub are_few : too_many_faults (variables_of file.seen b.at) ≡ []
+  pub is_followed : unfollowed_faults file.seen b ≡ []
   pub are_given : given.rows number b.at ≡ Some rows
   pub is_order : IsOrder (paths_of file.seen (promises_in calls file.credits b.at) b) order
   pub holds
@@ -147,6 +148,6 @@ pub data IsSaid (given : Given) (own : Flags) (calls : Callee → ℕ → Bool) 
       → IsSaid given own calls number file (path_entry number f)
   not_certified : (b : BodyPlace)
       → Contains (bodies_of file.seen) b
-      → too_many_faults (variables_of file.seen b.at) ≡ []
+      → unfollowed_faults file.seen b ≡ []
       → (IsCertified given own calls number file b → ⊥)
       → IsSaid given own calls number file (uncertified_entry number b)

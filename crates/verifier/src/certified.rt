@@ -7,7 +7,7 @@ ghost use Rattle.calls_flags.specs.KnownCalls.{known_calls};
 ghost use Rattle.certificate_json.specs.Certificates.{rows_of};
 ghost use Rattle.credits.specs.CreditViews.{has};
 ghost use Rattle.events.specs.ToldViews.{TellsFile};
-ghost use Rattle.meaning.specs.BodyEvents.{variables_of, too_many_faults};
+ghost use Rattle.meaning.specs.BodyEvents.{unfollowed_faults};
 ghost use Rattle.meaning.specs.Mentions.{BodyPlace};
 ghost use Rattle.meaning.specs.Uses.{Seen};
 ghost use Rattle.verifier.specs.FoundBodies.{with_table, IsFound};
@@ -56,7 +56,7 @@ fn found_in(
     ensures { IfOk result (λ found. (number : ℕ) (seen : Seen) (b : BodyPlace)
         → TellsBody number seen b given.entry.body.now
         → IsOrderedGraph (code_in seen b) kept.now
-        → too_many_faults (variables_of seen b.at) ≡ []
+        → unfollowed_faults seen b ≡ []
         → (g : MeantGiven) → g.rows number b.at ≡ Some (rows_of given.entry.rows.now)
         → IsFound g (is_called grounds.entry.calls.own.now) (known_calls grounds.entry.calls) number
         (with_table seen (has credits.now)) b (option_map (λ numbers. numbers.items) found)) }
@@ -82,7 +82,7 @@ fn found_in(
     Ok(Some(settled_captured(alloc, &laid_out, rows)?))
 }
 
-/// What is found of the certificate of a body: where it has not too many variables, and one is given and holds, the
+/// What is found of the certificate of a body: where its paths are followed, and one is given and holds, the
 /// numbers of the captured variables that it settles.
 ///
 /// # Errors
@@ -101,7 +101,7 @@ pub fn find_certificate<'a>(
         → IsFound g (is_called grounds.entry.calls.own.now) (known_calls grounds.entry.calls) number
         (with_table seen (has credits.now)) b (option_map (λ numbers. numbers.items) found)) }
 {
-    if body.has_too_many {
+    if body.is_unfollowed {
         return Ok(None);
     }
     let Some(rows) = grounds.given.rows.at(body.file, body.place.at) else {

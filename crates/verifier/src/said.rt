@@ -40,15 +40,15 @@ fn body_name(place: KeptPlace<'_>) -> &str
     }
 }
 
-/// Adds that the body has no certificate that holds, unless it has too many variables.
+/// Adds that the body has no certificate that holds, unless its paths are not followed.
 fn add_uncertified<'a>(
     body: &Body<'_, 'a>,
     diagnostics: &mut Vec<Diagnostic<'a>>,
 ) -> Result<(), AllocError>
     ensures { OnOk result (map entry_of diagnostics.new.items ≡ map entry_of diagnostics.old.items
-        ++ uncertified_entries body.now.has_too_many body.now.file (body_view body.now.place)) }
+        ++ uncertified_entries body.now.is_unfollowed body.now.file (body_view body.now.place)) }
 {
-    if !body.has_too_many {
+    if !body.is_unfollowed {
         diagnostics.push(Diagnostic {
             file: body.file,
             offset: body.place.at,

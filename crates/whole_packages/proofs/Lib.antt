@@ -1,3 +1,4 @@
+pub mod FaultyPackages
 mod KeptPackages
 mod NumberedTrees
 mod SecondPlaces

@@ -6,7 +6,7 @@ use Rattle.tree.specs.View.{file_syntax}
 use Rattle.meaning.specs.TreeOfText.{IsTreeOf}
 use Rattle.imports.specs.Ranks.{Package}
 pub use Rattle.meaning_reports.specs.Loaded.{HaveDistinctPaths}
-use Rattle.meaning_reports.specs.Loaded.{Reading, has_tree, has_text_fault, has_tree_fault, LoadedPackage, NumberedTree, trees_of, imports_of}
+use Rattle.meaning_reports.specs.Loaded.{Reading, has_tree, has_text_fault, has_tree_fault, LoadedPackage, NumberedTree, trees_from, trees_of, imports_of}
 use Rattle.whole_packages.specs.declared.loaded_package.Reading.{Reading as KeptReading}
 use Rattle.whole_packages.specs.declared.loaded_package.Reading.TheVariants.{Tree, NoTokens, NoTree}
 use Rattle.whole_packages.specs.declared.loaded_package.LoadedPackage.{LoadedPackage as KeptPackage}
@@ -23,16 +23,17 @@ readings_of (NoTree at why ∷ rs) trees = has_tree_fault at why ∷ readings_of
 -- what is kept is that package
 pub record TellsPackage (p : LoadedPackage) (kept : KeptPackage) : Type 0 where
   pub is_path : p.path ≡ string_bytes kept.path
+  pub is_edition : p.edition ≡ kept.edition
   pub are_files : p.files ≡ readings_of kept.readings.items (map file_syntax kept.trees.items)
   -- so the number of trees is right
   pub are_trees : trees_of p ≡ map file_syntax kept.trees.items
   -- and that of readings
   pub are_readings : length p.files ≡ length kept.readings.items
-  -- each tree is that of its file's text
+  -- each tree is that of its file's text, in that edition
   pub are_of_texts : (i : ℕ) (s : Source) (tree : SourceFile)
       → slice_get kept.sources.items i ≡ Some s
       → slice_get p.files i ≡ Some (has_tree tree)
-      → IsTreeOf s.bytes.items tree
+      → IsTreeOf p.edition s.bytes.items tree
 
 pub record TellPackages (ps : List LoadedPackage) (kept : List KeptPackage) : Type 0 where
   pub are_as_many : length ps ≡ length kept
@@ -47,6 +48,10 @@ kept_list k = record {
   path = string_bytes k.path;
   imports = flat_map (λ tree. map (λ s. s.path) (imports_of tree)) (map file_syntax k.trees.items);
 }
+
+-- its trees, with the numbers of their files
+abbrev pub kept_trees : KeptPackage → List NumberedTree
+kept_trees k = trees_from 0 (readings_of k.readings.items (map file_syntax k.trees.items))
 
 abbrev pub numbered_view : KeptTree → NumberedTree
 numbered_view t = record { file = t.file; tree = file_syntax t.tree.now }

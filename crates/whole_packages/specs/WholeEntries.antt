@@ -1,18 +1,24 @@
 -- What is to be said of a package as a whole, as the program goes over its files.
-use Rattle.std.specs.Prelude.{ℕ, ◌≡◌, ◌↔◌, ◌<◌, ◌+◌, Bool, true, false, if◌then◌else◌, List, [], ◌∷◌, ◌++◌, flat_map, length, Option, Some, None, slice_get, codes}
-use Rattle.tree.specs.Syntax.{ImportSpec}
-use Rattle.tree.specs.View.{identifier_syntax}
-use Rattle.meaning.specs.TwoFunctions.{FunctionName}
+use Rattle.std.specs.Prelude.{ℕ, ◌≡◌, ◌↔◌, ◌<◌, ◌+◌, Bool, true, false, if◌then◌else◌, List, [], ◌∷◌, ◌++◌, flat_map, length, map, Option, Some, None, slice_get, codes}
+use Rattle.std.specs.Str.{bytes_eq}
+use Rattle.tree.specs.Syntax.{Identifier, ImportSpec}
+use Rattle.tree.specs.View.{file_syntax, identifier_syntax}
+use Rattle.meaning.specs.Grammar.{dot_text}
+use Rattle.meaning.specs.OuterBlocks.{has_any}
+use Rattle.meaning.specs.TwoFunctions.{FunctionName, second_function}
 use Rattle.report.specs.declared.codes.DiagnosticCode.{DiagnosticCode}
-use Rattle.report.specs.declared.codes.DiagnosticCode.TheVariants.{Unreadable, LeftOut, TwoFunctions}
+use Rattle.report.specs.declared.codes.DiagnosticCode.TheVariants.{Unreadable, LeftOut, ImportHasNoRank, TwoFunctions}
 use Rattle.report.specs.Entries.{Entry}
 use Rattle.imports.specs.Ranks.{HasRank}
 use Rattle.imports.specs.Settling.{place_from}
 use Rattle.meaning_reports.specs.Loaded.{LoadedPackage, NumberedTree, imports_of, import_list}
+use Rattle.meaning_reports.specs.DotImports.{dot_entry}
 use Rattle.meaning_reports.specs.WholeFaults.{import_entry}
 use Rattle.whole_packages.specs.declared.loaded_package.Reading.{Reading as KeptReading}
 use Rattle.whole_packages.specs.declared.loaded_package.Reading.TheVariants.{Tree, NoTokens, NoTree}
+use Rattle.whole_packages.specs.declared.loaded_package.LoadedPackage.{LoadedPackage as KeptPackage}
 use Rattle.whole_packages.specs.declared.whole.Second.{Second}
+use Rattle.whole_packages.specs.LoadedViews.{kept_trees}
 
 -- Files without a tree
 
@@ -61,6 +67,36 @@ spec_entries is_one code file s = if is_one s.path then import_entry file s code
 
 abbrev pub tree_entries : (List ℕ → Bool) → DiagnosticCode → NumberedTree → List Entry
 tree_entries is_one code t = flat_map (spec_entries is_one code t.file) (imports_of t.tree)
+
+-- Imports with a dot
+
+abbrev pub dot_if : Bool → ℕ → Identifier → List Entry
+dot_if says file dot = if says then dot_entry file dot ∷ [] else []
+
+-- the name of such an import, if a name of its package says something
+abbrev pub dot_entries : Bool → ℕ → Option Identifier → List Entry
+dot_entries says file None = []
+dot_entries says file (Some n) = if bytes_eq n.text dot_text then dot_if says file n else []
+
+abbrev pub spec_dots : (List ℕ → Bool) → ℕ → ImportSpec → List Entry
+spec_dots say file s = dot_entries (say s.path) file s.name
+
+abbrev pub tree_dots : (List ℕ → Bool) → NumberedTree → List Entry
+tree_dots say t = flat_map (spec_dots say t.file) (imports_of t.tree)
+
+-- All of a package
+
+-- the places of the given packages, which of these have no rank, and the second function of a name
+abbrev pub whole_entries : (List ℕ → Option ℕ) → List Bool → Option FunctionName → KeptPackage → List Entry
+whole_entries places marks second k =
+    (failures_from 0 k.readings.items ++ second_entries (kept_trees k) second)
+    ++ flat_map (tree_entries (is_marked places marks) ImportHasNoRank) (kept_trees k)
+
+-- it has a fault as a whole
+abbrev pub is_faulty : (List ℕ → Option ℕ) → List Bool → KeptPackage → Bool
+is_faulty places marks k = has_any (whole_entries places marks (second_function (map file_syntax k.trees.items)) k)
+
+-- Ranks
 
 -- the places are those of the given packages, and exactly those are marked that have no rank
 pub record TellsOrder (ps : List LoadedPackage) (places : List ℕ → Option ℕ) (marks : List Bool) : Type 0 where

@@ -9,7 +9,7 @@ use report::{Diagnostic, DiagnosticCode};
 use std::alloc::AllocError;
 
 /// What a diagnostic has in place of a name where it speaks of none.
-const NO_NAME: &str = "-";
+pub const NO_NAME: &str = "-";
 
 fn add_failure(
     file: usize,

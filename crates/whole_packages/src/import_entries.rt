@@ -1,6 +1,6 @@
 //! What is to be said of imports.
 
-ghost use Rattle.std.specs.Prelude.{◌≡◌, ◌++◌, ℕ, Bool, List, OnOk, flat_map, map, slice_get};
+ghost use Rattle.std.specs.Prelude.{◌≡◌, ◌++◌, ℕ, Bool, List, IfOk, OnOk, flat_map, map, slice_get};
 ghost use Rattle.imports.specs.Views.{at_path};
 ghost use Rattle.whole_packages.specs.LoadedViews.{numbered_view};
 ghost use Rattle.whole_packages.specs.WholeEntries.{is_marked, is_set, spec_entries, tree_entries};
@@ -19,8 +19,12 @@ pub trait Picks {
     ghost picked: { Self → List ℕ → Bool };
 
     /// Whether the package of that path is one of them.
-    fn picks(&self, path: &str) -> bool
-        ensures { result ≡ picked self.now path.now };
+    ///
+    /// # Errors
+    ///
+    /// Memory was refused.
+    fn picks(&self, path: &str) -> Result<bool, AllocError>
+        ensures { IfOk result (λ picks. picks ≡ picked self.now path.now) };
 }
 
 /// Some of the given packages: for each path the place of its package, and whether the package of a place is one of
@@ -43,10 +47,10 @@ fn is_set(marks: &[bool], place: usize) -> bool
 impl Picks for Marked<'_, '_> {
     ghost picked = { λ marked. is_marked (at_path marked.places.now) marked.marks.now };
 
-    fn picks(&self, path: &str) -> bool {
+    fn picks(&self, path: &str) -> Result<bool, AllocError> {
         match self.places.get(path) {
-            Some(place) => is_set(self.marks, *place),
-            None => false,
+            Some(place) => Ok(is_set(self.marks, *place)),
+            None => Ok(false),
         }
     }
 }
@@ -61,7 +65,7 @@ fn add_spec<'a, P: Picks>(
     ensures { OnOk result (map entry_of diagnostics.new.items ≡ map entry_of diagnostics.old.items ++ spec_entries
         (P.picked picked.now) code file (import_spec_syntax spec.now)) }
 {
-    if picked.picks(spec.path.as_str()) {
+    if picked.picks(spec.path.as_str())? {
         diagnostics.push(Diagnostic {
             file,
             offset: spec.path_span.start,

@@ -2,6 +2,7 @@
 //! The rules are those of `meaning_reports/specs/Loaded.antt` and `meaning_reports/specs/WholeFaults.antt`.
 #![tactic(auto)]
 
+mod dot_entries;
 mod failures;
 mod import_entries;
 mod imported;
@@ -9,8 +10,9 @@ mod loaded_package;
 mod numbered;
 mod whole;
 
+pub use dot_entries::add_dots;
 pub use import_entries::{Marked, Picks, add_imports};
 pub use imported::import_lists;
 pub use loaded_package::{LoadedPackage, Reading};
 pub use numbered::{NumberedTree, numbered_trees};
-pub use whole::{Second, unranked, whole_faults};
+pub use whole::{Second, has_whole_fault, unranked, whole_faults};

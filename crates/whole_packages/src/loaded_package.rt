@@ -2,7 +2,7 @@
 
 use lexer::Source;
 use report::{TextFault, TreeFault};
-use tree::File;
+use tree::{Edition, File};
 
 /// What became of a file.
 #[derive(Clone, Copy)]
@@ -15,11 +15,12 @@ pub enum Reading {
     NoTree(u32, TreeFault),
 }
 
-/// A package: its import path, its files, what became of each, and the trees of those that have one, in the order of
-/// the files.
+/// A package: its import path, the edition by which it is judged, its files, what became of each, and the trees of
+/// those that have one, in the order of the files.
 #[derive(Drop)]
 pub struct LoadedPackage {
     pub path: String,
+    pub edition: Edition,
     pub sources: Vec<Source>,
     pub readings: Vec<Reading>,
     pub trees: Vec<File>,

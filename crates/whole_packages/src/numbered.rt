@@ -2,7 +2,7 @@
 
 ghost use Rattle.std.specs.Prelude.{◌≡◌, ◌+◌, ◌++◌, ◌∷◌, List, IfOk, map};
 ghost use Rattle.whole_packages.specs.declared.loaded_package.Reading.{Reading};
-ghost use Rattle.whole_packages.specs.LoadedViews.{numbered_view, readings_of, TellsPackage};
+ghost use Rattle.whole_packages.specs.LoadedViews.{kept_trees, numbered_view, readings_of, TellsPackage};
 ghost use Rattle.tree.specs.View.{file_syntax};
 ghost use Rattle.meaning_reports.specs.Loaded.{LoadedPackage as MeantPackage, trees_from, numbered_trees};
 
@@ -63,7 +63,8 @@ pub fn numbered_trees<'a>(
     alloc: Global,
     loaded: &'a LoadedPackage,
 ) -> Result<Vec<NumberedTree<'a>>, AllocError>
-    ensures { IfOk result (λ found. (p : MeantPackage) → TellsPackage p loaded.now
+    ensures kept { IfOk result (λ found. map numbered_view found.items ≡ kept_trees loaded.now) }
+    ensures meant { IfOk result (λ found. (p : MeantPackage) → TellsPackage p loaded.now
         → map numbered_view found.items ≡ numbered_trees p) }
 {
     with_numbers(alloc, &loaded.readings, &loaded.trees)

@@ -3,9 +3,10 @@
 ghost use Rattle.std.specs.Prelude.{◌≡◌, ◌↔◌, ◌++◌, ◌<◌, ℕ, List, IfOk, OnOk, Contains, None, Some, true, length, map, option_map, slice_get};
 ghost use Rattle.imports.specs.Views.{at_path, rank_of};
 ghost use Rattle.whole_packages.specs.LoadedViews.{numbered_view, TellsPackage};
-ghost use Rattle.whole_packages.specs.WholeEntries.{is_set, second_at, second_entries, second_view, TellsOrder};
+ghost use Rattle.whole_packages.specs.WholeEntries.{is_faulty, is_set, second_at, second_entries, second_view, whole_entries, TellsOrder};
 ghost use Rattle.meaning.specs.TwoFunctions.{second_function};
 ghost use Rattle.report.specs.Entries.{Entry, entry_of};
+ghost use Rattle.tree.specs.View.{file_syntax};
 ghost use Rattle.meaning_reports.specs.Loaded.{LoadedPackage as MeantPackage, trees_of};
 ghost use Rattle.meaning_reports.specs.WholeFaults.{IsWholeFault};
 
@@ -92,7 +93,10 @@ pub fn whole_faults<'a>(
     second: Option<Second<'a>>,
     unranked: Marked<'_, '_>,
 ) -> Result<Vec<Diagnostic<'a>>, AllocError>
-    ensures { IfOk result (λ faults. (ps : List MeantPackage) (i : ℕ) (p : MeantPackage)
+    ensures entries { IfOk result (λ faults. map entry_of faults.items
+        ≡ whole_entries (at_path unranked.entry.places.now) unranked.entry.marks.now
+        (option_map second_view second.entry) loaded.now) }
+    ensures faults { IfOk result (λ faults. (ps : List MeantPackage) (i : ℕ) (p : MeantPackage)
         → slice_get ps i ≡ Some p → TellsPackage p loaded.now
         → option_map second_view second.entry ≡ second_function (trees_of p)
         → TellsOrder ps (at_path unranked.entry.places.now) unranked.entry.marks.now
@@ -109,4 +113,24 @@ pub fn whole_faults<'a>(
         &mut diagnostics,
     )?;
     Ok(diagnostics)
+}
+
+/// Whether the package has a fault as a whole. Told are the second function of a name, if there is one, and the given
+/// packages that have no rank.
+///
+/// # Errors
+///
+/// Memory was refused.
+pub fn has_whole_fault(
+    alloc: Global,
+    loaded: &LoadedPackage,
+    second: Option<Second<'_>>,
+    unranked: Marked<'_, '_>,
+) -> Result<bool, AllocError>
+    ensures { IfOk result (λ has.
+        option_map second_view second.entry ≡ second_function (map file_syntax loaded.now.trees.items)
+        → has ≡ is_faulty (at_path unranked.entry.places.now) unranked.entry.marks.now loaded.now) }
+{
+    let faults = whole_faults(alloc, loaded, second, unranked)?;
+    Ok(!faults.is_empty())
 }

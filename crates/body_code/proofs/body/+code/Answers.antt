@@ -1,6 +1,6 @@
 use Rattle.std.proofs.Common.{map, ap, ◌∙◌}
 use Rattle.tree.proofs.Depths.{drop_item, drop_past}
-use Rattle.tree.proofs.Views.{statement_form-Empty, statement_form-Decl, statement_form-Labeled, statement_form-Expr, statement_form-Send, statement_form-Increment, statement_form-Decrement, statement_form-Assign, statement_form-AssignOp, statement_form-Define, statement_form-Go, statement_form-Defer, statement_form-Return, statement_form-Break, statement_form-Continue, statement_form-Block, statement_form-If, statement_form-For, statement_form-RangeAssign, statement_form-RangeDefine, statement_form-Switch, statement_form-TypeSwitch, statement_form-Select, block_statements-out}
+use Rattle.tree.proofs.Views.{statement_form-Empty, statement_form-Decl, statement_form-Labeled, statement_form-Expr, statement_form-Send, statement_form-Increment, statement_form-Decrement, statement_form-Assign, statement_form-AssignOp, statement_form-Define, statement_form-Go, statement_form-Defer, statement_form-Return, statement_form-Break, statement_form-Continue, statement_form-Goto, statement_form-Fallthrough, statement_form-Block, statement_form-If, statement_form-For, statement_form-RangeAssign, statement_form-RangeDefine, statement_form-Switch, statement_form-TypeSwitch, statement_form-Select, block_statements-out}
 use Rattle.tree.specs.View.{statement_syntax}
 use Rattle.meaning.specs.Code.{breaking, continuing, leave, skip, then_code}
 use Rattle.meaning.specs.StatementCode.{site, statement_code, form_code, optional_code}
@@ -8,6 +8,7 @@ use Rattle.code.specs.CodeViews.{text_now, sequence, choice}
 use Rattle.body_code.specs.SiteViews.{sites_view}
 use Rattle.code.proofs.Codes.{code_view-Skip, same_code}
 use Rattle.code.proofs.CodeLists.{pushed, all_pushed}
+use Rattle.body_code.proofs.Branches.{between_braces}
 use Rattle.body_code.proofs.Bodies.{statement_codes, case_codes, communication_codes, sequence-statements, choice-cases, choice-communications, may_end_too}
 use Rattle.body_code.proofs.body.+code.Goals as goal
 
@@ -90,6 +91,15 @@ form-returns-in-Continue g t c =
     (c.way_to-in-Continue.ensures ∙ ap continuing c.label_of-in-Continue.ensures))
     c.leaving-in-Continue.ensures)
 
+pub form-returns-in-Goto : goal.form-returns-in-Goto
+unfolding form_code
+form-returns-in-Goto g t c = rw (c.in-Goto.is, statement_form-Goto) c.ending.ensures
+
+pub form-returns-in-Fallthrough : goal.form-returns-in-Fallthrough
+unfolding form_code
+form-returns-in-Fallthrough g t c =
+    rw (c.in-Fallthrough.is, statement_form-Fallthrough) c.leaving-in-Fallthrough.ensures
+
 pub form-returns-in-Block : goal.form-returns-in-Block
 unfolding form_code
 form-returns-in-Block g t c =
@@ -99,7 +109,9 @@ pub form-returns-in-If : goal.form-returns-in-If
 unfolding form_code
 form-returns-in-If g t c =
     rw (c.in-If.is, statement_form-If, block_statements-out, ← c.deref-in-If.ensures.value)
-    (c.two_ways.ensures _ _ _ _ c.optional.ensures c.site-in-If.ensures c.statements-in-If.ensures c.optional-in-If.ensures)
+    (between_braces (sites_view c.args.sites.now) c.two_ways.result _ c.last_brace.result _ _ _ _ c.last_brace.ensures
+    (c.two_ways.ensures _ _ _ _ c.optional.ensures c.site-in-If.ensures
+    (c.branch_at.ensures _ c.statements-in-If.ensures) (c.branch_at-in-If.ensures _ c.optional-in-If.ensures)))
 
 pub form-returns-in-For : goal.form-returns-in-For
 unfolding form_code
@@ -128,14 +140,14 @@ unfolding form_code
 form-returns-in-Switch g t c =
     rw (c.in-Switch.is, statement_form-Switch, ← c.deref-list.ensures.value)
     (c.then-in-Switch.ensures _ _ c.optional-in-Switch.ensures
-    (c.one_clause.ensures _ _ c.site-in-Switch.ensures c.cases.ensures))
+    (c.switch.ensures _ _ c.site-in-Switch.ensures c.cases.ensures))
 
 pub form-returns-in-TypeSwitch : goal.form-returns-in-TypeSwitch
 unfolding form_code
 form-returns-in-TypeSwitch g t c =
     rw (c.in-TypeSwitch.is, statement_form-TypeSwitch, ← c.deref-list-in-TypeSwitch.ensures.value)
     (c.then-in-TypeSwitch.ensures _ _ c.optional-in-TypeSwitch.ensures
-    (c.one_clause-in-TypeSwitch.ensures _ _ c.site-in-TypeSwitch.ensures c.cases-in-TypeSwitch.ensures))
+    (c.one_clause.ensures _ _ c.site-in-TypeSwitch.ensures c.cases-in-TypeSwitch.ensures))
 
 pub form-returns-in-Select : goal.form-returns-in-Select
 unfolding form_code

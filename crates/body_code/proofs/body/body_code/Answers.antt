@@ -8,4 +8,4 @@ returns g c =
     same_code c.then-2.result _ _
     (whole_body (sites_view c.args.sites.now) c.args.braces c.last_brace.result c.other.result c.returns.result _
     c.last_brace.ensures c.other.ensures c.returns.ensures)
-    (c.then-2.ensures _ _ (code_view-Does _) (c.then.ensures _ _ c.statements-inner.ensures (code_view-Does _)))
+    (c.then-2.ensures _ _ (code_view-Does _) (c.then.ensures _ _ c.block-inner.ensures (code_view-Does _)))

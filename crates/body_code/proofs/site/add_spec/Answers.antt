@@ -15,5 +15,5 @@ pub returns-in-Type : goal.returns-in-Type
 returns-in-Type g c =
     on_ok c.add_site-in-Type.result
     (λ h. h ∙ ap (λ l. c.args.events.now.items ++ l)
-    (events_of-Type (sites_view c.args.sites.now) c.args.spec.now _ _ _ _ c.in-Type.is))
+    (events_of-Type (sites_view c.args.sites.now) c.args.spec.now _ _ _ _ _ c.in-Type.is))
     c.add_site-in-Type.ensures

@@ -1,6 +1,6 @@
 use Rattle.std.proofs.Common.{map, ap, ◌∙◌}
 use Rattle.std.proofs.lemmas.Result.{IfOk-weaker}
-use Rattle.certificates.proofs.BodyRows.{few_with, made_rows}
+use Rattle.certificates.proofs.BodyRows.{followed_with, few_where, made_rows}
 use Rattle.credits.specs.CreditViews.{has}
 use Rattle.events.specs.VariableViews.{variable_view}
 use Rattle.maker.specs.Solutions.{cancel_arrives, group_arrives}
@@ -15,8 +15,13 @@ returns g c =
     let body = c.args.body.now in
     let kept = c.args.kept.now in
     let solution = c.in_ok-solution.solution in
-    made_rows (paths_of seen (promises_in (g.C.Calls.are_called c.args.calls.now) (has c.args.credits.now) b.at) b) kept
-    (tells.is_graph kept is_kept) (few_with file seen b body tells kept is_kept) (cancel_arrives solution)
-    (group_arrives solution) (c.in_ok-solution.ensures.nodes file seen b tells is_kept) rows.items
-    (map variable_view c.deref.result.now) (ap (map variable_view) c.deref.ensures.value ∙ tells.are_variables) told)
+    let followed = followed_with file seen b body tells kept is_kept in
+    record {
+      is_followed = followed;
+      is_least =
+          made_rows (paths_of seen (promises_in (g.C.Calls.are_called c.args.calls.now) (has c.args.credits.now) b.at) b) kept
+          (tells.is_graph kept is_kept) (few_where file seen b body tells followed) (cancel_arrives solution)
+          (group_arrives solution) (c.in_ok-solution.ensures.nodes file seen b tells is_kept) rows.items
+          (map variable_view c.deref.result.now) (ap (map variable_view) c.deref.ensures.value ∙ tells.are_variables) told;
+    })
     c.rows_of.ensures

@@ -45,6 +45,7 @@ returns-then-ends_options g c =
       facts = sym (append-nil (texts_of kept.facts.items)) ∙ so.facts;
       lists = sym (append-nil (texts_of kept.lists.items)) ∙ so.lists;
       formats = sym (append-nil (texts_of kept.formats.items)) ∙ so.formats;
+      editions = sym (append-nil (texts_of kept.editions.items)) ∙ so.editions;
       numbers = sym (append-nil (texts_of kept.numbers.items)) ∙ so.numbers;
       packages = added ∙ so.packages;
     }

@@ -1,4 +1,4 @@
-use Rattle.std.proofs.Common.{ap, drop, map, not, option_map, is_some}
+use Rattle.std.proofs.Common.{true, ap, drop, map, not, option_map, is_some}
 use Rattle.std.proofs.lemmas.List.{drop_all}
 use Rattle.called_parameters.specs.Called.{is_called}
 use Rattle.facts.specs.FactViews.{facts_by_name}
@@ -43,6 +43,7 @@ returns-clause-table c i =
           call_last (is_called c.loop-function.called name k) (not (is_some (facts_by_name c.loop-function.signatures name)))
           (calls_in (function_in left name) k) _ (ap (λ fs. calls_in (function_in fs name) k) none)
           (c.loop-function.invariant.1 name k) i;
+      is_told = true;
     }
 
 pub returns-clause-marks : goal.returns-clause-marks
@@ -52,5 +53,6 @@ returns-clause-marks c =
       signatures = c.loop-function.signatures;
       called = c.loop-function.called;
       gives = c.any_is_giver.result;
+      is_told = true;
     })
     (returns-clause-table c) c.any_is_giver.ensures

@@ -8,11 +8,12 @@ use Rattle.driver.proofs.listed_packages.add_listed.Goals.{then-has_files+in_ok-
 
 pub loop-listed-init : goal.loop-listed-init
 loop-listed-init g c =
-    adds_none (option_map (λ h. h.now) c.as_deref-here.result) (map package_of c.args.packages.now) c.args.given.now.items
+    adds_none c.args.edition (option_map (λ h. h.now) c.as_deref-here.result) (map package_of c.args.packages.now) c.args.given.now.items
     c.args.given.now.items (map package_of c.args.packages.now) refl refl
 
 pub loop-listed-preserved : goal.loop-listed-preserved
 loop-listed-preserved g c =
+    let edition = c.args.edition in
     let here = option_map (λ h. h.now) c.as_deref-here.result in
     let packages = c.args.packages.now in
     let all = map package_of packages in
@@ -27,17 +28,17 @@ loop-listed-preserved g c =
     elim c.if-has_files.branch [
       | then-has_files+in_ok-read_listed+in_ok-push w ↦
           (let some : has_files (package_of listed) ≡ true = search rules in
-          adds_next here all before now c.if-has_files.given.items old left (package_of listed) w.in_ok-read_listed.field-0 is some
+          adds_next edition here all before now c.if-has_files.given.items old left (package_of listed) w.in_ok-read_listed.field-0 is some
           w.in_ok-read_listed.ensures.read (search rules) c.loop-listed.invariant)
       | else-has_files+in_ok-escaped+in_ok-push-2 w ↦
           (let none : has_files (package_of listed) ≡ false = search rules in
           let same : now ≡ c.if-has_files.given.items = search rules in
-          subst (λ given. AddsSo here all before given left) same
-          (adds_no_package here all before now old left (package_of listed) is none c.loop-listed.invariant))
+          subst (λ given. AddsSo edition here all before given left) same
+          (adds_no_package edition here all before now old left (package_of listed) is none c.loop-listed.invariant))
     ]
 
 pub returns-clause-added : goal.returns-clause-added
 returns-clause-added g c =
-    adds_all (option_map (λ h. h.now) c.as_deref-here.result) (map package_of c.args.packages.now) c.args.given.now.items
+    adds_all c.args.edition (option_map (λ h. h.now) c.as_deref-here.result) (map package_of c.args.packages.now) c.args.given.now.items
     c.loop-listed.given.items (map package_of (drop c.loop-listed.listed-index c.args.packages.now))
     (ap (map package_of) (drop_all c.loop-listed.listed-index c.args.packages.now c.loop-listed-test.false)) c.loop-listed.invariant

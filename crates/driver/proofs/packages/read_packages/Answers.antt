@@ -8,5 +8,5 @@ pub returns-clause-read : goal.returns-clause-read
 returns-clause-read g c =
     let packages = c.args.packages.now in
     let at = c.loop-one.one-index in
-    zips_all IsRead packages (drop at packages) c.loop-one.given.items
+    zips_all (IsRead c.args.edition) packages (drop at packages) c.loop-one.given.items
     (drop_all at packages c.loop-one-test.false) c.loop-one.invariant

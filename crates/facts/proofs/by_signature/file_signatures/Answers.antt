@@ -1,14 +1,14 @@
 use Rattle.std.proofs.Common.{map, drop, ◌+◌}
 use Rattle.meaning.specs.FunctionFacts.{facts_in}
-use Rattle.names.specs.Answers.{declared_at}
 use Rattle.names.proofs.Adding.{goes_on}
 use Rattle.tree.specs.View.{top_level_syntax}
+use Rattle.facts.specs.FactViews.{meanings_of}
 use Rattle.facts.proofs.FactParts.{facts_split}
 use Rattle.facts.proofs.by_signature.file_signatures.Goals as goal
 
 pub loop-declaration-preserved : goal.loop-declaration-preserved
 loop-declaration-preserved c = λ n.
-    goes_on (λ xs. facts_in (declared_at c.args.names.now c.args.file) n (map top_level_syntax xs)) _ c.args.declarations.now
+    goes_on (λ xs. facts_in c.args.told.edition (meanings_of c.args.told) n (map top_level_syntax xs)) _ c.args.declarations.now
     c.loop-declaration.declaration-index c.declaration-item.result c.loop-declaration-test.true c.declaration-item.is
-    (facts_split (declared_at c.args.names.now c.args.file) (top_level_syntax c.declaration-item.result)
+    (facts_split c.args.told.edition (meanings_of c.args.told) (top_level_syntax c.declaration-item.result)
     (map top_level_syntax (drop (c.loop-declaration.declaration-index + 1) c.args.declarations.now)) n) _ _ _ (c.in_ok-add_declaration.ensures n) (c.loop-declaration.invariant n)

@@ -1,15 +1,14 @@
 use Rattle.std.proofs.Common.{◌≡◌, ℕ, List, map, drop}
 use Rattle.meaning.specs.FunctionFacts.{facts_in}
 use Rattle.meaning.specs.OuterBlocks.{or_else}
-use Rattle.names.specs.Answers.{declared_at}
 use Rattle.tree.specs.View.{top_level_syntax}
-use Rattle.facts.specs.FactViews.{facts_by_name}
+use Rattle.facts.specs.FactViews.{facts_by_name, meanings_of}
 use Rattle.facts.proofs.by_signature.file_signatures.Given as goal
 
 abbrev pub invariant-loop-declaration : goal.invariant-loop-declaration
 invariant-loop-declaration l =
     (n : List ℕ)
     → or_else (facts_by_name l.table n)
-    (facts_in (declared_at l.names l.file) n (map top_level_syntax (drop l.declaration-index l.declarations)))
+    (facts_in l.told.edition (meanings_of l.told) n (map top_level_syntax (drop l.declaration-index l.declarations)))
     ≡ or_else (facts_by_name l.initial.table n)
-    (facts_in (declared_at l.names l.file) n (map top_level_syntax l.declarations))
+    (facts_in l.told.edition (meanings_of l.told) n (map top_level_syntax l.declarations))

@@ -10,5 +10,5 @@ abbrev pub invariant-loop-number : goal.invariant-loop-number
 invariant-loop-number l =
     (n : List ℕ)
     → or_else (facts_by_name l.table n)
-    (facts_from (declared_at l.names) n l.number (map file_syntax (drop l.number l.files)))
-    ≡ facts_from (declared_at l.names) n 0 (map file_syntax l.files)
+    (facts_from l.edition (declared_at l.names) n l.number (map file_syntax (drop l.number l.files)))
+    ≡ facts_from l.edition (declared_at l.names) n 0 (map file_syntax l.files)

@@ -7,5 +7,5 @@ use Rattle.files_to_walk.proofs.skipping.any_import.Given as goal
 -- the test of those that are left is that of all
 abbrev pub invariant-loop-declaration : goal.invariant-loop-declaration
 invariant-loop-declaration g l =
-    list_any (λ s. g.P.Picks.picked l.picked s.path) (specs_of (map import_syntax (drop l.declaration-index l.declarations)))
-    ≡ list_any (λ s. g.P.Picks.picked l.picked s.path) (specs_of (map import_syntax l.declarations))
+    list_any (λ s. g.A.Among.among l.packages s.path) (specs_of (map import_syntax (drop l.declaration-index l.declarations)))
+    ≡ list_any (λ s. g.A.Among.among l.packages s.path) (specs_of (map import_syntax l.declarations))

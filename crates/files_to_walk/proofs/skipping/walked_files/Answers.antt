@@ -2,7 +2,7 @@ use Rattle.std.proofs.Common.{true≢false, map, ap, sym, ◌∙◌, subst}
 use Rattle.std.proofs.lemmas.Result.{IfOk-weaker}
 use Rattle.silent_files.specs.WalkedFiles.{is_walked}
 use Rattle.tree.specs.View.{file_syntax}
-use Rattle.files_to_walk.specs.Givers.{may_give}
+use Rattle.files_to_walk.specs.Signs.{may_give}
 use Rattle.files_to_walk.specs.Skipping.{AreQuiet}
 use Rattle.files_to_walk.proofs.SkippedFiles.{none_skipped, skips_so}
 use Rattle.files_to_walk.proofs.skipping.walked_files.Goals as goal
@@ -18,7 +18,7 @@ pub returns-clause-skip : goal.returns-clause-skip
 returns-clause-skip c =
     IfOk-weaker c.marks_of.result _ _
     (λ marks are ps tables i p is_p tells none own imported.
-    let givers = may_give c.args.givers.now in
+    let givers = may_give c.args.known.now in
     let loaded = c.args.loaded.now in
     skips_so ps tables i p loaded is_p tells none givers (own c.if-all.false) imported marks.items
     (subst (λ sources. AreQuiet givers (map file_syntax loaded.trees.items) sources marks.items) c.deref-2.ensures.value

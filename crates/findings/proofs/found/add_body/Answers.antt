@@ -1,7 +1,7 @@
 use Rattle.std.proofs.Common.{◌++◌, ◌⊎◌, Contains, map, sym, ap, ◌∙◌}
 use Rattle.facts.proofs.FactParts.{on_ok}
 use Rattle.findings.proofs.FoundParts.{adds_list, adds_both}
-use Rattle.findings.specs.FoundEntries.{use_entries, IsPassEntry, IsFewPathEntry}
+use Rattle.findings.specs.FoundEntries.{use_entries, IsPassEntry, IsFollowedPathEntry}
 use Rattle.calls_flags.specs.KnownCalls.{known_calls}
 use Rattle.meaning.specs.BodyEvents.{body_faults}
 use Rattle.meaning.specs.Mentions.{BodyPlace}
@@ -26,7 +26,7 @@ returns c =
     ∙ ap (λ (p : BodyPlace). body_faults f.seen p.at) place in
     let faults = use_entries number (body_faults f.seen b.at) in
     adds_both before passes c.add_paths.new.diagnostics.items
-    (λ x. Contains faults x ⊎ IsPassEntry calls number f b x) (IsFewPathEntry calls number f b)
+    (λ x. Contains faults x ⊎ IsPassEntry calls number f b x) (IsFollowedPathEntry calls number f b)
     (adds_both before uses passes (Contains faults) (IsPassEntry calls number f b)
     (adds_list before uses faults (c.in_ok-add_use_faults.ensures
     ∙ (λ i. map entry_of before ++ use_entries (is_body.is_file i)

@@ -21,7 +21,7 @@ returns g c =
     adds_faults c.args.diagnostics.now.items c.add_path_faults.new.diagnostics.items number c.args.body.now.file
     is_body.is_file (map fault_view c.deref-2.result.now) (map fault_view c.in_ok-faults.faults.items) (IsPassFault paths)
     (ap (map fault_view) c.deref-2.ensures.value)
-    (c.in_ok-faults.ensures seen tells paths (ap (λ (p : BodyPlace). events_at seen p.at seen.marks) place)
+    (c.in_ok-faults.ensures seen tells paths refl (ap (λ (p : BodyPlace). events_at seen p.at seen.marks) place)
     (sym is_body.are_variables ∙ ap (map variable_view) (sym c.deref.ensures.value)) refl)
     added)
     c.add_path_faults.ensures

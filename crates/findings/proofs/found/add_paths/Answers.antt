@@ -1,7 +1,7 @@
 use Rattle.std.proofs.Common.{map, sym, ap, ◌∙◌, subst}
 use Rattle.facts.proofs.FactParts.{on_ok}
 use Rattle.findings.proofs.FoundParts.{adds_faults, adds_so, few_paths}
-use Rattle.findings.specs.FoundEntries.{known_paths, IsPathEntry, IsFewPathEntry}
+use Rattle.findings.specs.FoundEntries.{known_paths, IsPathEntry, IsFollowedPathEntry}
 use Rattle.calls_flags.specs.KnownCalls.{known_calls}
 use Rattle.credits.specs.BodyPaths.{TellsPaths}
 use Rattle.events.specs.VariableViews.{variable_view}
@@ -23,7 +23,7 @@ returns c =
     (cancel_arrives solution) (group_arrives solution)) (sym tells.are_credits)
     (c.in_ok-solution.ensures.paths number f.seen b is_body c.in-Some.is) in
     adds_so c.args.diagnostics.now.items c.add_path_faults.new.diagnostics.items (IsPathEntry calls number f b)
-    (IsFewPathEntry calls number f b) (few_paths calls number f b c.args.body.now is_body c.in-Some.kept c.in-Some.is)
+    (IsFollowedPathEntry calls number f b) (few_paths calls number f b c.args.body.now is_body c.in-Some.kept c.in-Some.is)
     (adds_faults c.args.diagnostics.now.items c.add_path_faults.new.diagnostics.items number c.args.body.now.file
     is_body.is_file (map fault_view c.deref-2.result.now) (map fault_view c.in_ok-faults.faults.items) (IsPathFault paths)
     (ap (map fault_view) c.deref-2.ensures.value)

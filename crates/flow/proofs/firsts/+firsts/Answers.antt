@@ -1,8 +1,9 @@
 use Rattle.std.proofs.Common.{◌++◌, refl, ap, ◌∙◌, subst, arith}
 use Rattle.code.specs.CodeViews.{code_view}
-use Rattle.code.proofs.Codes.{code_view-Skip, code_view-Does, code_view-Leave, code_view-Then, code_view-Sequence, code_view-Choice, code_view-Repeats, code_view-UpTo}
+use Rattle.code.proofs.Codes.{code_view-Skip, code_view-Does, code_view-Leave, code_view-Then, code_view-Sequence, code_view-Choice, code_view-Repeats, code_view-UpTo, code_view-UpToFalls}
 use Rattle.flow.specs.GraphViews.{Firsts}
 use Rattle.flow.proofs.FirstNodes.{if_ok, first_then, first_inside, first_so_far-none, first_so_far-next, first_so_far-all, ways_so_far-none, ways_so_far-next, ways_so_far-all}
+use Rattle.flow.proofs.Falls.{first_inside_falls}
 use Rattle.flow.proofs.firsts.+firsts.Goals as goal
 
 pub firsts-returns-in-Skip : goal.firsts-returns-in-Skip
@@ -47,6 +48,13 @@ firsts-returns-in_ok-nodes-in-UpTo g t c =
     rw (c.in-UpTo.is, code_view-UpTo, ← c.deref-in-UpTo.ensures)
     (first_inside _ _ _ _ _ c.args.exits.now c.enter.new.self c.firsts-in-UpTo.new.exits c.leave.new.self _
     c.in_ok-enter-in-UpTo.ensures c.in_ok-nodes-in-UpTo.ensures c.leave.ensures)
+
+pub firsts-returns-in_ok-nodes-in-UpToFalls : goal.firsts-returns-in_ok-nodes-in-UpToFalls
+firsts-returns-in_ok-nodes-in-UpToFalls g t c =
+    rw (c.in-UpToFalls.is, code_view-UpToFalls, ← c.deref-in-UpToFalls.ensures.value, ← c.deref-in-UpToFalls-2.ensures)
+    (first_inside_falls _ _ _ _ _ c.args.exits.now c.enter_falls.new.self c.firsts-in-UpToFalls.new.exits
+    c.leave-in-UpToFalls.new.self _ c.in_ok-enter_falls-in-UpToFalls.ensures c.in_ok-nodes-in-UpToFalls.ensures
+    c.leave-in-UpToFalls.ensures)
 
 pub firsts_of_choice-loop-code-init : goal.firsts_of_choice-loop-code-init
 firsts_of_choice-loop-code-init g t c = ways_so_far-none _ _ _ _ _ c.new-nodes.ensures.items

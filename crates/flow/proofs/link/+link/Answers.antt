@@ -1,11 +1,12 @@
 use Rattle.std.proofs.Common.{◌++◌, refl, sym, ap, ◌∙◌, subst}
 use Rattle.code.specs.CodeViews.{code_view}
-use Rattle.code.proofs.Codes.{code_view-Skip, code_view-Does, code_view-Leave, code_view-Then, code_view-Sequence, code_view-Choice, code_view-Repeats, code_view-UpTo}
+use Rattle.code.proofs.Codes.{code_view-Skip, code_view-Does, code_view-Leave, code_view-Then, code_view-Sequence, code_view-Choice, code_view-Repeats, code_view-UpTo, code_view-UpToFalls}
 use Rattle.flow.specs.GraphViews.{Adds}
 use Rattle.flow.specs.TurnSizes.{turn_sizes, FirstsOfTurn, Takes}
 use Rattle.flow.proofs.FirstNodes.{if_ok}
 use Rattle.flow.proofs.TurnCounts.{sizes_backward, sizes_one_of}
 use Rattle.flow.proofs.LinkedNodes.{adds_none, adds_one, adds_then, adds_inside, takes_none, takes_on, takes_both, takes_turn, taken_so_far-none, taken_so_far-next, taken_so_far-all, added_so_far-none, added_so_far-next, added_so_far-all, ways_added-none, ways_added-next, ways_added-all}
+use Rattle.flow.proofs.Falls.{turn_sizes_falls, adds_inside_falls}
 use Rattle.flow.proofs.link.+link.Goals as goal
 
 pub link-returns-in-Skip : goal.link-returns-in-Skip
@@ -70,6 +71,15 @@ link-returns-in_ok-first-in-UpTo g t c =
     (λ of_a. adds_inside _ _ _ c.args.graph.now.exits c.enter.new.self c.link-in-UpTo.new.graph.exits c.leave.new.self
     c.args.graph.now.nodes c.link-in-UpTo.new.graph.nodes _ c.in_ok-enter-in-UpTo.ensures of_a c.leave.ensures)
     c.in_ok-first-in-UpTo.ensures)
+
+pub link-returns-in_ok-first-in-UpToFalls : goal.link-returns-in_ok-first-in-UpToFalls
+link-returns-in_ok-first-in-UpToFalls g t c =
+    rw (c.in-UpToFalls.is, code_view-UpToFalls, turn_sizes_falls, ← c.deref-in-UpToFalls.ensures.value, ← c.deref-in-UpToFalls-2.ensures)
+    (takes_on _ _ _
+    (λ of_a. adds_inside_falls _ _ _ c.args.graph.now.exits c.enter_falls.new.self c.link-in-UpToFalls.new.graph.exits
+    c.leave-in-UpToFalls.new.self c.args.graph.now.nodes c.link-in-UpToFalls.new.graph.nodes _
+    c.in_ok-enter_falls-in-UpToFalls.ensures of_a c.leave-in-UpToFalls.ensures)
+    c.in_ok-first-in-UpToFalls.ensures)
 
 pub link_choice-loop-code-init : goal.link_choice-loop-code-init
 link_choice-loop-code-init g t c = taken_so_far-none _ _ (ways_added-none _ _ _ _ _ c.new-first.ensures.items)

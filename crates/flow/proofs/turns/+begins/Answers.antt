@@ -3,8 +3,9 @@ use Rattle.std.proofs.lemmas.Bool.{ne_eqb}
 use Rattle.std.proofs.lemmas.List.{length-map}
 use Rattle.code.specs.CodeViews.{code_view}
 use Rattle.flow.specs.TurnSizes.{last_begins}
-use Rattle.code.proofs.Codes.{code_view-Skip, code_view-Does, code_view-Leave, code_view-Then, code_view-Sequence, code_view-Choice, code_view-Repeats, code_view-UpTo}
+use Rattle.code.proofs.Codes.{code_view-Skip, code_view-Does, code_view-Leave, code_view-Then, code_view-Sequence, code_view-Choice, code_view-Repeats, code_view-UpTo, code_view-UpToFalls}
 use Rattle.flow.proofs.TurnCounts.{begins_backward, begins_only, begins_more, last_found}
+use Rattle.flow.proofs.Falls.{begins_falls}
 use Rattle.flow.proofs.turns.+begins.Goals as goal
 
 pub begins_with_event-returns-in-Skip : goal.begins_with_event-returns-in-Skip
@@ -31,6 +32,11 @@ begins_with_event-returns-in-Repeats g t c =
 pub begins_with_event-returns-in-UpTo : goal.begins_with_event-returns-in-UpTo
 begins_with_event-returns-in-UpTo g t c =
     rw (c.in-UpTo.is, code_view-UpTo, ← c.deref-in-UpTo.ensures) c.begins_with_event-in-UpTo.ensures
+
+pub begins_with_event-returns-in-UpToFalls : goal.begins_with_event-returns-in-UpToFalls
+begins_with_event-returns-in-UpToFalls g t c =
+    rw (c.in-UpToFalls.is, code_view-UpToFalls, begins_falls, ← c.deref-in-UpToFalls.ensures)
+    c.begins_with_event-in-UpToFalls.ensures
 
 pub begins_with_event-returns-then-len-eq1 : goal.begins_with_event-returns-then-len-eq1
 begins_with_event-returns-then-len-eq1 g t c =

@@ -1,7 +1,8 @@
 use Rattle.std.proofs.Common.{refl}
-use Rattle.code.proofs.Codes.{code_view-Skip, code_view-Does, code_view-Leave, code_view-Then, code_view-Sequence, code_view-Choice, code_view-Repeats, code_view-UpTo}
+use Rattle.code.proofs.Codes.{code_view-Skip, code_view-Does, code_view-Leave, code_view-Then, code_view-Sequence, code_view-Choice, code_view-Repeats, code_view-UpTo, code_view-UpToFalls}
 use Rattle.flow.proofs.FirstNodes.{if_ok}
 use Rattle.flow.proofs.TurnCounts.{counts_none, counts_then, counts_sequence, counts_choice, counted-none, counted-next, counted-all}
+use Rattle.flow.proofs.Falls.{counts_falls}
 use Rattle.flow.proofs.turns.+count.Goals as goal
 
 pub count-returns-in-Skip : goal.count-returns-in-Skip
@@ -36,6 +37,11 @@ pub count-returns-in-UpTo : goal.count-returns-in-UpTo
 count-returns-in-UpTo g t c =
     rw (c.in-UpTo.is, code_view-UpTo, ← c.deref-in-UpTo.ensures)
     (if_ok c.count-in-UpTo.result (λ v h. record { is_size = h.is_size; are_turns = h.are_turns }) c.count-in-UpTo.ensures)
+
+pub count-returns-in-UpToFalls : goal.count-returns-in-UpToFalls
+count-returns-in-UpToFalls g t c =
+    rw (c.in-UpToFalls.is, code_view-UpToFalls, ← c.deref-in-UpToFalls.ensures)
+    (if_ok c.count-in-UpToFalls.result (λ v h. counts_falls _ _ _ _ v h) c.count-in-UpToFalls.ensures)
 
 pub count_all-loop-code-init : goal.count_all-loop-code-init
 count_all-loop-code-init g t c = counted-none _ _

@@ -1,8 +1,9 @@
-use Rattle.std.proofs.Common.{◌∙◌, ℕ, ap, map}
+use Rattle.std.proofs.Common.{map}
 use Rattle.std.proofs.lemmas.Result.{IfOk-weaker}
-use Rattle.judge.specs.CauseMentions.{files_mention}
+use Rattle.judge.proofs.SameMentions.{same_mentions}
 use Rattle.judge.proofs.mentioned.trees_mention.Goals as goal
-use Rattle.meaning.specs.FunctionFacts.{Meanings}
+use Rattle.meaning.specs.Declarations.{declaration_of_use}
+use Rattle.names.specs.Answers.{declared_at, names_by_path}
 use Rattle.tree.specs.View.{file_syntax}
 
 pub returns : goal.returns
@@ -10,5 +11,6 @@ returns c =
     let trees = map file_syntax c.args.files.now in
     IfOk-weaker c.files_mention.result _ _
     (λ does is.
-    is ∙ ap (λ (means : ℕ → Meanings). files_mention means 0 trees) (λ i file at. c.in_ok-names.ensures file at i))
+    same_mentions (declared_at c.in_ok-names.names) (declaration_of_use trees (names_by_path c.args.packages.now)) trees
+    does c.in_ok-names.ensures is)
     c.files_mention.ensures

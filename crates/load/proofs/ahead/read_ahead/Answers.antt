@@ -10,7 +10,7 @@ returns g c =
     let files = c.in_ok-files.files.items in
     let read = c.in_ok-parsed.parsed.items in
     let outcomes =
-    subst (λ fs. AreOutcomes (λ file parsed. IsParsed file.now parsed) fs read) c.deref.ensures.value c.in_ok-parsed.ensures
+    subst (λ fs. AreOutcomes (λ file parsed. IsParsed file.edition file.source.now parsed) fs read) c.deref.ensures.value c.in_ok-parsed.ensures
     in
     subst (AreReadAhead (files_of c.args.packages.now)) (sym c.into_iter.ensures.rest)
     (subst (λ fs. AreReadAhead fs read) c.in_ok-files.ensures (of_outcomes files read outcomes))

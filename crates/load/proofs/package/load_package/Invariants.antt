@@ -1,7 +1,6 @@
 use Rattle.std.proofs.Common.{◌++◌, List, drop}
 use Rattle.std.specs.Vec.Iter.{into_iter_items}
-use Rattle.lexer.specs.declared.source.Source.{Source}
-use Rattle.load.specs.Ahead.{AreReadAhead}
+use Rattle.load.specs.Ahead.{files_in, AreReadAhead, EditionAndFile}
 use Rattle.load.proofs.FilesLoaded.{LoadsSo}
 use Rattle.load.proofs.package.load_package.Given as goal
 
@@ -9,6 +8,7 @@ use Rattle.load.proofs.package.load_package.Given as goal
 abbrev pub invariant-loop-source : goal.invariant-loop-source
 invariant-loop-source l =
     let left = drop l.source-index l.source-items in
-    (after : List Source) → AreReadAhead (l.source-items ++ after) (into_iter_items l.initial.ahead)
-    → LoadsSo l.source-items left l.readings.items l.trees.items
-    × AreReadAhead (left ++ after) (into_iter_items l.ahead)
+    (after : List EditionAndFile)
+    → AreReadAhead (files_in l.edition l.source-items ++ after) (into_iter_items l.initial.ahead)
+    → LoadsSo l.edition l.source-items left l.readings.items l.trees.items
+    × AreReadAhead (files_in l.edition left ++ after) (into_iter_items l.ahead)

@@ -1,5 +1,5 @@
 use Rattle.std.proofs.Common.{◌≡◌, ◌++◌, drop, map}
-use Rattle.meaning.specs.Mentions.{top_levels_marks}
+use Rattle.meaning.specs.Mentions.{top_levels_marks, marks_by}
 use Rattle.mentions.specs.MarkViews.{marks_view}
 use Rattle.tree.specs.View.{top_level_syntax}
 use Rattle.marks.proofs.file.file_marks.Given as goal
@@ -7,5 +7,7 @@ use Rattle.marks.proofs.file.file_marks.Given as goal
 -- what was added with what the other declarations add is the whole
 abbrev pub invariant-loop-declaration : goal.invariant-loop-declaration
 invariant-loop-declaration l =
-    marks_view l.marks.list.items ++ top_levels_marks (map top_level_syntax (drop l.declaration-index l.declaration-items))
-    ≡ top_levels_marks (map top_level_syntax l.declaration-items)
+    (l.walk.edition ≡ l.fn.edition)
+    × (marks_view l.walk.marks.list.items
+    ++ marks_by l.fn.edition (top_levels_marks (map top_level_syntax (drop l.declaration-index l.declaration-items)))
+    ≡ marks_by l.fn.edition (top_levels_marks (map top_level_syntax l.declaration-items)))

@@ -1,8 +1,8 @@
-use Rattle.std.proofs.Common.{ap, sym, ◌∙◌}
+use Rattle.std.proofs.Common.{ap, sym, ◌∙◌, refl}
 use Rattle.tree.specs.View.{statements_syntax}
 use Rattle.meaning.specs.Mentions.{statements_marks}
 use Rattle.tree.proofs.Views.{block_statements-out}
-use Rattle.mentions.proofs.Adding.{adds_same}
+use Rattle.marks.proofs.AddingBy.{alone_kept, adds_kept, adds_same}
 use Rattle.marks.proofs.OuterMarks.{adds_function, braces_out, receiver_same, body_same}
 use Rattle.marks.proofs.WalkLists.{opens_kept}
 use Rattle.marks.proofs.file.function.Goals as goal
@@ -13,9 +13,9 @@ returns-in_ok-push-in-Some-2 c =
     (adds_function _ _ _ _ _ _ _ _
     (opens_kept _ _ c.in_ok-place-in-Some.place _
     (c.in_ok-place-in-Some.ensures ∙ body_same _ _ _ _ _ _ _ (receiver_same _ _ c.as_deref.ensures.value))
-    c.in_ok-push-in-Some.ensures)
+    (adds_kept _ _ _ (alone_kept _ refl) c.in_ok-push-in-Some.ensures))
     c.in_ok-function_types-in-Some.ensures
     (adds_same _ _ _ _
     (ap (λ l. statements_marks (statements_syntax l)) (c.deref-in-Some.ensures.value ∙ sym c.deref.ensures.value))
     c.in_ok-statements-in-Some.ensures)
-    c.in_ok-push-in-Some-2.ensures)
+    (adds_kept _ _ _ (alone_kept _ refl) c.in_ok-push-in-Some-2.ensures))

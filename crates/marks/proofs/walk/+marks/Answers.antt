@@ -1,21 +1,26 @@
-use Rattle.std.proofs.Common.{[], ◌∷◌, ◌+◌, drop, refl, sym, ap, ◌∙◌, true, false, Bor, option_map}
+use Rattle.std.proofs.Common.{[], ◌∷◌, ◌++◌, ◌+◌, ◌-◌, drop, refl, sym, ap, ◌∙◌, true, false, Bor, option_map}
 use Rattle.tree.specs.declared.expression.Expr.{Expr}
 use Rattle.tree.specs.declared.span.Identifier.{Identifier}
-use Rattle.tree.specs.View.{identifier_syntax, expression_syntax, expressions_syntax, optional_expression_syntax, parameters_syntax, fields_syntax, statements_syntax, cases_syntax, communications_syntax, specs_syntax}
+use Rattle.tree.specs.declared.statement.Block.{out-Block}
+use Rattle.tree.specs.declared.statement.CaseClause.{out-CaseClause}
+use Rattle.tree.specs.View.{identifier_syntax, expression_syntax, expressions_syntax, optional_expression_syntax, parameters_syntax, fields_syntax, statement_syntax, statements_syntax, optional_statement_syntax, cases_syntax, communications_syntax, specs_syntax}
 use Rattle.tree.proofs.Depths.{drop_item, drop_past}
-use Rattle.tree.proofs.Views.{expression_form-Name, expression_form-BasicLit, expression_form-FuncLit, expression_form-CompositeLit, expression_form-LiteralValue, expression_form-KeyValue, expression_form-Paren, expression_form-Selector, expression_form-Index, expression_form-Slice, low_bound_of, high_bound_of, most_bound_of, expression_form-TypeAssert, expression_form-Call, expression_form-Star, expression_form-Unary, expression_form-Binary, expression_form-ArrayType, expression_form-EllipsisArrayType, expression_form-SliceType, expression_form-MapType, expression_form-ChanType, expression_form-FuncType, expression_form-StructType, expression_form-InterfaceType, statement_form-Empty, statement_form-Decl, statement_form-Labeled, statement_form-Expr, statement_form-Send, statement_form-Increment, statement_form-Decrement, statement_form-Assign, statement_form-AssignOp, statement_form-Define, statement_form-Go, statement_form-Defer, statement_form-Return, statement_form-Break, statement_form-Continue, statement_form-Block, statement_form-If, statement_form-For, statement_form-RangeAssign, statement_form-RangeDefine, statement_form-Switch, statement_form-TypeSwitch, statement_form-Select, block_statements-out, parameter_and-Named, parameter_and-Unnamed, parameter_and-NameAlone, field_and-Named, field_and-Embedded, field_and-Method, spec_and-Value, spec_and-Type}
+use Rattle.tree.proofs.Views.{expression_form-Name, expression_form-BasicLit, expression_form-FuncLit, expression_form-CompositeLit, expression_form-LiteralValue, expression_form-KeyValue, expression_form-Paren, expression_form-Selector, expression_form-Index, expression_form-Instance, expression_form-Slice, low_bound_of, high_bound_of, most_bound_of, expression_form-TypeAssert, expression_form-Call, expression_form-Star, expression_form-Unary, expression_form-Binary, expression_form-ArrayType, expression_form-EllipsisArrayType, expression_form-SliceType, expression_form-MapType, expression_form-ChanType, expression_form-FuncType, expression_form-StructType, expression_form-InterfaceType, statement_form-Empty, statement_form-Decl, statement_form-Labeled, statement_form-Expr, statement_form-Send, statement_form-Increment, statement_form-Decrement, statement_form-Assign, statement_form-AssignOp, statement_form-Define, statement_form-Go, statement_form-Defer, statement_form-Return, statement_form-Break, statement_form-Continue, statement_form-Goto, statement_form-Fallthrough, statement_form-Block, statement_form-If, statement_form-For, statement_form-RangeAssign, statement_form-RangeDefine, statement_form-Switch, statement_form-TypeSwitch, statement_form-Select, block_statements-out, parameter_and-Named, parameter_and-Unnamed, parameter_and-NameAlone, field_and-Named, field_and-Embedded, field_and-Element, field_and-Method, spec_and-Value, spec_and-Type}
 use Rattle.mentions.specs.MarkViews.{named_view, place_view, call_view, optional_call, role_view, row_view, spot_view, standing_view, use_view}
-use Rattle.meaning.specs.Mentions.{bare, addressed, as_bare, as_statement, argument, argument_at, argument_or, argument_use, callee_use, deferral, deferred, left, named_or, names_type, place_in, return_item, as_named, select_from, call_of, mention, elsewhere, part_of, whole, expression_marks, form_marks, expressions_marks, optional_marks, arguments_marks, items_marks, lefts_marks, names_type_marks, signature_marks, parameters_marks, fields_marks, statement_marks, statement_form_marks, statements_marks, optional_statement_marks, cases_marks, communications_marks, specs_marks}
-use Rattle.mentions.proofs.Adding.{adds_nothing, adds_same, adds_next, adds_all, then_adds, same_adds, three_adds, four_adds, alone_adds, then_alone_adds}
-use Rattle.marks.proofs.WalkLists.{adds_case, adds_communication, adds_body, opens_kept, parameters_more, fields_more, specs_more, cases_more, communications_more, literal_marks, guard_same}
-use Rattle.marks.proofs.WalkSteps.{at_spot, all_at_spot, adds_at_spot, named_at_spot, named_adds, call_adds, assigned_row, assignment_adds, defined_row, definition_adds, declared_same, spec_adds, return_adds, no_operator, operator_argument, argument_first, item_first, left_first, used_at, alone_adds_argument}
+use Rattle.meaning.specs.Scopes.{parameters_named}
+use Rattle.meaning.specs.Mentions.{declared_elsewhere, bare, addressed, as_bare, as_statement, argument, argument_at, argument_or, argument_use, callee_use, deferral, deferred, left, named_or, names_type, place_in, return_item, as_named, select_from, call_of, mention, elsewhere, part_of, whole, expression_marks, form_marks, expressions_marks, optional_marks, arguments_marks, items_marks, lefts_marks, ranged_marks, exposed_or, ordinary, first_row, row_in, behind_row, guard_marks, nil_where, nil_marks, names_type_marks, signature_marks, parameters_marks, fields_marks, statement_marks, statement_form_marks, statements_marks, optional_statement_marks, cases_marks, communications_marks, specs_marks}
+use Rattle.mentions.proofs.Adding.{same_adds as raw_same}
+use Rattle.marks.proofs.AddingBy.{left_names_kept, elsewhere_kept, guard_kept, mention_kept, alone_kept, adds_kept, kept_adds, adds_nothing, adds_same, adds_then, adds_next, adds_all, then_adds, same_adds, three_adds, four_adds, alone_adds}
+use Rattle.marks.proofs.WalkLists.{adds_case, adds_communication, adds_body, opens_kept, block_braces-out, parameters_more, fields_more, specs_more, cases_more, communications_more, literal_marks, guard_same}
+use Rattle.marks.proofs.WalkSteps.{at_spot, all_at_spot, adds_at_spot, named_at_spot, named_adds, call_adds, assigned_row, assignment_adds, defined_row, definition_adds, declared_same, spec_adds, return_adds, no_operator, operator_argument, argument_first, item_first, left_first, ranged_first, statement_first, branch_adds, place_finds, used_at, alone_adds_argument}
 use Rattle.marks.proofs.walk.+marks.Goals as goal
 
 pub expression_form-returns-in-Name : goal.expression_form-returns-in-Name
 unfolding form_marks
 expression_form-returns-in-Name t c =
     rw (c.in-Name.is, expression_form-Name)
-    (same_adds _ _ _ _ _ (λ i. mention c.args.spot.site (c.name_role-role.ensures i) (bare (c.as_str.ensures i) c.args.span.start) ∷ []) c.mention.ensures)
+    (kept_adds _ _ _ _ (mention_kept _ (place_finds (place_view c.args.spot.place)) _ _)
+    (raw_same _ _ _ _ _ (λ i. mention c.args.spot.site (c.name_role-role.ensures i) (bare (c.as_str.ensures i) c.args.span.start) ∷ []) c.mention.ensures))
 
 pub expression_form-returns-in-BasicLit : goal.expression_form-returns-in-BasicLit
 unfolding form_marks
@@ -33,14 +38,14 @@ expression_form-returns-in_ok-part-in-CompositeLit t c =
     rw (c.in-CompositeLit.is, expression_form-CompositeLit, ← c.deref-in-CompositeLit.ensures, ← c.deref-in-CompositeLit-2.ensures.value)
     (then_adds _ _ _ _ _ (expressions_marks (part_of c.args.spot.site) (expressions_syntax c.deref-in-CompositeLit-2.result.now))
     c.in_ok-part-in-CompositeLit.ensures
-    (all_at_spot c.expressions.result c.part.new.marks.list.items c.expressions.new.marks.list.items (spot_view c.part_of.result)
+    (all_at_spot c.expressions.result c.part.new.walk c.expressions.new.walk (spot_view c.part_of.result)
     (part_of c.args.spot.site) (expressions_syntax c.deref-in-CompositeLit-2.result.now) c.part_of.ensures c.expressions.ensures))
 
 pub expression_form-returns-in-LiteralValue : goal.expression_form-returns-in-LiteralValue
 unfolding form_marks
 expression_form-returns-in-LiteralValue t c =
     rw (c.in-LiteralValue.is, expression_form-LiteralValue, ← c.deref-in-LiteralValue.ensures.value)
-    (all_at_spot c.expressions-in-LiteralValue.result c.args.marks.now.list.items c.expressions-in-LiteralValue.new.marks.list.items
+    (all_at_spot c.expressions-in-LiteralValue.result c.args.walk.now c.expressions-in-LiteralValue.new.walk
     (spot_view c.part_of-in-LiteralValue.result) (part_of c.args.spot.site) (expressions_syntax c.deref-in-LiteralValue.result.now)
     c.part_of-in-LiteralValue.ensures c.expressions-in-LiteralValue.ensures)
 
@@ -60,7 +65,7 @@ pub expression_form-returns-in-Selector : goal.expression_form-returns-in-Select
 unfolding form_marks
 expression_form-returns-in-Selector t c =
     rw (c.in-Selector.is, expression_form-Selector, ← c.deref-in-Selector.ensures)
-    (named_adds c.named_or.result c.args.marks.now.list.items c.named_or.new.marks.list.items (option_map named_view c.select_from-named.result)
+    (named_adds c.named_or.result c.args.walk.now c.named_or.new.walk (option_map named_view c.select_from-named.result)
     (select_from (as_bare (expression_syntax c.deref-in-Selector.result.now)) (identifier_syntax c.in-Selector.member)) c.args.spot.site
     elsewhere (expression_marks (part_of c.args.spot.site) (expression_syntax c.deref-in-Selector-2.result.now))
     (expression_marks (part_of c.args.spot.site) (expression_syntax c.deref-in-Selector.result.now))
@@ -73,6 +78,16 @@ unfolding form_marks
 expression_form-returns-in_ok-part-in-Index t c =
     rw (c.in-Index.is, expression_form-Index, ← c.deref-in-Index.ensures, ← c.deref-in-Index-2.ensures)
     (then_adds _ _ _ _ _ _ c.in_ok-part-in-Index.ensures c.part-in-Index-2.ensures)
+
+pub expression_form-returns-in_ok-part-in-Instance : goal.expression_form-returns-in_ok-part-in-Instance
+unfolding form_marks
+expression_form-returns-in_ok-part-in-Instance t c =
+    rw (c.in-Instance.is, expression_form-Instance, ← c.deref-in-Instance.ensures, ← c.deref-in-Instance-2.ensures.value)
+    (then_adds _ _ _ _ _ (expressions_marks (part_of c.args.spot.site) (expressions_syntax c.deref-in-Instance-2.result.now))
+    c.in_ok-part-in-Instance.ensures
+    (all_at_spot c.expressions-in-Instance.result c.part-in-Instance.new.walk c.expressions-in-Instance.new.walk
+    (spot_view c.part_of-in-Instance.result) (part_of c.args.spot.site) (expressions_syntax c.deref-in-Instance-2.result.now)
+    c.part_of-in-Instance.ensures c.expressions-in-Instance.ensures))
 
 pub expression_form-returns-in_ok-optional-in-Slice-2 : goal.expression_form-returns-in_ok-optional-in-Slice-2
 unfolding form_marks
@@ -98,7 +113,7 @@ pub expression_form-returns-in_ok-callee_or-in-Call : goal.expression_form-retur
 unfolding form_marks
 expression_form-returns-in_ok-callee_or-in-Call t c =
     rw (c.in-Call.is, expression_form-Call, ← c.deref-in-Call-3.ensures, ← c.deref-in-Call-4.ensures.value)
-    (call_adds c.all_arguments.result c.args.marks.now.list.items c.callee_or.new.marks.list.items c.all_arguments.new.marks.list.items c.args.spot.site
+    (call_adds c.all_arguments.result c.args.walk.now c.callee_or.new.walk c.all_arguments.new.walk c.args.spot.site
     (optional_call c.in_ok-call-in-Call.call)
     (call_of (place_view c.args.spot.place) (expression_syntax c.deref-in-Call-3.result.now)
     (expressions_syntax c.deref-in-Call-4.result.now) c.in-Call.has_ellipsis)
@@ -195,7 +210,7 @@ pub statement_form-returns-in-Expr : goal.statement_form-returns-in-Expr
 unfolding statement_form_marks
 statement_form-returns-in-Expr t c =
     rw (c.in-Expr.is, statement_form-Expr)
-    (at_spot c.expression.result c.args.marks.now.list.items c.expression.new.marks.list.items (spot_view c.whole.result)
+    (at_spot c.expression.result c.args.walk.now c.expression.new.walk (spot_view c.whole.result)
     (whole (place_in (standing_view c.args.standing) as_statement) c.args.at) (expression_syntax c.in-Expr.value)
     (c.whole.ensures ∙ ap (λ p. whole p c.args.at) c.place_in-place.ensures) c.expression.ensures)
 
@@ -209,13 +224,13 @@ pub statement_form-returns-in-Increment : goal.statement_form-returns-in-Increme
 unfolding statement_form_marks
 statement_form-returns-in-Increment t c =
     rw (c.in-Increment.is, statement_form-Increment)
-    c.part-in-Increment.ensures
+    c.exposed_or.ensures
 
 pub statement_form-returns-in-Decrement : goal.statement_form-returns-in-Decrement
 unfolding statement_form_marks
 statement_form-returns-in-Decrement t c =
     rw (c.in-Decrement.is, statement_form-Decrement)
-    c.part-in-Decrement.ensures
+    c.exposed_or-in-Decrement.ensures
 
 pub statement_form-returns-in_ok-expressions-in-Assign : goal.statement_form-returns-in_ok-expressions-in-Assign
 unfolding statement_form_marks
@@ -227,11 +242,11 @@ statement_form-returns-in_ok-expressions-in-Assign t c =
     c.deref-in-Assign-3.ensures.value c.deref-in-Assign-4.ensures.value c.value_spot.ensures c.in_ok-expressions-in-Assign.ensures
     c.lefts.ensures)
 
-pub statement_form-returns-in_ok-part-in-AssignOp : goal.statement_form-returns-in_ok-part-in-AssignOp
+pub statement_form-returns-in_ok-exposed_or-in-AssignOp : goal.statement_form-returns-in_ok-exposed_or-in-AssignOp
 unfolding statement_form_marks
-statement_form-returns-in_ok-part-in-AssignOp t c =
+statement_form-returns-in_ok-exposed_or-in-AssignOp t c =
     rw (c.in-AssignOp.is, statement_form-AssignOp, ← c.deref-in-AssignOp.ensures, ← c.deref-in-AssignOp-2.ensures)
-    (then_adds _ _ _ _ _ _ c.in_ok-part-in-AssignOp.ensures c.part-in-AssignOp-2.ensures)
+    (then_adds _ _ _ _ _ _ c.in_ok-exposed_or-in-AssignOp.ensures c.part-in-AssignOp.ensures)
 
 pub statement_form-returns-in_ok-expressions-in-Define : goal.statement_form-returns-in_ok-expressions-in-Define
 unfolding statement_form_marks
@@ -241,7 +256,7 @@ statement_form-returns-in_ok-expressions-in-Define t c =
     (c.in_ok-row-in-Define.ensures
     ∙ defined_row (standing_view c.args.standing) c.args.at _ _ _ _ c.deref-in-Define.ensures.value c.deref-in-Define-2.ensures.value)
     c.deref-in-Define-3.ensures.value c.deref-in-Define-4.ensures.value c.value_spot-in-Define.ensures c.in_ok-expressions-in-Define.ensures
-    c.left_names.ensures)
+    (kept_adds _ _ _ _ (left_names_kept _ _ _ _) c.left_names.ensures))
 
 pub statement_form-returns-in-Go : goal.statement_form-returns-in-Go
 unfolding statement_form_marks
@@ -253,7 +268,7 @@ pub statement_form-returns-in-Defer : goal.statement_form-returns-in-Defer
 unfolding statement_form_marks
 statement_form-returns-in-Defer t c =
     rw (c.in-Defer.is, statement_form-Defer)
-    (at_spot c.expression-in-Defer.result c.args.marks.now.list.items c.expression-in-Defer.new.marks.list.items (spot_view c.whole-in-Defer.result)
+    (at_spot c.expression-in-Defer.result c.args.walk.now c.expression-in-Defer.new.walk (spot_view c.whole-in-Defer.result)
     (whole deferred c.args.at) (expression_syntax c.in-Defer.call) c.whole-in-Defer.ensures c.expression-in-Defer.ensures)
 
 pub statement_form-returns-in_ok-push-in-Return : goal.statement_form-returns-in_ok-push-in-Return
@@ -261,7 +276,7 @@ unfolding statement_form_marks
 statement_form-returns-in_ok-push-in-Return t c =
     rw (c.in-Return.is, statement_form-Return)
     (return_adds _ _ _ _ _ _ _ c.deref-in-Return.ensures.value c.deref-in-Return-2.ensures.value c.in_ok-items-in-Return.ensures
-    c.in_ok-push-in-Return.ensures)
+    (adds_kept _ _ _ (alone_kept _ refl) c.in_ok-push-in-Return.ensures))
 
 pub statement_form-returns-in-Break : goal.statement_form-returns-in-Break
 unfolding statement_form_marks
@@ -271,17 +286,46 @@ pub statement_form-returns-in-Continue : goal.statement_form-returns-in-Continue
 unfolding statement_form_marks
 statement_form-returns-in-Continue t c = rw (c.in-Continue.is, statement_form-Continue) (adds_nothing _)
 
+pub statement_form-returns-in-Goto : goal.statement_form-returns-in-Goto
+unfolding statement_form_marks
+statement_form-returns-in-Goto t c = rw (c.in-Goto.is, statement_form-Goto) (adds_nothing _)
+
+pub statement_form-returns-in-Fallthrough : goal.statement_form-returns-in-Fallthrough
+unfolding statement_form_marks
+statement_form-returns-in-Fallthrough t c = rw (c.in-Fallthrough.is, statement_form-Fallthrough) (adds_nothing _)
+
 pub statement_form-returns-in-Block : goal.statement_form-returns-in-Block
 unfolding statement_form_marks
 statement_form-returns-in-Block t c =
     rw (c.in-Block.is, statement_form-Block, block_statements-out, ← c.deref-in-Block.ensures.value)
     c.statements.ensures
 
-pub statement_form-returns-in_ok-statements-in-If : goal.statement_form-returns-in_ok-statements-in-If
+pub statement_form-returns-in_ok-found_nil-in-If-2 : goal.statement_form-returns-in_ok-found_nil-in-If-2
 unfolding statement_form_marks
-statement_form-returns-in_ok-statements-in-If t c =
-    rw (c.in-If.is, statement_form-If, block_statements-out, ← c.deref-in-If.ensures, ← c.deref-in-If-2.ensures.value)
-    (four_adds _ _ _ _ _ _ _ _ _ _ c.in_ok-optional_statement-in-If.ensures c.in_ok-part-in-If.ensures c.in_ok-statements-in-If.ensures
+statement_form-returns-in_ok-found_nil-in-If-2 t c =
+    let e = c.in-If.condition.value in
+    let span = (out-Block c.in-If.body).span in
+    let row = first_row (optional_statement_syntax c.in-If.init) in
+    rw (c.in-If.is, statement_form-If, block_statements-out, block_braces-out, ← c.deref-in-If-4.ensures.value)
+    (branch_adds c.optional_statement-in-If.result _ _ _ _ _ _ _ _
+    (optional_statement_marks ordinary (optional_statement_syntax c.in-If.init))
+    (expression_marks (part_of c.args.at) (expression_syntax e))
+    (guard_marks row (expression_syntax e) span)
+    (nil_marks span.start (nil_where true (expression_syntax e)))
+    (statements_marks (statements_syntax c.deref-in-If-4.result.now))
+    (nil_marks (span.end - 1) (nil_where false (expression_syntax e)))
+    (optional_statement_marks ordinary (optional_statement_syntax c.in-If.otherwise))
+    c.in_ok-optional_statement-in-If.ensures
+    (adds_same _ _ _ _ (ap (λ (x : Expr). expression_marks (part_of c.args.at) (expression_syntax x)) c.deref-in-If.ensures)
+    c.in_ok-part-in-If.ensures)
+    (adds_same _ _ _ _ (ap (λ (x : Expr). guard_marks row (expression_syntax x) span) c.deref-in-If-2.ensures)
+    c.in_ok-first_guard-in-If.ensures)
+    (adds_same _ _ _ _ (ap (λ (x : Expr). nil_marks span.start (nil_where true (expression_syntax x))) c.deref-in-If-3.ensures)
+    c.in_ok-found_nil-in-If.ensures)
+    c.in_ok-statements-in-If.ensures
+    (adds_same _ _ _ _
+    (λ i. nil_marks (c.saturating_sub.ensures i) (nil_where false (expression_syntax (c.deref-in-If-5.ensures i))))
+    c.in_ok-found_nil-in-If-2.ensures)
     c.optional_statement-in-If.ensures)
 
 pub statement_form-returns-in_ok-optional_statement-in-For-2 : goal.statement_form-returns-in_ok-optional_statement-in-For-2
@@ -302,8 +346,7 @@ statement_form-returns-in_ok-part-in-RangeAssign t c =
       ← c.deref-in-RangeAssign-2.ensures,
       ← c.deref-in-RangeAssign-3.ensures.value,
     )
-    (three_adds _ _ _ _ _ _ _ _ (adds_at_spot c.args.marks.now.list.items c.expressions-in-RangeAssign.new.marks.list.items (spot_view c.part_of.result)
-    (part_of c.args.at) (expressions_syntax c.deref-in-RangeAssign.result.now) c.part_of.ensures c.in_ok-expressions-in-RangeAssign.ensures)
+    (three_adds _ _ _ _ _ _ _ _ c.in_ok-ranged-in-RangeAssign.ensures
     c.in_ok-part-in-RangeAssign.ensures c.statements-in-RangeAssign.ensures)
 
 pub statement_form-returns-in_ok-declared_elsewhere-in-RangeDefine : goal.statement_form-returns-in_ok-declared_elsewhere-in-RangeDefine
@@ -317,7 +360,8 @@ statement_form-returns-in_ok-declared_elsewhere-in-RangeDefine t c =
       ← c.deref-in-RangeDefine-2.ensures.value,
       ← c.deref-in-RangeDefine-3.ensures.value,
     )
-    (three_adds _ _ _ _ _ _ _ _ c.in_ok-part-in-RangeDefine.ensures c.in_ok-declared_elsewhere-in-RangeDefine.ensures c.statements-in-RangeDefine.ensures)
+    (three_adds _ _ _ _ _ _ _ _ c.in_ok-part-in-RangeDefine.ensures
+    (adds_kept _ _ _ (elsewhere_kept _ _) c.in_ok-declared_elsewhere-in-RangeDefine.ensures) c.statements-in-RangeDefine.ensures)
 
 pub statement_form-returns-in_ok-optional-in-Switch : goal.statement_form-returns-in_ok-optional-in-Switch
 unfolding statement_form_marks
@@ -357,13 +401,13 @@ part-returns t c =
 
 pub named_or-returns : goal.named_or-returns
 named_or-returns t c =
-    named_at_spot c.named_at.result c.args.marks.now.list.items c.named_at.new.marks.list.items (option_map named_view c.args.named)
+    named_at_spot c.named_at.result c.args.walk.now c.named_at.new.walk (option_map named_view c.args.named)
     (role_view c.args.role) (spot_view c.part_of.result) (part_of c.args.site) (expression_syntax c.args.other.now)
     c.part_of.ensures c.named_at.ensures
 
 pub named_at-returns-in-Some : goal.named_at-returns-in-Some
 named_at-returns-in-Some t c =
-    rw c.in-Some.is c.mention.ensures
+    rw c.in-Some.is (kept_adds _ _ _ _ (mention_kept _ c.requires _ _) c.mention.ensures)
 
 pub named_at-returns-in-None : goal.named_at-returns-in-None
 named_at-returns-in-None t c =
@@ -372,37 +416,33 @@ named_at-returns-in-None t c =
 pub function_literal-returns-in_ok-push-in-DeferredCall : goal.function_literal-returns-in_ok-push-in-DeferredCall
 function_literal-returns-in_ok-push-in-DeferredCall t c =
     rw (literal_marks, ← c.deref-list.ensures.value)
-    (adds_body c.args.marks.now.list.items _ _ _ _ _ _ _ _ (deferral (use_view c.args.spot.literal) c.args.spot.site c.args.span.start)
-    (opens_kept _ _ c.in_ok-body.body _ c.in_ok-body.ensures c.in_ok-push.ensures) c.in_ok-signature.ensures
+    (adds_body c.args.walk.now _ _ _ _ _ _ _ _ (deferral (use_view c.args.spot.literal) c.args.spot.site c.args.span.start)
+    (opens_kept _ _ c.in_ok-body.body _ c.in_ok-body.ensures (adds_kept _ _ _ (alone_kept _ refl) c.in_ok-push.ensures)) c.in_ok-signature.ensures
     c.in_ok-statements.ensures
-    c.in_ok-push-2.ensures
-    (adds_same _ _ _ _ (ap (λ u. deferral (use_view u) c.args.spot.site c.args.span.start) (sym c.in-DeferredCall.is)) c.in_ok-push-in-DeferredCall.ensures))
+    (adds_kept _ c.push-2.new.self _ (alone_kept _ refl) c.in_ok-push-2.ensures)
+    (adds_same _ _ _ _ (ap (λ u. deferral (use_view u) c.args.spot.site c.args.span.start) (sym c.in-DeferredCall.is)) (adds_kept _ _ _ (alone_kept _ refl) c.in_ok-push-in-DeferredCall.ensures)))
 
 pub function_literal-returns-in-Other : goal.function_literal-returns-in-Other
 function_literal-returns-in-Other t c =
     rw (literal_marks, ← c.deref-list.ensures.value)
-    (adds_body c.args.marks.now.list.items _ _ _ _ _ _ _ _ (deferral (use_view c.args.spot.literal) c.args.spot.site c.args.span.start)
-    (opens_kept _ _ c.in_ok-body.body _ c.in_ok-body.ensures c.in_ok-push.ensures) c.in_ok-signature.ensures
+    (adds_body c.args.walk.now _ _ _ _ _ _ _ _ (deferral (use_view c.args.spot.literal) c.args.spot.site c.args.span.start)
+    (opens_kept _ _ c.in_ok-body.body _ c.in_ok-body.ensures (adds_kept _ _ _ (alone_kept _ refl) c.in_ok-push.ensures)) c.in_ok-signature.ensures
     c.in_ok-statements.ensures
-    c.in_ok-push-2.ensures
-    (adds_same _ _ _ _ (ap (λ u. deferral (use_view u) c.args.spot.site c.args.span.start) (sym c.in-Other.is)) (adds_nothing c.push-2.new.self.list.items)))
+    (adds_kept _ _ _ (alone_kept _ refl) c.in_ok-push-2.ensures)
+    (adds_same _ _ _ _ (ap (λ u. deferral (use_view u) c.args.spot.site c.args.span.start) (sym c.in-Other.is)) (adds_nothing _)))
 
 pub function_literal-returns-in-StartedBy : goal.function_literal-returns-in-StartedBy
 function_literal-returns-in-StartedBy t c =
     rw (literal_marks, ← c.deref-list.ensures.value)
-    (adds_body c.args.marks.now.list.items _ _ _ _ _ _ _ _ (deferral (use_view c.args.spot.literal) c.args.spot.site c.args.span.start)
-    (opens_kept _ _ c.in_ok-body.body _ c.in_ok-body.ensures c.in_ok-push.ensures) c.in_ok-signature.ensures
+    (adds_body c.args.walk.now _ _ _ _ _ _ _ _ (deferral (use_view c.args.spot.literal) c.args.spot.site c.args.span.start)
+    (opens_kept _ _ c.in_ok-body.body _ c.in_ok-body.ensures (adds_kept _ _ _ (alone_kept _ refl) c.in_ok-push.ensures)) c.in_ok-signature.ensures
     c.in_ok-statements.ensures
-    c.in_ok-push-2.ensures
-    (adds_same _ _ _ _ (ap (λ u. deferral (use_view u) c.args.spot.site c.args.span.start) (sym c.in-StartedBy.is)) (adds_nothing c.push-2.new.self.list.items)))
-
-pub unary-returns-in-OnlyValue : goal.unary-returns-in-OnlyValue
-unary-returns-in-OnlyValue t c =
-    rw c.in-OnlyValue.is (named_adds _ _ _ _ _ _ _ _ _ c.as_new_literal-named.ensures refl c.named_or.ensures)
+    (adds_kept _ _ _ (alone_kept _ refl) c.in_ok-push-2.ensures)
+    (adds_same _ _ _ _ (ap (λ u. deferral (use_view u) c.args.spot.site c.args.span.start) (sym c.in-StartedBy.is)) (adds_nothing _)))
 
 pub callee_or-returns-in-Some : goal.callee_or-returns-in-Some
 callee_or-returns-in-Some t c =
-    rw c.in-Some.is c.mention.ensures
+    rw c.in-Some.is (kept_adds _ _ _ _ (alone_kept _ refl) c.mention.ensures)
 
 pub callee_or-returns-in-None : goal.callee_or-returns-in-None
 callee_or-returns-in-None t c =
@@ -420,7 +460,7 @@ pub names_type-returns-in-Some : goal.names_type-returns-in-Some
 unfolding names_type_marks
 names_type-returns-in-Some t c =
     rw (c.in-Some.is, ← c.deref.ensures)
-    (named_adds c.named_or.result c.args.marks.now.list.items c.named_or.new.marks.list.items (option_map named_view c.as_named.result)
+    (named_adds c.named_or.result c.args.walk.now c.named_or.new.walk (option_map named_view c.as_named.result)
     (as_named (expression_syntax c.deref.result.now)) c.args.site (names_type (row_view c.args.row.now))
     (expression_marks (part_of c.args.site) (expression_syntax c.deref-in-Some.result.now))
     (expression_marks (part_of c.args.site) (expression_syntax c.deref.result.now)) c.as_named.ensures
@@ -466,7 +506,12 @@ field-returns-in-Named t c = rw (c.in-Named.is, field_and-Named) (alone_adds _ _
 
 pub field-returns-in-Embedded : goal.field-returns-in-Embedded
 unfolding fields_marks
-field-returns-in-Embedded t c = rw (c.in-Embedded.is, field_and-Embedded) (same_adds _ _ _ _ _ (λ i. mention c.args.site elsewhere (c.embedded.ensures i) ∷ []) c.mention.ensures)
+field-returns-in-Embedded t c = rw (c.in-Embedded.is, field_and-Embedded) (same_adds _ _ _ _ _ (λ i. mention c.args.site elsewhere (c.embedded.ensures i) ∷ [])
+    (kept_adds _ _ _ _ (alone_kept _ refl) c.mention.ensures))
+
+pub field-returns-in-Element : goal.field-returns-in-Element
+unfolding fields_marks
+field-returns-in-Element t c = rw (c.in-Element.is, field_and-Element) (alone_adds _ _ _ _ c.part-in-Element.ensures)
 
 pub field-returns-in-Method : goal.field-returns-in-Method
 unfolding fields_marks
@@ -476,88 +521,98 @@ pub spec-returns-in_ok-expressions-in-Value : goal.spec-returns-in_ok-expression
 unfolding specs_marks
 spec-returns-in_ok-expressions-in-Value t c =
     rw (c.in-Value.is, spec_and-Value)
-    (spec_adds _ c.args.marks.now.list.items _ _ _ _ (optional_expression_syntax c.in-Value.kind) _ _ _ _ _ _ _
+    (spec_adds _ c.args.walk.now _ _ _ _ (optional_expression_syntax c.in-Value.kind) _ _ _ _ _ _ _
     (c.in_ok-row-in-Value.ensures ∙ declared_same c.args.keyword c.args.at _ _ _ _ _ c.deref.ensures.value c.deref-in-Value.ensures.value)
-    c.deref-in-Value-2.ensures.value c.deref-in-Value-3.ensures.value c.value_spot.ensures c.in_ok-names_type-in-Value.ensures c.in_ok-expressions-in-Value.ensures c.left_names.ensures)
+    c.deref-in-Value-2.ensures.value c.deref-in-Value-3.ensures.value c.value_spot.ensures c.in_ok-names_type-in-Value.ensures c.in_ok-expressions-in-Value.ensures
+    (kept_adds _ _ _ _ (left_names_kept _ _ _ _) c.left_names.ensures))
 
-pub spec-returns-in_ok-declare_elsewhere-in-Type : goal.spec-returns-in_ok-declare_elsewhere-in-Type
+pub spec-returns-in_ok-parameters-in-Type : goal.spec-returns-in_ok-parameters-in-Type
 unfolding specs_marks
-spec-returns-in_ok-declare_elsewhere-in-Type t c =
-    rw (c.in-Type.is, spec_and-Type, ← c.deref-in-Type.ensures)
-    (then_alone_adds _ _ _ _ _ _ c.in_ok-declare_elsewhere-in-Type.ensures c.part.ensures)
+spec-returns-in_ok-parameters-in-Type t c =
+    rw (c.in-Type.is, spec_and-Type, ← c.deref-in-Type-2.ensures.value, ← c.deref-in-Type-3.ensures)
+    (four_adds _ _ _ _ _ _ _ _ _ _ (adds_kept _ c.declare_elsewhere.new.marks _ (alone_kept _ refl) c.in_ok-declare_elsewhere-in-Type.ensures)
+    (adds_same _ _ _ _
+    (ap (λ l. declared_elsewhere c.in-Type.span.start (parameters_named (parameters_syntax l)))
+    (c.deref-in-Type.ensures.value ∙ sym c.deref-in-Type-2.ensures.value))
+    (adds_kept _ c.declared_parameters.new.marks _ (elsewhere_kept _ _) c.in_ok-declared_parameters-in-Type.ensures))
+    c.in_ok-parameters-in-Type.ensures (alone_adds _ _ _ _ c.part.ensures))
 
 pub expressions-loop-item-preserved : goal.expressions-loop-item-preserved
 unfolding expressions_marks
 expressions-loop-item-preserved t c =
     let items = drop_item c.args.list.now c.loop-item.item-index c.item-item.result c.loop-item-test.true c.item-item.is in
-    adds_next _ _ _ _ _ _ c.loop-item.invariant (ap (λ l. expressions_marks (spot_view c.args.spot) (expressions_syntax l)) items) c.in_ok-expression.ensures
+    adds_next _ _ _ _ _ _ _ c.loop-item.invariant (ap (λ l. expressions_marks (spot_view c.args.spot) (expressions_syntax l)) items) c.in_ok-expression.ensures
 
 pub expressions-returns : goal.expressions-returns
 unfolding expressions_marks
 expressions-returns t c =
     let nothing = drop_past c.args.list.now c.loop-item.item-index c.loop-item-test.false in
-    adds_all c.args.marks.now.list.items _ _ (expressions_marks (spot_view c.args.spot) (expressions_syntax c.args.list.now)) c.loop-item.invariant
+    adds_all c.args.walk.now _ _ (expressions_marks (spot_view c.args.spot) (expressions_syntax c.args.list.now)) c.loop-item.invariant
     (ap (λ l. expressions_marks (spot_view c.args.spot) (expressions_syntax l)) nothing)
 
-pub statements-loop-item-preserved : goal.statements-loop-item-preserved
-unfolding statements_marks
-statements-loop-item-preserved t c =
-    let items = drop_item c.args.list.now c.loop-item.item-index c.item-item.result c.loop-item-test.true c.item-item.is in
-    adds_next _ _ _ _ _ _ c.loop-item.invariant (ap (λ l. statements_marks (statements_syntax l)) items) c.in_ok-statement.ensures
+pub statements-loop-index-preserved : goal.statements-loop-index-preserved
+statements-loop-index-preserved t c =
+    let item = c.index-list-index.result in
+    let items = drop_item c.args.list.now c.loop-index.index item c.loop-index-test.true c.index-list-index.is in
+    let rest = statements_syntax (drop (c.loop-index.index + 1) c.args.list.now) in
+    adds_next _ _ _ _ (statement_marks ordinary (statement_syntax item) ++ behind_row (row_in (statement_syntax item)) rest)
+    (statements_marks rest) _ c.loop-index.invariant
+    (ap (λ l. statements_marks (statements_syntax l)) items ∙ statement_first (statement_syntax item) rest)
+    (adds_then _ _ _ _ _ c.in_ok-statement.ensures c.in_ok-behind_row.ensures)
 
 pub statements-returns : goal.statements-returns
 unfolding statements_marks
 statements-returns t c =
-    let nothing = drop_past c.args.list.now c.loop-item.item-index c.loop-item-test.false in
-    adds_all c.args.marks.now.list.items _ _ (statements_marks (statements_syntax c.args.list.now)) c.loop-item.invariant
+    let nothing = drop_past c.args.list.now c.loop-index.index c.loop-index-test.false in
+    adds_all c.args.walk.now _ _ (statements_marks (statements_syntax c.args.list.now)) c.loop-index.invariant
     (ap (λ l. statements_marks (statements_syntax l)) nothing)
 
 pub parameters-loop-item-preserved : goal.parameters-loop-item-preserved
 unfolding parameters_marks
 parameters-loop-item-preserved t c =
     let items = drop_item c.args.list.now c.loop-item.item-index c.item-item.result c.loop-item-test.true c.item-item.is in
-    adds_next _ _ _ _ _ _ c.loop-item.invariant (ap (λ l. parameters_marks c.args.are_parameters c.args.site (parameters_syntax l)) items ∙ parameters_more _ _ _ _) c.in_ok-parameter.ensures
+    adds_next _ _ _ _ _ _ _ c.loop-item.invariant (ap (λ l. parameters_marks c.args.are_parameters c.args.site (parameters_syntax l)) items ∙ parameters_more _ _ _ _) c.in_ok-parameter.ensures
 
 pub parameters-returns : goal.parameters-returns
 unfolding parameters_marks
 parameters-returns t c =
     let nothing = drop_past c.args.list.now c.loop-item.item-index c.loop-item-test.false in
-    adds_all c.args.marks.now.list.items _ _ (parameters_marks c.args.are_parameters c.args.site (parameters_syntax c.args.list.now)) c.loop-item.invariant
+    adds_all c.args.walk.now _ _ (parameters_marks c.args.are_parameters c.args.site (parameters_syntax c.args.list.now)) c.loop-item.invariant
     (ap (λ l. parameters_marks c.args.are_parameters c.args.site (parameters_syntax l)) nothing)
 
 pub fields-loop-item-preserved : goal.fields-loop-item-preserved
 unfolding fields_marks
 fields-loop-item-preserved t c =
     let items = drop_item c.args.list.now c.loop-item.item-index c.item-item.result c.loop-item-test.true c.item-item.is in
-    adds_next _ _ _ _ _ _ c.loop-item.invariant (ap (λ l. fields_marks c.args.site (fields_syntax l)) items ∙ fields_more _ _ _) c.in_ok-field.ensures
+    adds_next _ _ _ _ _ _ _ c.loop-item.invariant (ap (λ l. fields_marks c.args.site (fields_syntax l)) items ∙ fields_more _ _ _) c.in_ok-field.ensures
 
 pub fields-returns : goal.fields-returns
 unfolding fields_marks
 fields-returns t c =
     let nothing = drop_past c.args.list.now c.loop-item.item-index c.loop-item-test.false in
-    adds_all c.args.marks.now.list.items _ _ (fields_marks c.args.site (fields_syntax c.args.list.now)) c.loop-item.invariant
+    adds_all c.args.walk.now _ _ (fields_marks c.args.site (fields_syntax c.args.list.now)) c.loop-item.invariant
     (ap (λ l. fields_marks c.args.site (fields_syntax l)) nothing)
 
 pub specs-loop-item-preserved : goal.specs-loop-item-preserved
 unfolding specs_marks
 specs-loop-item-preserved t c =
     let items = drop_item c.args.list.now c.loop-item.item-index c.item-item.result c.loop-item-test.true c.item-item.is in
-    adds_next _ _ _ _ _ _ c.loop-item.invariant (ap (λ l. specs_marks c.args.keyword c.args.at (specs_syntax l)) items ∙ specs_more _ _ _ _)
+    adds_next _ _ _ _ _ _ _ c.loop-item.invariant (ap (λ l. specs_marks c.args.keyword c.args.at (specs_syntax l)) items ∙ specs_more _ _ _ _)
     c.in_ok-spec.ensures
 
 pub specs-returns : goal.specs-returns
 unfolding specs_marks
 specs-returns t c =
     let nothing = drop_past c.args.list.now c.loop-item.item-index c.loop-item-test.false in
-    adds_all c.args.marks.now.list.items _ _ (specs_marks c.args.keyword c.args.at (specs_syntax c.args.list.now)) c.loop-item.invariant
+    adds_all c.args.walk.now _ _ (specs_marks c.args.keyword c.args.at (specs_syntax c.args.list.now)) c.loop-item.invariant
     (ap (λ l. specs_marks c.args.keyword c.args.at (specs_syntax l)) nothing)
 
 pub cases-loop-clause-preserved : goal.cases-loop-clause-preserved
 cases-loop-clause-preserved t c =
     let guard = option_map (λ (n : Bor Identifier). identifier_syntax n.now) c.args.guard in
     let items = drop_item c.args.clauses.now c.loop-clause.clause-index c.clause-item.result c.loop-clause-test.true c.clause-item.is in
-    adds_next _ _ _ _ _ _ c.loop-clause.invariant (ap (λ l. cases_marks c.args.at guard (cases_syntax l)) items ∙ cases_more c.args.at guard c.clause-item.result _)
-    (adds_case c.args.at guard c.clause-item.result _ _ _ _ _ _ c.in_ok-guard_in_clause.ensures c.deref.ensures.value
+    adds_next _ _ _ _ _ _ _ c.loop-clause.invariant (ap (λ l. cases_marks c.args.at guard (cases_syntax l)) items ∙ cases_more c.args.at guard c.clause-item.result _)
+    (adds_case c.args.at guard c.clause-item.result _ _ _ _ _ _ (adds_kept _ _ _ (guard_kept c.args.at guard (out-CaseClause c.clause-item.result).span) c.in_ok-guard_in_clause.ensures) c.deref.ensures.value
     (adds_at_spot _ _ _ _ _ c.part_of.ensures c.in_ok-expressions.ensures) c.deref-in-loop-clause.ensures.value c.in_ok-statements.ensures)
 
 pub cases-returns : goal.cases-returns
@@ -565,20 +620,20 @@ unfolding cases_marks
 cases-returns t c =
     let guard = option_map (λ (n : Bor Identifier). identifier_syntax n.now) c.args.guard in
     let nothing = drop_past c.args.clauses.now c.loop-clause.clause-index c.loop-clause-test.false in
-    adds_all c.args.marks.now.list.items _ _ (cases_marks c.args.at guard (cases_syntax c.args.clauses.now)) c.loop-clause.invariant
+    adds_all c.args.walk.now _ _ (cases_marks c.args.at guard (cases_syntax c.args.clauses.now)) c.loop-clause.invariant
     (ap (λ l. cases_marks c.args.at guard (cases_syntax l)) nothing)
 
 pub communications-loop-clause-preserved : goal.communications-loop-clause-preserved
 communications-loop-clause-preserved t c =
     let items = drop_item c.args.clauses.now c.loop-clause.clause-index c.clause-item.result c.loop-clause-test.true c.clause-item.is in
-    adds_next _ _ _ _ _ _ c.loop-clause.invariant (ap (λ l. communications_marks (communications_syntax l)) items ∙ communications_more c.clause-item.result _)
+    adds_next _ _ _ _ _ _ _ c.loop-clause.invariant (ap (λ l. communications_marks (communications_syntax l)) items ∙ communications_more c.clause-item.result _)
     (adds_communication c.clause-item.result _ _ _ _ c.in_ok-optional_statement.ensures c.deref.ensures.value c.in_ok-statements.ensures)
 
 pub communications-returns : goal.communications-returns
 unfolding communications_marks
 communications-returns t c =
     let nothing = drop_past c.args.clauses.now c.loop-clause.clause-index c.loop-clause-test.false in
-    adds_all c.args.marks.now.list.items _ _ (communications_marks (communications_syntax c.args.clauses.now)) c.loop-clause.invariant
+    adds_all c.args.walk.now _ _ (communications_marks (communications_syntax c.args.clauses.now)) c.loop-clause.invariant
     (ap (λ l. communications_marks (communications_syntax l)) nothing)
 
 pub all_arguments-loop-index-preserved : goal.all_arguments-loop-index-preserved
@@ -587,7 +642,7 @@ all_arguments-loop-index-preserved t c =
     let items = drop_item c.args.list.now c.loop-index.index e c.loop-index-test.true c.index-list-index.is in
     let rest = expressions_syntax (drop (c.loop-index.index + 1) c.args.list.now) in
     let call = optional_call c.args.call in
-    adds_next _ _ _
+    adds_next _ _ _ _
     (argument_at call c.args.site c.loop-index.index c.is_last.result (expression_syntax e)
     (expression_marks (used_at (argument_use call) c.args.site) (expression_syntax e)))
     (arguments_marks call c.args.site (c.loop-index.index + 1) rest) _ c.loop-index.invariant
@@ -599,7 +654,7 @@ pub all_arguments-returns : goal.all_arguments-returns
 unfolding arguments_marks
 all_arguments-returns t c =
     let nothing = drop_past c.args.list.now c.loop-index.index c.loop-index-test.false in
-    adds_all c.args.marks.now.list.items _ _ (arguments_marks (optional_call c.args.call) c.args.site 0 (expressions_syntax c.args.list.now)) c.loop-index.invariant
+    adds_all c.args.walk.now _ _ (arguments_marks (optional_call c.args.call) c.args.site 0 (expressions_syntax c.args.list.now)) c.loop-index.invariant
     (ap (λ l. arguments_marks (optional_call c.args.call) c.args.site c.loop-index.index (expressions_syntax l)) nothing)
 
 pub items-loop-index-preserved : goal.items-loop-index-preserved
@@ -607,11 +662,11 @@ items-loop-index-preserved t c =
     let e = c.index-list-index.result in
     let items = drop_item c.args.list.now c.loop-index.index e c.loop-index-test.true c.index-list-index.is in
     let rest = expressions_syntax (drop (c.loop-index.index + 1) c.args.list.now) in
-    adds_next _ _ _ (expression_marks (whole (return_item c.loop-index.index) c.args.site) (expression_syntax e))
+    adds_next _ _ _ _ (expression_marks (whole (return_item c.loop-index.index) c.args.site) (expression_syntax e))
     (items_marks c.args.site (c.loop-index.index + 1) rest) _ c.loop-index.invariant
     (ap (λ l. items_marks c.args.site c.loop-index.index (expressions_syntax l)) items
     ∙ item_first c.args.site c.loop-index.index (expression_syntax e) rest)
-    (adds_same c.loop-index.marks.list.items c.expression.new.marks.list.items (expression_marks (spot_view c.whole.result) (expression_syntax e))
+    (adds_same c.loop-index.walk c.expression.new.walk (expression_marks (spot_view c.whole.result) (expression_syntax e))
     (expression_marks (whole (return_item c.loop-index.index) c.args.site) (expression_syntax e))
     (ap (λ s. expression_marks s (expression_syntax e)) c.whole.ensures) c.in_ok-expression.ensures)
 
@@ -619,7 +674,7 @@ pub items-returns : goal.items-returns
 unfolding items_marks
 items-returns t c =
     let nothing = drop_past c.args.list.now c.loop-index.index c.loop-index-test.false in
-    adds_all c.args.marks.now.list.items _ _ (items_marks c.args.site 0 (expressions_syntax c.args.list.now)) c.loop-index.invariant
+    adds_all c.args.walk.now _ _ (items_marks c.args.site 0 (expressions_syntax c.args.list.now)) c.loop-index.invariant
     (ap (λ l. items_marks c.args.site c.loop-index.index (expressions_syntax l)) nothing)
 
 pub lefts-loop-index-preserved : goal.lefts-loop-index-preserved
@@ -628,22 +683,42 @@ lefts-loop-index-preserved t c =
     let items = drop_item c.args.list.now c.loop-index.index e c.loop-index-test.true c.index-list-index.is in
     let rest = expressions_syntax (drop (c.loop-index.index + 1) c.args.list.now) in
     let row = row_view c.args.row.now in
-    let marks = expression_marks (part_of c.args.site) (expression_syntax e) in
-    adds_next _ _ _ (named_or (as_bare (expression_syntax e)) c.args.site (left c.loop-index.index row) marks)
+    adds_next _ _ _ _
+    (named_or (as_bare (expression_syntax e)) c.args.site (left c.loop-index.index row)
+    (exposed_or c.args.site (expression_syntax e) (expression_marks (part_of c.args.site) (expression_syntax e))))
     (lefts_marks row c.args.site (c.loop-index.index + 1) rest) _ c.loop-index.invariant
     (ap (λ l. lefts_marks row c.args.site c.loop-index.index (expressions_syntax l)) items
     ∙ left_first row c.args.site c.loop-index.index (expression_syntax e) rest)
-    (adds_same c.loop-index.marks.list.items c.named_or.new.marks.list.items
-    (named_or (option_map named_view c.as_bare.result) c.args.site (left c.loop-index.index row) marks)
-    (named_or (as_bare (expression_syntax e)) c.args.site (left c.loop-index.index row) marks)
-    (ap (λ n. named_or n c.args.site (left c.loop-index.index row) marks) c.as_bare.ensures) c.in_ok-named_or.ensures)
+    c.in_ok-left_side.ensures
 
 pub lefts-returns : goal.lefts-returns
 unfolding lefts_marks
 lefts-returns t c =
     let nothing = drop_past c.args.list.now c.loop-index.index c.loop-index-test.false in
-    adds_all c.args.marks.now.list.items _ _ (lefts_marks (row_view c.args.row.now) c.args.site 0 (expressions_syntax c.args.list.now)) c.loop-index.invariant
+    adds_all c.args.walk.now _ _ (lefts_marks (row_view c.args.row.now) c.args.site 0 (expressions_syntax c.args.list.now)) c.loop-index.invariant
     (ap (λ l. lefts_marks (row_view c.args.row.now) c.args.site c.loop-index.index (expressions_syntax l)) nothing)
+
+pub ranged-loop-item-preserved : goal.ranged-loop-item-preserved
+ranged-loop-item-preserved t c =
+    let e = c.item-item.result in
+    let items = drop_item c.args.list.now c.loop-item.item-index e c.loop-item-test.true c.item-item.is in
+    let rest = expressions_syntax (drop (c.loop-item.item-index + 1) c.args.list.now) in
+    adds_next _ _ _ _
+    (exposed_or c.args.site (expression_syntax e) (expression_marks (part_of c.args.site) (expression_syntax e)))
+    (ranged_marks c.args.site rest) _ c.loop-item.invariant
+    (ap (λ l. ranged_marks c.args.site (expressions_syntax l)) items ∙ ranged_first c.args.site (expression_syntax e) rest)
+    c.in_ok-exposed_or.ensures
+
+pub ranged-returns : goal.ranged-returns
+unfolding ranged_marks
+ranged-returns t c =
+    let nothing = drop_past c.args.list.now c.loop-item.item-index c.loop-item-test.false in
+    adds_all c.args.walk.now _ _ (ranged_marks c.args.site (expressions_syntax c.args.list.now)) c.loop-item.invariant
+    (ap (λ l. ranged_marks c.args.site (expressions_syntax l)) nothing)
+
+pub left_side-returns-in-Some : goal.left_side-returns-in-Some
+left_side-returns-in-Some t c =
+    rw (← c.as_bare.ensures, c.in-Some.is) (kept_adds _ _ _ _ (mention_kept _ c.requires _ _) c.mention.ensures)
 
 pub argument-returns-in-None : goal.argument-returns-in-None
 argument-returns-in-None t c =
@@ -652,7 +727,7 @@ argument-returns-in-None t c =
 pub argument_of-returns-in-Unary : goal.argument_of-returns-in-Unary
 argument_of-returns-in-Unary t c =
     let marks = expression_marks (spot_view c.args.spot) (expression_syntax c.args.argument.now) in
-    same_adds c.named_at.result c.args.marks.now.list.items c.named_at.new.marks.list.items
+    same_adds c.named_at.result c.args.walk.now c.named_at.new.walk
     (named_or (option_map named_view c.addressed.result) c.args.spot.site (argument c.args.index true (call_view c.args.call.now)) marks)
     (argument_or (call_view c.args.call.now) c.args.spot.site c.args.index (expression_syntax c.args.argument.now) marks)
     (operator_argument c.args.argument.now.kind c.in-Unary.operator c.in-Unary.operand c.args.argument.now.span (call_view c.args.call.now)
@@ -663,7 +738,7 @@ argument_of-returns-in-Unary t c =
 pub argument_of-returns-in_default : goal.argument_of-returns-in_default
 argument_of-returns-in_default t c =
     let marks = expression_marks (spot_view c.args.spot) (expression_syntax c.args.argument.now) in
-    same_adds c.named_at-in_default.result c.args.marks.now.list.items c.named_at-in_default.new.marks.list.items
+    same_adds c.named_at-in_default.result c.args.walk.now c.named_at-in_default.new.walk
     (named_or (option_map named_view c.as_named.result) c.args.spot.site (argument c.args.index false (call_view c.args.call.now)) marks)
     (argument_or (call_view c.args.call.now) c.args.spot.site c.args.index (expression_syntax c.args.argument.now) marks)
     (ap (λ n. named_or n c.args.spot.site (argument c.args.index false (call_view c.args.call.now)) marks) c.as_named.ensures

@@ -11,5 +11,5 @@ returns-in-Value c =
 pub returns-in-Type : goal.returns-in-Type
 returns-in-Type c =
     adds_as c.args.block.now c.add_name.new.block _ _
-    (type_names _ c.in-Type.name c.in-Type.field-1 c.in-Type.field-2 c.in-Type.field-3 c.in-Type.is)
+    (type_names _ c.in-Type.name c.in-Type.field-1 c.in-Type.field-2 c.in-Type.field-3 c.in-Type.field-4 c.in-Type.is)
     c.add_name.result c.add_name.ensures

@@ -7,7 +7,7 @@ use Rattle.one_package.proofs.grounds.named_grounds.Goals as goal
 
 pub returns-then-not-is_empty-clause-grounds : goal.returns-then-not-is_empty-clause-grounds
 returns-then-not-is_empty-clause-grounds g c = λ ps tables i p is_p tells around none.
-    let are = c.in_ok-faults.ensures ps i p is_p tells (sym none) around.is_order in
+    let are = c.in_ok-faults.ensures.faults ps i p is_p tells (sym none) around.is_order in
     let size = c.in_ok-faults.faults.ok in
     let one = some_entry (map entry_of c.in_ok-faults.faults.items)
     (not_empty entry_of c.in_ok-faults.faults.items _ (omega (arith, size.0, size.1)) c.if-not-is_empty.ensures) in
@@ -17,7 +17,7 @@ pub returns-clause-grounds : goal.returns-clause-grounds
 returns-clause-grounds g c = λ ps tables i p is_p tells around none.
     let size = c.in_ok-faults.faults.ok in
     let whole = none_whole ps i (map entry_of c.in_ok-faults.faults.items)
-    (c.in_ok-faults.ensures ps i p is_p tells (sym none) around.is_order)
+    (c.in_ok-faults.ensures.faults ps i p is_p tells (sym none) around.is_order)
     (is_empty entry_of c.in_ok-faults.faults.items _ (omega (arith, size.0, size.1)) c.if-not-is_empty.ensures) in
     let trees = ap (map file_syntax) c.deref.ensures.value ∙ sym tells.are_trees in (
       whole,

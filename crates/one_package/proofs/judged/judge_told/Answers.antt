@@ -14,7 +14,8 @@ pub returns-clause-judged : goal.returns-clause-judged
 returns-clause-judged g c = λ declared ps tables i p is_p tells around not_yes none told.
     let found = c.in_ok-diagnostics.ensures.found declared ps tables i p is_p tells around not_yes told none in
     record {
-      is_table = full (is_called c.in_ok-diagnostics.field-0.called) none found.are_flags told.are_signatures (λ name k. refl);
+      is_table = full (is_called c.in_ok-diagnostics.field-0.called) none found.are_flags told.are_signatures (λ name k. refl)
+          told.is_told;
       are_findings = record {
         in_order = c.report_of.ensures.sorted;
         each = λ x. (

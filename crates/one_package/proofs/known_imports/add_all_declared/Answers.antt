@@ -5,8 +5,8 @@ use Rattle.declared_tables.specs.declared.tables.PackageTable.{PackageTable as K
 use Rattle.facts.specs.FactViews.{table_by_path}
 use Rattle.imports.specs.Views.{text_views}
 use Rattle.meaning.specs.OuterBlocks.{or_else}
-use Rattle.files_to_walk.specs.Givers.{giver_by_path}
-use Rattle.one_package.specs.Results.{declared_among}
+use Rattle.files_to_walk.specs.Signs.{signs_by_path}
+use Rattle.one_package.specs.Results.{declared_among, signs_in}
 use Rattle.one_package.proofs.DeclaredImports.{one_more}
 use Rattle.one_package.proofs.known_imports.add_all_declared.Goals as goal
 
@@ -25,8 +25,8 @@ loop-path-preserved c =
           (called_by_path c.loop-path.calls) (called_by_path c.add_declared.new.calls)
           (λ path. or_else (called_by_path c.args.calls.now path) (option_map (λ t. t.called) (others path)))
           c.in_ok-add_declared.ensures.calls c.loop-path.invariant.1,
-      one_more given (λ (t : KeptTable). t.gives) paths i _ test (get_or_default paths i _ _ test)
-          (giver_by_path c.loop-path.givers) (giver_by_path c.add_declared.new.givers)
-          (λ path. or_else (giver_by_path c.args.givers.now path) (option_map (λ t. t.gives) (others path)))
-          c.in_ok-add_declared.ensures.givers c.loop-path.invariant.2,
+      one_more given signs_in paths i _ test (get_or_default paths i _ _ test)
+          (signs_by_path c.loop-path.signs) (signs_by_path c.add_declared.new.signs)
+          (λ path. or_else (signs_by_path c.args.signs.now path) (option_map signs_in (others path)))
+          c.in_ok-add_declared.ensures.signs c.loop-path.invariant.2,
     )

@@ -3,8 +3,8 @@ use Rattle.called_parameters.specs.Called.{called_by_path}
 use Rattle.facts.specs.FactViews.{table_by_path}
 use Rattle.imports.specs.Views.{text_views}
 use Rattle.meaning.specs.OuterBlocks.{or_else}
-use Rattle.files_to_walk.specs.Givers.{giver_by_path}
-use Rattle.one_package.specs.Results.{declared_among}
+use Rattle.files_to_walk.specs.Signs.{signs_by_path}
+use Rattle.one_package.specs.Results.{declared_among, signs_in}
 use Rattle.one_package.proofs.known_imports.add_all_declared.Given as goal
 
 -- what was added, with what is declared of the paths that are left, is the whole
@@ -19,5 +19,5 @@ invariant-loop-path l =
     → or_else (called_by_path l.calls path) (option_map (λ t. t.called) (declared_among l.given left path))
     ≡ or_else (called_by_path l.initial.calls path) (option_map (λ t. t.called) (declared_among l.given all path)))
     × ((path : List ℕ)
-    → or_else (giver_by_path l.givers path) (option_map (λ t. t.gives) (declared_among l.given left path))
-    ≡ or_else (giver_by_path l.initial.givers path) (option_map (λ t. t.gives) (declared_among l.given all path)))
+    → or_else (signs_by_path l.signs path) (option_map signs_in (declared_among l.given left path))
+    ≡ or_else (signs_by_path l.initial.signs path) (option_map signs_in (declared_among l.given all path)))

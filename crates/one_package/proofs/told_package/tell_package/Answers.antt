@@ -8,42 +8,49 @@ use Rattle.silent_files.specs.SilentPackages.{GiveNone}
 use Rattle.silent_files.specs.WalkedFiles.{SkipsSilent}
 use Rattle.silent_files.proofs.SilentFiles.{neither_second}
 use Rattle.tree.specs.View.{file_syntax}
+use Rattle.meaning.specs.TwoFunctions.{FunctionName, function_names_from}
 use Rattle.meaning_reports.specs.Loaded.{signatures_of}
-use Rattle.files_to_walk.specs.Skipping.{has_giver}
+use Rattle.meaning_reports.specs.PackageTables.{tells}
+use Rattle.files_to_walk.specs.Functions.{has_giver, has_told}
 use Rattle.one_package.proofs.JudgedFiles.{seen_so}
-use Rattle.files_to_walk.proofs.OwnGivers.{none_gives}
+use Rattle.files_to_walk.proofs.OwnGivers.{none_gives, told_from}
 use Rattle.one_package.proofs.told_package.tell_package.Goals as goal
 
 pub returns-clause-told : goal.returns-clause-told
-returns-clause-told g c = λ ps tables i p is_p tells around whole means.
+returns-clause-told g c = λ ps tables i p is_p its around whole means.
     let facts = facts_by_name c.in_ok-table.table in
     let names = declared_at c.args.names.now in
-    let are_trees = ap (map file_syntax) c.deref.ensures.value ∙ sym tells.are_trees in
+    let are_trees = ap (map file_syntax) c.deref.ensures.value ∙ sym its.are_trees in
     let are_facts : (name : List ℕ) → facts name ≡ signatures_of ps p name = λ name. c.in_ok-table.ensures name
-    ∙ λ j. package_facts (λ file at. means file at j) (are_trees j) name in
-    let gives_none : c.gives_some-gives.result ≡ false → GiveNone facts = λ off.
-    none_gives facts names (map file_syntax c.args.loaded.now.trees.items)
-    (λ name. c.in_ok-table.ensures name ∙ ap (λ ts. package_facts names (map file_syntax ts) name) c.deref.ensures.value)
-    (sym (c.gives_some-gives.ensures ∙ ap (λ ts. list_any (has_giver facts) (map file_syntax ts)) c.deref-2.ensures.value) ∙ off) in
-    let own : c.gives_some-gives.result ≡ false → GiveNone (signatures_of ps p) = λ off.
+    ∙ λ j. package_facts (sym its.is_edition j) (λ file at. means file at j) (are_trees j) name in
+    let gives_none : c.signs_of_files-signs.result.gives ≡ false → GiveNone facts = λ off.
+    none_gives facts c.args.loaded.now.edition names (map file_syntax c.args.loaded.now.trees.items)
+    (λ name. c.in_ok-table.ensures name ∙ ap (λ ts. package_facts c.args.loaded.now.edition names (map file_syntax ts) name) c.deref.ensures.value)
+    (sym (c.signs_of_files-signs.ensures.gives ∙ ap (λ ts. list_any (has_giver facts) (map file_syntax ts)) c.deref-2.ensures.value) ∙ off) in
+    let own : c.signs_of_files-signs.result.gives ≡ false → GiveNone (signatures_of ps p) = λ off.
     subst GiveNone (λ j name. are_facts name j) (gives_none off) in
     record {
       walked = is_walked c.deref-4.result.now;
       are_signatures = are_facts;
-      are_files = seen_so ps tables p names facts (facts_by_path c.args.around.signatures.now) means are_facts
+      is_told = c.signs_of_files-signs.ensures.told
+          ∙ (ap (λ ts. list_any (has_told facts) (map file_syntax ts)) c.deref-2.ensures.value
+          ∙ (told_from facts 0 (map file_syntax c.args.loaded.now.trees.items)
+          ∙ λ j. list_any (λ (f : FunctionName). tells (are_facts f.name.text j)) (function_names_from 0 (sym its.are_trees j))));
+      are_files = seen_so ps tables p c.args.loaded.now.edition names facts (facts_by_path c.args.around.signatures.now)
+          (sym its.is_edition) means are_facts
           around.are_signatures (is_walked c.deref-4.result.now) _ c.in_ok-files.files.items
-          (ap (map file_syntax) c.deref-3.ensures.value ∙ sym tells.are_trees) c.in_ok-files.ensures;
+          (ap (map file_syntax) c.deref-3.ensures.value ∙ sym its.are_trees) c.in_ok-files.ensures;
       skip_silent = subst (λ ms. SkipsSilent ps tables p (is_walked ms)) (sym c.deref-4.ensures.value)
-          (c.in_ok-walked.ensures.skip ps tables i p is_p tells whole
-          (λ off. own (neither_second c.args.tellers.now.tells_all c.gives_some-gives.result (sym c.needs_all-all.ensures ∙ off))) around.are_givers);
+          (c.in_ok-walked.ensures.skip ps tables i p is_p its whole
+          (λ off. own (neither_second c.args.tellers.now.tells_all c.signs_of_files-signs.result.gives (sym c.needs_all-all.ensures ∙ off))) around.are_givers);
       all = λ is n. ap (λ ms. is_walked ms n) c.deref-4.ensures.value
-          ∙ c.in_ok-walked.ensures.all (c.needs_all-all.ensures ∙ ap (λ b. b || c.gives_some-gives.result) is) n;
+          ∙ c.in_ok-walked.ensures.all (c.needs_all-all.ensures ∙ ap (λ b. b || c.signs_of_files-signs.result.gives) is) n;
     }
 
 pub returns-clause-marked : goal.returns-clause-marked
 returns-clause-marked g c = λ off.
     let facts = facts_by_name c.in_ok-table.table in
     let names = declared_at c.args.names.now in
-    none_gives facts names (map file_syntax c.args.loaded.now.trees.items)
-    (λ name. c.in_ok-table.ensures name ∙ ap (λ ts. package_facts names (map file_syntax ts) name) c.deref.ensures.value)
-    (sym (c.gives_some-gives.ensures ∙ ap (λ ts. list_any (has_giver facts) (map file_syntax ts)) c.deref-2.ensures.value) ∙ off)
+    none_gives facts c.args.loaded.now.edition names (map file_syntax c.args.loaded.now.trees.items)
+    (λ name. c.in_ok-table.ensures name ∙ ap (λ ts. package_facts c.args.loaded.now.edition names (map file_syntax ts) name) c.deref.ensures.value)
+    (sym (c.signs_of_files-signs.ensures.gives ∙ ap (λ ts. list_any (has_giver facts) (map file_syntax ts)) c.deref-2.ensures.value) ∙ off)

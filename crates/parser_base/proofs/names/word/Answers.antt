@@ -5,4 +5,4 @@ use Rattle.parser_base.proofs.names.word.Goals as goal
 
 pub text_between-requires : goal.text_between-requires
 text_between-requires c =
-    rw (c.start-start.ensures, ap (λ (p : Cursor). p.end) c.behind-end.ensures) (name-utf8 _ _ c.args.place.at c.args.place.end c.args.source.words c.requires)
+    rw (c.start-start.ensures, ap (λ (p : Cursor). p.end) c.behind-end.ensures) (name-utf8 _ _ c.args.place.at c.args.place.end c.args.source.words c.args.source.edition c.requires)

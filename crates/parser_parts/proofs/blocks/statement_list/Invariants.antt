@@ -1,11 +1,11 @@
 use Rattle.std.proofs.Common.{◌≡◌, ◌-◌}
 use Rattle.tree_reader.specs.Reader.{read_statements}
 use Rattle.tree_reader.specs.Reading.{steps}
-use Rattle.parser_base.specs.Places.{cursor, parts_of}
+use Rattle.parser_base.specs.Places.{cursor, parts_of, go_text}
 use Rattle.parser_base.proofs.Growing.{after}
 use Rattle.parser_parts.proofs.StatementLists.{and_statement}
 use Rattle.parser_parts.proofs.blocks.statement_list.Given as goal
 
 abbrev pub invariant-loop : goal.invariant-loop
 invariant-loop g l =
-    after and_statement l.items.items (read_statements l.source.text.now (parts_of l.source) (l.end - l.counter) (cursor l.source l.rest)) ≡ read_statements l.source.text.now (parts_of l.source) (steps (cursor l.source l.fn.place)) (cursor l.source l.fn.place)
+    after and_statement l.items.items (read_statements (go_text l.source) (parts_of l.source) (l.end - l.counter) (cursor l.source l.rest)) ≡ read_statements (go_text l.source) (parts_of l.source) (steps (cursor l.source l.fn.place)) (cursor l.source l.fn.place)

@@ -1,29 +1,29 @@
 use Rattle.std.proofs.Common.{sym, ◌∙◌}
 use Rattle.parser_base.proofs.Faults.{is_stopped}
-use Rattle.parser_base.specs.Places.{cursor, parts_of}
+use Rattle.parser_base.specs.Places.{cursor, parts_of, go_text}
 use Rattle.parser_parts.proofs.ElementLists.{arguments-run-out, arguments-end, arguments-fail, arguments-spread, arguments-last, arguments-more}
 use Rattle.parser_parts.proofs.lists.arguments.Goals as goal
 
 pub returns-in-loop : goal.returns-in-loop
 returns-in-loop g c =
-    arguments-fail c.args.source.text.now (parts_of c.args.source) c.loop.items.items _ c.loop.counter (cursor c.args.source c.loop.rest) _ c.loop.invariant c.loop-test.true _ (sym c.stands.ensures ∙ c.if-stands.false) c.in-Err-holding.ensures
+    arguments-fail (go_text c.args.source) (parts_of c.args.source) c.loop.items.items _ c.loop.counter (cursor c.args.source c.loop.rest) _ c.loop.invariant c.loop-test.true _ (sym c.stands.ensures ∙ c.if-stands.false) c.in-Err-holding.ensures
 
 pub returns : goal.returns
 returns g c =
-    is_stopped c.unexpected.result _ (arguments-run-out c.args.source.text.now (parts_of c.args.source) c.loop.items.items _ c.loop.counter (cursor c.args.source c.loop.rest) _ c.loop.invariant c.loop-test.false)
+    is_stopped c.unexpected.result _ (arguments-run-out (go_text c.args.source) (parts_of c.args.source) c.loop.items.items _ c.loop.counter (cursor c.args.source c.loop.rest) _ c.loop.invariant c.loop-test.false)
 
 pub returns-then-stands : goal.returns-then-stands
 returns-then-stands g c =
-    arguments-end c.args.source.text.now (parts_of c.args.source) c.loop.items.items _ c.loop.counter (cursor c.args.source c.loop.rest) _ c.loop.invariant c.loop-test.true (sym c.stands.ensures ∙ c.if-stands.true)
+    arguments-end (go_text c.args.source) (parts_of c.args.source) c.loop.items.items _ c.loop.counter (cursor c.args.source c.loop.rest) _ c.loop.invariant c.loop-test.true (sym c.stands.ensures ∙ c.if-stands.true)
 
 pub returns-then-stands-2 : goal.returns-then-stands-2
 returns-then-stands-2 g c =
-    rw (c.in_ok-items.ensures, c.past.ensures, c.behind.ensures) (arguments-spread c.args.source.text.now (parts_of c.args.source) c.loop.items.items _ c.loop.counter (cursor c.args.source c.loop.rest) _ c.loop.invariant c.loop-test.true (sym c.stands.ensures ∙ c.if-stands.false) _ _ c.in-Ok-holding.ensures (sym c.stands-in-loop.ensures ∙ c.if-stands-2.true))
+    rw (c.in_ok-items.ensures, c.past.ensures, c.behind.ensures) (arguments-spread (go_text c.args.source) (parts_of c.args.source) c.loop.items.items _ c.loop.counter (cursor c.args.source c.loop.rest) _ c.loop.invariant c.loop-test.true (sym c.stands.ensures ∙ c.if-stands.false) _ _ c.in-Ok-holding.ensures (sym c.stands-in-loop.ensures ∙ c.if-stands-2.true))
 
 pub returns-then-not-stands : goal.returns-then-not-stands
 returns-then-not-stands g c =
-    rw c.in_ok-items.ensures (arguments-last c.args.source.text.now (parts_of c.args.source) c.loop.items.items _ c.loop.counter (cursor c.args.source c.loop.rest) _ c.loop.invariant c.loop-test.true (sym c.stands.ensures ∙ c.if-stands.false) _ _ c.in-Ok-holding.ensures (sym c.stands-in-loop.ensures ∙ c.if-stands-2.false) (sym c.stands-in-loop-2.ensures ∙ c.if-not-stands.true))
+    rw c.in_ok-items.ensures (arguments-last (go_text c.args.source) (parts_of c.args.source) c.loop.items.items _ c.loop.counter (cursor c.args.source c.loop.rest) _ c.loop.invariant c.loop-test.true (sym c.stands.ensures ∙ c.if-stands.false) _ _ c.in-Ok-holding.ensures (sym c.stands-in-loop.ensures ∙ c.if-stands-2.false) (sym c.stands-in-loop-2.ensures ∙ c.if-not-stands.true))
 
 pub loop-preserved : goal.loop-preserved
 loop-preserved g c =
-    rw (c.in_ok-items.ensures, c.behind-rest.ensures) (arguments-more c.args.source.text.now (parts_of c.args.source) c.loop.items.items _ c.loop.counter (cursor c.args.source c.loop.rest) _ c.loop.invariant c.loop-test.true (sym c.stands.ensures ∙ c.if-stands.false) _ _ c.in-Ok-holding.ensures (sym c.stands-in-loop.ensures ∙ c.if-stands-2.false) (sym c.stands-in-loop-2.ensures ∙ c.if-not-stands.false))
+    rw (c.in_ok-items.ensures, c.behind-rest.ensures) (arguments-more (go_text c.args.source) (parts_of c.args.source) c.loop.items.items _ c.loop.counter (cursor c.args.source c.loop.rest) _ c.loop.invariant c.loop-test.true (sym c.stands.ensures ∙ c.if-stands.false) _ _ c.in-Ok-holding.ensures (sym c.stands-in-loop.ensures ∙ c.if-stands-2.false) (sym c.stands-in-loop-2.ensures ∙ c.if-not-stands.false))

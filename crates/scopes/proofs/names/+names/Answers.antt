@@ -7,9 +7,9 @@ use Rattle.tree.specs.declared.span.Span.{Span}
 use Rattle.tree.specs.declared.statement.Block.{out-Block}
 use Rattle.tree.specs.View.{identifier_syntax, expressions_syntax, parameters_syntax, signature_syntax, fields_syntax, statement_form, statements_syntax, cases_syntax, communications_syntax, specs_syntax}
 use Rattle.tree.proofs.Depths.{drop_item, drop_past}
-use Rattle.tree.proofs.Views.{expression_form-Name, expression_form-BasicLit, expression_form-FuncLit, expression_form-CompositeLit, expression_form-LiteralValue, expression_form-KeyValue, expression_form-Paren, expression_form-Selector, expression_form-Index, expression_form-Slice, low_bound_of, high_bound_of, most_bound_of, expression_form-TypeAssert, expression_form-Call, expression_form-Star, expression_form-Unary, expression_form-Binary, expression_form-ArrayType, expression_form-EllipsisArrayType, expression_form-SliceType, expression_form-MapType, expression_form-ChanType, expression_form-FuncType, expression_form-StructType, expression_form-InterfaceType, statement_form-Empty, statement_form-Decl, statement_form-Labeled, statement_form-Expr, statement_form-Send, statement_form-Increment, statement_form-Decrement, statement_form-Assign, statement_form-AssignOp, statement_form-Define, statement_form-Go, statement_form-Defer, statement_form-Return, statement_form-Break, statement_form-Continue, statement_form-Block, statement_form-If, statement_form-For, statement_form-RangeAssign, statement_form-RangeDefine, statement_form-Switch, statement_form-TypeSwitch, statement_form-Select, block_statements-out, parameter_and-Named, parameter_and-Unnamed, parameter_and-NameAlone, field_and-Named, field_and-Embedded, field_and-Method, spec_and-Value, spec_and-Type}
+use Rattle.tree.proofs.Views.{expression_form-Name, expression_form-BasicLit, expression_form-FuncLit, expression_form-CompositeLit, expression_form-LiteralValue, expression_form-KeyValue, expression_form-Paren, expression_form-Selector, expression_form-Index, expression_form-Instance, expression_form-Slice, low_bound_of, high_bound_of, most_bound_of, expression_form-TypeAssert, expression_form-Call, expression_form-Star, expression_form-Unary, expression_form-Binary, expression_form-ArrayType, expression_form-EllipsisArrayType, expression_form-SliceType, expression_form-MapType, expression_form-ChanType, expression_form-FuncType, expression_form-StructType, expression_form-InterfaceType, statement_form-Empty, statement_form-Decl, statement_form-Labeled, statement_form-Expr, statement_form-Send, statement_form-Increment, statement_form-Decrement, statement_form-Assign, statement_form-AssignOp, statement_form-Define, statement_form-Go, statement_form-Defer, statement_form-Return, statement_form-Break, statement_form-Continue, statement_form-Goto, statement_form-Fallthrough, statement_form-Block, statement_form-If, statement_form-For, statement_form-RangeAssign, statement_form-RangeDefine, statement_form-Switch, statement_form-TypeSwitch, statement_form-Select, block_statements-out, parameter_and-Named, parameter_and-Unnamed, parameter_and-NameAlone, field_and-Named, field_and-Embedded, field_and-Element, field_and-Method, spec_and-Value, spec_and-Type}
 use Rattle.meaning.specs.Scopes.{uses_name, declared_names, signature_declared, expression_names, expression_form_names, expressions_names, optional_names, signature_names, parameters_names, fields_names, statement_names, statement_form_names, statements_names, optional_statement_names, cases_names, communications_names, specs_names}
-use Rattle.scopes.proofs.Adding.{adds_nothing, adds_same, adds_pushed, adds_next, adds_all, then_adds, same_adds, three_adds, four_adds, alone_adds, then_alone_adds, adds_case, adds_communication, parameters_more, fields_more, specs_more, cases_more, communications_more, block_braces-out, literal_names, guard_same}
+use Rattle.scopes.proofs.Adding.{adds_nothing, adds_same, adds_pushed, adds_next, adds_all, then_adds, same_adds, three_adds, four_adds, alone_adds, type_block, adds_case, adds_communication, parameters_more, fields_more, specs_more, cases_more, communications_more, block_braces-out, literal_names, guard_same}
 use Rattle.scopes.proofs.names.+names.Goals as goal
 
 pub expression_form-returns-in_ok-push-in-Name : goal.expression_form-returns-in_ok-push-in-Name
@@ -80,6 +80,12 @@ unfolding expression_form_names
 expression_form-returns-in_ok-expression-in-Index t c =
     rw (c.in-Index.is, expression_form-Index, ← c.deref-in-Index.ensures, ← c.deref-in-Index-2.ensures)
     (then_adds _ _ _ _ _ _ c.in_ok-expression-in-Index.ensures c.expression-in-Index-2.ensures)
+
+pub expression_form-returns-in_ok-expression-in-Instance : goal.expression_form-returns-in_ok-expression-in-Instance
+unfolding expression_form_names
+expression_form-returns-in_ok-expression-in-Instance t c =
+    rw (c.in-Instance.is, expression_form-Instance, ← c.deref-in-Instance.ensures, ← c.deref-in-Instance-2.ensures.value)
+    (then_adds _ _ _ _ _ _ c.in_ok-expression-in-Instance.ensures c.expressions-in-Instance.ensures)
 
 pub expression_form-returns-in_ok-optional-in-Slice-2 : goal.expression_form-returns-in_ok-optional-in-Slice-2
 unfolding expression_form_names
@@ -257,6 +263,14 @@ pub statement_form-returns-in-Continue : goal.statement_form-returns-in-Continue
 unfolding statement_form_names
 statement_form-returns-in-Continue t c = rw (c.in-Continue.is, statement_form-Continue) (adds_nothing _)
 
+pub statement_form-returns-in-Goto : goal.statement_form-returns-in-Goto
+unfolding statement_form_names
+statement_form-returns-in-Goto t c = rw (c.in-Goto.is, statement_form-Goto) (adds_nothing _)
+
+pub statement_form-returns-in-Fallthrough : goal.statement_form-returns-in-Fallthrough
+unfolding statement_form_names
+statement_form-returns-in-Fallthrough t c = rw (c.in-Fallthrough.is, statement_form-Fallthrough) (adds_nothing _)
+
 pub statement_form-returns-in-Block : goal.statement_form-returns-in-Block
 unfolding statement_form_names
 statement_form-returns-in-Block t c =
@@ -387,6 +401,10 @@ pub field-returns-in-Embedded : goal.field-returns-in-Embedded
 unfolding fields_names
 field-returns-in-Embedded t c = rw (c.in-Embedded.is, field_and-Embedded) (alone_adds _ _ _ _ c.embedded.ensures)
 
+pub field-returns-in-Element : goal.field-returns-in-Element
+unfolding fields_names
+field-returns-in-Element t c = rw (c.in-Element.is, field_and-Element) (alone_adds _ _ _ _ c.expression-in-Element.ensures)
+
 pub field-returns-in-Method : goal.field-returns-in-Method
 unfolding fields_names
 field-returns-in-Method t c = rw (c.in-Method.is, field_and-Method) (alone_adds _ _ _ _ c.signature.ensures)
@@ -398,11 +416,14 @@ spec-returns-in_ok-expressions-in-Value t c =
     (three_adds c.declare_names.result _ _ _ c.declare_names.new.namings.items _ _ _ c.in_ok-optional-in-Value.ensures
     c.in_ok-expressions-in-Value.ensures (alone_adds _ _ _ _ c.declare_names.ensures))
 
-pub spec-returns-in_ok-declare_type-in-Type : goal.spec-returns-in_ok-declare_type-in-Type
+pub spec-returns-in_ok-parameters-in-Type : goal.spec-returns-in_ok-parameters-in-Type
 unfolding specs_names
-spec-returns-in_ok-declare_type-in-Type t c =
-    rw (c.in-Type.is, spec_and-Type, ← c.deref-in-Type.ensures)
-    (then_alone_adds _ _ _ _ _ _ c.in_ok-declare_type-in-Type.ensures c.expression.ensures)
+spec-returns-in_ok-parameters-in-Type t c =
+    rw (c.in-Type.is, spec_and-Type, ← c.deref-in-Type-2.ensures.value, ← c.deref-in-Type-3.ensures)
+    (four_adds _ _ _ _ _ _ _ _ _ _ c.in_ok-declare_type-in-Type.ensures
+    (adds_same _ _ _ _ (type_block _ _ _ _ c.behind_name.ensures (c.deref-in-Type.ensures.value ∙ sym c.deref-in-Type-2.ensures.value))
+    c.in_ok-declare_type_parameters-in-Type.ensures)
+    c.in_ok-parameters-in-Type.ensures (alone_adds _ _ _ _ c.expression.ensures))
 
 pub expressions-loop-item-preserved : goal.expressions-loop-item-preserved
 unfolding expressions_names

@@ -3,7 +3,7 @@ use Rattle.tree.specs.declared.expression.Literal.{Literal, out-Literal}
 use Rattle.tree.specs.declared.statement.Block.{out-Block}
 use Rattle.tree.specs.Depth.{expression_depth, below_expression, expressions_depth, optional_depth, signature_depth, parameters_depth, fields_depth, statement_depth, below_statement, statements_depth, optional_statement_depth, else_depth, cases_depth, communications_depth, specs_depth}
 use Rattle.tree.specs.View.{expressions_syntax, statements_syntax, parameters_syntax, fields_syntax, specs_syntax, cases_syntax, communications_syntax}
-use Rattle.tree.proofs.Views.{expression_form-ArrayType, expression_form-BasicLit, expression_form-Binary, expression_form-Call, expression_form-ChanType, expression_form-CompositeLit, expression_form-EllipsisArrayType, expression_form-FuncLit, expression_form-FuncType, expression_form-Index, expression_form-InterfaceType, expression_form-KeyValue, expression_form-LiteralValue, expression_form-MapType, expression_form-Name, expression_form-Paren, expression_form-Selector, expression_form-Slice, low_bound_of, high_bound_of, most_bound_of, expression_form-SliceType, expression_form-Star, expression_form-StructType, expression_form-TypeAssert, expression_form-Unary, statement_form-Assign, statement_form-AssignOp, statement_form-Block, statement_form-Break, statement_form-Continue, statement_form-Decl, statement_form-Decrement, statement_form-Defer, statement_form-Define, statement_form-Empty, statement_form-Expr, statement_form-For, statement_form-Go, statement_form-If, statement_form-Increment, statement_form-Labeled, statement_form-RangeAssign, statement_form-RangeDefine, statement_form-Return, statement_form-Select, statement_form-Send, statement_form-Switch, statement_form-TypeSwitch, block_statements-out, parameter_and-Named, parameter_and-Unnamed, parameter_and-NameAlone, field_and-Named, field_and-Embedded, field_and-Method, spec_and-Value, spec_and-Type}
+use Rattle.tree.proofs.Views.{expression_form-ArrayType, expression_form-BasicLit, expression_form-Binary, expression_form-Call, expression_form-ChanType, expression_form-CompositeLit, expression_form-EllipsisArrayType, expression_form-FuncLit, expression_form-FuncType, expression_form-Index, expression_form-Instance, expression_form-InterfaceType, expression_form-KeyValue, expression_form-LiteralValue, expression_form-MapType, expression_form-Name, expression_form-Paren, expression_form-Selector, expression_form-Slice, low_bound_of, high_bound_of, most_bound_of, expression_form-SliceType, expression_form-Star, expression_form-StructType, expression_form-TypeAssert, expression_form-Unary, statement_form-Assign, statement_form-AssignOp, statement_form-Block, statement_form-Break, statement_form-Continue, statement_form-Decl, statement_form-Decrement, statement_form-Defer, statement_form-Define, statement_form-Empty, statement_form-Expr, statement_form-Fallthrough, statement_form-For, statement_form-Go, statement_form-Goto, statement_form-If, statement_form-Increment, statement_form-Labeled, statement_form-RangeAssign, statement_form-RangeDefine, statement_form-Return, statement_form-Select, statement_form-Send, statement_form-Switch, statement_form-TypeSwitch, block_statements-out, parameter_and-Named, parameter_and-Unnamed, parameter_and-NameAlone, field_and-Named, field_and-Embedded, field_and-Element, field_and-Method, spec_and-Value, spec_and-Type}
 use Rattle.tree.proofs.Depths.{capped, drop_item, drop_past, at_end, deeper_of, one_more, and_next, at_expression, at_expressions, at_bound, at_signature, at_parameters, at_fields, at_statement, at_statements, at_cases, at_communications, at_specs, literal_below, max-zero, parameters_more, fields_more, specs_more, cases_more, communications_more, pair_counts_nothing, other_counts_one, else_of_block, else_of_if}
 use Rattle.tree.proofs.depth.+depth.Goals as goal
 
@@ -53,6 +53,11 @@ pub below_expression-returns-in-Index : goal.below_expression-returns-in-Index
 unfolding below_expression
 below_expression-returns-in-Index t c =
     rw (c.in-Index.is, expression_form-Index) (deeper_of _ _ _ _ _ c.max-in-Index.ensures (c.expression_depth-in-Index.ensures ∙ ap at_expression c.deref-in-Index.ensures) (c.expression_depth-in-Index-2.ensures ∙ ap at_expression c.deref-in-Index-2.ensures))
+
+pub below_expression-returns-in-Instance : goal.below_expression-returns-in-Instance
+unfolding below_expression
+below_expression-returns-in-Instance t c =
+    rw (c.in-Instance.is, expression_form-Instance) (deeper_of _ _ _ _ _ c.max-in-Instance.ensures (c.expression_depth-in-Instance.ensures ∙ ap at_expression c.deref-in-Instance.ensures) (c.expressions_depth-in-Instance.ensures ∙ ap at_expressions c.deref-in-Instance-2.ensures.value))
 
 pub below_expression-returns-in-Slice : goal.below_expression-returns-in-Slice
 unfolding below_expression
@@ -201,6 +206,16 @@ unfolding below_statement
 below_statement-returns-in-Continue t c =
     rw (c.in-Continue.is, statement_form-Continue) refl
 
+pub below_statement-returns-in-Goto : goal.below_statement-returns-in-Goto
+unfolding below_statement
+below_statement-returns-in-Goto t c =
+    rw (c.in-Goto.is, statement_form-Goto) refl
+
+pub below_statement-returns-in-Fallthrough : goal.below_statement-returns-in-Fallthrough
+unfolding below_statement
+below_statement-returns-in-Fallthrough t c =
+    rw (c.in-Fallthrough.is, statement_form-Fallthrough) refl
+
 pub below_statement-returns-in-Block : goal.below_statement-returns-in-Block
 unfolding below_statement
 below_statement-returns-in-Block t c =
@@ -309,6 +324,10 @@ pub field_depth-returns-in-Embedded : goal.field_depth-returns-in-Embedded
 unfolding fields_depth
 field_depth-returns-in-Embedded t c = rw (c.in-Embedded.is, field_and-Embedded) refl
 
+pub field_depth-returns-in-Element : goal.field_depth-returns-in-Element
+unfolding fields_depth
+field_depth-returns-in-Element t c = rw (c.in-Element.is, field_and-Element) (c.expression_depth-in-Element.ensures ∙ ap capped (max-zero _))
+
 pub field_depth-returns-in-Method : goal.field_depth-returns-in-Method
 unfolding fields_depth
 field_depth-returns-in-Method t c = rw (c.in-Method.is, field_and-Method) (c.signature_depth.ensures ∙ ap capped (max-zero _))
@@ -321,7 +340,7 @@ spec_depth-returns-in-Value t c =
 pub spec_depth-returns-in-Type : goal.spec_depth-returns-in-Type
 unfolding specs_depth
 spec_depth-returns-in-Type t c =
-    rw (c.in-Type.is, spec_and-Type) (c.expression_depth.ensures ∙ ap at_expression c.deref-in-Type.ensures ∙ ap capped (max-zero _))
+    rw (c.in-Type.is, spec_and-Type) (deeper_of _ _ _ _ _ c.max-in-Type.ensures (c.parameters_depth.ensures ∙ ap at_parameters c.deref-in-Type.ensures.value) (c.expression_depth.ensures ∙ ap at_expression c.deref-in-Type-2.ensures ∙ ap capped (max-zero _)))
 
 pub expressions_depth-loop-expression-preserved : goal.expressions_depth-loop-expression-preserved
 unfolding expressions_depth

@@ -2,9 +2,8 @@ use Rattle.std.proofs.Common.{◌≡◌, Some, option_map, sym, ap, ◌∙◌, s
 use Rattle.std.proofs.lemmas.Result.{IfOk-weaker}
 use Rattle.bodies.specs.Bodies.{IsOrderedGraph, code_in}
 use Rattle.certificate_json.specs.Certificates.{rows_of}
-use Rattle.meaning.specs.BodyEvents.{variables_of}
 use Rattle.meaning.specs.Mentions.{BodyPlace}
-use Rattle.verifier.proofs.SaidParts.{few_so}
+use Rattle.verifier.proofs.SaidParts.{followed_so}
 use Rattle.verifier.specs.GivenViews.{rows_at}
 use Rattle.verifier.proofs.certified.find_certificate.Goals as goal
 
@@ -20,5 +19,5 @@ returns-in_ok-kept-in-None c =
     h number seen b tells
     (subst (λ (p : BodyPlace). IsOrderedGraph (code_in seen p) c.in_ok-kept-in-None.kept) tells.is_place
     (c.in_ok-kept-in-None.ensures seen told))
-    (few_so (variables_of seen b.at) (sym tells.too_many ∙ c.if-body.false)) g are_given)
+    (followed_so seen b (sym tells.unfollowed ∙ c.if-body.false)) g are_given)
     c.found_in-in-None.ensures

@@ -1,0 +1,2 @@
+pub mod FileHands
+pub mod UsedPackages

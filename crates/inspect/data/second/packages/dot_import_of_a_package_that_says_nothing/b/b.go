@@ -1,0 +1,7 @@
+package b
+
+import . "a"
+
+func f() int {
+	return Add(1, 2)
+}

@@ -1,0 +1,14 @@
+package a
+
+import "context"
+
+func f(p context.Context) {
+	ctx, cancel := context.WithCancel(p)
+	defer cancel()
+	use(ctx, func() {
+	again:
+		if more() {
+			goto again
+		}
+	})
+}

@@ -1,0 +1,10 @@
+use Rattle.std.proofs.Common.{refl, ap}
+use Rattle.tree.specs.View.{expression_syntax}
+use Rattle.meaning.specs.Mentions.{expression_marks}
+use Rattle.marks.proofs.OuterMarks.{all_marks}
+use Rattle.marks.proofs.file.expression_marks.Goals as goal
+
+pub returns : goal.returns
+returns c =
+    all_marks _ _ _ _ refl c.new.ensures.items (ap (λ s. expression_marks s (expression_syntax c.args.value.now)) c.part_of.ensures)
+    c.in_ok-expression.ensures

@@ -1,0 +1,2 @@
+-- What the contracts of this crate name: what a walk adds in each edition.
+pub mod WalkViews

@@ -1,0 +1,4 @@
+use Rattle.parser_parts.proofs.indexes.index_of_types.Goals as goal
+
+pub returns-in-Err : goal.returns-in-Err
+returns-in-Err g c = c.fault_of_types.ensures _ c.in-Err.ensures
