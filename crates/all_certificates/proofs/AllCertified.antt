@@ -35,12 +35,12 @@ module _ (declared : Tables) (ps : List LoadedPackage) (kept : List KeptPackage)
       → IsCertificateOf ps tables i p entry
   one_certified i p k j entry is_p is_k is_j made =
       let its = reports.is_report.of_package i p (said_view j) is_p (slice_get-map said_view said i ∙ ap (option_map said_view) is_j) in
-      let own : table_view j ≡ tables p.path = its.2 in
+      let own : table_view j ≡ tables p.path = its.is_table in
       let has = certified i p j is_p is_j tables (below_each (by_paths declared) ps tables reports.is_report.are_tables i) in
       let is_table : IsTable ps tables i p (table_view j) =
       subst (IsTable ps tables i p) (sym own) (reports.is_report.are_tables.of_package i p is_p) in
       record {
-        is_path = made.is_path ∙ its.0;
+        is_path = made.is_path ∙ its.is_path;
         are_bodies = record {
           of_bodies = λ none.
               subst (are_of_bodies ps tables p (tables p.path).calls) (sym made.are_bodies)

@@ -7,16 +7,15 @@ use Rattle.std.specs.Ordering.{nat_cmp, ordering_then}
 use Rattle.std.proofs.lemmas.Bool.{leb-true, leb-false}
 use Rattle.std.proofs.lemmas.List.Elements.{Contains-append_cases}
 use Rattle.std.proofs.lemmas.List.{map-append}
-use Rattle.tree.specs.declared.edition.Edition.{Edition}
 use Rattle.tree.specs.Syntax.{SourceFile}
 use Rattle.meaning.specs.Mentions.{BodyPlace, marks_by, file_marks}
-use Rattle.meaning.specs.Tracked.{Known, placed}
+use Rattle.meaning.specs.Tracked.{Known, some_keep, placed}
 use Rattle.meaning.specs.Uses.{Callee, Seen}
 use Rattle.meaning.specs.BodyEvents.{put_body, by_place as in_place, bodies_of, opened_in, seen_file}
 use Rattle.meaning.proofs.Membership.{contains_nil, contains_here, contains_there, contains_cases}
 use Rattle.meaning_packages.specs.CallsFlags.{FileWithCredits, calls_by}
 use Rattle.meaning_packages.proofs.BodyPlaces.{placed_only}
-use Rattle.meaning_reports.specs.Loaded.{LoadedPackage, Tables, imported_flags, known_in, seen_from, trees_of}
+use Rattle.meaning_reports.specs.Loaded.{LoadedPackage, Tables, imported_flags, keeping_in, known_in, seen_from, trees_of}
 use Rattle.meaning_reports.specs.PackageTables.{AreCredited, no_file as none_credited, file_and as credited_and, IsTable, empty, full}
 use Rattle.meaning_runs.specs.BodyOffsets.{BeginOnce}
 use Rattle.meaning_runs.specs.Promise.{AreTreesOfTexts}
@@ -79,15 +78,17 @@ in_place_climb [] h = tt
 in_place_climb (b ∷ bs) h =
     put_climbs b (in_place bs) (λ c there. h.0 c (placed_only bs c there)) (in_place_climb bs h.1)
 
--- the bodies of the tree begin at different places, by the marks of that edition
-abbrev BeginsOnce : Edition → SourceFile → Type 0
-BeginsOnce edition tree = BeginOnce (opened_in (placed [] (marks_by edition (file_marks tree))))
+-- the bodies of the tree begin at different places, by the marks that are looked at
+abbrev BeginsOnce : Known → SourceFile → Type 0
+BeginsOnce known tree =
+    BeginOnce (opened_in (placed [] (marks_by known.edition (some_keep known.fields) (file_marks tree))))
 
-tree_climbs : (known : Known) (tree : SourceFile) → BeginsOnce known.edition tree → Climb (bodies_of (seen_file known tree))
-tree_climbs known tree once = in_place_climb (opened_in (placed [] (marks_by known.edition (file_marks tree)))) once
+tree_climbs : (known : Known) (tree : SourceFile) → BeginsOnce known tree → Climb (bodies_of (seen_file known tree))
+tree_climbs known tree once =
+    in_place_climb (opened_in (placed [] (marks_by known.edition (some_keep known.fields) (file_marks tree)))) once
 
 all_climb : (known : ℕ → Known) (n : ℕ) (trees : List SourceFile)
-    → ((number : ℕ) (tree : SourceFile) → Contains trees tree → BeginsOnce (known number).edition tree)
+    → ((number : ℕ) (tree : SourceFile) → Contains trees tree → BeginsOnce (known number) tree)
     → (s : Seen)
     → Contains (seen_from known n trees) s
     → Climb (bodies_of s)
@@ -218,8 +219,10 @@ pub bodies_in_order : (ps : List LoadedPackage) (tables : Tables) (i : ℕ) (p :
     → Rise by_place place_of entries
 bodies_in_order ps tables i p entries is texts are = by is
   where
-    once : (number : ℕ) (tree : SourceFile) → Contains (trees_of p) tree → BeginsOnce p.edition tree
-    once number tree there = let text = texts tree there in bodies_begin_once p.edition text.0 tree text.1
+    once : (number : ℕ) (tree : SourceFile) → Contains (trees_of p) tree → BeginsOnce (known_in ps tables p number) tree
+    once number tree there =
+        let text = texts tree there in
+        bodies_begin_once p.edition (some_keep (keeping_in ps tables p)) text.0 tree text.1
 
     by : IsTable ps tables i p (tables p.path) → Rise by_place place_of entries
     by (empty x whole none) = none_rise entries (are.are_none x whole)

@@ -160,7 +160,13 @@ module _ (rules : Rules) {rule : CertificateRule} (ps : List LoadedPackage) (kep
       are_tables = are.are_tables;
       is_as_long = length-map (judged_of slots) said_view ∙ (as_many_judged slots each_there ∙ all.are_right.are_as_many);
       of_package = λ i p said is found.
-          let its = are.each i p said is (sym (result_there i) ∙ found) in (its.1.is_path, its.1.are_findings, its.0);
+          let its = are.each i p said is (sym (result_there i) ∙ found) in
+          record {
+            is_path = its.1.is_path;
+            are_findings = its.1.are_findings;
+            are_fields = its.1.are_fields;
+            is_table = its.0;
+          };
     };
     are_told = λ i k j is_k is_j.
         let p = package_of ps kept tell i k is_k in

@@ -158,6 +158,7 @@ pub fn cancel_use<'a>(
         Role::FoundNil(nil) => Ok(cancel_nil(known, local.number, nil)),
         Role::FoundError(_, _) => Ok(Use::Silent),
         Role::Elsewhere => Ok(Use::NotAllowed),
+        Role::Key => Ok(Use::NotAllowed),
         Role::CalledInBrackets => Ok(Use::NotAllowed),
         _ => Ok(Use::NotAllowed),
     }

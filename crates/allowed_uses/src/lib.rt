@@ -14,6 +14,7 @@ mod universe;
 
 pub use allowed_use::{Use, allowed_if};
 pub use between::{are_all_deferred, are_all_members};
+pub use cancels::has_its_arguments;
 pub use gives::{body_gives, hands_on, is_given_as};
 pub use groups::{
     group_awaited, group_lent, group_limited, group_started, group_tried, literal_at, only_argument,

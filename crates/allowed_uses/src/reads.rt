@@ -25,6 +25,7 @@ fn is_read(cancel_type: CancelType, mention: Mention<'_, '_>) -> bool
 {
     match mention.role {
         Role::Elsewhere => true,
+        Role::Key => true,
         Role::Called(call) => {
             mention.named.selected.is_some() || has_its_arguments(cancel_type, *call)
         }

@@ -8,3 +8,5 @@ pub mod KeptClaims
 pub mod KeptFiles
 pub mod MoreCalls
 pub mod ToldInOrder
+pub mod FileHands
+pub mod UsedPackages

@@ -3,9 +3,9 @@ use Rattle.std.proofs.Common.{◌≡◌, ℕ, ◌⊎◌, inl, inr, Bool, true, f
 use Rattle.std.specs.Prelude.{◌==◌}
 use Rattle.meaning.specs.Code.{Occurrence}
 use Rattle.meaning.specs.Mentions.{BodyPlace}
-use Rattle.meaning.specs.Uses.{Callee, Event, other, obtain, clear, call, defer_call, pass, defer_pass, lend, start, try, wait, defer_wait, make, defer_literal, return_event, Seen}
+use Rattle.meaning.specs.Uses.{Callee, Event, other, obtain, obtain_kept, renew, keep, call_kept, defer_kept, give, give_field, clear, call, defer_call, pass, defer_pass, lend, start, try, wait, defer_wait, make, defer_literal, return_event, Seen}
 use Rattle.meaning.specs.BodyEvents.{Variable}
-use Rattle.meaning.specs.Classes.{Promises, CancelClass, unset, opened, safe, pending, entry_cancel, left_to, ended, started, change_cancel, cancel_after, GroupClass, entry_group, change_group, group_after}
+use Rattle.meaning.specs.Classes.{Promises, CancelClass, unset, opened, kept, safe, pending, entry_cancel, left_to, ended, started, given_back, kept_from, settled_from_kept, settled_from_open, change_cancel, cancel_after, GroupClass, entry_group, change_group, group_after}
 use Rattle.meaning_packages.specs.PathFaults.{paths_of, KeepsCall}
 use Rattle.meaning_packages.specs.Credits.{Credits, promises_in, begun_after}
 use Rattle.meaning_packages.specs.CallsFlags.{Flags, flag_of, calls_by}
@@ -29,10 +29,10 @@ moved : (f : CancelClass → CancelClass) (k j : CancelClass) → f safe ≡ saf
 moved f k j stays (inl e) = inl (ap f e)
 moved f k j stays (inr e) = inr (ap f e ∙ stays)
 
-credited : (t : Bool) (g : ℕ) (k j : CancelClass) → NoWorse k j
-    → NoWorse (if t then left_to g k else k) (if t then left_to g j else j)
-credited true g k j h = moved (left_to g) k j refl h
-credited false g k j h = h
+moved_if : (t : Bool) (f : CancelClass → CancelClass) (k j : CancelClass) → f safe ≡ safe → NoWorse k j
+    → NoWorse (if t then f k else k) (if t then f j else j)
+moved_if true f k j stays h = moved f k j stays h
+moved_if false f k j stays h = h
 
 module _ (fewer more : Callee → ℕ → Bool) (grows : (f : Callee) (k : ℕ) → fewer f k ≡ true → more f k ≡ true)
     (credits : ℕ → ℕ → Bool) where
@@ -45,12 +45,19 @@ module _ (fewer more : Callee → ℕ → Bool) (grows : (f : Callee) (k : ℕ) 
   started_no_worse : (v g : ℕ) (literal : Option ℕ) (k j : CancelClass) → NoWorse k j
       → NoWorse (started before v g literal k) (started after v g literal j)
   started_no_worse v g None k j h = h
-  started_no_worse v g (Some literal) k j h = credited (credits literal v) g k j h
+  started_no_worse v g (Some literal) k j h = moved_if (credits literal v) (left_to g) k j refl h
 
   change_no_worse : (v : ℕ) (e : Event) (k j : CancelClass) → NoWorse k j
       → NoWorse (change_cancel before v e k) (change_cancel after v e j)
   change_no_worse v other k j h = h
   change_no_worse v (obtain u f n is_declared) k j h = chosen (u.number == v) opened k j h
+  change_no_worse v (obtain_kept u f n x) k j h = chosen (u.number == v) kept k j h
+  change_no_worse v (renew u x) k j h = moved_if (u == v) given_back k j refl h
+  change_no_worse v (keep u x) k j h = moved_if (u == v) kept_from k j refl h
+  change_no_worse v (call_kept u x) k j h = moved_if (u == v) settled_from_kept k j refl h
+  change_no_worse v (defer_kept u x) k j h = moved_if (u == v) settled_from_kept k j refl h
+  change_no_worse v (give u x) k j h = moved_if (u == v) settled_from_kept k j refl h
+  change_no_worse v (give_field u) k j h = moved_if (u == v) settled_from_open k j refl h
   change_no_worse v (clear u) k j h = chosen (u.number == v) unset k j h
   change_no_worse v (call u) k j h = chosen (u == v) safe k j h
   change_no_worse v (defer_call u) k j h = chosen (u == v) safe k j h
@@ -75,6 +82,13 @@ module _ (fewer more : Callee → ℕ → Bool) (grows : (f : Callee) (k : ℕ) 
   same_change : (v : ℕ) (e : Event) (k : GroupClass) → change_group before v e k ≡ change_group after v e k
   same_change v other k = refl
   same_change v (obtain u f n is_declared) k = refl
+  same_change v (obtain_kept u f n x) k = refl
+  same_change v (renew u x) k = refl
+  same_change v (keep u x) k = refl
+  same_change v (call_kept u x) k = refl
+  same_change v (defer_kept u x) k = refl
+  same_change v (give u x) k = refl
+  same_change v (give_field u) k = refl
   same_change v (clear u) k = refl
   same_change v (call u) k = refl
   same_change v (defer_call u) k = refl
@@ -123,6 +137,9 @@ module _ (fewer more : Callee → ℕ → Bool) (grows : (f : Callee) (k : ℕ) 
     never_open = λ handed t o comes is_open.
         h.never_open handed t o (record { reaches = comes.reaches; is_return = comes.is_return })
         (was_so t opened (λ e. cc) is_open);
+    never_kept = λ handed t o comes is_kept.
+        h.never_kept handed t o (record { reaches = comes.reaches; is_return = comes.is_return })
+        (was_so t kept (λ e. cc) is_kept);
     never_left = λ handed t o comes left.
         h.never_left handed t o (record { reaches = comes.reaches; is_return = comes.is_return })
         (record {

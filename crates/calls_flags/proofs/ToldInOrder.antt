@@ -47,6 +47,7 @@ nothing_told known told none = record {
   faults = λ body. ap (map _) (none.faults body);
   events = λ body at. ap (events_of_site at) (none.events body);
   panics = λ body at. ap (list_any (λ site. site == at)) (none.panics body);
+  keeping = ap (map _) none.keeping;
   opened = ap (map body_view) none.opened;
   edition = none.edition;
 }

@@ -9,15 +9,19 @@ use Rattle.events.specs.declared.found.Variables.{Variables}
 use Rattle.facts.specs.FactViews.{facts_by_name, facts_by_path}
 use Rattle.names.specs.Answers.{declared_at}
 use Rattle.silent_files.specs.WalkedFiles.{is_walked, seen_some}
+use Rattle.tracked_rows.specs.RowViews.{fields_view}
 use Rattle.tree.specs.View.{file_syntax}
 use Rattle.calls_flags.specs.declared.told_file.Telling.{Telling}
 use Rattle.calls_flags.specs.declared.told_file.ToldFile.{ToldFile}
 
--- what is known in the file of that number: the edition, what its names mean, and the facts of functions
+-- what is known in the file of that number before its left sides are looked at: the edition, what its names mean, which
+-- fields keep, and the facts of functions
 abbrev pub known_for : Telling → ℕ → Known
 known_for telling number = record {
   edition = telling.edition;
   means = declared_at telling.names.now number;
+  fields = fields_view telling.fields;
+  object_lefts = λ at. None;
   functions = facts_by_name telling.table.now;
   imported = facts_by_path telling.imported.now;
 }

@@ -13,9 +13,9 @@ use bumpalo::Bump;
 use events::{Told, Variables, find_variables, tell};
 use facts::{Imported, Table};
 use names::Names;
+use objects::see;
 use std::alloc::{AllocError, Global};
-use tracked::see;
-use tracked_rows::Known;
+use tracked_rows::{Fields, Known};
 use tree::{Edition, File};
 
 /// A file that was told of: its events and use faults, and the variables of its bodies.
@@ -38,6 +38,8 @@ pub struct Telling<'k, 'a> {
     pub table: &'k Table<'a>,
     /// Those of its imports' functions.
     pub imported: &'k Imported<'a, 'k>,
+    /// Which fields of the package keep cancel functions.
+    pub fields: Fields<'k, 'a>,
     /// Whether each file is walked, by its number. A file without a mark is.
     pub walked: &'k [bool],
 }
@@ -116,6 +118,8 @@ pub fn tell_at<'a>(
         names: telling.names,
         table: telling.table,
         imported: telling.imported,
+        fields: telling.fields,
+        object_lefts: &[],
     };
     tell_if(alloc, is_walked(telling.walked, number), known, file)
 }

@@ -3,7 +3,7 @@ use Rattle.std.proofs.Common.{◌≡◌, ℕ, ◌+◌, Bool, true, false, List, 
 use Rattle.std.proofs.lemmas.Bool.{and_parts, eqb-true}
 use Rattle.std.proofs.lemmas.Option.{none-some}
 use Rattle.std.specs.Prelude.{◌==◌, not, ◌&&◌, is_some, slice_get}
-use Rattle.bodies.proofs.FewVariables.{none_at_first}
+use Rattle.bodies.specs.AtNodes.{ClassifiesNodes}
 use Rattle.bodies.specs.Bodies.{has_paths, IsOrderedGraph, TellsBody}
 use Rattle.bodies.specs.NodeEvents.{node_event_view, changed}
 use Rattle.bodies.specs.declared.body.Body.{Body as KeptBody}
@@ -13,13 +13,11 @@ use Rattle.certificates.proofs.MadeRows.{made_least}
 use Rattle.certificates.specs.Least.{IsLeastOf}
 use Rattle.certificates.specs.Rows.{Vec, arriving, rows_view, TellRows}
 use Rattle.checker.specs.Certificates.{groups_with_bits}
-use Rattle.checker.specs.LaidOutViews.{HasWholeOrder}
 use Rattle.flow.specs.GraphOfCode.{nodes}
 use Rattle.flow.specs.GraphViews.{occurrences_of}
 use Rattle.flow.specs.NodeOrder.{places}
 use Rattle.flow.specs.Walks.{Graph}
-use Rattle.maker.specs.AtNodes.{ClassifiesNodes}
-use Rattle.meaning.specs.BodyEvents.{Variable, variables_of, too_many_faults, jump_faults, unfollowed_faults}
+use Rattle.meaning.specs.BodyEvents.{Variable, variables_of, unfollowed_faults}
 use Rattle.meaning.specs.Classes.{CancelClass, GroupClass}
 use Rattle.meaning.specs.Code.{Occurrence}
 use Rattle.meaning.specs.Mentions.{BodyPlace}
@@ -42,7 +40,6 @@ not_so false e = absurd (true≢false e)
 
 -- the rows of a body of these paths, with such a graph, by a table of its classes
 module _ (paths : Paths) (kept : KeptGraph) (ordered : IsOrderedGraph paths.code kept)
-    (few : too_many_faults paths.variables ≡ [])
     (cancels : ℕ → ℕ → CancelClass → Bool) (groups : ℕ → ℕ → GroupClass → Bool)
     (classifies : ClassifiesNodes paths.code paths.promises paths.variables cancels groups) where
   same_places : places 0 (nodes paths.code) ≡ places 0 (occurrences_of kept.graph.nodes.items)
@@ -52,16 +49,15 @@ module _ (paths : Paths) (kept : KeptGraph) (ordered : IsOrderedGraph paths.code
 
   pub made_rows : (rows : List (Vec ℕ)) (vs : List Variable)
       → vs ≡ paths.variables
-      → (HasWholeOrder kept → TellRows (arriving cancels groups (groups_with_bits vs)) vs kept.order.items rows)
+      → TellRows (arriving cancels groups (groups_with_bits vs)) vs kept.order.items rows
       → IsLeastOf paths (rows_view rows)
   made_rows rows vs same told = record {
     order = kept.order.items;
     has_each = has_each;
     ordered = ordered.ordered;
     is_least = λ claims.
-        made_least paths kept.order.items claims cancels groups rows few has_each classifies
-        (subst (λ vs. TellRows (arriving cancels groups (groups_with_bits vs)) vs kept.order.items rows) same
-        (told ordered.same));
+        made_least paths kept.order.items claims cancels groups rows has_each classifies
+        (subst (λ vs. TellRows (arriving cancels groups (groups_with_bits vs)) vs kept.order.items rows) same told);
   }
     where
       has_each : IsPermutation (places 0 (nodes paths.code)) kept.order.items
@@ -85,10 +81,6 @@ module _ (file : ℕ) (seen : Seen) (b : BodyPlace) (body : KeptBody) (tells : T
   pub not_followed : body.is_unfollowed ≡ true → unfollowed_faults seen b ≡ [] → ⊥
   not_followed set none =
       true≢false (sym set ∙ tells.unfollowed ∙ ap (λ (fs : List UseFault). not (length fs == 0)) none)
-
-  -- one whose paths are followed has not too many variables
-  pub few_where : unfollowed_faults seen b ≡ [] → too_many_faults (variables_of seen b.at) ≡ []
-  few_where none = none_at_first (too_many_faults (variables_of seen b.at)) (jump_faults seen b) none
 
   -- one without a graph, whose paths are followed, has no variables
   pub none_without : body.graph ≡ None → body.is_unfollowed ≡ false → variables_of seen b.at ≡ []

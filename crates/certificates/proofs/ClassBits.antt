@@ -1,21 +1,21 @@
 -- Which classes have bits, and what the masks of a least certificate have of them.
-use Rattle.std.proofs.Common.{◌≡◌, ℕ, ◌+◌, ◌≤◌, List, [], ◌∷◌, length, Option, Some, Contains, refl, sym, ap, ◌∙◌, subst}
+use Rattle.std.proofs.Common.{◌≡◌, ℕ, ◌≤◌, List, [], ◌∷◌, length, Option, Some, Contains, refl, sym, ap, ◌∙◌, subst}
 use Rattle.std.proofs.lemmas.Option.{same_Some}
 use Rattle.std.specs.Prelude.{slice_get}
 use Rattle.certificates.proofs.ListsToNodes.{only}
 use Rattle.certificates.specs.Least.{HasJust}
 use Rattle.checker.proofs.SteppedClasses.{class_has}
 use Rattle.flow.specs.Walks.{Graph}
-use Rattle.maker.specs.Carried.{IsReached, starts, goes}
+use Rattle.bodies.specs.Carried.{IsReached, starts, goes}
 use Rattle.bodies.specs.OwnGroups.{literal_group}
 use Rattle.meaning.specs.BodyEvents.{VariableRole, own_parameter, own_receiver, declared_in_body, captured}
 use Rattle.meaning.specs.Classes.{Promises, entry_cancel, change_cancel, entry_group, change_group}
 use Rattle.meaning.specs.Code.{Occurrence}
 use Rattle.meaning.specs.Uses.{Event}
-use Rattle.states.proofs.ChangedClasses.{HasBit, change_has}
-use Rattle.states.proofs.ClassNumbers.{cancel_inverse, group_inverse}
-use Rattle.states.specs.Bits.{most, cancel_bit, cancel_class, group_bit, group_class}
-use Rattle.states.specs.Masks.{bit_of_group, Has, MayBe}
+use Rattle.bodies.proofs.ChangedClasses.{HasBit, change_has}
+use Rattle.bodies.proofs.ClassNumbers.{cancel_inverse, group_inverse}
+use Rattle.bodies.specs.Bits.{cancel_bit, cancel_class, group_bit, group_class}
+use Rattle.bodies.specs.Masks.{bit_of_group, Has, MayBe}
 
 -- The bits of the classes that the events of a graph bring: each bit of a class stands for it, and each class that comes
 -- of one with a bit has one.
@@ -40,7 +40,7 @@ entry_has_bit groups captured = (1, refl)
 
 -- where each group in which a node starts a literal is one of these
 pub cancel_bits : (g : Graph Event) (groups : List ℕ) (p : Promises) (v : ℕ) (role : VariableRole)
-    → length groups + 3 ≤ most
+    → length groups ≤ 12
     → ((n : ℕ) (o : Occurrence Event) (h : ℕ) → slice_get g.nodes n ≡ Some o → literal_group o.event ≡ Some h
     → Contains groups h)
     → AreBits g (cancel_class groups) (cancel_bit groups) (entry_cancel role) (change_cancel p v)

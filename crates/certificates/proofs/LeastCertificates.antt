@@ -1,24 +1,28 @@
 -- Least certificates hold, and settle what is settled.
-use Rattle.std.proofs.Common.{◌≡◌, ℕ, ◌+◌, ◌-◌, ◌<◌, ◌≤◌, Bool, true, false, List, [], ◌∷◌, length, Option, Some, Contains, refl, sym, ap, ◌∙◌, subst, true≢false}
+use Rattle.std.proofs.Common.{◌≡◌, ℕ, ◌-◌, ◌<◌, ◌≤◌, Bool, true, false, List, [], ◌∷◌, length, Option, Some, Contains, refl, sym, ap, ◌∙◌, subst, arith, true≢false}
 use Rattle.std.proofs.lemmas.List.Elements.{Contains-append_left}
 use Rattle.std.proofs.lemmas.Option.{slice_get_within, same_Some}
 use Rattle.std.specs.Prelude.{◌↔◌, slice_get, not}
 use Rattle.certificates.proofs.ClassBits.{AreBits, cancel_bits, group_bits, may_be, is_reached, has}
 use Rattle.certificates.proofs.ListsToNodes.{only, LeadsTo, cancel_leads, cancel_comes, group_leads, group_comes}
+use Rattle.certificates.proofs.MadeRows.{there as element_at, all_by, each_by}
+use Rattle.certificates.proofs.Unkept.{IsUnkept, kept_is_not, reached_unkept, without_last}
 use Rattle.certificates.proofs.NodesInRange.{contains_at, start_in_range, next_in_range}
 use Rattle.certificates.specs.Least.{HasJust, HasReached, IsLeast, body_with}
-use Rattle.certificates.specs.LeastLaws.{StartsInOwnGroups, CanHaveCertificate, HasNoFault, KeepsEachClaim, LeastHolds, LeastSettles, LeastIsWithin, HasClassesOf}
+use Rattle.certificates.specs.LeastLaws.{keeps as keeps_it, StartsInOwnGroups, KeepsByEdition, CanHaveCertificate, HasNoFault, KeepsEachClaim, LeastHolds, LeastSettles, LeastIsWithin, HasClassesOf}
 use Rattle.checker.proofs.FewVariables.{bits_fit}
-use Rattle.checker.specs.Certificates.{CheckedBody, spare, groups_with_bits, class_of_bit, bit_of_class, StartsWithBits, mask_at, IsClosed, IsClosedFor, IsOwed, is_kept, has_claim, MayBeCancel, MayBeLive, MayBeUncalled, is_open, is_left, IsFault, loses_cancel, loses_group, returns_live, returns_uncalled, Holds, IsSettledBy, SettlesIn}
+use Rattle.checker.proofs.TestedLists.{zip_each, each_zip}
+use Rattle.checker.specs.CertificateTests.{mask_in}
+use Rattle.checker.specs.Certificates.{CheckedBody, spare, groups_with_bits, class_of_bit, bit_of_class, StartsWithBits, mask_at, IsClosed, IsClosedFor, IsOwed, is_kept, has_claim, MayBeCancel, MayBeLive, MayBeUncalled, is_open, is_left, IsFault, loses_cancel, loses_group, returns_live, returns_uncalled, returns_kept, IsRow, HasRows, Holds, IsSettledBy, SettlesIn}
 use Rattle.flow.specs.GraphOfCode.{nodes}
 use Rattle.flow.specs.Walks.{Graph, graph_of}
 use Rattle.flow.specs.declared.order.NodePlace.{NodePlace}
-use Rattle.maker.specs.AtNodes.{IsCancelAt, IsGroupAt}
-use Rattle.maker.specs.Carried.{IsReached, starts, goes}
+use Rattle.bodies.specs.AtNodes.{IsCancelAt, IsGroupAt}
+use Rattle.bodies.specs.Carried.{IsReached, starts, goes}
 use Rattle.bodies.specs.OwnGroups.{literal_group, groups_of}
 use Rattle.meaning.proofs.Membership.{contains_here}
 use Rattle.meaning.specs.BodyEvents.{Variable, too_many_faults}
-use Rattle.meaning.specs.Classes.{CancelClass, opened, pending, entry_cancel, change_cancel, GroupClass, in_state, entry_group, change_group}
+use Rattle.meaning.specs.Classes.{CancelClass, opened, kept, pending, entry_cancel, change_cancel, GroupClass, in_state, entry_group, change_group}
 use Rattle.meaning.specs.Code.{Occurrence}
 use Rattle.meaning.specs.Lists.{Reaches}
 use Rattle.meaning.specs.FunctionFacts.{VariableKind, cancel, group}
@@ -26,14 +30,17 @@ use Rattle.meaning.specs.Tracked.{live}
 use Rattle.meaning.specs.Uses.{Event, Handed, return_event}
 use Rattle.meaning.specs.declared.TheConstants.{MOST_GROUPS}
 use Rattle.meaning_packages.specs.Credits.{is_safe, is_live, is_settled, Settles}
-use Rattle.meaning_packages.specs.PathFaults.{overwritten, not_called, group_is_live, group_overwritten, left_to_live_group, Paths, cancel_class, group_class, is_declared, is_handed, is_lost, OwesCall, ComesToReturn, LeavesLive, IsLeft, loses_cancel as fault_loses_cancel, loses_group as fault_loses_group, returns_live as fault_returns_live, returns_open as fault_returns_open, returns_pending as fault_returns_pending}
-use Rattle.states.proofs.ClassNumbers.{cancel_inverse}
-use Rattle.states.specs.Bits.{most, group_class as class_of_group_bit}
-use Rattle.states.specs.Masks.{bit_of_group, MayBe}
+use Rattle.meaning_packages.specs.PathFaults.{overwritten, not_called, group_is_live, group_overwritten, left_to_live_group, Paths, cancel_class, group_class, is_declared, is_handed, is_handed_kept, is_lost, OwesCall, ComesToReturn, LeavesLive, IsLeft, loses_cancel as fault_loses_cancel, loses_group as fault_loses_group, returns_live as fault_returns_live, returns_open as fault_returns_open, returns_kept as fault_returns_kept, returns_pending as fault_returns_pending}
+use Rattle.tree.specs.declared.edition.Edition.{Edition}
+use Rattle.tree.specs.declared.edition.Edition.TheVariants.{First, Second}
+use Rattle.path_faults.proofs.Kept.{not_handed}
+use Rattle.bodies.proofs.ClassNumbers.{cancel_inverse}
+use Rattle.bodies.specs.Bits.{group_class as class_of_group_bit}
+use Rattle.bodies.specs.Masks.{bit_of_group, HasKnownBits, MayBe}
 
 -- The bits of a body
 
-module _ (b : CheckedBody) (fits : length (groups_with_bits b.variables) + 3 ≤ most)
+module _ (b : CheckedBody) (fits : length (groups_with_bits b.variables) ≤ 12)
     (own : StartsInOwnGroups b) where
   abbrev AreCancelBits : Variable → Type 0
   AreCancelBits v =
@@ -86,7 +93,7 @@ module _ (paths : Paths) (order : List NodePlace) (claims : ℕ → Bool) where
   abbrev body : CheckedBody
   body = body_with paths order claims
 
-  module _ (fits : length (groups_with_bits paths.variables) + 3 ≤ most) (own : StartsInOwnGroups body)
+  module _ (fits : length (groups_with_bits paths.variables) ≤ 12) (own : StartsInOwnGroups body)
       (states : List (List ℕ)) (least : IsLeast body states) where
     abbrev IsJust : Variable → VariableKind → (ℕ → ℕ) → Type 0
     IsJust v kind mask = (n : ℕ) → n < length (nodes paths.code) → HasReached body v kind n (mask n)
@@ -157,16 +164,67 @@ module _ (paths : Paths) (order : List NodePlace) (claims : ℕ → Bool) where
           },
         )
 
+    -- Rows of the first edition
+
+    module _ (none : (n : ℕ) (o : Occurrence Event) → slice_get (nodes paths.code) n ≡ Some o → keeps_it o.event ≡ false)
+      where
+        first_bits : (v : Variable) (kind : VariableKind) (n mask : ℕ)
+            → HasReached body v kind n mask
+            → HasKnownBits Second kind mask
+            → HasKnownBits First kind mask
+        first_bits v group n mask just known = known
+        first_bits v cancel n mask just known =
+            without_last mask known
+            (λ set.
+            let stands = (just 15).0 set in
+            kept_is_not (subst IsUnkept (same_Some stands.class kept (sym stands.is_class))
+            (reached_unkept (graph_of paths.code) paths.promises v.number v.role none n stands.class stands.is_so)))
+
+        first_row : (k : ℕ) (row : List ℕ) (place : NodePlace)
+            → slice_get order k ≡ Some place
+            → slice_get states k ≡ Some row
+            → IsRow Second paths.variables row
+            → IsRow First paths.variables row
+        first_row k row place at is known =
+            let parts = zip_each (λ (v : Variable) mask. HasKnownBits Second v.kind mask) 0 paths.variables row known in
+            each_zip (λ (v : Variable) mask. HasKnownBits First v.kind mask) 0 paths.variables row parts.0
+            (λ i v there.
+            first_bits v v.kind place.node (mask_in row i) (least.each_row k i place row v at is there)
+            (parts.1 i v there))
+
+        first_rows : HasRows First body states
+        first_rows = record {
+          are_as_many = least.has_rows.are_as_many;
+          are_rows =
+              all_by (IsRow First paths.variables) states
+              (λ k row is.
+              let l = slice_get_within states k row is in
+              let counted = least.has_rows.are_as_many in
+              let place = element_at order k (omega (arith, l, counted)) in
+              first_row k row place.0 place.1 is (each_by (IsRow Second paths.variables) states least.has_rows.are_rows k row is));
+        }
+
+    rows_by : (edition : Edition)
+        → (edition ≡ First → (n : ℕ) (o : Occurrence Event) → slice_get (nodes paths.code) n ≡ Some o
+        → keeps_it o.event ≡ false)
+        → HasRows edition body states
+    rows_by First none = first_rows (none refl)
+    rows_by Second none = least.has_rows
+
+    rows_of : KeepsByEdition body → HasRows paths.edition body states
+    rows_of by_edition = rows_by paths.edition (λ is n o at. by_edition n o is at)
+
     module _ (sound : HasNoFault paths) (keeps : KeepsEachClaim paths body) where
       module _ (i n : ℕ) (v : Variable) (handed : List Handed) (o : Occurrence Event)
           (at : slice_get paths.variables i ≡ Some v) (kind : v.kind ≡ cancel)
           (is : slice_get (nodes paths.code) n ≡ Some o) (returns : o.event ≡ return_event handed) where
-        open_list : MayBeCancel body states n i opened
+        class_list : (k : CancelClass)
+            → MayBeCancel body states n i k
             → (t : List (Occurrence Event))
             × ComesToReturn paths t o handed
-            × (cancel_class paths v t ≡ opened)
-        open_list may =
-            let l = cancel_there i n v o opened at kind is may in
+            × (cancel_class paths v t ≡ k)
+        class_list k may =
+            let l = cancel_there i n v o k at kind is may in
             (l.before, record { reaches = l.reaches; is_return = returns }, l.is_class)
 
         left_list : (j : ℕ) (g : Variable)
@@ -193,28 +251,37 @@ module _ (paths : Paths) (order : List NodePlace) (claims : ℕ → Bool) where
             )
 
         owes : is_declared v.role ≡ true → is_handed v.number handed ≡ false → OwesCall paths v handed
-        owes declared kept = record {
+        owes declared unhanded = record {
           is_of_body = contains_at paths.variables i v at;
           is_cancel_variable = kind;
           is_declared_here = declared;
-          is_kept = kept;
+          is_kept = unhanded;
         }
 
-        called : IsOwed body v handed → MayBeUncalled body states n i → ⊥
-        called (is_kept declared kept) (is_open may) =
-            let l = open_list may in
+        called : IsOwed body v (is_handed v.number handed) → MayBeUncalled body states n i → ⊥
+        called (is_kept declared unhanded) (is_open may) =
+            let l = class_list opened may in
             sound record { at = o.at; code = not_called; name = v.name }
-            (fault_returns_open v handed l.0 o l.1 (owes declared kept) l.2)
-        called (is_kept declared kept) (is_left j g there is_group may lives) =
+            (fault_returns_open v handed l.0 o l.1 (owes declared unhanded) l.2)
+        called (is_kept declared unhanded) (is_left j g there is_group may lives) =
             let l = left_list j g there is_group may lives in
             sound record { at = o.at; code = left_to_live_group; name = v.name }
-            (fault_returns_pending v handed l.0 o l.1 (owes declared kept) l.2)
+            (fault_returns_pending v handed l.0 o l.1 (owes declared unhanded) l.2)
         called (has_claim claim) (is_open may) =
-            let l = open_list may in
+            let l = class_list opened may in
             (keeps i v at kind claim).never_open handed l.0 o l.1 l.2
         called (has_claim claim) (is_left j g there is_group may lives) =
             let l = left_list j g there is_group may lives in
             (keeps i v at kind claim).never_left handed l.0 o l.1 l.2
+
+        handed_on : IsOwed body v (is_handed_kept v.number handed) → MayBeCancel body states n i kept → ⊥
+        handed_on (is_kept declared unhanded) may =
+            let l = class_list kept may in
+            sound record { at = o.at; code = not_called; name = v.name }
+            (fault_returns_kept v handed l.0 o l.1 (owes declared (not_handed v.number handed unhanded)) l.2 unhanded)
+        handed_on (has_claim claim) may =
+            let l = class_list kept may in
+            (keeps i v at kind claim).never_kept handed l.0 o l.1 l.2
 
       no_fault : (n : ℕ) (o : Occurrence Event)
           → slice_get (nodes paths.code) n ≡ Some o
@@ -235,12 +302,14 @@ module _ (paths : Paths) (order : List NodePlace) (claims : ℕ → Bool) where
           (fault_returns_live g handed l.0 o record { reaches = l.1; is_return = returns } declared l.2)
       no_fault n o is (returns_uncalled i v handed at kind returns owed may) =
           called i n v handed o at kind is returns owed may
+      no_fault n o is (returns_kept i v handed at kind returns owed may) =
+          handed_on i n v handed o at kind is returns owed may
 
-      holds : too_many_faults paths.variables ≡ [] → Holds body states
-      holds few = record {
+      holds : KeepsByEdition body → too_many_faults paths.variables ≡ [] → Holds body states
+      holds by_edition few = record {
         are_few = few;
         starts_with_bits = with_bits body own;
-        has_rows = least.has_rows;
+        has_rows = rows_of by_edition;
         is_closed = λ i v at. closed_by_kind v v.kind (mask_at body states i) (λ n l. least.has_reached i v n at l);
         has_no_fault = no_fault;
       }
@@ -312,6 +381,7 @@ module _ (paths : Paths) (order : List NodePlace) (claims : ℕ → Bool) where
 module _ (paths : Paths) (b : CheckedBody) (certified : CanHaveCertificate paths b) where
   is_body : body paths b.order b.is_claimed ≡ b
   is_body i = record {
+    edition = sym certified.is_of.is_edition i;
     graph = sym certified.is_of.is_graph i;
     order = b.order;
     variables = sym certified.is_of.are_variables i;
@@ -322,16 +392,21 @@ module _ (paths : Paths) (b : CheckedBody) (certified : CanHaveCertificate paths
   own_groups : StartsInOwnGroups (body paths b.order b.is_claimed)
   own_groups = subst StartsInOwnGroups (sym is_body) certified.starts_in_own_groups
 
+  by_edition : KeepsByEdition (body paths b.order b.is_claimed)
+  by_edition = subst KeepsByEdition (sym is_body) certified.keeps_by_edition
+
   of_paths : (P : CheckedBody → Type 0)
-      → (StartsInOwnGroups (body paths b.order b.is_claimed) → P (body paths b.order b.is_claimed))
+      → (StartsInOwnGroups (body paths b.order b.is_claimed)
+      → KeepsByEdition (body paths b.order b.is_claimed)
+      → P (body paths b.order b.is_claimed))
       → P b
-  of_paths P f = subst P is_body (f own_groups)
+  of_paths P f = subst P is_body (f own_groups by_edition)
 
 pub least_holds : LeastHolds
 least_holds paths b states certified sound keeps =
     of_paths paths b certified (λ b. KeepsEachClaim paths b → IsLeast b states → Holds b states)
-    (λ own keeps least.
-    holds paths b.order b.is_claimed (bits_fit paths.variables certified.are_few) own states least sound keeps
+    (λ own kept_by keeps least.
+    holds paths b.order b.is_claimed (bits_fit paths.variables certified.are_few) own states least sound keeps kept_by
     certified.are_few) keeps
 
 pub least_settles : LeastSettles
@@ -339,7 +414,7 @@ least_settles paths b states certified =
     of_paths paths b certified
     (λ b. IsLeast b states → (i : ℕ) (v : Variable) → slice_get paths.variables i ≡ Some v
     → SettlesIn b states i v ↔ Settles paths v)
-    (λ own least.
+    (λ own kept_by least.
     settles paths b.order b.is_claimed (bits_fit paths.variables certified.are_few) own states least)
 
 -- Each certificate that holds has all classes

@@ -1,7 +1,9 @@
 pub mod NodesInRange
 pub mod ListsToNodes
 pub mod ClassBits
+pub mod Unkept
 pub mod LeastCertificates
 pub mod SetBits
 pub mod MadeRows
 pub mod BodyRows
+pub mod KeptByEdition

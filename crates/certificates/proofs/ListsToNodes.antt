@@ -1,11 +1,11 @@
 -- A class that walks carry to a node of a code's graph is one that a list of the code leads to, and the other way round.
 use Rattle.std.proofs.Common.{◌≡◌, ℕ, List, [], ◌∷◌, Some, Contains, refl, sym, ap, ◌∙◌, subst, inl, inr}
 use Rattle.std.specs.Prelude.{slice_get}
+use Rattle.bodies.proofs.CarriedFlags.{reached_by_lists}
+use Rattle.bodies.specs.AtNodes.{IsCancelAt, IsGroupAt}
+use Rattle.bodies.specs.Carried.{IsReached, carried}
 use Rattle.flow.specs.GraphOfCode.{nodes}
 use Rattle.flow.specs.Walks.{graph_of}
-use Rattle.maker.proofs.CarriedFlags.{reached_by_lists}
-use Rattle.maker.specs.AtNodes.{IsCancelAt, IsGroupAt}
-use Rattle.maker.specs.Carried.{IsReached, carried}
 use Rattle.meaning.proofs.Membership.{contains_nil, contains_here, contains_cases}
 use Rattle.meaning.specs.BodyEvents.{Variable}
 use Rattle.meaning.specs.Classes.{Promises, CancelClass, entry_cancel, change_cancel, cancel_after, GroupClass, entry_group, change_group, group_after}

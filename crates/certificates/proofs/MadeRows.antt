@@ -1,32 +1,34 @@
 -- The rows that the program makes are the least certificate, where its table tells exactly what walks carry to the nodes.
-use Rattle.std.proofs.Common.{◌≡◌, ℕ, zero, suc, ◌+◌, ◌<◌, Bool, true, false, List, [], ◌∷◌, length, map, Option, Some, None, option_map, Contains, refl, sym, ap, ◌∙◌, subst, arith, true≢false, inl, inr}
+use Rattle.std.proofs.Common.{◌≡◌, ℕ, zero, suc, ◌+◌, ◌<◌, Bool, true, false, List, [], ◌∷◌, length, map, Option, Some, None, Contains, refl, sym, ap, ◌∙◌, subst, arith, true≢false, inl, inr}
 use Rattle.std.proofs.lemmas.Bool.{lt-ltb, and_parts}
 use Rattle.std.proofs.lemmas.Bool.Decides.{eqb_tells}
 use Rattle.std.proofs.lemmas.List.{length-map}
-use Rattle.std.proofs.lemmas.List.Sorted.{Contains-permutation}
+use Rattle.std.proofs.lemmas.List.Sorted.{IsPermutation-sym, Contains-permutation}
 use Rattle.std.proofs.lemmas.Option.{none-some, same_Some, slice_get_within}
 use Rattle.std.specs.Prelude.{◌==◌, ◌&&◌, if◌then◌else◌, nat_lt, slice_get, slice_index_or}
 use Rattle.std.specs.List.{AllZip, AllByRecursion}
 use Rattle.std.specs.List.Sorted.{IsPermutation}
 use Rattle.certificates.specs.Least.{HasJust, HasReached, IsLeast, body_with}
+use Rattle.certificates.proofs.NodesInRange.{contains_at}
 use Rattle.certificates.specs.Rows.{Vec, rows_view, passes, HasBits, Arriving, arriving, IsMask, IsMaskIn, IsRowOf, IsRowIn, TellRows}
-use Rattle.checker.proofs.FewVariables.{with_bits}
+use Rattle.checker.proofs.NodeRows.{places_below}
 use Rattle.checker.specs.Certificates.{groups_with_bits, row_from, masks_in, mask_at, IsRow}
 use Rattle.flow.specs.GraphOfCode.{nodes}
 use Rattle.flow.specs.NodeOrder.{places}
 use Rattle.flow.specs.Walks.{graph_of}
 use Rattle.flow.specs.declared.order.NodePlace.{NodePlace}
-use Rattle.maker.specs.AtNodes.{IsCancelAt, IsGroupAt, ClassifiesNodes}
+use Rattle.bodies.specs.AtNodes.{IsCancelAt, IsGroupAt, ClassifiesNodes}
 use Rattle.meaning.proofs.Membership.{contains_nil, contains_here, contains_there, contains_cases}
-use Rattle.meaning.specs.BodyEvents.{Variable, too_many_faults}
-use Rattle.meaning.specs.Classes.{CancelClass, pending, GroupClass}
+use Rattle.tree.specs.declared.edition.Edition.TheVariants.{Second}
+use Rattle.meaning.specs.BodyEvents.{Variable}
+use Rattle.meaning.specs.Classes.{CancelClass, GroupClass}
 use Rattle.meaning.specs.Code.{Occurrence}
 use Rattle.meaning.specs.FunctionFacts.{VariableKind, cancel, group}
 use Rattle.meaning_packages.specs.PathFaults.{Paths}
-use Rattle.states.proofs.ClassNumbers.{group_inverse, group_within}
-use Rattle.states.specs.Bits.{cancel_class, group_class}
-use Rattle.states.specs.Masks.{HasKnownBits}
-use Rattle.states.specs.declared.bits.TheConstants.{CANCEL_CLASSES, GROUP_CLASSES}
+use Rattle.bodies.proofs.ClassNumbers.{class_within, group_inverse, group_within}
+use Rattle.bodies.specs.Bits.{cancel_class, group_class}
+use Rattle.bodies.specs.Masks.{HasKnownBits}
+use Rattle.bodies.specs.declared.bits.TheConstants.{CANCEL_CLASSES, GROUP_CLASSES}
 
 -- Bits
 
@@ -54,25 +56,6 @@ just width class_of has IsSo mask within told bits bit = (
       ∙ and_of (nat_lt bit width) (passes has (class_of bit)) (lt-ltb bit width (within s.class bit s.is_class))
       (ap (passes has) s.is_class ∙ (told s.class).1 s.is_so),
 )
-
-cancel_bit_within : (groups : List ℕ) (o : Option ℕ) (bit i : ℕ)
-    → bit ≡ i + 3
-    → slice_get groups i ≡ o
-    → (k : CancelClass)
-    → option_map pending o ≡ Some k
-    → bit < length groups + 3
-cancel_bit_within groups None bit i is at k e = absurd (none-some k e)
-cancel_bit_within groups (Some g) bit i is at k e =
-    let l = slice_get_within groups i g at in omega (arith, l, is)
-
-class_within : (groups : List ℕ) (k : CancelClass) (bit : ℕ)
-    → cancel_class groups bit ≡ Some k
-    → bit < length groups + 3
-class_within groups k zero e = omega arith
-class_within groups k (suc zero) e = omega arith
-class_within groups k (suc (suc zero)) e = omega arith
-class_within groups k (suc (suc (suc i))) e =
-    cancel_bit_within groups (slice_get groups i) (suc (suc (suc i))) i (omega arith) refl k e
 
 group_class_within : (k : GroupClass) (bit : ℕ) → group_class bit ≡ Some k → bit < GROUP_CLASSES
 group_class_within k bit e =
@@ -142,7 +125,7 @@ item_of [] k x d e = absurd (none-some x e)
 item_of (y ∷ ys) zero x d e = same_Some y x e
 item_of (y ∷ ys) (suc k) x d e = item_of ys k x d e
 
-all_by : {A : Type 0} (P : A → Type 0) (xs : List A)
+pub all_by : {A : Type 0} (P : A → Type 0) (xs : List A)
     → ((k : ℕ) (x : A) → slice_get xs k ≡ Some x → P x)
     → AllByRecursion P xs
 all_by P [] each = tt
@@ -158,13 +141,22 @@ zipped_by R (x ∷ xs) [] e each = absurd (omega (arith, e))
 zipped_by R (x ∷ xs) (y ∷ ys) e each =
     (each 0 x y refl refl, zipped_by R xs ys (omega (arith, e)) (λ k. each (suc k)))
 
-there : {A : Type 0} (xs : List A) (k : ℕ) → k < length xs → (x : A) × (slice_get xs k ≡ Some x)
+pub each_by : {A : Type 0} (P : A → Type 0) (xs : List A)
+    → AllByRecursion P xs
+    → (k : ℕ) (x : A)
+    → slice_get xs k ≡ Some x
+    → P x
+each_by P [] all k x e = absurd (none-some x e)
+each_by P (y ∷ ys) all zero x e = subst P (same_Some y x e) all.0
+each_by P (y ∷ ys) all (suc k) x e = each_by P ys all.1 k x e
+
+pub there : {A : Type 0} (xs : List A) (k : ℕ) → k < length xs → (x : A) × (slice_get xs k ≡ Some x)
 there [] k l = absurd (omega (arith, l))
 there (x ∷ xs) zero l = (x, refl)
 there (x ∷ xs) (suc k) l = there xs k (omega (arith, l))
 
 module _ (a : Arriving) (n : ℕ) (vs : List Variable) where
-  known : (kind : VariableKind) (i mask : ℕ) → IsMask a n kind i mask → HasKnownBits kind mask
+  known : (kind : VariableKind) (i mask : ℕ) → IsMask a n kind i mask → HasKnownBits Second kind mask
   known cancel i mask h = h.is_below
   known group i mask h = h.is_below
 
@@ -179,9 +171,9 @@ module _ (a : Arriving) (n : ℕ) (vs : List Variable) where
       → (mask : ℕ) × (slice_get row i ≡ Some mask) × IsMask a n v.kind i mask
   mask_of_row row h i v at = mask_there v i (slice_get row i) (h.each i v (slice_get_within vs i v at) at)
 
-  is_row : (row : List ℕ) → IsRowOf a n vs row → IsRow vs row
+  is_row : (row : List ℕ) → IsRowOf a n vs row → IsRow Second vs row
   is_row row h =
-      zipped_by (λ (v : Variable) mask. HasKnownBits v.kind mask) vs row h.counted
+      zipped_by (λ (v : Variable) mask. HasKnownBits Second v.kind mask) vs row h.counted
       (λ i v mask at is.
       let found = mask_of_row row h i v at in
       known v.kind i mask (subst (IsMask a n v.kind i) (same_Some found.0 mask (sym found.1 ∙ is)) found.2))
@@ -200,9 +192,9 @@ module _ (a : Arriving) (vs : List Variable) (order : List NodePlace) (rows : Li
   row_of_place k place at =
       row_there place (slice_get rows k) (told.each k place (slice_get_within order k place at) at)
 
-  are_rows : AllByRecursion (IsRow vs) (rows_view rows)
+  are_rows : AllByRecursion (IsRow Second vs) (rows_view rows)
   are_rows =
-      all_by (IsRow vs) (rows_view rows)
+      all_by (IsRow Second vs) (rows_view rows)
       (λ k row is.
       let l = slice_get_within (rows_view rows) k row is in
       let all = length-map rows (λ (r : Vec ℕ). r.items) in
@@ -211,7 +203,7 @@ module _ (a : Arriving) (vs : List Variable) (order : List NodePlace) (rows : Li
       let found = row_of_place k place.0 place.1 in
       let one = element_of (λ (r : Vec ℕ). r.items) rows k found.0 [] found.1 in
       let other = item_of (rows_view rows) k row [] is in
-      subst (IsRow vs) other (subst (IsRow vs) (sym one) (is_row a place.0.node vs found.0.items found.2)))
+      subst (IsRow Second vs) other (subst (IsRow Second vs) (sym one) (is_row a place.0.node vs found.0.items found.2)))
 
   -- the mask of the variable of the place i at the node n, which stands in the order
   mask_told : (n i : ℕ) (v : Variable)
@@ -230,7 +222,7 @@ module _ (a : Arriving) (vs : List Variable) (order : List NodePlace) (rows : Li
 
 module _ (paths : Paths) (order : List NodePlace) (claims : ℕ → Bool)
     (cancels : ℕ → ℕ → CancelClass → Bool) (groups : ℕ → ℕ → GroupClass → Bool) (rows : List (Vec ℕ))
-    (few : too_many_faults paths.variables ≡ []) (same : IsPermutation (places 0 (nodes paths.code)) order)
+    (same : IsPermutation (places 0 (nodes paths.code)) order)
     (classifies : ClassifiesNodes paths.code paths.promises paths.variables cancels groups)
     (told : TellRows (arriving cancels groups (groups_with_bits paths.variables)) paths.variables order rows) where
   abbrev made : Arriving
@@ -242,14 +234,6 @@ module _ (paths : Paths) (order : List NodePlace) (claims : ℕ → Bool)
       stands 0 n order p.0 (Contains-permutation (places 0 (nodes paths.code)) order p.0 same p.1)
       (p.2 ∙ from_start n)
 
-  cancel_within : (k : CancelClass) (bit : ℕ)
-      → cancel_class (groups_with_bits paths.variables) bit ≡ Some k
-      → bit < CANCEL_CLASSES
-  cancel_within k bit e =
-      let l = class_within (groups_with_bits paths.variables) k bit e in
-      let all = with_bits paths.variables few in
-      omega (arith, l, all)
-
   has_reached : (v : Variable) (kind : VariableKind) (n i mask : ℕ)
       → v.kind ≡ kind
       → slice_get paths.variables i ≡ Some v
@@ -258,11 +242,35 @@ module _ (paths : Paths) (order : List NodePlace) (claims : ℕ → Bool)
       → HasReached (body_with paths order claims) v kind n mask
   has_reached v cancel n i mask is at l h =
       just CANCEL_CLASSES (cancel_class (groups_with_bits paths.variables)) (cancels i n)
-      (IsCancelAt (graph_of paths.code) paths.promises v n) mask cancel_within
+      (IsCancelAt (graph_of paths.code) paths.promises v n) mask
+      (λ k bit e. class_within (groups_with_bits paths.variables) bit k e)
       (λ k. classifies.of_cancel i v at is n k l) h
   has_reached v group n i mask is at l h =
       just GROUP_CLASSES group_class (groups i n) (IsGroupAt (graph_of paths.code) paths.promises v n) mask
       group_class_within (λ k. classifies.of_group i v at is n k l) h
+
+  -- a place of the order is that of a node
+  node_of : (k : ℕ) (place : NodePlace) → slice_get order k ≡ Some place → place.node < length (nodes paths.code)
+  node_of k place at =
+      let below = places_below 0 (nodes paths.code) place
+      (Contains-permutation order (places 0 (nodes paths.code)) place
+      (IsPermutation-sym (places 0 (nodes paths.code)) order same) (contains_at order k place at)) in
+      omega (arith, below)
+
+  row_reached : (k i : ℕ) (place : NodePlace) (row : List ℕ) (v : Variable)
+      → slice_get order k ≡ Some place
+      → slice_get (rows_view rows) k ≡ Some row
+      → slice_get paths.variables i ≡ Some v
+      → HasReached (body_with paths order claims) v v.kind place.node (slice_index_or row i 0)
+  row_reached k i place row v at is there =
+      let found = row_of_place made paths.variables order rows told k place at in
+      let mask = mask_of_row made place.node paths.variables found.0.items found.2 i v there in
+      let same_row : found.0.items ≡ row =
+      sym (element_of (λ (r : Vec ℕ). r.items) rows k found.0 [] found.1) ∙ item_of (rows_view rows) k row [] is in
+      let same_mask : slice_index_or row i 0 ≡ mask.0 =
+      ap (λ (r : List ℕ). slice_index_or r i 0) (sym same_row) ∙ item_of found.0.items i mask.0 0 mask.1 in
+      has_reached v v.kind place.node i (slice_index_or row i 0) refl there (node_of k place at)
+      (subst (IsMask made place.node v.kind i) (sym same_mask) mask.2)
 
   pub made_least : IsLeast (body_with paths order claims) (rows_view rows)
   made_least = record {
@@ -270,6 +278,7 @@ module _ (paths : Paths) (order : List NodePlace) (claims : ℕ → Bool)
       are_as_many = length-map rows (λ (r : Vec ℕ). r.items) ∙ told.counted;
       are_rows = are_rows made paths.variables order rows told;
     };
+    each_row = row_reached;
     has_reached = λ i v n at l.
         has_reached v v.kind n i (mask_at (body_with paths order claims) (rows_view rows) i n) refl at l
         (mask_told made paths.variables order rows told n i v (node_stands n l) at);

@@ -9,8 +9,8 @@ use Rattle.std.proofs.lemmas.Nat.Bits.{bit_at-zero, bit_at_set_same, bit_at_set_
 use Rattle.std.specs.Prelude.{◌==◌, ◌&&◌, ◌||◌, nat_eq, nat_lt}
 use Rattle.std.specs.Int.{w16}
 use Rattle.std.specs.Int.Bits.{bit_or}
+use Rattle.bodies.specs.Masks.{is_set}
 use Rattle.certificates.specs.Rows.{HasBits}
-use Rattle.states.specs.Masks.{is_set}
 
 pub no_bits : (test : ℕ → Bool) → HasBits 0 test 0
 no_bits test = record {

@@ -1,18 +1,19 @@
 -- The least certificate of a body: its masks have exactly the classes that the walks of the body's graph carry to the
 -- nodes, each class that has a bit. So it says no more than can happen by the graph.
-use Rattle.std.specs.Prelude.{ℕ, ◌≡◌, ◌<◌, ◌↔◌, Bool, true, List, length, Option, Some, slice_get}
+use Rattle.std.specs.Prelude.{ℕ, ◌≡◌, ◌<◌, ◌↔◌, Bool, true, List, length, Option, Some, slice_get, slice_index_or}
 use Rattle.std.specs.List.Sorted.{IsPermutation}
 use Rattle.checker.specs.Certificates.{CheckedBody, class_of_bit, mask_at, HasRows}
 use Rattle.flow.specs.GraphOfCode.{nodes}
 use Rattle.flow.specs.NodeOrder.{places, AreInOrder}
 use Rattle.flow.specs.Walks.{graph_of}
 use Rattle.flow.specs.declared.order.NodePlace.{NodePlace}
-use Rattle.maker.specs.AtNodes.{IsCancelAt, IsGroupAt}
+use Rattle.bodies.specs.AtNodes.{IsCancelAt, IsGroupAt}
 use Rattle.meaning.specs.BodyEvents.{Variable}
 use Rattle.meaning.specs.FunctionFacts.{VariableKind, cancel, group}
 use Rattle.meaning_packages.specs.PathFaults.{Paths}
-use Rattle.states.specs.Bits.{group_class}
-use Rattle.states.specs.Masks.{is_set}
+use Rattle.tree.specs.declared.edition.Edition.TheVariants.{Second}
+use Rattle.bodies.specs.Bits.{group_class}
+use Rattle.bodies.specs.Masks.{is_set}
 
 -- the bit stands for a class that is so
 pub record StandsFor {K : Type 0} (class_of : ℕ → Option K) (IsSo : K → Type 0) (bit : ℕ) : Type 0 where
@@ -31,7 +32,13 @@ HasReached b v group n mask = HasJust group_class (IsGroupAt b.graph b.promises 
 
 -- it has a row for each node, and in each the masks that say what is carried there
 pub record IsLeast (b : CheckedBody) (states : List (List ℕ)) : Type 0 where
-  pub has_rows : HasRows b states
+  pub has_rows : HasRows Second b states
+  -- the row that stands where the node does
+  pub each_row : (k i : ℕ) (place : NodePlace) (row : List ℕ) (v : Variable)
+      → slice_get b.order k ≡ Some place
+      → slice_get states k ≡ Some row
+      → slice_get b.variables i ≡ Some v
+      → HasReached b v v.kind place.node (slice_index_or row i 0)
   pub has_reached : (i : ℕ) (v : Variable) (n : ℕ)
       → slice_get b.variables i ≡ Some v
       → n < length b.graph.nodes
@@ -40,6 +47,7 @@ pub record IsLeast (b : CheckedBody) (states : List (List ℕ)) : Type 0 where
 -- the body of these paths, whose nodes stand in this order, and of which this is claimed
 abbrev pub body_with : Paths → List NodePlace → (ℕ → Bool) → CheckedBody
 body_with paths order claims = record {
+  edition = paths.edition;
   graph = graph_of paths.code;
   order = order;
   variables = paths.variables;

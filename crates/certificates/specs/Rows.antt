@@ -3,13 +3,13 @@
 use Rattle.std.specs.Prelude.{ℕ, ◌≡◌, ◌<◌, ◌^◌, ◌&&◌, Bool, false, List, length, map, Option, Some, None, nat_lt, slice_get}
 use Rattle.std.specs.declared.alloc.Global.{Global}
 use Rattle.std.specs.declared.vec.Vec.{Vec as VecIn}
+use Rattle.bodies.specs.Bits.{cancel_class, group_class}
+use Rattle.bodies.specs.Masks.{is_set}
+use Rattle.bodies.specs.declared.bits.TheConstants.{CANCEL_CLASSES, GROUP_CLASSES}
 use Rattle.flow.specs.declared.order.NodePlace.{NodePlace}
 use Rattle.meaning.specs.BodyEvents.{Variable}
 use Rattle.meaning.specs.Classes.{CancelClass, GroupClass}
 use Rattle.meaning.specs.FunctionFacts.{VariableKind, cancel, group}
-use Rattle.states.specs.Bits.{cancel_class, group_class}
-use Rattle.states.specs.Masks.{is_set}
-use Rattle.states.specs.declared.bits.TheConstants.{CANCEL_CLASSES, GROUP_CLASSES}
 
 abbrev pub Vec : Type 0 → Type 0
 Vec T = VecIn T Global

@@ -11,10 +11,9 @@ ghost use Rattle.meaning.specs.Uses.{Seen};
 ghost use Rattle.meaning_packages.specs.Credits.{promises_in};
 
 use crate::rows::rows_of;
-use bodies::{Body, BodyGraph, ordered_graph};
+use bodies::{Arrivals, Body, BodyGraph, CancelClass, GroupClass, ordered_graph};
 use credits::{Calls, Credits, search_body};
 use events::Told;
-use states::{Arrivals, CancelClass, GroupClass};
 use std::alloc::{AllocError, Global};
 
 /// No class arrives anywhere, as in a body without variables.

@@ -1,13 +1,13 @@
 //! Masks of what arrives at a node.
 
 ghost use Rattle.std.specs.Prelude.{◌≡◌, ◌<◌, ◌+◌, ◌^◌, ◌||◌, ◌&&◌, ℕ, nat_eq};
+ghost use Rattle.bodies.specs.Bits.{cancel_class, group_class};
+ghost use Rattle.bodies.specs.Masks.{is_set};
 ghost use Rattle.certificates.specs.Rows.{passes, arriving, IsCancelMask, IsGroupMask, IsMask};
 ghost use Rattle.facts.specs.FactViews.{kind_view};
-ghost use Rattle.states.specs.Bits.{cancel_class, group_class};
-ghost use Rattle.states.specs.Masks.{is_set};
 
+use bodies::{Arrivals, CANCEL_CLASSES, GROUP_CLASSES, cancel_class, group_class};
 use facts::VariableKind;
-use states::{Arrivals, CANCEL_CLASSES, GROUP_CLASSES, cancel_class, group_class};
 
 /// Sets the bit, if it is to be set.
 fn with_bit(mask: u16, bit: usize, is_to_be: bool) -> u16

@@ -3,15 +3,13 @@
 ghost use Rattle.std.specs.Prelude.{◌≡◌, IfOk, map};
 ghost use Rattle.certificates.specs.Rows.{arriving, IsRowOf, TellRows};
 ghost use Rattle.checker.specs.Certificates.{groups_with_bits};
-ghost use Rattle.checker.specs.LaidOutViews.{HasWholeOrder};
 ghost use Rattle.events.specs.VariableViews.{variable_view};
 
 use crate::masks::mask_of;
-use bodies::BodyGraph;
-use checker::lay_out;
+use bodies::{Arrivals, BodyGraph};
+use checker::groups_of_bits;
 use events::Variable;
 use flow::NodePlace;
-use states::Arrivals;
 use std::alloc::{AllocError, Global};
 
 /// A mask for each of the variables at the node, where these groups have bits.
@@ -63,10 +61,10 @@ pub fn rows_of<A: Arrivals>(
     kept: &BodyGraph<'_, '_>,
     arrivals: &A,
 ) -> Result<Vec<Vec<u16>>, AllocError>
-    ensures { IfOk result (λ rows. HasWholeOrder kept.now → TellRows (arriving (A.cancels arrivals.now)
-        (A.groups arrivals.now) (groups_with_bits (map variable_view variables.now))) (map variable_view variables.now)
+    ensures { IfOk result (λ rows. TellRows (arriving (A.cancels arrivals.now) (A.groups arrivals.now)
+        (groups_with_bits (map variable_view variables.now))) (map variable_view variables.now)
         kept.now.order.items rows.items) }
 {
-    let laid_out = lay_out(alloc, variables, kept)?;
-    rows_with(alloc, variables, &laid_out.groups, arrivals, &kept.order)
+    let groups = groups_of_bits(alloc, variables)?;
+    rows_with(alloc, variables, &groups, arrivals, &kept.order)
 }

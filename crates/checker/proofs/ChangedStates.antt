@@ -6,8 +6,8 @@ use Rattle.bodies.specs.declared.node.NodeEvent.{NodeEvent}
 use Rattle.bodies.specs.declared.node.NodeEvent.TheVariants.{Other, FallsOff, Does}
 use Rattle.meaning.specs.Classes.{Promises}
 use Rattle.meaning.specs.Uses.{Event, other, return_event}
-use Rattle.states.specs.States.{Applies}
-use Rattle.states.specs.declared.state.StateVariables.{StateVariables}
+use Rattle.bodies.specs.States.{Applies}
+use Rattle.bodies.specs.declared.state.StateVariables.{StateVariables}
 use Rattle.tracked_rows.specs.EventViews.{event_view}
 use Rattle.tracked_rows.specs.declared.event.Event.{Event as KeptEvent}
 use Rattle.checker.specs.LaidOutViews.{IsReturn}

@@ -9,18 +9,18 @@ use Rattle.meaning.specs.FunctionFacts.{VariableKind, cancel, group}
 use Rattle.meaning.specs.Tracked.{live}
 use Rattle.meaning.specs.Uses.{Handed, Event, return_event}
 use Rattle.meaning.specs.BodyEvents.{Variable}
-use Rattle.meaning.specs.Classes.{CancelClass, opened, pending, entry_cancel, change_cancel, cancel_after, GroupClass, in_state, entry_group, change_group, group_after}
+use Rattle.meaning.specs.Classes.{CancelClass, opened, kept, pending, entry_cancel, change_cancel, cancel_after, GroupClass, in_state, entry_group, change_group, group_after}
 use Rattle.meaning_packages.specs.Credits.{is_live, is_settled}
-use Rattle.meaning_packages.specs.PathFaults.{Paths, PathFault, is_lost, cancel_class, group_class, ComesToReturn, LeavesLive, IsLeft, IsPathFault, loses_cancel, loses_group, returns_live, returns_open, returns_pending, KeepsCall}
+use Rattle.meaning_packages.specs.PathFaults.{Paths, PathFault, is_lost, is_handed, is_handed_kept, cancel_class, group_class, ComesToReturn, LeavesLive, IsLeft, IsPathFault, loses_cancel, loses_group, returns_live, returns_open, returns_kept, returns_pending, KeepsCall}
 use Rattle.flow.specs.Walks.{Graph, graph_of, Walk, arrives, goes_on}
 use Rattle.flow.specs.GraphOfCode.{nodes}
 use Rattle.flow.proofs.WalksOfLists.{graphs_walk}
 use Rattle.path_faults.proofs.Places.{place_of}
-use Rattle.states.specs.Bits.{cancel_bit, group_bit}
-use Rattle.states.specs.Bits as numbers
-use Rattle.states.specs.Masks.{bit_of_group, Has, MayBe}
-use Rattle.states.proofs.ClassNumbers.{cancel_inverse, group_inverse}
-use Rattle.checker.specs.Certificates.{CheckedBody, groups_with_bits, class_of_bit, bit_of_class, mask_at, IsClosed, IsClosedFor, is_claimed, IsOwed, is_kept, has_claim, MayBeUncalled, is_open, is_left, IsFault, Holds, IsSettledBy, SettlesIn}
+use Rattle.bodies.specs.Bits.{group_bit}
+use Rattle.bodies.specs.Bits as numbers
+use Rattle.bodies.specs.Masks.{bit_of_group, Has, MayBe}
+use Rattle.bodies.proofs.ClassNumbers.{cancel_inverse, group_inverse}
+use Rattle.checker.specs.Certificates.{CheckedBody, groups_with_bits, class_of_bit, bit_of_class, mask_at, IsClosed, IsClosedFor, is_claimed, IsOwed, is_kept, has_claim, MayBeUncalled, is_open, is_left, Holds, IsSettledBy, SettlesIn}
 use Rattle.checker.specs.Certificates as certificates
 use Rattle.checker.specs.CheckerLaws.{IsOf, HaveOwnPlaces, LeavesNoFault, KeepsClaims, SettlesWhatItSays}
 
@@ -189,23 +189,31 @@ module _ (paths : Paths) (b : CheckedBody) (states : List (List ℕ)) (is_of : I
       → v.kind ≡ cancel
       → slice_get b.graph.nodes n ≡ Some o
       → o.event ≡ return_event handed
-      → IsOwed b v handed
+      → IsOwed b v (is_handed v.number handed)
       → MayBeUncalled b states n i
       → ⊥
   uncalled i v handed o n there kind here returns owed may_be =
       holds.has_no_fault n o here (certificates.returns_uncalled i v handed (there_too i v there) kind returns owed may_be)
 
   never_open : (i : ℕ) (v : Variable) → slice_get vs i ≡ Some v → v.kind ≡ cancel → (handed : List Handed)
-      (t : List (Occurrence Event)) (o : Occurrence Event) → ComesToReturn paths t o handed → IsOwed b v handed
-      → cancel_class paths v t ≡ opened → ⊥
+      (t : List (Occurrence Event)) (o : Occurrence Event) → ComesToReturn paths t o handed
+      → IsOwed b v (is_handed v.number handed) → cancel_class paths v t ≡ opened → ⊥
   never_open i v there kind handed t o comes owed is =
       let it = cancel_at i v there kind t o comes.reaches opened is in
       uncalled i v handed o it.node there kind it.is_node comes.is_return owed (is_open it.may_be)
 
+  never_kept : (i : ℕ) (v : Variable) → slice_get vs i ≡ Some v → v.kind ≡ cancel → (handed : List Handed)
+      (t : List (Occurrence Event)) (o : Occurrence Event) → ComesToReturn paths t o handed
+      → IsOwed b v (is_handed_kept v.number handed) → cancel_class paths v t ≡ kept → ⊥
+  never_kept i v there kind handed t o comes owed is =
+      let it = cancel_at i v there kind t o comes.reaches kept is in
+      holds.has_no_fault it.node o it.is_node
+      (certificates.returns_kept i v handed (there_too i v there) kind comes.is_return owed it.may_be)
+
   module _ (own : HaveOwnPlaces paths) where
     never_left : (i : ℕ) (v : Variable) → slice_get vs i ≡ Some v → v.kind ≡ cancel → (handed : List Handed)
-        (t : List (Occurrence Event)) (o : Occurrence Event) → ComesToReturn paths t o handed → IsOwed b v handed
-        → IsLeft paths v t o → ⊥
+        (t : List (Occurrence Event)) (o : Occurrence Event) → ComesToReturn paths t o handed
+        → IsOwed b v (is_handed v.number handed) → IsLeft paths v t o → ⊥
     never_left i v there kind handed t o comes owed left =
         let g = left.left_to in
         let it = cancel_at i v there kind t o comes.reaches (pending g.number) left.is_pending in
@@ -235,6 +243,9 @@ module _ (paths : Paths) (b : CheckedBody) (states : List (List ℕ)) (is_of : I
     no_fault _ (returns_open v handed t o comes owes is) =
         let at = place_of vs v owes.is_of_body in
         never_open at.0 v at.1 owes.is_cancel_variable handed t o comes (is_kept owes.is_declared_here owes.is_kept) is
+    no_fault _ (returns_kept v handed t o comes owes is not_handed) =
+        let at = place_of vs v owes.is_of_body in
+        never_kept at.0 v at.1 owes.is_cancel_variable handed t o comes (is_kept owes.is_declared_here not_handed) is
     no_fault _ (returns_pending v handed t o comes owes left) =
         let at = place_of vs v owes.is_of_body in
         never_left at.0 v at.1 owes.is_cancel_variable handed t o comes (is_kept owes.is_declared_here owes.is_kept) left
@@ -243,6 +254,7 @@ module _ (paths : Paths) (b : CheckedBody) (states : List (List ℕ)) (is_of : I
         → is_claimed b.is_claimed v.role ≡ true → KeepsCall paths v
     claim_kept i v there kind claimed = record {
       never_open = λ handed t o comes is. never_open i v there kind handed t o comes (has_claim claimed) is;
+      never_kept = λ handed t o comes is. never_kept i v there kind handed t o comes (has_claim claimed) is;
       never_left = λ handed t o comes left. never_left i v there kind handed t o comes (has_claim claimed) left;
     }
 

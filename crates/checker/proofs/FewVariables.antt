@@ -1,5 +1,5 @@
 -- A body has not too many variables exactly if states have places for them and bits for its groups.
-use Rattle.std.proofs.Common.{◌≡◌, ◌↔◌, ℕ, zero, suc, ◌+◌, ◌-◌, ◌≤◌, Bool, true, ◌&&◌, if◌then◌else◌, List, [], ◌∷◌, ◌++◌, length, filter, refl, ap, ◌∙◌, subst, arith, length-append}
+use Rattle.std.proofs.Common.{◌≡◌, ◌↔◌, ℕ, zero, suc, ◌-◌, ◌≤◌, Bool, true, ◌&&◌, if◌then◌else◌, List, [], ◌∷◌, ◌++◌, length, filter, refl, ap, ◌∙◌, subst, arith, length-append}
 use Rattle.std.specs.Prelude.{not, Some, nat_le}
 use Rattle.std.proofs.lemmas.Bool.{and_parts, and_from, leb-true, le-leb}
 use Rattle.bodies.proofs.FewVariables.{none_at_first, none_at_end, few_if, is_group_variable}
@@ -11,7 +11,6 @@ use Rattle.meaning.specs.BodyEvents.{Variable, is_cancel_variable, fault_after, 
 use Rattle.meaning.specs.FunctionFacts.{VariableKind, cancel, group}
 use Rattle.meaning.specs.Uses.{UseFault, is_cancel}
 use Rattle.meaning.specs.declared.TheConstants.{MOST_CANCELS, MOST_GROUPS}
-use Rattle.states.specs.Bits.{most}
 
 -- So many, or too many
 
@@ -95,7 +94,7 @@ module _ (vs : List Variable) where
   pub with_bits : too_many_faults vs ≡ [] → length (groups_with_bits vs) ≡ MOST_GROUPS
   with_bits few = groups_with_bits-count vs (few_groups few)
 
-  pub bits_fit : too_many_faults vs ≡ [] → length (groups_with_bits vs) + 3 ≤ most
+  pub bits_fit : too_many_faults vs ≡ [] → length (groups_with_bits vs) ≤ 12
   bits_fit few = let all = with_bits few in omega (arith, all)
 
   none_too_many : length (numbers_of cancel vs) ≤ MOST_CANCELS → length (numbers_of group vs) ≤ MOST_GROUPS

@@ -14,11 +14,12 @@ use Rattle.flow.specs.declared.graph.Node.{Node as KeptNode}
 use Rattle.flow.specs.declared.order.NodePlace.{NodePlace}
 use Rattle.flow.specs.GraphViews.{occurrences_of, links_of}
 use Rattle.meaning.specs.BodyEvents.{Variable}
+use Rattle.tree.specs.declared.edition.Edition.{Edition}
 use Rattle.meaning.specs.Classes.{Promises}
 use Rattle.meaning.specs.FunctionFacts.{cancel, group}
 use Rattle.meaning.specs.Uses.{Event}
 use Rattle.meaning.specs.declared.TheConstants.{MOST_CANCELS, MOST_GROUPS}
-use Rattle.states.specs.States.{has_bit}
+use Rattle.bodies.specs.States.{has_bit}
 use Rattle.checker.specs.declared.laid_out.LaidOut.{LaidOut}
 use Rattle.checker.specs.Certificates.{spare, groups_with_bits, row_from, masks_in, masks_at, Holds, SettlesIn}
 use Rattle.checker.specs.CertificateTests as tested
@@ -31,7 +32,9 @@ use Rattle.checker.proofs.NodeRows.{each_row}
 use Rattle.checker.proofs.SteppedMasks.{goes_tested}
 use Rattle.checker.proofs.Tested.{holds_is, settles_is}
 
-pub lays_out : (variables : List KeptVariable) (kept : BodyGraph) (l : LaidOut) (nodes : ℕ) (order : List NodePlace)
+pub lays_out : (edition : Edition) (variables : List KeptVariable) (kept : BodyGraph) (l : LaidOut) (nodes : ℕ)
+    (order : List NodePlace)
+    → l.edition ≡ edition
     → l.variables.now ≡ variables
     → l.kept.now ≡ kept
     → nodes ≡ length kept.graph.nodes.items
@@ -43,8 +46,9 @@ pub lays_out : (variables : List KeptVariable) (kept : BodyGraph) (l : LaidOut) 
     → own ≡ l.numbers.groups.items
     → l.groups.items ≡ own ++ spare (MOST_GROUPS - length own)
     → IsReturn l.nothing
-    → LaysOut variables kept l
-lays_out variables kept l nodes order are_variables is_kept count is_order rows cancels groups own is_own bits nothing = record {
+    → LaysOut edition variables kept l
+lays_out edition variables kept l nodes order is_edition are_variables is_kept count is_order rows cancels groups own is_own bits nothing = record {
+  is_edition = is_edition;
   are_variables = are_variables;
   is_kept = is_kept;
   is_laid_out = λ whole. record {
@@ -216,7 +220,7 @@ module _ (l : LaidOut) (states : List (Vec ℕ)) (p : Promises) (claims : ℕ �
   starting_part = all_start_among l.groups.items (events_graph l.kept.now.graph).nodes
 
   abbrev rows_part : Bool
-  rows_part = has_rows views (length l.kept.now.order.items) (states_view states)
+  rows_part = has_rows l.edition views (length l.kept.now.order.items) (states_view states)
 
   abbrev starts_part : Bool
   starts_part = starts_hold l.groups.items views (masks_of l states) l.kept.now.graph.starts.items

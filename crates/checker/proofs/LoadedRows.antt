@@ -3,10 +3,11 @@ use Rattle.std.proofs.Common.{◌≡◌, ℕ, zero, suc, ◌+◌, ◌<◌, true,
 use Rattle.std.specs.Prelude.{slice_get, slice_index_or}
 use Rattle.std.proofs.lemmas.Bool.{and_parts, cases_eq, ltb-true}
 use Rattle.std.proofs.lemmas.Option.{none-some, same_Some, slice_get_within}
+use Rattle.tree.specs.declared.edition.Edition.TheVariants.{Second}
 use Rattle.meaning.specs.BodyEvents.{Variable}
 use Rattle.meaning.specs.FunctionFacts.{VariableKind, cancel, group}
-use Rattle.states.specs.MaskTests.{has_known_bits}
-use Rattle.states.specs.States.{has_bit, has_place, first_bit, mask_bits, Sets}
+use Rattle.bodies.specs.MaskTests.{has_known_bits}
+use Rattle.bodies.specs.States.{has_bit, has_place, first_bit, mask_bits, Sets}
 use Rattle.checker.specs.Loaded.{number_if, numbers_of, next_if, place_of, is_taken, IsLoaded, IsApart, AreLoaded}
 use Rattle.checker.specs.CertificateTests.{mask_in, loads}
 use Rattle.checker.proofs.TestedLists.{each_at}
@@ -173,7 +174,7 @@ module _ (vs : List Variable) (masks : List ℕ) where
     has_one : has_place v.kind (place_of v.kind vs count) ≡ true
     has_one =
         (and_parts (has_place v.kind (place_of v.kind vs count))
-        (has_known_bits v.kind (slice_index_or masks count 0)) taken).0
+        (has_known_bits Second v.kind (slice_index_or masks count 0)) taken).0
 
     stays : (i : ℕ) (u : Variable) → i < count → slice_get vs i ≡ Some u
         → IsLoaded u.kind (place_of u.kind vs i) (slice_index_or masks i 0) words_after
@@ -184,7 +185,7 @@ module _ (vs : List Variable) (masks : List ℕ) where
           bits = λ bit small.
               sets.others (first_bit u.kind (place_of u.kind vs i) + bit)
               (apart u.kind v.kind (place_of u.kind vs i) (place_of v.kind vs count) bit
-              (and_parts (has_place u.kind (place_of u.kind vs i)) (has_known_bits u.kind (slice_index_or masks i 0))
+              (and_parts (has_place u.kind (place_of u.kind vs i)) (has_known_bits Second u.kind (slice_index_or masks i 0))
               was.is_taken).0 has_one
               (λ same. subst (λ k. place_of u.kind vs i < place_of k vs count) same
               (lower_place u.kind vs i count u l is refl)) small)

@@ -9,7 +9,7 @@ use Rattle.events.specs.declared.variable.Variable.{Variable as KeptVariable}
 use Rattle.events.specs.VariableViews.{variable_view}
 use Rattle.meaning.specs.BodyEvents.{Variable}
 use Rattle.meaning.specs.FunctionFacts.{VariableKind, cancel, group}
-use Rattle.states.specs.States.{has_bit, Sets, first_bit, mask_bits}
+use Rattle.bodies.specs.States.{has_bit, Sets, first_bit, mask_bits}
 use Rattle.checker.specs.CertificateTests.{all_from, mask_in, loads}
 use Rattle.checker.specs.Loaded.{next_if, place_of, is_taken, AreLoaded}
 use Rattle.checker.specs.LoadingSteps.{count_in, more_if, Adds, LoadedSoFar}

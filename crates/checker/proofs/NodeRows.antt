@@ -136,7 +136,7 @@ no_such_row k n (p ∷ ps) none =
     if_second (p.node == n) (Some k) (row_from (k + 1) ps n) (ne_eqb p.node n (none p (contains_here p ps)))
     ∙ no_such_row (k + 1) n ps (λ q inside. none q (contains_there p q ps inside))
 
-places_below : {E : Type 0} (n : ℕ) (os : List (Occurrence E)) (p : NodePlace) → Contains (places n os) p
+pub places_below : {E : Type 0} (n : ℕ) (os : List (Occurrence E)) (p : NodePlace) → Contains (places n os) p
     → p.node < n + length os
 places_below n [] p inside = absurd (contains_nil p inside)
 places_below n (o ∷ os) p inside =

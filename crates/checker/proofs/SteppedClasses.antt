@@ -1,15 +1,16 @@
 -- Bits of masks go where the classes go for which they stand.
-use Rattle.std.proofs.Common.{◌≡◌, ℕ, zero, suc, ◌+◌, ◌<◌, ◌≤◌, true, List, [], ◌∷◌, length, Option, Some, None, option_map, refl, sym, ap, ◌∙◌, subst, arith}
+use Rattle.std.proofs.Common.{◌≡◌, ℕ, zero, suc, ◌<◌, ◌≤◌, true, List, [], ◌∷◌, length, Option, Some, option_map, refl, sym, ap, ◌∙◌, subst, arith, inl, inr}
 use Rattle.std.specs.Prelude.{slice_get, option_and_then, unwrap_or}
-use Rattle.std.proofs.lemmas.Option.{none-some, same_Some, slice_get_within, get_or_from_slice_get}
-use Rattle.meaning.specs.Classes.{Promises, CancelClass, unset, opened, safe, pending, change_cancel, GroupClass, unmade, in_state, awaited, change_group}
+use Rattle.std.proofs.lemmas.Bool.{cases_lt}
+use Rattle.std.proofs.lemmas.Option.{same_Some, slice_get_within, get_or_from_slice_get}
+use Rattle.meaning.specs.Classes.{Promises, CancelClass, unset, opened, kept, safe, pending, change_cancel, GroupClass, unmade, in_state, awaited, change_group}
 use Rattle.meaning.specs.Tracked.{idle, live}
 use Rattle.meaning.specs.Uses.{Event}
-use Rattle.states.proofs.ChangedClasses.{HasBit, StartsAmong, change_has}
-use Rattle.states.proofs.ClassNumbers.{pending_found}
-use Rattle.states.specs.Bits.{most, cancel_bit, cancel_class, group_bit, group_class}
-use Rattle.states.specs.BitSteps.{bit_after, cancel_step, group_step}
-use Rattle.states.specs.Masks.{is_set, bit_of_group, GoesInto}
+use Rattle.bodies.proofs.ChangedClasses.{HasBit, StartsAmong, change_has}
+use Rattle.bodies.proofs.ClassNumbers.{behind_pending, StandsBehind, is_kept, is_pending, stands_behind, pending_found}
+use Rattle.bodies.specs.Bits.{cancel_bit, cancel_class, group_bit, group_class}
+use Rattle.bodies.specs.BitSteps.{bit_after, cancel_step, group_step}
+use Rattle.bodies.specs.Masks.{is_set, bit_of_group, GoesInto}
 use Rattle.checker.proofs.SteppedMasks.{StepsInto}
 
 -- Of any classes: each bit of the mask stands for one, and each class that has come of one of these has a bit
@@ -43,22 +44,21 @@ module _ {K : Type 0} (class_of : ℕ → Option K) (bit_of : K → Option ℕ) 
 
 -- Cancel variables
 
-module _ (groups : List ℕ) (fits : length groups + 3 ≤ most) where
+module _ (groups : List ℕ) (fits : length groups ≤ 12) where
   abbrev HasOne : CancelClass → Type 0
   HasOne = HasBit (cancel_bit groups)
 
-  pending_has : (k : CancelClass) (i : ℕ) (o : Option ℕ) → slice_get groups i ≡ o → option_map pending o ≡ Some k
-      → HasOne k
-  pending_has k i None at e = absurd (none-some k e)
-  pending_has k i (Some g) at e =
-      subst HasOne (same_Some (pending g) k e)
+  behind_has : (k : CancelClass) (i : ℕ) → StandsBehind groups i k → HasOne k
+  behind_has k i (is_kept same is) = subst HasOne (sym is) (15, refl)
+  behind_has k i (is_pending g l at is) =
+      subst HasOne (sym is)
       (pending_found groups g (i, slice_get_within groups i g at, get_or_from_slice_get groups i g g at) fits)
 
   pub class_has : (k : CancelClass) (bit : ℕ) → cancel_class groups bit ≡ Some k → HasOne k
   class_has k zero e = subst HasOne (same_Some unset k e) (0, refl)
   class_has k (suc zero) e = subst HasOne (same_Some opened k e) (1, refl)
   class_has k (suc (suc zero)) e = subst HasOne (same_Some safe k e) (2, refl)
-  class_has k (suc (suc (suc i))) e = pending_has k i (slice_get groups i) refl e
+  class_has k (suc (suc (suc i))) e = behind_has k i (stands_behind groups i k e)
 
   pub cancels_go : (p : Promises) (v : ℕ) (e : Event) (before after : ℕ) → StartsAmong groups e
       → StepsInto (cancel_step p v groups e) before after
@@ -80,14 +80,20 @@ there_is [] k l = absurd (omega (arith, l))
 there_is (g ∷ gs) zero l = (g, refl)
 there_is (g ∷ gs) (suc k) l = there_is gs k (omega (arith, l))
 
-pub cancel_stands : (groups : List ℕ) (bit : ℕ) → bit < length groups + 3
+pub cancel_stands : (groups : List ℕ) (bit : ℕ) → length groups ≡ 12 → bit < 16
     → (k : CancelClass) × (cancel_class groups bit ≡ Some k)
-cancel_stands groups zero l = (unset, refl)
-cancel_stands groups (suc zero) l = (opened, refl)
-cancel_stands groups (suc (suc zero)) l = (safe, refl)
-cancel_stands groups (suc (suc (suc k))) l =
-    let its = there_is groups k (omega (arith, l)) in
-    (pending its.0, ap (option_map pending) its.1)
+cancel_stands groups zero all l = (unset, refl)
+cancel_stands groups (suc zero) all l = (opened, refl)
+cancel_stands groups (suc (suc zero)) all l = (safe, refl)
+cancel_stands groups (suc (suc (suc k))) all l =
+    elim (cases_lt k 12) [
+      | inl low ↦
+          let its = there_is groups k (omega (arith, low, all)) in
+          (pending its.0, behind_pending groups k low ∙ ap (option_map pending) its.1)
+      | inr past ↦
+          let bit : suc (suc (suc k)) ≡ 15 = omega (arith, past, l) in
+          (kept, ap (cancel_class groups) bit)
+    ]
 
 pub group_stands : (bit : ℕ) → bit < 4 → (k : GroupClass) × (group_class bit ≡ Some k)
 group_stands zero l = (unmade, refl)

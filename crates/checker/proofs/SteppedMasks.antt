@@ -6,18 +6,19 @@ use Rattle.std.proofs.lemmas.Bool.{and_parts, and_from, cases_eq, cases_lt, ltb-
 use Rattle.std.proofs.lemmas.Nat.{mod_below}
 use Rattle.std.proofs.lemmas.Nat.Bits.{bit_at_above}
 use Rattle.std.proofs.lemmas.Option.{slice_get_within}
+use Rattle.tree.specs.declared.edition.Edition.TheVariants.{Second}
 use Rattle.meaning.specs.BodyEvents.{Variable}
 use Rattle.meaning.specs.Classes.{Promises, change_cancel, change_group}
 use Rattle.meaning.specs.FunctionFacts.{VariableKind, cancel, group}
 use Rattle.meaning.specs.Uses.{Event}
-use Rattle.states.proofs.ChangedMasks.{cancel_stays, group_stays}
-use Rattle.states.specs.Bits.{cancel_bit, cancel_class, group_class}
-use Rattle.states.specs.BitSteps.{bit_after}
-use Rattle.states.specs.Masks.{is_set, bit_of_group}
-use Rattle.states.specs.MaskTests.{has_known_bits}
-use Rattle.states.specs.States.{has_bit, mask_from, has_place, first_bit, mask_bits, cancel_first, group_first, IsImage, Fit, Applies}
-use Rattle.states.specs.StateWords.{StaysBelow}
-use Rattle.states.specs.declared.state.StateVariables.{StateVariables}
+use Rattle.bodies.proofs.ChangedMasks.{cancel_stays, group_stays}
+use Rattle.bodies.specs.Bits.{cancel_bit, cancel_class, group_class}
+use Rattle.bodies.specs.BitSteps.{bit_after}
+use Rattle.bodies.specs.Masks.{is_set, bit_of_group}
+use Rattle.bodies.specs.MaskTests.{has_known_bits}
+use Rattle.bodies.specs.States.{has_bit, mask_from, has_place, first_bit, mask_bits, cancel_first, group_first, IsImage, Fit, Applies}
+use Rattle.bodies.specs.StateWords.{StaysBelow}
+use Rattle.bodies.specs.declared.state.StateVariables.{StateVariables}
 use Rattle.checker.specs.CertificateTests.{all_from, mask_in, loads, all_step_into}
 use Rattle.checker.specs.Loaded.{numbers_of, place_of, IsApart, AreLoaded, step_of, all_below, steps_into}
 use Rattle.checker.proofs.LoadedRows.{at_place, place_below, IsAt, from_place, all_load}
@@ -59,22 +60,22 @@ none_past mask count bit fits set =
       | inr past ↦ absurd (true≢false (sym set ∙ ap (λ x. x == 1) (bit_at_above mask count bit fits past)))
     ]
 
-pub known_cancel : (mask bit : ℕ) → has_known_bits cancel mask ≡ true → is_set mask bit ≡ true → bit < 15
-known_cancel mask bit known set = none_past mask 15 bit (ltb-true mask (2 ^ 15) known) set
+pub known_cancel : (mask bit : ℕ) → has_known_bits Second cancel mask ≡ true → is_set mask bit ≡ true → bit < 16
+known_cancel mask bit known set = none_past mask 16 bit (ltb-true mask (2 ^ 16) known) set
 
-pub known_group : (mask bit : ℕ) → has_known_bits group mask ≡ true → is_set mask bit ≡ true → bit < 4
+pub known_group : (mask bit : ℕ) → has_known_bits Second group mask ≡ true → is_set mask bit ≡ true → bit < 4
 known_group mask bit known set = none_past mask 4 bit (ltb-true mask (2 ^ 4) known) set
 
-known_small : (kind : VariableKind) (mask bit : ℕ) → has_known_bits kind mask ≡ true → is_set mask bit ≡ true
+known_small : (kind : VariableKind) (mask bit : ℕ) → has_known_bits Second kind mask ≡ true → is_set mask bit ≡ true
     → bit < mask_bits kind
-known_small cancel mask bit known set = let l = known_cancel mask bit known set in omega (arith, l)
+known_small cancel mask bit known set = known_cancel mask bit known set
 known_small group mask bit known set = known_group mask bit known set
 
 small_mask : (kind : VariableKind) (bit : ℕ) → bit < mask_bits kind → bit < 16
 small_mask cancel bit l = l
 small_mask group bit l = omega (arith, l)
 
-module _ (step : ℕ → ℕ) (kind : VariableKind) (before after : ℕ) (known : has_known_bits kind before ≡ true) where
+module _ (step : ℕ → ℕ) (kind : VariableKind) (before after : ℕ) (known : has_known_bits Second kind before ≡ true) where
   abbrev steps_test : ℕ → Bool
   steps_test bit = not (is_set before bit) || is_set after (step bit)
 
@@ -131,12 +132,12 @@ module _ (p : Promises) (e done : Event) (to_cancel : (v : ℕ) → change_cance
 
   stays_below : (v : Variable) (kind : VariableKind)
       → StaysBelow (mask_bits kind) (step_of p kept.pending.now e v.number kind)
-  stays_below v cancel = let few = fits.pending in cancel_stays p v.number kept.pending.now e 16 (omega (arith, few))
+  stays_below v cancel = cancel_stays p v.number kept.pending.now e
   stays_below v group = group_stays p v.number e
 
-  known_before : (i : ℕ) (v : Variable) → slice_get vs i ≡ Some v → has_known_bits v.kind (mask_in before i) ≡ true
+  known_before : (i : ℕ) (v : Variable) → slice_get vs i ≡ Some v → has_known_bits Second v.kind (mask_in before i) ≡ true
   known_before i v at =
-      (and_parts (has_place v.kind (place_of v.kind vs i)) (has_known_bits v.kind (mask_in before i))
+      (and_parts (has_place v.kind (place_of v.kind vs i)) (has_known_bits Second v.kind (mask_in before i))
       (was.each i v (there i v at) at).is_taken).1
 
   each_steps : IsWithin → EachSteps

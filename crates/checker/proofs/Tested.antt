@@ -1,58 +1,60 @@
 -- What the program tests of a certificate is what is meant.
-use Rattle.std.proofs.Common.{◌≡◌, ◌↔◌, ◌==◌, ℕ, zero, suc, Bool, true, false, not, ◌&&◌, ◌||◌, IsTrue, List, [], ◌∷◌, length, Option, Some, None, nat_eq, Contains, refl, sym, ap, ◌∙◌, subst, true≢false, arith, inl, inr}
+use Rattle.std.proofs.Common.{◌≡◌, ◌↔◌, ◌==◌, ℕ, zero, suc, Bool, true, false, not, ◌&&◌, ◌||◌, IsTrue, List, [], ◌∷◌, length, Option, Some, None, nat_eq, Contains, refl, sym, ap, ◌∙◌, subst, true≢false, arith, inl, inr, lt_of_lt_of_le, pow_mono}
 use Rattle.std.specs.Prelude.{slice_get, slice_index_or}
 use Rattle.std.specs.List.{AllByRecursion, list_all}
+use Rattle.tree.specs.declared.edition.Edition.{Edition}
+use Rattle.tree.specs.declared.edition.Edition.TheVariants.{First, Second}
 use Rattle.std.proofs.lemmas.Bool.{false≢true, and_parts, and_from, or_cases, or_left, or_right, not-true, not_from_false, false_from_ne_true, eqb-true, eq-eqb, lt-ltb}
 use Rattle.meaning.specs.Code.{Occurrence}
 use Rattle.meaning.specs.FunctionFacts.{VariableKind, cancel, group}
 use Rattle.meaning.specs.Tracked.{GroupState, live}
-use Rattle.meaning.specs.Uses.{VariableAt, Handed, Event, other, obtain, clear, call, defer_call, pass, defer_pass, lend, start, try, wait, defer_wait, make, defer_literal, return_event, is_cancel, is_group}
+use Rattle.meaning.specs.Uses.{VariableAt, Handed, Event, other, obtain, obtain_kept, renew, keep, call_kept, defer_kept, give, give_field, clear, call, defer_call, pass, defer_pass, lend, start, try, wait, defer_wait, make, defer_literal, return_event, is_cancel, is_group}
 use Rattle.meaning.specs.BodyEvents.{Variable, too_many_faults}
-use Rattle.meaning.specs.Classes.{CancelClass, opened, pending, entry_cancel, change_cancel, in_state, entry_group, change_group}
+use Rattle.meaning.specs.Classes.{CancelClass, opened, kept, pending, entry_cancel, change_cancel, in_state, entry_group, change_group}
 use Rattle.meaning_packages.specs.Credits.{is_live}
-use Rattle.meaning_packages.specs.PathFaults.{BindsCancel, obtains, clears, is_declared, is_handed, is_lost}
+use Rattle.meaning_packages.specs.PathFaults.{BindsCancel, obtains, obtains_into, clears, is_declared, is_handed, is_handed_kept, is_lost}
 use Rattle.path_faults.specs.FoundFaults as found
-use Rattle.path_faults.specs.FoundFaults.{Cancels, Groups, deed_of, is_return_deed, is_return, is_live_group, may_be_lost, is_left_to, is_uncalled, owes_call, is_fault}
-use Rattle.path_faults.proofs.Kept.{cancel_kind, group_kind, is_cancel_kind, is_group_kind, return_of, lost_has, has_lost, settled_safe, settled_at_rest, unsettled_class}
+use Rattle.path_faults.specs.FoundFaults.{Cancels, Groups, deed_of, is_return_deed, is_return, is_live_group, may_be_lost, is_left_to, is_uncalled, is_open_there, owes_call, is_fault}
+use Rattle.path_faults.proofs.Kept.{cancel_kind, group_kind, is_cancel_kind, is_group_kind, not_handed, return_of, lost_has, has_lost, settled_safe, settled_at_rest, unsettled_class}
 use Rattle.path_faults.proofs.Places.{place_of as place_of_element, contains_at, any_witness, any_holds, passes_at, any_at}
-use Rattle.states.specs.Bits.{group_class}
-use Rattle.states.specs.Masks.{HasKnownBits, Has, MayBe, GoesInto, bit_of_group}
-use Rattle.states.specs.MaskTests.{has_known_bits, may_be_cancel, may_be_group}
-use Rattle.states.proofs.ChangedClasses.{StartsAmong}
-use Rattle.states.proofs.MaskedClasses.{known_bits, has_is, may_be_is, pending_among, group_may_be_is}
-use Rattle.states.specs.States.{has_place}
+use Rattle.bodies.specs.Bits.{group_class}
+use Rattle.bodies.specs.Masks.{HasKnownBits, Has, GoesInto, bit_of_group}
+use Rattle.bodies.specs.MaskTests.{has_known_bits, may_be_cancel, may_be_group}
+use Rattle.bodies.proofs.ChangedClasses.{StartsAmong}
+use Rattle.bodies.proofs.MaskedClasses.{known_bits, has_is, may_be_is, pending_among, group_may_be_is}
+use Rattle.bodies.specs.States.{has_place}
 use Rattle.checker.proofs.FewVariables.{few_cancels, few_own, few_is, with_bits, bits_fit}
 use Rattle.checker.proofs.LoadedRows.{place_below}
 use Rattle.checker.proofs.SteppedClasses.{cancels_go, groups_go, bits_go, cancel_stands, group_stands}
 use Rattle.checker.proofs.SteppedMasks.{known_cancel, known_group, steps_told, steps_tested}
 use Rattle.checker.proofs.TestedLists.{members, all_members, by_recursion, at_each, each_at, zip_each, each_zip, at_edge, edge_each}
-use Rattle.checker.specs.Certificates.{CheckedBody, groups_with_bits, class_of_bit, bit_of_class, masks_in, row_from, masks_at, mask_at, StartsWithBits, IsRow, HasRows, IsClosedFor, is_claimed, IsOwed, is_kept, has_claim, MayBeCancel, MayBeLive, MayBeUncalled, is_open, is_left, IsFault, loses_cancel, loses_group, returns_live, returns_uncalled, Holds, IsSettledBy, SettlesIn}
+use Rattle.checker.specs.Certificates.{CheckedBody, groups_with_bits, class_of_bit, bit_of_class, masks_in, row_from, masks_at, mask_at, StartsWithBits, IsRow, HasRows, IsClosedFor, is_claimed, IsOwed, is_kept, has_claim, MayBeCancel, MayBeLive, MayBeUncalled, is_open, is_left, IsFault, loses_cancel, loses_group, returns_live, returns_uncalled, returns_kept, Holds, IsSettledBy, SettlesIn}
 use Rattle.checker.specs.CertificateTests as tested
 use Rattle.checker.specs.Loaded.{numbers_of, place_of, is_taken, step_of, steps_into}
-use Rattle.checker.specs.CertificateTests.{all_from, mask_in, is_row, has_rows, has_entry, has_entries, loads, all_step_into, edges_from, have_places, starts_among, all_start_among, cancels_told, groups_told, lives_told, breaks_claim, is_broken, node_breaks, starts_hold, edges_hold, has_fault, graph_holds, breaks_settling}
+use Rattle.checker.specs.CertificateTests.{all_from, mask_in, is_row, has_rows, has_entry, has_entries, loads, all_step_into, have_places, starts_among, all_start_among, cancels_told, groups_told, lives_told, breaks_claim, is_broken, node_breaks, starts_hold, edges_hold, has_fault, breaks_settling}
 
 -- Rows
 
-row_is : (vs : List Variable) (row : List ℕ) → IsTrue (is_row vs row) ↔ IsRow vs row
-row_is vs row = (known, tested_so)
+row_is : (edition : Edition) (vs : List Variable) (row : List ℕ) → IsTrue (is_row edition vs row) ↔ IsRow edition vs row
+row_is edition vs row = (known, tested_so)
   where
     test : ℕ → Variable → Bool
-    test i v = has_known_bits v.kind (mask_in row i)
+    test i v = has_known_bits edition v.kind (mask_in row i)
 
     Known : Variable → ℕ → Type 0
-    Known v mask = HasKnownBits v.kind mask
+    Known v mask = HasKnownBits edition v.kind mask
 
-    known : is_row vs row ≡ true → IsRow vs row
+    known : is_row edition vs row ≡ true → IsRow edition vs row
     known e =
         let parts = and_parts (length row == length vs) (all_from test 0 vs) e in
         each_zip Known 0 vs row (eqb-true (length row) (length vs) parts.0)
-        (λ i v there. (known_bits v.kind (mask_in row i)).0 (at_each test vs parts.1 i v there))
+        (λ i v there. (known_bits edition v.kind (mask_in row i)).0 (at_each test vs parts.1 i v there))
 
-    tested_so : IsRow vs row → is_row vs row ≡ true
+    tested_so : IsRow edition vs row → is_row edition vs row ≡ true
     tested_so h =
         let parts = zip_each Known 0 vs row h in
         and_from (length row == length vs) (all_from test 0 vs) (eq-eqb (length row) (length vs) parts.0)
-        (each_at test vs (λ i v there. (known_bits v.kind (mask_in row i)).1 (parts.1 i v there)))
+        (each_at test vs (λ i v there. (known_bits edition v.kind (mask_in row i)).1 (parts.1 i v there)))
 
 -- Groups in which literals are started
 
@@ -62,6 +64,13 @@ starts_so groups (start g (Some literal)) among =
 starts_so groups (start g None) among = refl
 starts_so groups other among = refl
 starts_so groups (obtain u f k d) among = refl
+starts_so groups (obtain_kept u f k x) among = refl
+starts_so groups (renew u x) among = refl
+starts_so groups (keep u x) among = refl
+starts_so groups (call_kept u x) among = refl
+starts_so groups (defer_kept u x) among = refl
+starts_so groups (give u x) among = refl
+starts_so groups (give_field u) among = refl
 starts_so groups (clear u) among = refl
 starts_so groups (call u) among = refl
 starts_so groups (defer_call u) among = refl
@@ -82,27 +91,38 @@ so_started groups e h g literal is =
 
 -- The masks at a node
 
-no_known : (kind : VariableKind) → has_known_bits kind 0 ≡ true
+no_known : (kind : VariableKind) → has_known_bits Second kind 0 ≡ true
 no_known cancel = refl
 no_known group = refl
 
 abbrev AreKnown : List Variable → List ℕ → Type 0
-AreKnown vs row = (i : ℕ) (v : Variable) → slice_get vs i ≡ Some v → has_known_bits v.kind (mask_in row i) ≡ true
+AreKnown vs row = (i : ℕ) (v : Variable) → slice_get vs i ≡ Some v
+    → has_known_bits Second v.kind (mask_in row i) ≡ true
 
-row_known : (vs : List Variable) (row : List ℕ) → IsRow vs row → AreKnown vs row
-row_known vs row h i v at =
-    (known_bits v.kind (mask_in row i)).1 ((zip_each (λ (v : Variable) mask. HasKnownBits v.kind mask) 0 vs row h).1 i v at)
+-- the second edition has all bits that the first has
+more_known : (edition : Edition) (kind : VariableKind) (mask : ℕ) → HasKnownBits edition kind mask
+    → HasKnownBits Second kind mask
+more_known First cancel mask h = lt_of_lt_of_le h (pow_mono {i = 15} {j = 16} (omega arith))
+more_known First group mask h = h
+more_known Second kind mask h = h
 
-rows_known : (vs : List Variable) (states : List (List ℕ)) (row : ℕ) → AllByRecursion (IsRow vs) states
-    → AreKnown vs (slice_index_or states row [])
-rows_known vs [] row all = λ i v at. no_known v.kind
-rows_known vs (s ∷ ss) zero all = row_known vs s all.0
-rows_known vs (s ∷ ss) (suc row) all = rows_known vs ss row all.1
+module _ (edition : Edition) (vs : List Variable) where
+  row_known : (row : List ℕ) → IsRow edition vs row → AreKnown vs row
+  row_known row h i v at =
+      (known_bits Second v.kind (mask_in row i)).1
+      (more_known edition v.kind (mask_in row i)
+      ((zip_each (λ (v : Variable) mask. HasKnownBits edition v.kind mask) 0 vs row h).1 i v at))
 
-masks_known : (vs : List Variable) (states : List (List ℕ)) (o : Option ℕ) → AllByRecursion (IsRow vs) states
-    → AreKnown vs (masks_in states o)
-masks_known vs states None all = λ i v at. no_known v.kind
-masks_known vs states (Some row) all = rows_known vs states row all
+  rows_known : (states : List (List ℕ)) (row : ℕ) → AllByRecursion (IsRow edition vs) states
+      → AreKnown vs (slice_index_or states row [])
+  rows_known [] row all = λ i v at. no_known v.kind
+  rows_known (s ∷ ss) zero all = row_known s all.0
+  rows_known (s ∷ ss) (suc row) all = rows_known ss row all.1
+
+  masks_known : (states : List (List ℕ)) (o : Option ℕ) → AllByRecursion (IsRow edition vs) states
+      → AreKnown vs (masks_in states o)
+  masks_known states None all = λ i v at. no_known v.kind
+  masks_known states (Some row) all = rows_known states row all
 
 has_places : (vs : List Variable) → too_many_faults vs ≡ [] → (i : ℕ) (v : Variable) (kind : VariableKind)
     → slice_get vs i ≡ Some v → v.kind ≡ kind → has_place kind (place_of kind vs i) ≡ true
@@ -133,19 +153,21 @@ module _ (b : CheckedBody) (states : List (List ℕ)) where
   abbrev groups_at : Groups
   groups_at = groups_told masks
 
-  rows_are : IsTrue (has_rows vs (length b.order) states) ↔ HasRows b states
+  rows_are : IsTrue (has_rows b.edition vs (length b.order) states) ↔ HasRows b.edition b states
   rows_are = (
     λ e.
-        let parts = and_parts (length states == length b.order) (list_all (is_row vs) states) e in
+        let parts = and_parts (length states == length b.order) (list_all (is_row b.edition vs) states) e in
         record {
           are_as_many = eqb-true (length states) (length b.order) parts.0;
-          are_rows = (by_recursion (is_row vs) (IsRow vs) (row_is vs) states).0 parts.1;
+          are_rows = each_row.0 parts.1;
         },
     λ h.
-        and_from (length states == length b.order) (list_all (is_row vs) states)
-        (eq-eqb (length states) (length b.order) h.are_as_many)
-        ((by_recursion (is_row vs) (IsRow vs) (row_is vs) states).1 h.are_rows),
+        and_from (length states == length b.order) (list_all (is_row b.edition vs) states)
+        (eq-eqb (length states) (length b.order) h.are_as_many) (each_row.1 h.are_rows),
   )
+    where
+      each_row : IsTrue (list_all (is_row b.edition vs) states) ↔ AllByRecursion (IsRow b.edition vs) states
+      each_row = by_recursion (is_row b.edition vs) (IsRow b.edition vs) (row_is b.edition vs) states
 
   -- Entry and edges
 
@@ -186,7 +208,7 @@ module _ (b : CheckedBody) (states : List (List ℕ)) where
     Steps v e kind before after = steps_into (step_of b.promises groups e v.number kind) before after
 
     goes_is : (v : Variable) (e : Event) (before after : ℕ) (kind : VariableKind) → StartsAmong groups e
-        → has_known_bits kind before ≡ true
+        → has_known_bits Second kind before ≡ true
         → IsTrue (Steps v e kind before after) ↔ Goes v e kind before after
     goes_is v e before after cancel among known = (
       λ t. cancels_go groups (bits_fit vs few) b.promises v.number e before after among
@@ -194,9 +216,7 @@ module _ (b : CheckedBody) (states : List (List ℕ)) where
       λ g. steps_tested (step_of b.promises groups e v.number cancel) cancel before after known
           (bits_go (class_of_bit b) (bit_of_class b) (change_cancel b.promises v.number e) before after
           (λ bit set.
-          let l = known_cancel before bit known set in
-          let all = with_bits vs few in
-          cancel_stands groups bit (omega (arith, l, all))) g),
+          cancel_stands groups bit (with_bits vs few) (known_cancel before bit known set)) g),
     )
     goes_is v e before after group among known = (
       λ t. groups_go b.promises v.number e before after
@@ -240,14 +260,14 @@ module _ (b : CheckedBody) (states : List (List ℕ)) where
   abbrev AreClosed : Type 0
   AreClosed = (i : ℕ) (v : Variable) → slice_get vs i ≡ Some v → IsClosedFor b v v.kind (mask_at b states i)
 
-  module _ (few : too_many_faults vs ≡ []) (starts : StartsWithBits b) (rows : HasRows b states) where
+  module _ (few : too_many_faults vs ≡ []) (starts : StartsWithBits b) (rows : HasRows b.edition b states) where
     known_at : (n : ℕ) → AreKnown vs (masks n)
-    known_at n = masks_known vs states (row_from 0 b.order n) rows.are_rows
+    known_at n = masks_known b.edition vs states (row_from 0 b.order n) rows.are_rows
 
     loads_at : (n : ℕ) → loads vs (masks n) ≡ true
     loads_at n =
         each_at (λ i (v : Variable). is_taken v.kind (place_of v.kind vs i) (mask_in (masks n) i)) vs
-        (λ i v at. and_from (has_place v.kind (place_of v.kind vs i)) (has_known_bits v.kind (mask_in (masks n) i))
+        (λ i v at. and_from (has_place v.kind (place_of v.kind vs i)) (has_known_bits Second v.kind (mask_in (masks n) i))
         (has_places vs few i v v.kind at refl) (known_at n i v at))
 
     abbrev steps_part : ℕ → Event → ℕ → Bool
@@ -358,25 +378,26 @@ module _ (b : CheckedBody) (states : List (List ℕ)) where
     abbrev left_test : ℕ → ℕ → Variable → Bool
     left_test i j g = is_group (Some g.kind) && (cancels i node (pending g.number) && lives j)
 
-    uncalled_is : (i : ℕ) → is_uncalled vs (cancels i node) lives ≡ true → MayBeUncalled b states node i
-    uncalled_is i e =
-        elim (or_cases (cancels i node opened) (is_left_to vs (cancels i node) lives) e) [
-          | inl is ↦ is_open ((cancel_may i opened).0 is)
-          | inr left ↦
-              let w = passes_at (left_test i) vs left in
-              let g = w.element in
-              let parts = and_parts (is_group (Some g.kind)) (cancels i node (pending g.number) && lives w.place)
-              w.passes in
-              let inner = and_parts (cancels i node (pending g.number)) (lives w.place) parts.1 in
-              is_left w.place g w.is_there (group_kind g.kind parts.0) ((cancel_may i (pending g.number)).0 inner.0)
-              ((live_may w.place).0 inner.1)
-        ]
+    abbrev left_part : ℕ → Bool
+    left_part i = is_left_to vs (cancels i node) lives
 
-    uncalled_so : (i : ℕ) → MayBeUncalled b states node i → is_uncalled vs (cancels i node) lives ≡ true
-    uncalled_so i (is_open may_be) =
-        or_left (cancels i node opened) (is_left_to vs (cancels i node) lives) ((cancel_may i opened).1 may_be)
+    left_is : (i : ℕ) → left_part i ≡ true → MayBeUncalled b states node i
+    left_is i left =
+        let w = passes_at (left_test i) vs left in
+        let g = w.element in
+        let parts = and_parts (is_group (Some g.kind)) (cancels i node (pending g.number) && lives w.place) w.passes in
+        let inner = and_parts (cancels i node (pending g.number)) (lives w.place) parts.1 in
+        is_left w.place g w.is_there (group_kind g.kind parts.0) ((cancel_may i (pending g.number)).0 inner.0)
+        ((live_may w.place).0 inner.1)
+
+    open_is : (i : ℕ) → cancels i node opened ≡ true → MayBeUncalled b states node i
+    open_is i is = is_open ((cancel_may i opened).0 is)
+
+    -- open, or left to a live group
+    uncalled_so : (i : ℕ) → MayBeUncalled b states node i → (cancels i node opened || left_part i) ≡ true
+    uncalled_so i (is_open may_be) = or_left (cancels i node opened) (left_part i) ((cancel_may i opened).1 may_be)
     uncalled_so i (is_left j g there kind may_be is_live) =
-        or_right (cancels i node opened) (is_left_to vs (cancels i node) lives)
+        or_right (cancels i node opened) (left_part i)
         (any_at (left_test i) vs j g there
         (and_from (is_group (Some g.kind)) (cancels i node (pending g.number) && lives j) (is_group_kind g.kind kind)
         (and_from (cancels i node (pending g.number)) (lives j) ((cancel_may i (pending g.number)).1 may_be)
@@ -387,8 +408,35 @@ module _ (b : CheckedBody) (states : List (List ℕ)) where
     abbrev owes_test : List Handed → Variable → Bool
     owes_test handed v = is_declared v.role && not (is_handed v.number handed)
 
+    abbrev open_part : List Handed → ℕ → Variable → Bool
+    open_part handed i v = is_open_there v.number handed (cancels i node)
+
+    abbrev kept_part : List Handed → ℕ → Variable → Bool
+    kept_part handed i v = cancels i node kept && not (is_handed_kept v.number handed)
+
     abbrev uncalled_test : List Handed → ℕ → Variable → Bool
-    uncalled_test handed i v = owes_call v handed && is_uncalled vs (cancels i node) lives
+    uncalled_test handed i v = owes_call v handed && (open_part handed i v || left_part i)
+
+    -- owed, and open or kept or left to a live group
+    uncalled_return : (e : Event) (handed : List Handed) → e ≡ return_event handed → (i : ℕ) (v : Variable)
+        → slice_get vs i ≡ Some v
+        → v.kind ≡ cancel
+        → is_declared v.role ≡ true
+        → is_handed v.number handed ≡ false
+        → (open_part handed i v || left_part i) ≡ true
+        → IsFault b states node e
+    uncalled_return e handed returns i v there kind declared unhanded h =
+        elim (or_cases (open_part handed i v) (left_part i) h) [
+          | inl either ↦
+              elim (or_cases (cancels i node opened) (kept_part handed i v) either) [
+                | inl is ↦ returns_uncalled i v handed there kind returns (is_kept declared unhanded) (open_is i is)
+                | inr held ↦
+                    let both = and_parts (cancels i node kept) (not (is_handed_kept v.number handed)) held in
+                    returns_kept i v handed there kind returns
+                    (is_kept declared (not-true (is_handed_kept v.number handed) both.1)) ((cancel_may i kept).0 both.0)
+              ]
+          | inr left ↦ returns_uncalled i v handed there kind returns (is_kept declared unhanded) (left_is i left)
+        ]
 
     broken_return : (e : Event) (handed : List Handed) → e ≡ return_event handed → (i : ℕ) (v : Variable)
         → slice_get vs i ≡ Some v
@@ -396,11 +444,11 @@ module _ (b : CheckedBody) (states : List (List ℕ)) where
     broken_return e handed returns i v there h =
         elim (or_cases (uncalled_test handed i v) (found.returns_live groups_at node i v) h) [
           | inl uncalled ↦
-              let parts = and_parts (owes_call v handed) (is_uncalled vs (cancels i node) lives) uncalled in
+              let parts = and_parts (owes_call v handed) (open_part handed i v || left_part i) uncalled in
               let owes = and_parts (is_cancel (Some v.kind)) (owes_test handed v) parts.0 in
               let inner = and_parts (is_declared v.role) (not (is_handed v.number handed)) owes.1 in
-              returns_uncalled i v handed there (cancel_kind v.kind owes.0) returns
-              (is_kept inner.0 (not-true (is_handed v.number handed) inner.1)) (uncalled_is i parts.1)
+              uncalled_return e handed returns i v there (cancel_kind v.kind owes.0) inner.0
+              (not-true (is_handed v.number handed) inner.1) parts.1
           | inr its ↦
               let parts = and_parts (is_declared v.role) (is_live_group v (groups_at i node)) its in
               let live_one = live_group i v parts.1 in
@@ -410,10 +458,17 @@ module _ (b : CheckedBody) (states : List (List ℕ)) where
     fault_is : (e : Event) (i : ℕ) (v : Variable) → slice_get vs i ≡ Some v
         → is_fault vs cancels groups_at groups lives node (deed_of e) i v ≡ true → IsFault b states node e
     fault_is (obtain u f k d) i v there h = lost_fault (obtain u f k d) u (obtains) i v there h
+    fault_is (obtain_kept u f k x) i v there h = lost_fault (obtain_kept u f k x) u (obtains_into) i v there h
     fault_is (clear u) i v there h = lost_fault (clear u) u (clears) i v there h
     fault_is (make u s) i v there h = lost_group (make u s) u s refl i v there h
     fault_is (return_event handed) i v there h = broken_return (return_event handed) handed refl i v there h
     fault_is other i v there h = absurd (false≢true h)
+    fault_is (renew u x) i v there h = absurd (false≢true h)
+    fault_is (keep u x) i v there h = absurd (false≢true h)
+    fault_is (call_kept u x) i v there h = absurd (false≢true h)
+    fault_is (defer_kept u x) i v there h = absurd (false≢true h)
+    fault_is (give u x) i v there h = absurd (false≢true h)
+    fault_is (give_field u) i v there h = absurd (false≢true h)
     fault_is (call u) i v there h = absurd (false≢true h)
     fault_is (defer_call u) i v there h = absurd (false≢true h)
     fault_is (pass u f k) i v there h = absurd (false≢true h)
@@ -435,8 +490,16 @@ module _ (b : CheckedBody) (states : List (List ℕ)) where
         let second = and_parts (is_claimed b.is_claimed v.role) (claim_test v i) first.1 in
         let third = and_parts (is_cancel (Some v.kind)) (is_uncalled vs (cancels i node) lives) second.1 in
         let returns = return_of e first.0 in
-        returns_uncalled i v returns.0 there (cancel_kind v.kind third.0) returns.1 (has_claim second.0)
-        (uncalled_is i third.1)
+        let kind = cancel_kind v.kind third.0 in
+        elim (or_cases (cancels i node opened) (cancels i node kept || left_part i) third.1) [
+          | inl is ↦ returns_uncalled i v returns.0 there kind returns.1 (has_claim second.0) (open_is i is)
+          | inr more ↦
+              elim (or_cases (cancels i node kept) (left_part i) more) [
+                | inl is ↦
+                    returns_kept i v returns.0 there kind returns.1 (has_claim second.0) ((cancel_may i kept).0 is)
+                | inr left ↦ returns_uncalled i v returns.0 there kind returns.1 (has_claim second.0) (left_is i left)
+              ]
+        ]
 
     abbrev broken_test : Event → ℕ → Variable → Bool
     broken_test e = is_broken vs cancels groups_at groups lives b.is_claimed node (deed_of e)
@@ -471,29 +534,87 @@ module _ (b : CheckedBody) (states : List (List ℕ)) where
         → found.loses_cancel vs cancels groups node u.number i v ≡ true
         → is_fault vs cancels groups_at groups lives node (deed_of e) i v ≡ true
     bound_by (obtains) i v h = h
+    bound_by (obtains_into) i v h = h
     bound_by (clears) i v h = h
 
     abbrev fault_of : ℕ → Variable → Event → Bool
     fault_of i v e = is_fault vs cancels groups_at groups lives node (deed_of e) i v
 
-    owed_breaks : (e : Event) (i : ℕ) (v : Variable) (handed : List Handed) → slice_get vs i ≡ Some v
-        → v.kind ≡ cancel → e ≡ return_event handed → IsOwed b v handed → is_uncalled vs (cancels i node) lives ≡ true
+    declared_breaks : (e : Event) (i : ℕ) (v : Variable) (handed : List Handed) → slice_get vs i ≡ Some v
+        → v.kind ≡ cancel
+        → e ≡ return_event handed
+        → is_declared v.role ≡ true
+        → is_handed v.number handed ≡ false
+        → (open_part handed i v || left_part i) ≡ true
         → breaks_part e ≡ true
-    owed_breaks e i v handed there kind returns (is_kept declared kept) uncalled =
+    declared_breaks e i v handed there kind returns declared unhanded uncalled =
         by_fault e i v there
         (ap (fault_of i v) returns
         ∙ or_left (uncalled_test handed i v) (found.returns_live groups_at node i v)
-        (and_from (owes_call v handed) (is_uncalled vs (cancels i node) lives)
+        (and_from (owes_call v handed) (open_part handed i v || left_part i)
         (and_from (is_cancel (Some v.kind)) (owes_test handed v) (is_cancel_kind v.kind kind)
         (and_from (is_declared v.role) (not (is_handed v.number handed)) declared
-        (not_from_false (is_handed v.number handed) kept))) uncalled))
-    owed_breaks e i v handed there kind returns (has_claim claimed) uncalled =
+        (not_from_false (is_handed v.number handed) unhanded))) uncalled))
+
+    claimed_breaks : (e : Event) (i : ℕ) (v : Variable) (handed : List Handed) → slice_get vs i ≡ Some v
+        → v.kind ≡ cancel
+        → e ≡ return_event handed
+        → is_claimed b.is_claimed v.role ≡ true
+        → is_uncalled vs (cancels i node) lives ≡ true
+        → breaks_part e ≡ true
+    claimed_breaks e i v handed there kind returns claimed uncalled =
         by_claim e i v there
         (and_from (is_return_deed (deed_of e)) (is_claimed b.is_claimed v.role && claim_test v i)
         (ap (λ x. is_return_deed (deed_of x)) returns)
         (and_from (is_claimed b.is_claimed v.role) (claim_test v i) claimed
         (and_from (is_cancel (Some v.kind)) (is_uncalled vs (cancels i node) lives) (is_cancel_kind v.kind kind)
         uncalled)))
+
+    also_open : (handed : List Handed) (i : ℕ) (v : Variable) → (cancels i node opened || left_part i) ≡ true
+        → (open_part handed i v || left_part i) ≡ true
+    also_open handed i v h =
+        elim (or_cases (cancels i node opened) (left_part i) h) [
+          | inl is ↦
+              or_left (open_part handed i v) (left_part i) (or_left (cancels i node opened) (kept_part handed i v) is)
+          | inr left ↦ or_right (open_part handed i v) (left_part i) left
+        ]
+
+    also_uncalled : (i : ℕ) → (cancels i node opened || left_part i) ≡ true → is_uncalled vs (cancels i node) lives ≡ true
+    also_uncalled i h =
+        elim (or_cases (cancels i node opened) (left_part i) h) [
+          | inl is ↦ or_left (cancels i node opened) (cancels i node kept || left_part i) is
+          | inr left ↦
+              or_right (cancels i node opened) (cancels i node kept || left_part i)
+              (or_right (cancels i node kept) (left_part i) left)
+        ]
+
+    owed_breaks : (e : Event) (i : ℕ) (v : Variable) (handed : List Handed) → slice_get vs i ≡ Some v
+        → v.kind ≡ cancel
+        → e ≡ return_event handed
+        → IsOwed b v (is_handed v.number handed)
+        → (cancels i node opened || left_part i) ≡ true
+        → breaks_part e ≡ true
+    owed_breaks e i v handed there kind returns (is_kept declared unhanded) h =
+        declared_breaks e i v handed there kind returns declared unhanded (also_open handed i v h)
+    owed_breaks e i v handed there kind returns (has_claim claimed) h =
+        claimed_breaks e i v handed there kind returns claimed (also_uncalled i h)
+
+    kept_breaks : (e : Event) (i : ℕ) (v : Variable) (handed : List Handed) → slice_get vs i ≡ Some v
+        → v.kind ≡ cancel
+        → e ≡ return_event handed
+        → IsOwed b v (is_handed_kept v.number handed)
+        → cancels i node kept ≡ true
+        → breaks_part e ≡ true
+    kept_breaks e i v handed there kind returns (is_kept declared unhanded) h =
+        declared_breaks e i v handed there kind returns declared (not_handed v.number handed unhanded)
+        (or_left (open_part handed i v) (left_part i)
+        (or_right (cancels i node opened) (kept_part handed i v)
+        (and_from (cancels i node kept) (not (is_handed_kept v.number handed)) h
+        (not_from_false (is_handed_kept v.number handed) unhanded))))
+    kept_breaks e i v handed there kind returns (has_claim claimed) h =
+        claimed_breaks e i v handed there kind returns claimed
+        (or_right (cancels i node opened) (cancels i node kept || left_part i)
+        (or_left (cancels i node kept) (left_part i) h))
 
     is_broken_so : (e : Event) → IsFault b states node e → breaks_part e ≡ true
     is_broken_so e (loses_cancel i v u k there kind binds same may_be lost) =
@@ -507,6 +628,8 @@ module _ (b : CheckedBody) (states : List (List ℕ)) where
         (and_from (is_declared g.role) (is_live_group g (groups_at i node)) declared (group_live i g kind may_be)))
     is_broken_so e (returns_uncalled i v handed there kind returns owed may_be) =
         owed_breaks e i v handed there kind returns owed (uncalled_so i may_be)
+    is_broken_so e (returns_kept i v handed there kind returns owed may_be) =
+        kept_breaks e i v handed there kind returns owed ((cancel_may i kept).1 may_be)
 
   abbrev fault_test : ℕ → Occurrence Event → Bool
   fault_test n o = node_breaks vs cancels groups_at groups (lives_told masks n) b.is_claimed n o.event
@@ -529,7 +652,7 @@ module _ (b : CheckedBody) (states : List (List ℕ)) where
   -- The whole
 
   abbrev rows_part : Bool
-  rows_part = has_rows vs (length b.order) states
+  rows_part = has_rows b.edition vs (length b.order) states
 
   abbrev places_part : Bool
   places_part = have_places (numbers_of cancel vs) (numbers_of group vs) groups

@@ -1,7 +1,7 @@
 -- How the program goes over a certificate, node by node and variable by variable. That these tests say what
 -- `Certificates.antt` says is proved. `groups` are the groups that have bits, `masks` the masks at a node, and
 -- `masks_of` gives those of each node.
-use Rattle.std.specs.Prelude.{ℕ, ◌+◌, ◌==◌, Bool, true, false, not, ◌&&◌, ◌||◌, List, [], ◌∷◌, length, Some, nat_eq, nat_le, slice_index_or}
+use Rattle.std.specs.Prelude.{ℕ, ◌+◌, ◌==◌, Bool, true, not, ◌&&◌, ◌||◌, List, [], ◌∷◌, length, Some, nat_eq, nat_le, slice_index_or}
 use Rattle.std.specs.List.{list_any, list_all}
 use Rattle.meaning.specs.Code.{Occurrence}
 use Rattle.meaning.specs.FunctionFacts.{VariableKind, cancel, group}
@@ -13,8 +13,9 @@ use Rattle.meaning.specs.declared.TheConstants.{MOST_CANCELS, MOST_GROUPS}
 use Rattle.flow.specs.Walks.{Graph}
 use Rattle.path_faults.specs.FoundFaults as found
 use Rattle.path_faults.specs.FoundFaults.{any_from, Cancels, Groups, Deed, deed_of, is_return_deed, is_uncalled, is_fault}
-use Rattle.states.specs.Bits.{cancel_bit}
-use Rattle.states.specs.MaskTests.{has_known_bits, has, may_be_cancel, may_be_group}
+use Rattle.tree.specs.declared.edition.Edition.{Edition}
+use Rattle.bodies.specs.Bits.{cancel_bit}
+use Rattle.bodies.specs.MaskTests.{has_known_bits, has, may_be_cancel, may_be_group}
 use Rattle.checker.specs.Certificates.{CheckedBody, is_claimed}
 use Rattle.checker.specs.Loaded.{is_taken, place_of, step_of, steps_into}
 
@@ -44,15 +45,15 @@ all_start_among groups = list_all (λ o. starts_among groups o.event)
 
 -- Rows
 
-abbrev pub has_known_masks : List Variable → List ℕ → Bool
-has_known_masks vs row = all_from (λ i v. has_known_bits v.kind (mask_in row i)) 0 vs
+abbrev pub has_known_masks : Edition → List Variable → List ℕ → Bool
+has_known_masks edition vs row = all_from (λ i v. has_known_bits edition v.kind (mask_in row i)) 0 vs
 
-abbrev pub is_row : List Variable → List ℕ → Bool
-is_row vs row = (length row == length vs) && has_known_masks vs row
+abbrev pub is_row : Edition → List Variable → List ℕ → Bool
+is_row edition vs row = (length row == length vs) && has_known_masks edition vs row
 
 -- there are so many rows
-abbrev pub has_rows : List Variable → ℕ → List (List ℕ) → Bool
-has_rows vs count states = (length states == count) && list_all (is_row vs) states
+abbrev pub has_rows : Edition → List Variable → ℕ → List (List ℕ) → Bool
+has_rows edition vs count states = (length states == count) && list_all (is_row edition vs) states
 
 -- Entry and edges
 
@@ -142,7 +143,7 @@ abbrev pub holds : List ℕ → List ℕ → List ℕ → (ℕ → List ℕ) →
 holds cancels own groups masks_of b states =
     have_places cancels own groups
     && (all_start_among groups b.graph.nodes
-    && (has_rows b.variables (length b.order) states
+    && (has_rows b.edition b.variables (length b.order) states
     && graph_holds groups b.variables masks_of b.promises b.is_claimed b.graph))
 
 -- Credit

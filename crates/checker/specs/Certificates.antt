@@ -4,8 +4,9 @@
 -- node's event makes of the classes before, and if at no node a class is a fault of what the node does. Nothing is
 -- solved for that, and a certificate may say more than can happen. Only a body has one whose classes all have bits:
 -- it has not too many variables, and starts literals only in groups that have bits, as each body of a text does.
---  - Bit 0 of a cancel function is unset, 1 open, 2 safe, and 3 + k pending in the k-th of the body's groups, counted
---    from 0. Of a group bit 0 is unmade, 1 idle, 2 live, and 3 awaited.
+--  - Bit 0 of a cancel function is unset, 1 open, 2 safe, 3 + k pending in the k-th of the body's groups, counted from
+--    0, and 15 kept, which only the second edition of the rules has. Of a group bit 0 is unmade, 1 idle, 2 live, and 3
+--    awaited.
 --  - There are such bits for twelve groups, also where the body has fewer. One of a group that the body has not stands
 --    for a group that no event names: it is never live, and the body does not make it.
 -- (This tool's rules.)
@@ -16,19 +17,22 @@ use Rattle.flow.specs.Walks.{Graph}
 use Rattle.flow.specs.declared.order.NodePlace.{NodePlace}
 use Rattle.meaning.specs.declared.TheConstants.{MOST_GROUPS}
 use Rattle.meaning.specs.BodyEvents.{Variable, VariableRole, own_parameter, own_receiver, declared_in_body, captured, too_many_faults}
-use Rattle.meaning.specs.Classes.{Promises, CancelClass, opened, pending, entry_cancel, change_cancel, GroupClass, in_state, entry_group, change_group}
+use Rattle.meaning.specs.Classes.{Promises, CancelClass, opened, kept, pending, entry_cancel, change_cancel, GroupClass, in_state, entry_group, change_group}
 use Rattle.meaning.specs.Code.{Occurrence}
 use Rattle.meaning.specs.FunctionFacts.{VariableKind, cancel, group}
 use Rattle.meaning.specs.Tracked.{GroupState, live}
 use Rattle.meaning.specs.Uses.{VariableAt, Handed, Event, start, make, return_event}
 use Rattle.meaning_packages.specs.Credits.{is_safe, is_live}
-use Rattle.meaning_packages.specs.PathFaults.{BindsCancel, is_declared, is_handed, is_lost}
-use Rattle.states.specs.Bits.{cancel_bit, cancel_class, group_class}
-use Rattle.states.specs.Masks.{HasKnownBits, Has, MayBe, GoesInto, bit_of_group}
+use Rattle.meaning_packages.specs.PathFaults.{BindsCancel, is_declared, is_handed, is_handed_kept, is_lost}
+use Rattle.tree.specs.declared.edition.Edition.{Edition}
+use Rattle.bodies.specs.Bits.{cancel_bit, cancel_class, group_class}
+use Rattle.bodies.specs.Masks.{HasKnownBits, Has, MayBe, GoesInto, bit_of_group}
 
--- A body as its certificates see it: its graph, where its nodes stand, in the order of the text, its variables, what it
--- relies on, and of which parameters, by their positions, it is claimed that it has called them when it returns.
+-- A body as its certificates see it: the edition by which it is judged, its graph, where its nodes stand, in the order
+-- of the text, its variables, what it relies on, and of which parameters, by their positions, it is claimed that it has
+-- called them when it returns.
 pub record CheckedBody : Type 0 where
+  pub edition : Edition
   pub graph : Graph Event
   pub order : List NodePlace
   pub variables : List Variable
@@ -83,13 +87,13 @@ masks_at b states node = masks_in states (row_from 0 b.order node)
 abbrev pub mask_at : CheckedBody → List (List ℕ) → ℕ → ℕ → ℕ
 mask_at b states i node = slice_index_or (masks_at b states node) i 0
 
-abbrev pub IsRow : List Variable → List ℕ → Type 0
-IsRow vs row = AllZip (λ v mask. HasKnownBits v.kind mask) vs row
+abbrev pub IsRow : Edition → List Variable → List ℕ → Type 0
+IsRow edition vs row = AllZip (λ v mask. HasKnownBits edition v.kind mask) vs row
 
--- a row for each node, and in each a mask for each variable
-pub record HasRows (b : CheckedBody) (states : List (List ℕ)) : Type 0 where
+-- a row for each node, and in each a mask for each variable, with the bits of that edition
+pub record HasRows (edition : Edition) (b : CheckedBody) (states : List (List ℕ)) : Type 0 where
   pub are_as_many : length states ≡ length b.order
-  pub are_rows : AllByRecursion (IsRow b.variables) states
+  pub are_rows : AllByRecursion (IsRow edition b.variables) states
 
 -- Entry and edges
 
@@ -119,10 +123,10 @@ is_claimed claims own_receiver = false
 is_claimed claims declared_in_body = false
 is_claimed claims captured = false
 
--- the body is to have called it at a return that hands these on
-pub data IsOwed (b : CheckedBody) (v : Variable) (handed : List Handed) : Type 0 where
-  is_kept : is_declared v.role ≡ true → is_handed v.number handed ≡ false → IsOwed b v handed
-  has_claim : is_claimed b.is_claimed v.role ≡ true → IsOwed b v handed
+-- the body is to have called it at a return, which hands it on or does not
+pub data IsOwed (b : CheckedBody) (v : Variable) (is_handed_on : Bool) : Type 0 where
+  is_kept : is_declared v.role ≡ true → is_handed_on ≡ false → IsOwed b v is_handed_on
+  has_claim : is_claimed b.is_claimed v.role ≡ true → IsOwed b v is_handed_on
 
 module _ (b : CheckedBody) (states : List (List ℕ)) (node : ℕ) where
   -- the cancel function of the place i may be of that class where the node comes next
@@ -132,7 +136,7 @@ module _ (b : CheckedBody) (states : List (List ℕ)) (node : ℕ) where
   abbrev pub MayBeLive : ℕ → Type 0
   MayBeLive i = MayBe group_class (mask_at b states i node) (in_state live)
 
-  -- it may not have been called: it may be open, or pending in a group that may be live
+  -- it may not have been called, and is kept nowhere: it may be open, or pending in a group that may be live
   pub data MayBeUncalled (i : ℕ) : Type 0 where
     is_open : MayBeCancel i opened → MayBeUncalled i
     is_left : (j : ℕ) (g : Variable)
@@ -170,8 +174,16 @@ module _ (b : CheckedBody) (states : List (List ℕ)) (node : ℕ) where
         → slice_get b.variables i ≡ Some v
         → v.kind ≡ cancel
         → e ≡ return_event handed
-        → IsOwed b v handed
+        → IsOwed b v (is_handed v.number handed)
         → MayBeUncalled i
+        → IsFault e
+    -- it may be kept in an object with which it is not handed on
+    returns_kept : (i : ℕ) (v : Variable) (handed : List Handed)
+        → slice_get b.variables i ≡ Some v
+        → v.kind ≡ cancel
+        → e ≡ return_event handed
+        → IsOwed b v (is_handed_kept v.number handed)
+        → MayBeCancel i kept
         → IsFault e
 
 -- The whole
@@ -179,7 +191,7 @@ module _ (b : CheckedBody) (states : List (List ℕ)) (node : ℕ) where
 pub record Holds (b : CheckedBody) (states : List (List ℕ)) : Type 0 where
   pub are_few : too_many_faults b.variables ≡ []
   pub starts_with_bits : StartsWithBits b
-  pub has_rows : HasRows b states
+  pub has_rows : HasRows b.edition b states
   pub is_closed : (i : ℕ) (v : Variable)
       → slice_get b.variables i ≡ Some v
       → IsClosedFor b v v.kind (mask_at b states i)

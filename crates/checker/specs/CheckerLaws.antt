@@ -13,6 +13,7 @@ use Rattle.meaning_packages.specs.PathFaults.{Paths, PathFault, IsPathFault, Kee
 
 -- the body that is checked is that of the paths, whatever the order of its rows
 pub record IsOf (paths : Paths) (b : CheckedBody) : Type 0 where
+  pub is_edition : b.edition ≡ paths.edition
   pub is_graph : b.graph ≡ graph_of paths.code
   pub are_variables : b.variables ≡ paths.variables
   pub are_promises : b.promises ≡ paths.promises

@@ -15,6 +15,7 @@ use Rattle.meaning.specs.FunctionFacts.{cancel, group}
 use Rattle.meaning.specs.Uses.{Handed, return_event}
 use Rattle.meaning.specs.declared.TheConstants.{MOST_CANCELS, MOST_GROUPS}
 use Rattle.tracked_rows.specs.EventViews.{event_view}
+use Rattle.tree.specs.declared.edition.Edition.{Edition}
 use Rattle.tracked_rows.specs.declared.event.Event.{Event as KeptEvent}
 use Rattle.checker.specs.declared.laid_out.LaidOut.{LaidOut}
 use Rattle.checker.specs.Certificates.{CheckedBody, groups_with_bits, row_from, masks_in}
@@ -51,6 +52,7 @@ masks_of l states node = masks_in (states_view states) (row_of l.rows.items node
 -- the body, with what it relies on and what is claimed of it
 abbrev pub body_of : LaidOut → Promises → (ℕ → Bool) → CheckedBody
 body_of l promises claims = record {
+  edition = l.edition;
   graph = events_graph l.kept.now.graph;
   order = l.kept.now.order.items;
   variables = map variable_view l.variables.now;
@@ -81,8 +83,9 @@ pub record HavePlaces (l : LaidOut) : Type 0 where
 abbrev pub HasWholeOrder : BodyGraph → Type 0
 HasWholeOrder kept = IsPermutation (places 0 (occurrences_of kept.graph.nodes.items)) kept.order.items
 
--- it is the body of these variables and that graph, and laid out where the graph's order is whole
-pub record LaysOut (variables : List KeptVariable) (kept : BodyGraph) (l : LaidOut) : Type 0 where
+-- it is the body of these variables and that graph, by that edition, and laid out where the graph's order is whole
+pub record LaysOut (edition : Edition) (variables : List KeptVariable) (kept : BodyGraph) (l : LaidOut) : Type 0 where
+  pub is_edition : l.edition ≡ edition
   pub are_variables : l.variables.now ≡ variables
   pub is_kept : l.kept.now ≡ kept
   pub is_laid_out : HasWholeOrder kept → IsLaidOut l

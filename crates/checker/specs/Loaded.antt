@@ -5,11 +5,12 @@ use Rattle.meaning.specs.BodyEvents.{Variable}
 use Rattle.meaning.specs.Classes.{Promises}
 use Rattle.meaning.specs.FunctionFacts.{VariableKind, cancel, group}
 use Rattle.meaning.specs.Uses.{Event}
-use Rattle.states.specs.BitSteps.{cancel_step, group_step}
-use Rattle.states.specs.Masks.{is_set}
-use Rattle.states.specs.MaskTests.{has_known_bits}
-use Rattle.states.specs.States.{has_bit, mask_from, has_place, first_bit, mask_bits}
-use Rattle.states.specs.declared.state.TheConstants.{CANCEL_BITS}
+use Rattle.tree.specs.declared.edition.Edition.TheVariants.{Second}
+use Rattle.bodies.specs.BitSteps.{cancel_step, group_step}
+use Rattle.bodies.specs.Masks.{is_set}
+use Rattle.bodies.specs.MaskTests.{has_known_bits}
+use Rattle.bodies.specs.States.{has_bit, mask_from, has_place, first_bit, mask_bits}
+use Rattle.bodies.specs.declared.state.TheConstants.{CANCEL_BITS}
 
 -- Variables of a kind
 
@@ -39,9 +40,10 @@ place_of kind (v ∷ vs) (suc i) = next_if kind v.kind (place_of kind vs i)
 
 -- States
 
--- a state takes the mask at that place among those of the kind: it has the place, and no bit is set of no class
+-- a state takes the mask at that place among those of the kind: it has the place, and no bit is set of no class in any
+-- edition
 abbrev pub is_taken : VariableKind → ℕ → ℕ → Bool
-is_taken kind place mask = has_place kind place && has_known_bits kind mask
+is_taken kind place mask = has_place kind place && has_known_bits Second kind mask
 
 -- it is taken, and stands there
 pub record IsLoaded (kind : VariableKind) (place mask : ℕ) (words : List ℕ) : Type 0 where

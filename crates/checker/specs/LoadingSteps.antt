@@ -2,7 +2,7 @@
 use Rattle.std.specs.Prelude.{ℕ, ◌≡◌, ◌+◌, List}
 use Rattle.meaning.specs.BodyEvents.{Variable}
 use Rattle.meaning.specs.FunctionFacts.{VariableKind, cancel, group}
-use Rattle.states.specs.States.{first_bit, mask_bits, Sets}
+use Rattle.bodies.specs.States.{first_bit, mask_bits, Sets}
 use Rattle.checker.specs.declared.loaded.Loading.{Loading}
 use Rattle.checker.specs.Loaded.{place_of, AreLoaded}
 

@@ -3,9 +3,9 @@ use Rattle.std.specs.Prelude.{ℕ, ◌≡◌, false, List, length, map, Option, 
 use Rattle.events.specs.VariableViews.{variable_view}
 use Rattle.meaning.specs.Classes.{Promises, change_cancel, change_group}
 use Rattle.meaning.specs.Uses.{Event}
-use Rattle.states.specs.States.{Applies, Fit}
-use Rattle.states.specs.declared.state.State.{State}
-use Rattle.states.specs.declared.state.StateVariables.{StateVariables}
+use Rattle.bodies.specs.States.{Applies, Fit}
+use Rattle.bodies.specs.declared.state.State.{State}
+use Rattle.bodies.specs.declared.state.StateVariables.{StateVariables}
 use Rattle.checker.specs.declared.laid_out.LaidOut.{LaidOut}
 use Rattle.checker.specs.CertificateTests.{loads}
 use Rattle.checker.specs.Loaded.{AreLoaded}

@@ -5,7 +5,7 @@ use Rattle.checker.specs.Certificates.{masks_in}
 use Rattle.checker.specs.CertificateTests.{mask_in, cancels_told}
 use Rattle.checker.specs.LaidOutViews.{row_of, states_view}
 use Rattle.checker.specs.declared.classes.RowClasses.{RowClasses}
-use Rattle.states.proofs.MaskedClasses.{pending_among}
+use Rattle.bodies.proofs.MaskedClasses.{pending_among}
 
 -- the masks at a node
 abbrev pub masks_told : RowClasses → ℕ → List ℕ

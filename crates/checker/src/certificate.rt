@@ -13,14 +13,15 @@ use crate::entry::starts_hold;
 use crate::faults::has_fault;
 use crate::laid_out::LaidOut;
 use crate::rows::has_rows;
-use states::Promises;
+use bodies::Promises;
 
 /// Whether states have places for the body's variables and bits for its groups, and a row for each node.
 fn fits(laid_out: &LaidOut<'_, '_, '_>, states: &[Vec<u16>]) -> bool
     ensures { result ≡ (have_places laid_out.now.numbers.cancels.items laid_out.now.numbers.groups.items
         laid_out.now.groups.items && (all_start_among laid_out.now.groups.items
-        (events_graph laid_out.now.kept.now.graph).nodes && has_rows (map variable_view laid_out.now.variables.now)
-        (length laid_out.now.kept.now.order.items) (states_view states.now))) }
+        (events_graph laid_out.now.kept.now.graph).nodes && has_rows laid_out.now.edition
+        (map variable_view laid_out.now.variables.now) (length laid_out.now.kept.now.order.items)
+        (states_view states.now))) }
 {
     laid_out.has_places() && all_start_among(laid_out) && has_rows(laid_out, states)
 }

@@ -5,9 +5,9 @@ ghost use Rattle.checker.specs.CertificateTests.{mask_in, cancels_told, groups_t
 ghost use Rattle.checker.specs.RowLaws.{masks_told, pending_in_row};
 
 use crate::laid_out::{mask_in, masks_at};
+use bodies::{Arrivals, CancelClass, GroupClass, may_be_cancel, may_be_group};
 use flow::NodePlace;
 use path_faults::Lives;
-use states::{Arrivals, CancelClass, GroupClass, may_be_cancel, may_be_group};
 use tracked_rows::GroupState;
 
 /// The rows of a certificate of a body that is laid out, and what they are read by.

@@ -3,20 +3,19 @@
 ghost use Rattle.std.specs.Prelude.{◌≡◌, ℕ, List, map};
 ghost use Rattle.std.specs.List.{list_all};
 ghost use Rattle.bodies.specs.NodeEvents.{node_event_view, events_graph};
+ghost use Rattle.bodies.specs.States.{Applies, Fit};
 ghost use Rattle.checker.specs.CertificateTests.{starts_among, all_start_among, all_step_into, edges_hold};
 ghost use Rattle.checker.specs.LaidOutViews.{HavePlaces, IsLaidOut, IsReturn, masks_of};
 ghost use Rattle.checker.specs.NodeStates.{IsChanged, IsImageIf};
 ghost use Rattle.events.specs.VariableViews.{variable_view};
 ghost use Rattle.meaning.specs.Classes.{Promises as MeantPromises};
 ghost use Rattle.meaning.specs.Uses.{Event as MeantEvent};
-ghost use Rattle.states.specs.States.{Applies, Fit};
 ghost use Rattle.tracked_rows.specs.EventViews.{event_view};
 
 use crate::laid_out::LaidOut;
 use crate::loaded::state_of;
-use bodies::NodeEvent;
+use bodies::{NodeEvent, Promises, State, StateVariables};
 use flow::Node;
-use states::{Promises, State, StateVariables};
 use tracked_rows::Event;
 
 /// Whether the group has a bit in which the node starts a literal, if it does.

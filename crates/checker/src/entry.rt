@@ -7,9 +7,9 @@ ghost use Rattle.events.specs.VariableViews.{variable_role_view, variable_view};
 ghost use Rattle.facts.specs.FactViews.{kind_view};
 
 use crate::laid_out::{LaidOut, mask_in};
+use bodies::{entry_cancel, entry_group, has_cancel, may_be_group};
 use events::Variable;
 use facts::VariableKind;
-use states::{entry_cancel, entry_group, has_cancel, may_be_group};
 
 /// Whether the mask has the variable's class at the entry.
 fn has_entry(groups: &[u32], variable: Variable<'_>, mask: u16) -> bool

@@ -11,11 +11,10 @@ ghost use Rattle.path_faults.specs.FaultViews.{deed_view};
 use crate::claims::Claims;
 use crate::classes::RowClasses;
 use crate::laid_out::LaidOut;
-use bodies::NodeEvent;
+use bodies::{Arrivals, NodeEvent};
 use events::{Variable, VariableRole};
 use flow::NodePlace;
 use path_faults::{AtNode, Deed, Lives, deed_of, is_fault, is_return_deed, is_uncalled};
-use states::Arrivals;
 
 /// Whether it is claimed of a variable of that role.
 fn is_claimed<C: Claims>(claims: &C, role: VariableRole) -> bool

@@ -1,7 +1,7 @@
 //! Bodies as their certificates are read.
 
 ghost use Rattle.std.specs.Prelude.{◌≡◌, ◌++◌, ◌-◌, IfOk, OnOk, length, map};
-ghost use Rattle.checker.specs.Certificates.{masks_in, spare};
+ghost use Rattle.checker.specs.Certificates.{groups_with_bits, masks_in, spare};
 ghost use Rattle.checker.specs.CertificateTests.{have_places, mask_in};
 ghost use Rattle.checker.specs.LaidOutViews.{row_of, states_view, with_row, RowsOfNodes, LaysOut, masks_of};
 ghost use Rattle.checker.specs.Loaded.{number_if, numbers_of};
@@ -16,6 +16,7 @@ use flow::NodePlace;
 use meaning::{MOST_CANCELS, MOST_GROUPS};
 use std::alloc::{AllocError, Global};
 use tracked_rows::Event;
+use tree::Edition;
 
 /// The numbers of the variables of a body, by their kinds, in their order.
 #[derive(Drop)]
@@ -27,6 +28,8 @@ pub struct Numbers {
 /// A body, where the rows of its certificates stand, and for which groups these have bits.
 #[derive(Drop)]
 pub struct LaidOut<'k, 'e, 'a> {
+    /// The edition of the rules by which its file is judged: the first has no bit for what is kept in an object.
+    pub edition: Edition,
     pub variables: &'k [Variable<'a>],
     pub kept: &'k BodyGraph<'e, 'a>,
     /// For each node of the graph its row, if it stands in the order.
@@ -109,17 +112,30 @@ fn groups_with_bits(alloc: Global, own: &[u32]) -> Result<Vec<u32>, AllocError>
     Ok(groups)
 }
 
-/// Lays out a body of these variables and that graph.
+/// The groups that have bits in certificates of a body of these variables.
+///
+/// # Errors
+///
+/// Memory was refused.
+pub fn groups_of_bits(alloc: Global, variables: &[Variable<'_>]) -> Result<Vec<u32>, AllocError>
+    ensures { IfOk result (λ groups. groups.items ≡ groups_with_bits (map variable_view variables.now)) }
+{
+    let numbers = numbers_of(alloc, variables)?;
+    groups_with_bits(alloc, &numbers.groups)
+}
+
+/// Lays out a body of these variables and that graph, in a file that is judged by that edition.
 ///
 /// # Errors
 ///
 /// Memory was refused.
 pub fn lay_out<'k, 'e, 'a>(
     alloc: Global,
+    edition: Edition,
     variables: &'k [Variable<'a>],
     kept: &'k BodyGraph<'e, 'a>,
 ) -> Result<LaidOut<'k, 'e, 'a>, AllocError>
-    ensures { IfOk result (λ laid_out. LaysOut variables.now kept.now laid_out) }
+    ensures { IfOk result (λ laid_out. LaysOut edition variables.now kept.now laid_out) }
 {
     let rows = rows_of_nodes(alloc, kept.graph.nodes.len(), &kept.order)?;
     let numbers = numbers_of(alloc, variables)?;
@@ -128,6 +144,7 @@ pub fn lay_out<'k, 'e, 'a>(
         handed: Vec::new(alloc),
     };
     Ok(LaidOut {
+        edition,
         variables,
         kept,
         rows,

@@ -18,7 +18,7 @@ mod settled;
 
 pub use certificate::holds;
 pub use claims::{Claims, NoClaims};
-pub use laid_out::{LaidOut, Numbers, lay_out};
+pub use laid_out::{LaidOut, Numbers, groups_of_bits, lay_out};
 pub use settled::settles;
 
 /// No list of a body with a certificate that holds comes to a fault of a path.

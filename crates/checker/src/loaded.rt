@@ -9,9 +9,9 @@ ghost use Rattle.facts.specs.FactViews.{kind_view};
 ghost use Rattle.meaning.specs.FunctionFacts.{cancel, group};
 
 use crate::laid_out::mask_in;
+use bodies::State;
 use events::Variable;
 use facts::VariableKind;
-use states::State;
 
 /// The masks so far, and of how many variables of each kind they are.
 #[derive(Clone, Copy)]

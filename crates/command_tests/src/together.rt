@@ -23,6 +23,7 @@ use std::test::Fail;
 use std::thread::Threads;
 use std::time::{Clock, Duration};
 use std::{fs, thread};
+use tracked_rows::Fields;
 use tree::Edition;
 use whole_packages::LoadedPackage;
 use workers::{BodyGate, Free, Helpers, PieceFault, Workers};
@@ -249,12 +250,17 @@ fn solved_in<'k, 't: 'k, 'a, R: Threads + Wait, G: BodyGate + Sync>(
     imports: &'k KnownImports<'a, 't>,
 ) -> Option<Vec<(usize, u32)>> {
     let (table, calls) = (&named.told.signatures, &imports.calls);
+    let fields: Fields<'k, 'a> = Fields::These {
+        keeping: &[],
+        filled: &[],
+    };
     let telling = Telling {
         edition: named.package.edition,
         files: &named.package.trees,
         names: named.names,
         table,
         imported: &imports.signatures,
+        fields,
         walked: &[],
     };
     let files = tell_all(alloc, hired.tellers, telling).ok()?;

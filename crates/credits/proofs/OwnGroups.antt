@@ -28,7 +28,7 @@ use Rattle.path_faults.proofs.Places.{contains_at, any_holds}
 
 -- Nodes of a code
 
-node_has : {E : Type 0} (P : E → Type 0) (c : Code E) → EachIn P c → (o : Occurrence E) → Contains (nodes c) o → P o.event
+pub node_has : {E : Type 0} (P : E → Type 0) (c : Code E) → EachIn P c → (o : Occurrence E) → Contains (nodes c) o → P o.event
 node_has P skip h o n = absurd (contains_nil o n)
 node_has P (does x) h o n =
     elim (contains_cases x o [] n) [

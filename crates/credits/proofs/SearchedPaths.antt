@@ -12,8 +12,8 @@ use Rattle.credits.specs.PathNodes.{TellsNodes}
 use Rattle.credits.specs.BodyPaths.{TellsPaths}
 use Rattle.events.specs.VariableViews.{variable_view}
 use Rattle.events.specs.declared.variable.Variable.{Variable as KeptVariable}
-use Rattle.maker.specs.AtNodes.{ClassifiesNodes}
-use Rattle.maker.specs.Places.{HavePlaces}
+use Rattle.bodies.specs.AtNodes.{ClassifiesNodes}
+use Rattle.bodies.specs.Places.{HavePlaces}
 use Rattle.meaning.specs.BodyEvents.{variables_of}
 use Rattle.meaning.specs.Classes.{CancelClass, GroupClass}
 use Rattle.meaning.specs.Code.{Code}

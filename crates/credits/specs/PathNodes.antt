@@ -1,6 +1,6 @@
 -- The classes that arrive in a body, node by node.
 use Rattle.std.specs.Prelude.{ℕ, Bool}
-use Rattle.maker.specs.AtNodes.{ClassifiesNodes}
+use Rattle.bodies.specs.AtNodes.{ClassifiesNodes}
 use Rattle.meaning.specs.Classes.{CancelClass, GroupClass}
 use Rattle.meaning_packages.specs.PathFaults.{Paths}
 

@@ -7,7 +7,7 @@ ghost use Rattle.meaning.specs.Uses;
 ghost use Rattle.meaning_packages.specs.Credits.{promises_in, no_calls};
 
 use crate::table::Credits;
-use states::Promises;
+use bodies::Promises;
 use tracked_rows::Callee;
 
 /// What is known of functions.

@@ -6,7 +6,7 @@ ghost use Rattle.credits.specs.PathNodes.{TellsNodes};
 ghost use Rattle.credits.specs.BodyPaths.{TellsPaths};
 ghost use Rattle.credits.specs.CreditViews.{has};
 ghost use Rattle.events.specs.VariableViews.{variable_view};
-ghost use Rattle.maker.specs.Solutions.{cancel_arrives, group_arrives};
+ghost use Rattle.bodies.specs.Solutions.{cancel_arrives, group_arrives};
 ghost use Rattle.meaning.specs.Mentions.{BodyPlace};
 ghost use Rattle.meaning.specs.Uses.{Seen};
 ghost use Rattle.meaning_packages.specs.Credits.{promises_in};
@@ -14,8 +14,7 @@ ghost use Rattle.meaning_packages.specs.PathFaults.{paths_of};
 
 use crate::reliance::{Calls, Reliance};
 use crate::table::Credits;
-use bodies::{Body, BodyGraph};
-use maker::{Solution, solve};
+use bodies::{Body, BodyGraph, Solution, solve};
 use std::alloc::{AllocError, Global};
 
 /// Looks which classes of a body's variables arrive at each node of its graph, where the body relies on what is known

@@ -7,11 +7,10 @@ ghost use Rattle.credits.specs.SettledVariables.{is_captured, captures_any, Sett
 ghost use Rattle.meaning_packages.specs.PathFaults.{Paths};
 ghost use Rattle.events.specs.VariableViews.{variable_view};
 
-use bodies::NodeEvent;
+use bodies::{Arrivals, NodeEvent};
 use events::{Variable, VariableRole};
 use flow::Graph;
 use path_faults::settles;
-use states::Arrivals;
 use std::alloc::{AllocError, Global};
 
 /// Whether the variable is captured.

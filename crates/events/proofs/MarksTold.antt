@@ -1,13 +1,14 @@
 -- Marks in their order, each with the bodies around it: what a loop over them tells.
-use Rattle.std.proofs.Common.{◌≡◌, ℕ, ◌+◌, ◌<◌, ◌≤◌, false, ◌&&◌, ◌||◌, List, [], ◌∷◌, ◌++◌, length, get_or, drop, map, refl, sym, ap, ◌∙◌, subst, Vec, Global}
+use Rattle.std.proofs.Common.{◌≡◌, ℕ, ◌+◌, ◌<◌, ◌≤◌, false, ◌&&◌, ◌||◌, List, [], ◌∷◌, ◌++◌, length, get_or, drop, map, flat_map, refl, sym, ap, ◌∙◌, subst, Vec, Global, Bor}
 use Rattle.std.proofs.lemmas.List.{at_drop_all}
 use Rattle.tree.proofs.Depths.{drop_item}
 use Rattle.mentions.specs.declared.mark.BodyPlace.{BodyPlace as KeptBody}
 use Rattle.mentions.specs.declared.mark.Mark.{Mark as KeptMark}
 use Rattle.mentions.specs.MarkViews.{body_view, mark_view, marks_view}
-use Rattle.meaning.specs.Mentions.{BodyPlace, Mark, mentions, defers_literal, returns, opens, closes}
+use Rattle.meaning.specs.Mentions.{BodyPlace, Mark, mentions, of_fields, defers_literal, returns, opens, closes}
 use Rattle.meaning.specs.Tracked.{Placed, placed}
 use Rattle.meaning.specs.Uses.{Seen, is_body, is_outside}
+use Rattle.meaning.specs.KeepingFields.{fields_kept_there}
 use Rattle.meaning.specs.BodyEvents.{by_place, opened_by, opened_in, mark_faults, outer_faults_of, faults_of, mark_events, events_at, is_site, panics_there}
 use Rattle.tracked.specs.LocalViews.{bodies_at}
 use Rattle.uses.specs.OutcomeViews.{fault_view}
@@ -15,12 +16,17 @@ use Rattle.events.specs.declared.told.Told.{Told}
 use Rattle.events.specs.ToldViews.{faults_at, events_in, has_panic, if_there, panics_in, TellsNothing, AddsMark, TellsFile}
 use Rattle.events.proofs.Grown.{then_or_none, nothing_there, grows, grown, holds_on, holds_at_end}
 
+-- the fields that these marks keep
+abbrev pub fields_among : Seen → List Placed → List (List ℕ)
+fields_among s ps = flat_map (λ p. fields_kept_there s p.bodies p.mark) ps
+
 -- what was told so far, with what the marks that are left give, is what is told of all
 pub record TellsSoFar (s : Seen) (left all : List Placed) (told : Told) : Type 0 where
   pub outer : map fault_view told.outer.items ++ outer_faults_of s left ≡ outer_faults_of s all
   pub faults : (body : ℕ) → faults_at told.faults body ++ faults_of s body left ≡ faults_of s body all
   pub events : (body at : ℕ) → events_in told.events body at ++ events_at s body left at ≡ events_at s body all at
   pub panics : (body at : ℕ) → (has_panic told.panics body at || panics_in s.known body at left) ≡ panics_in s.known body at all
+  pub keeping : map (λ (n : Bor (List ℕ)). n.now) told.keeping.items ++ fields_among s left ≡ fields_among s all
   pub opened : map body_view told.opened.items ++ opened_in left ≡ opened_in all
   pub edition : told.edition ≡ s.known.edition
 
@@ -30,6 +36,7 @@ module _ (s : Seen) (bs : List BodyPlace) where
       ≡ if_there (is_outside (bodies_at bs m)) (mark_faults s (bodies_at bs m) m) ++ outer_faults_of s (placed (bodies_at bs m) ms)
   unfolding placed
   outer-mark (mentions m) ms = then_or_none (is_outside bs) _ _
+  outer-mark (of_fields site m) ms = then_or_none (is_outside bs) _ _
   outer-mark (defers_literal site at) ms = then_or_none (is_outside bs) _ _
   outer-mark (returns at es) ms = then_or_none (is_outside bs) _ _
   outer-mark (opens b) ms = then_or_none (is_outside (b ∷ bs)) (mark_faults s (b ∷ bs) (opens b)) _
@@ -40,6 +47,7 @@ module _ (s : Seen) (bs : List BodyPlace) where
       ≡ if_there (is_body body (bodies_at bs m)) (mark_faults s (bodies_at bs m) m) ++ faults_of s body (placed (bodies_at bs m) ms)
   unfolding placed
   faults-mark body (mentions m) ms = then_or_none (is_body body bs) _ _
+  faults-mark body (of_fields site m) ms = then_or_none (is_body body bs) _ _
   faults-mark body (defers_literal site at) ms = then_or_none (is_body body bs) _ _
   faults-mark body (returns at es) ms = then_or_none (is_body body bs) _ _
   faults-mark body (opens b) ms = then_or_none (is_body body (b ∷ bs)) (mark_faults s (b ∷ bs) (opens b)) _
@@ -51,6 +59,7 @@ module _ (s : Seen) (bs : List BodyPlace) where
       ++ events_at s body (placed (bodies_at bs m) ms) at
   unfolding placed
   events-mark body at (mentions m) ms = then_or_none (is_body body bs && is_site (mentions m) at) _ _
+  events-mark body at (of_fields site m) ms = then_or_none (is_body body bs && is_site (of_fields site m) at) _ _
   events-mark body at (defers_literal site literal) ms = then_or_none (is_body body bs && is_site (defers_literal site literal) at) _ _
   events-mark body at (returns site es) ms = then_or_none (is_body body bs && is_site (returns site es) at) _ _
   events-mark body at (opens b) ms = then_or_none (is_body body (b ∷ bs) && is_site (opens b) at) [] _
@@ -61,6 +70,7 @@ module _ (s : Seen) (bs : List BodyPlace) where
       ≡ (panics_there s.known body at (bodies_at bs m) m || panics_in s.known body at (placed (bodies_at bs m) ms))
   unfolding placed
   panics-mark body at (mentions m) ms = refl
+  panics-mark body at (of_fields site m) ms = refl
   panics-mark body at (defers_literal site literal) ms = refl
   panics-mark body at (returns site es) ms = refl
   panics-mark body at (opens b) ms = refl
@@ -70,10 +80,22 @@ module _ (s : Seen) (bs : List BodyPlace) where
       → opened_in (placed bs (m ∷ ms)) ≡ opened_by m ++ opened_in (placed (bodies_at bs m) ms)
   unfolding placed
   opened-mark (mentions m) ms = refl
+  opened-mark (of_fields site m) ms = refl
   opened-mark (defers_literal site literal) ms = refl
   opened-mark (returns site es) ms = refl
   opened-mark (opens b) ms = refl
   opened-mark closes ms = refl
+
+  keeping-mark : (m : Mark) (ms : List Mark)
+      → fields_among s (placed bs (m ∷ ms))
+      ≡ fields_kept_there s (bodies_at bs m) m ++ fields_among s (placed (bodies_at bs m) ms)
+  unfolding placed
+  keeping-mark (mentions m) ms = refl
+  keeping-mark (of_fields site m) ms = refl
+  keeping-mark (defers_literal site at) ms = refl
+  keeping-mark (returns at es) ms = refl
+  keeping-mark (opens b) ms = refl
+  keeping-mark closes ms = refl
 
   -- one mark more
   pub tells_more : (m : Mark) (ms : List Mark) (all : List Placed) (before after : Told)
@@ -84,6 +106,7 @@ module _ (s : Seen) (bs : List BodyPlace) where
     faults = λ body. grows _ _ _ _ _ _ (adds.faults body) (faults-mark body m ms) (so_far.faults body);
     events = λ body at. grows _ _ _ _ _ _ (adds.events body at) (events-mark body at m ms) (so_far.events body at);
     panics = λ body at. holds_on _ _ _ _ _ _ (adds.panics body at) (panics-mark body at m ms) (so_far.panics body at);
+    keeping = grows _ _ _ _ _ _ adds.keeping (keeping-mark m ms) so_far.keeping;
     opened = grows _ _ _ _ _ _ adds.opened (opened-mark m ms) so_far.opened;
     edition = adds.edition ∙ so_far.edition;
   }
@@ -94,6 +117,7 @@ tells_first s all told nothing = record {
   faults = λ body. ap (λ fs. map fault_view fs ++ faults_of s body all) (nothing.faults body);
   events = λ body at. ap (λ es. Rattle.events.specs.ToldViews.events_of_site at es ++ events_at s body all at) (nothing.events body);
   panics = λ body at. ap (λ ps. Rattle.std.specs.List.list_any (λ site. Rattle.std.specs.Prelude.nat_eq site at) ps || panics_in s.known body at all) (nothing.panics body);
+  keeping = ap (λ ns. map (λ (n : Bor (List ℕ)). n.now) ns ++ fields_among s all) nothing.keeping;
   opened = ap (λ bs. map body_view bs ++ opened_in all) nothing.opened;
   edition = nothing.edition;
 }
@@ -106,6 +130,7 @@ with_opened told opened = record {
   faults = told.faults;
   events = told.events;
   panics = told.panics;
+  keeping = told.keeping;
   opened = opened;
 }
 
@@ -118,6 +143,7 @@ tells_all s all same left none told so_far opened ordered = record {
   faults = λ body. grown _ _ _ (ap (faults_of s body) none) (so_far.faults body) ∙ ap (faults_of s body) same;
   events = λ body at. grown _ _ _ (ap (λ ps. events_at s body ps at) none) (so_far.events body at) ∙ ap (λ ps. events_at s body ps at) same;
   panics = λ body at. holds_at_end _ _ _ (ap (panics_in s.known body at) none) (so_far.panics body at) ∙ ap (panics_in s.known body at) same;
+  keeping = grown _ _ _ (ap (fields_among s) none) so_far.keeping ∙ ap (fields_among s) same;
   opened = ordered ∙ ap by_place (grown _ _ _ (ap opened_in none) so_far.opened ∙ ap opened_in same);
   edition = so_far.edition;
 }

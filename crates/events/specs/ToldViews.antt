@@ -1,18 +1,21 @@
 -- What the program keeps of the events of a file, and what it stands for.
 use Rattle.std.specs.Prelude.{ℕ, ◌≡◌, ◌==◌, ◌&&◌, ◌||◌, Bool, false, if◌then◌else◌, List, [], ◌∷◌, ◌++◌, Option, Some, None, map, flat_map, codes, nat_eq}
+use Rattle.std.specs.Borrow.{Bor}
 use Rattle.std.specs.List.{list_any}
 use Rattle.lists.specs.declared.Lists.{Lists}
 use Rattle.lists.specs.ListViews.{items_at}
 use Rattle.tree.specs.declared.edition.Edition.{Edition}
 use Rattle.events.specs.declared.told.SiteEvent.{SiteEvent}
 use Rattle.events.specs.declared.told.Told.{Told}
+use Rattle.kept_events.specs.KeptEventViews.{AddsNames}
 use Rattle.tracked_rows.specs.EventViews.{event_view}
 use Rattle.mentions.specs.MarkViews.{body_view}
 use Rattle.uses.specs.declared.faults.UseFault.{UseFault as KeptFault}
 use Rattle.uses.specs.OutcomeViews.{fault_view}
-use Rattle.meaning.specs.Mentions.{BodyPlace, Mention, Mark, mentions, defers_literal, returns, opens, closes}
+use Rattle.meaning.specs.Mentions.{BodyPlace, Mention, Mark, mentions, of_fields, defers_literal, returns, opens, closes}
 use Rattle.meaning.specs.Tracked.{Known, Placed}
 use Rattle.meaning.specs.Uses.{Seen, Event, UseFault, fault_at, goto_used, recover_faults, is_body, is_outside}
+use Rattle.meaning.specs.KeepingFields.{fields_kept_there, fields_kept}
 use Rattle.meaning.specs.BodyEvents.{opened_by, bodies_of, forbids_recover, jump_faults, mark_faults, outer_faults_of, faults_of, mark_events, events_at, is_site, panics_there}
 
 abbrev pub faults_at : Lists KeptFault → ℕ → List UseFault
@@ -46,6 +49,7 @@ faults_of_jumps = flat_map (λ at. fault_at at goto_used (codes "-"))
 -- the faults of a mark that go by the variables of bodies
 abbrev pub faults_by_variables : Seen → List BodyPlace → Mark → List UseFault
 faults_by_variables seen bodies (mentions m) = recover_there seen bodies m
+faults_by_variables seen bodies (of_fields site m) = []
 faults_by_variables seen bodies (defers_literal site at) = []
 faults_by_variables seen bodies (returns at es) = []
 faults_by_variables seen bodies (opens b) = jump_faults seen b
@@ -57,6 +61,7 @@ pub record TellsNothing (judging : Edition) (told : Told) : Type 0 where
   pub faults : (body : ℕ) → items_at told.faults body ≡ []
   pub events : (body : ℕ) → items_at told.events body ≡ []
   pub panics : (body : ℕ) → items_at told.panics body ≡ []
+  pub keeping : told.keeping.items ≡ []
   pub opened : told.opened.items ≡ []
   pub edition : told.edition ≡ judging
 
@@ -98,6 +103,7 @@ pub record AddsMark (seen : Seen) (bodies : List BodyPlace) (mark : Mark) (befor
       ≡ faults_at before.faults body ++ if_there (is_body body bodies) (mark_faults seen bodies mark)
   pub events : AddsEvent bodies mark (mark_events seen bodies mark) before.events after.events
   pub panics : AddsPanic seen.known bodies mark before.panics after.panics
+  pub keeping : AddsNames before.keeping.items after.keeping.items (fields_kept_there seen bodies mark)
   pub opened : map body_view after.opened.items ≡ map body_view before.opened.items ++ opened_by mark
   pub edition : after.edition ≡ before.edition
 
@@ -111,5 +117,7 @@ pub record TellsFile (seen : Seen) (told : Told) : Type 0 where
   pub faults : (body : ℕ) → faults_at told.faults body ≡ faults_of seen body seen.marks
   pub events : (body at : ℕ) → events_in told.events body at ≡ events_at seen body seen.marks at
   pub panics : (body at : ℕ) → has_panic told.panics body at ≡ panics_in seen.known body at seen.marks
+  -- the fields that it keeps
+  pub keeping : map (λ (n : Bor (List ℕ)). n.now) told.keeping.items ≡ fields_kept seen
   pub opened : map body_view told.opened.items ≡ bodies_of seen
   pub edition : told.edition ≡ seen.known.edition

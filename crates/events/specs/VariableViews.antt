@@ -12,11 +12,13 @@ use Rattle.events.specs.declared.sightings.Sighting.{Sighting}
 use Rattle.events.specs.declared.variable.VariableRole.{VariableRole as KeptRole}
 use Rattle.events.specs.declared.variable.VariableRole.TheVariants.{OwnParameter, OwnReceiver, DeclaredInBody, Captured}
 use Rattle.events.specs.declared.variable.Variable.{Variable as KeptVariable}
+use Rattle.events.specs.declared.by_variables.SeenBodies.{SeenBodies}
 use Rattle.events.specs.declared.found.Variables.{Variables}
+use Rattle.kept_events.specs.KeptEventViews.{MayKeep}
 use Rattle.tracked.specs.declared.seen.Seen.{Seen as KeptSeen}
 use Rattle.tracked.specs.LocalViews.{seen_view, Sees}
 use Rattle.meaning.specs.FunctionFacts.{VariableKind}
-use Rattle.meaning.specs.Mentions.{BodyPlace, Mark, mentions, defers_literal, returns, opens, closes}
+use Rattle.meaning.specs.Mentions.{BodyPlace, Mark, mentions, of_fields, defers_literal, returns, opens, closes}
 use Rattle.meaning.specs.Tracked.{variable_of, is_variable, Placed, Local}
 use Rattle.meaning.specs.Uses.{Seen, found, is_tracked, UseFault}
 use Rattle.meaning.specs.BodyEvents.{lesser, VariableRole, own_parameter, own_receiver, declared_in_body, captured, Variable, role_in_own, first_in, in_their_order, variables_of, is_cancel_variable}
@@ -56,6 +58,7 @@ abbrev pub mark_sightings : Seen → ℕ → List BodyPlace → Mark → List Si
 mark_sightings seen n bodies (mentions m) =
     if_there (is_variable (variable_of seen.known m) n)
     (local_sightings (tracked_local seen (Some n)) m.named.at bodies)
+mark_sightings seen n bodies (of_fields site m) = []
 mark_sightings seen n bodies (defers_literal site at) = []
 mark_sightings seen n bodies (returns at es) = []
 mark_sightings seen n bodies (opens b) = []
@@ -167,6 +170,11 @@ ordered_in found body = in_their_order (variables_in found.lists body)
 pub record SeesBodies (seen : KeptSeen) (variables : Variables) : Type 0 where
   pub sees : Sees seen
   pub are_variables : (body : ℕ) → ordered_in variables body ≡ variables_of (seen_view seen) body
+
+-- besides, it is known what is kept in it
+pub record KnowsBodies (file : SeenBodies) : Type 0 where
+  pub bodies : SeesBodies file.seen.now file.variables.now
+  pub keeps : MayKeep file.seen.now file.kept.now
 
 -- Faults
 

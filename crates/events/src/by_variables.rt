@@ -13,17 +13,19 @@ ghost use Rattle.uses.specs.OutcomeViews.{is_recover, AddsFaults};
 
 use crate::found::Variables;
 use body_parts::jumps_in;
+use kept::Kept;
 use mentions::{BodyPlace, Mark, Mention};
 use std::alloc::{AllocError, Global};
 use tracked::Seen;
 use tree::Edition;
 use uses::{UseCode, UseFault, add_fault, is_recover};
 
-/// A file that was looked at, and the variables of its bodies.
+/// A file that was looked at, the variables of its bodies, and what is kept in it; nothing, where no field keeps.
 #[derive(Clone, Copy)]
-pub struct SeenBodies<'s, 'm, 'a> {
-    pub seen: &'s Seen<'s, 'm, 'a>,
+pub struct SeenBodies<'s, 'k, 'm, 'a> {
+    pub seen: &'s Seen<'k, 'm, 'a>,
     pub variables: &'s Variables<'a>,
+    pub kept: &'s Option<Kept<'a>>,
 }
 
 /// Whether one of these bodies has a variable.
@@ -39,7 +41,7 @@ fn any_has_variables(variables: &Variables<'_>, bodies: &[BodyPlace<'_>]) -> boo
 }
 
 /// Whether `recover` is a fault in these bodies: in the second edition only where one of them has a variable.
-fn forbids_recover(file: SeenBodies<'_, '_, '_>, bodies: &[BodyPlace<'_>]) -> bool
+fn forbids_recover(file: SeenBodies<'_, '_, '_, '_>, bodies: &[BodyPlace<'_>]) -> bool
     requires { SeesBodies file.seen.now file.variables.now }
     ensures { result ≡ forbids_recover (seen_view file.entry.seen.now).known.edition (seen_view file.entry.seen.now)
         (map body_view bodies.now) }
@@ -52,7 +54,7 @@ fn forbids_recover(file: SeenBodies<'_, '_, '_>, bodies: &[BodyPlace<'_>]) -> bo
 
 /// Whether it is a mention of `recover`, and a fault.
 fn is_forbidden(
-    file: SeenBodies<'_, '_, '_>,
+    file: SeenBodies<'_, '_, '_, '_>,
     bodies: &[BodyPlace<'_>],
     mention: Mention<'_, '_>,
 ) -> bool
@@ -66,7 +68,7 @@ fn is_forbidden(
 
 /// Adds the fault of a mention of `recover`, if it is one, and a fault.
 fn add_recover<'a>(
-    file: SeenBodies<'_, '_, 'a>,
+    file: SeenBodies<'_, '_, '_, 'a>,
     bodies: &[BodyPlace<'a>],
     mention: Mention<'_, 'a>,
     faults: &mut Vec<UseFault<'a>>,
@@ -115,7 +117,7 @@ pub fn add_jumps<'a>(
 /// The same by the variables of the bodies of its file.
 fn add_jumps_in<'a>(
     alloc: Global,
-    file: SeenBodies<'_, '_, 'a>,
+    file: SeenBodies<'_, '_, '_, 'a>,
     body: BodyPlace<'a>,
     faults: &mut Vec<UseFault<'a>>,
 ) -> Result<(), AllocError>
@@ -133,7 +135,7 @@ fn add_jumps_in<'a>(
 /// Memory was refused.
 pub fn add_by_variables<'m, 'a>(
     alloc: Global,
-    file: SeenBodies<'_, 'm, 'a>,
+    file: SeenBodies<'_, '_, 'm, 'a>,
     bodies: &[BodyPlace<'a>],
     mark: Mark<'m, 'a>,
     faults: &mut Vec<UseFault<'a>>,

@@ -1,7 +1,8 @@
 //! What is told of a whole file.
 
-ghost use Rattle.std.specs.Prelude.{◌≡◌, ℕ, IfOk, OnOk, map};
+ghost use Rattle.std.specs.Prelude.{◌≡◌, IfOk, OnOk, map};
 ghost use Rattle.events.specs.ToldViews.{TellsFile};
+ghost use Rattle.kept_events.specs.KeptEventViews.{MayKeep};
 ghost use Rattle.meaning.specs.BodyEvents.{by_place};
 ghost use Rattle.mentions.specs.MarkViews.{body_view};
 ghost use Rattle.events.specs.VariableViews.{SeesBodies};
@@ -10,6 +11,8 @@ ghost use Rattle.tracked.specs.LocalViews.{seen_view};
 use crate::by_variables::SeenBodies;
 use crate::found::Variables;
 use crate::told::{Told, add_mark};
+use kept::Kept;
+use kept_events::find_file_kept;
 use mentions::BodyPlace;
 use std::alloc::{AllocError, Global};
 use tracked::{Seen, enter};
@@ -21,8 +24,34 @@ fn order_by_place(bodies: &mut Vec<BodyPlace<'_>>) -> Result<(), AllocError>
     bodies.sort_by_key(|body| body.at)
 }
 
+/// Tells of each mark, where it is known what is kept.
+fn tell_marks<'s, 'k, 'm, 'a>(
+    alloc: Global,
+    seen: &'s Seen<'k, 'm, 'a>,
+    variables: &'s Variables<'a>,
+    kept: &'s Option<Kept<'a>>,
+) -> Result<Told<'a>, AllocError>
+    requires bodies { SeesBodies seen.now variables.now }
+    requires keeps { MayKeep seen.now kept.now }
+    ensures { IfOk result (λ told. TellsFile (seen_view seen.now) told) }
+{
+    let file = SeenBodies {
+        seen,
+        variables,
+        kept,
+    };
+    let mut told = Told::new(alloc, seen.known.edition);
+    let mut bodies: Vec<BodyPlace<'a>> = Vec::new(alloc);
+    for mark in &seen.marks {
+        enter(&mut bodies, *mark)?;
+        add_mark(alloc, file, &bodies, *mark, &mut told)?;
+    }
+    order_by_place(&mut told.opened)?;
+    Ok(told)
+}
+
 /// Tells of all bodies of a file that was looked at, by their variables: the use faults of each and of what stands in
-/// none, the events at their sites, and the bodies in the order of their places.
+/// none, the events at their sites, the fields that keep, and the bodies in the order of their places.
 ///
 /// # Errors
 ///
@@ -35,16 +64,6 @@ pub fn tell<'s, 'm, 'a>(
     requires { SeesBodies seen.now variables.now }
     ensures { IfOk result (λ told. TellsFile (seen_view seen.now) told) }
 {
-    let file = SeenBodies {
-        seen: &*seen,
-        variables,
-    };
-    let mut told = Told::new(alloc, seen.known.edition);
-    let mut bodies: Vec<BodyPlace<'a>> = Vec::new(alloc);
-    for mark in &seen.marks {
-        enter(&mut bodies, *mark)?;
-        add_mark(alloc, file, &bodies, *mark, &mut told)?;
-    }
-    order_by_place(&mut told.opened)?;
-    Ok(told)
+    let kept = find_file_kept(alloc, seen)?;
+    tell_marks(alloc, &*seen, &*variables, &kept)
 }

@@ -3,8 +3,9 @@
 ghost use Rattle.std.specs.Prelude.{◌≡◌, ◌++◌, ℕ, OnOk, map};
 ghost use Rattle.tracked_rows.specs.EventViews.{event_view};
 ghost use Rattle.events.specs.ToldViews.{AddsMark, AddsFaultsOf, AddsInner, AddsSiteEvent, AddsEvent, AddsSite, AddsPanic, TellsNothing, is_at};
+ghost use Rattle.kept_events.specs.KeptEventViews.{kept_part, KnowsFile};
 ghost use Rattle.meaning.specs.BodyEvents.{opened_by};
-ghost use Rattle.events.specs.VariableViews.{SeesBodies};
+ghost use Rattle.events.specs.VariableViews.{KnowsBodies};
 ghost use Rattle.tracked.specs.LocalViews.{seen_view, Sees};
 ghost use Rattle.meaning.specs.BodyEvents.{is_panic, is_site};
 ghost use Rattle.meaning.specs.Uses.{call, is_body};
@@ -13,6 +14,7 @@ ghost use Rattle.tracked_rows.specs.RowViews.{known_view};
 ghost use Rattle.uses.specs.OutcomeViews.{fault_view, AddsFaults, error_calls, events_view};
 
 use crate::by_variables::{SeenBodies, add_by_variables};
+use kept_events::{FileKept, add_mark_events, add_names};
 use lists::Lists;
 use mentions::{BodyPlace, CallPlace, Mark, Mention, Role};
 use std::alloc::{AllocError, Global};
@@ -40,6 +42,8 @@ pub struct Told<'a> {
     pub events: Lists<SiteEvent<'a>>,
     /// The sites of calls of the universe's `panic` as statements.
     pub panics: Lists<u32>,
+    /// The fields in which the file keeps what it obtained, or gives it to others; a name may come more than once.
+    pub keeping: Vec<&'a str>,
     /// The bodies: while marks are gone over in their order, and in the end in the order of their places.
     pub opened: Vec<BodyPlace<'a>>,
 }
@@ -55,6 +59,7 @@ impl<'a> Told<'a> {
             faults: Lists::new(alloc),
             events: Lists::new(alloc),
             panics: Lists::new(alloc),
+            keeping: Vec::new(alloc),
             opened: Vec::new(alloc),
         }
     }
@@ -109,6 +114,7 @@ fn site_of(mark: Mark<'_, '_>) -> Option<u32>
 {
     match mark {
         Mark::Mentions(mention) => Some(mention.site),
+        Mark::OfFields(site, _) => Some(site),
         Mark::DefersLiteral(site, _) => Some(site),
         Mark::Returns(site, _) => Some(site),
         _ => None,
@@ -192,6 +198,40 @@ fn add_error_calls<'m, 'a>(
     add_calls(alloc, bodies, mark, &variables, events)
 }
 
+/// Adds these events, at the site of a mark, to those of the innermost body.
+fn add_events<'a>(
+    alloc: Global,
+    bodies: &[BodyPlace<'a>],
+    mark: Mark<'_, 'a>,
+    fresh: Vec<Event<'a>>,
+    events: &mut Lists<SiteEvent<'a>>,
+) -> Result<(), AllocError>
+    ensures { OnOk result (AddsEvent (map body_view bodies.now) (mark_view mark.entry)
+        (map event_view fresh.entry.items) events.old events.new) }
+{
+    for event in fresh {
+        add_event(alloc, bodies, mark, Some(event), events)?;
+    }
+    Ok(())
+}
+
+/// Adds the events of a mark that are about objects, or that of a return.
+fn add_kept<'m, 'a>(
+    alloc: Global,
+    file: FileKept<'_, '_, 'm, 'a>,
+    bodies: &[BodyPlace<'a>],
+    mark: Mark<'m, 'a>,
+    events: &mut Lists<SiteEvent<'a>>,
+) -> Result<(), AllocError>
+    requires { KnowsFile file }
+    ensures { OnOk result (AddsEvent (map body_view bodies.now) (mark_view mark.entry) (kept_part
+        (seen_view file.entry.seen.now) (map body_view bodies.now) (mark_view mark.entry)) events.old events.new) }
+{
+    let mut fresh: Vec<Event<'a>> = Vec::new(alloc);
+    add_mark_events(alloc, file, bodies, mark, &mut fresh)?;
+    add_events(alloc, bodies, mark, fresh, events)
+}
+
 /// Whether it is a call of the universe's `panic` as a statement.
 fn is_panic(known: Known<'_, '_>, mention: Mention<'_, '_>) -> bool
     ensures { result ≡ is_panic (known_view known.entry) (mention_view mention.entry)
@@ -259,21 +299,27 @@ fn add_opened<'a>(mark: Mark<'_, 'a>, opened: &mut Vec<BodyPlace<'a>>) -> Result
 /// Memory was refused.
 pub fn add_mark<'m, 'a>(
     alloc: Global,
-    file: SeenBodies<'_, 'm, 'a>,
+    file: SeenBodies<'_, '_, 'm, 'a>,
     bodies: &[BodyPlace<'a>],
     mark: Mark<'m, 'a>,
     told: &mut Told<'a>,
 ) -> Result<(), AllocError>
-    requires { SeesBodies file.seen.now file.variables.now }
+    requires { KnowsBodies file }
     ensures { OnOk result (AddsMark (seen_view file.entry.seen.now) (map body_view bodies.now) (mark_view mark.entry)
         told.old told.new) }
 {
+    let kept = FileKept {
+        seen: file.seen,
+        kept: file.kept,
+    };
     let mut fresh: Vec<UseFault<'a>> = Vec::new(alloc);
     let event = mark_outcome(alloc, file.seen, bodies, mark, &mut fresh)?;
     add_by_variables(alloc, file, bodies, mark, &mut fresh)?;
     add_faults(alloc, bodies, &fresh, &mut told.outer, &mut told.faults)?;
     add_event(alloc, bodies, mark, event, &mut told.events)?;
     add_error_calls(alloc, file.seen, bodies, mark, &mut told.events)?;
+    add_kept(alloc, kept, bodies, mark, &mut told.events)?;
+    add_names(alloc, kept, bodies, mark, &mut told.keeping)?;
     add_panic(alloc, file.seen.known, bodies, mark, &mut told.panics)?;
     add_opened(mark, &mut told.opened)
 }

@@ -180,7 +180,8 @@ pub const CASES: &[Case] = &[
     ("called", &[(29, "[[1],[3],[2],[4]]")], "", LOST),
     ("called", &[(29, "[[1],[9],[2],[4]]")], "", LOST),
     ("called", &[(29, "[[1],[1],[2],[6]]")], "", LOST),
-    // A bit of no class, and other sizes.
+    // A bit of no class, as that of what is kept is one in the first edition, and other sizes.
+    ("called", &[(29, "[[1],[1],[32770],[4]]")], "", LOST),
     ("called", &[(29, "[[1],[1],[2],[32772]]")], "", LOST),
     ("called", &[(29, "[[1],[1],[2]]")], "", LOST),
     ("called", &[(29, "[[1],[1],[2],[4],[4]]")], "", LOST),

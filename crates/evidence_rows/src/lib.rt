@@ -6,6 +6,7 @@ pub mod certificate_files;
 pub mod certificate_runs;
 pub mod declared_facts;
 mod folder_entry;
+pub mod kept_fields;
 pub mod memory;
 pub mod named_folders;
 pub mod packages;

@@ -13,7 +13,7 @@ use Rattle.meaning.specs.Uses.{Callee}
 use Rattle.meaning.specs.BodyEvents.{Variable, body_faults, outer_faults}
 use Rattle.meaning_packages.specs.CallsFlags.{FileWithCredits}
 use Rattle.meaning.proofs.Membership.{contains_nil, contains_here, contains_there, contains_cases, contains_map, contains_unmap}
-use Rattle.meaning_packages.specs.PathFaults.{Paths, PathFault, IsPathFault, loses_cancel, loses_group, returns_live, returns_open, returns_pending, IsFaultOf, of_a_pass, of_a_path}
+use Rattle.meaning_packages.specs.PathFaults.{Paths, PathFault, IsPathFault, loses_cancel, loses_group, returns_live, returns_open, returns_kept, returns_pending, IsFaultOf, of_a_pass, of_a_path}
 use Rattle.meaning_packages.specs.Credits.{promises_in}
 use Rattle.meaning.specs.BodyEvents.{bodies_of}
 use Rattle.report.specs.Entries.{Entry, entry_of}
@@ -224,6 +224,7 @@ variable_of_fault paths f (loses_cancel v u t o is_there is_cancel reaches binds
 variable_of_fault paths f (loses_group g u state t o reaches makes same live) = (g, live.is_of_body)
 variable_of_fault paths f (returns_live g handed t o comes is_declared live) = (g, live.is_of_body)
 variable_of_fault paths f (returns_open v handed t o comes owes is_open) = (v, owes.is_of_body)
+variable_of_fault paths f (returns_kept v handed t o comes owes is_kept elsewhere) = (v, owes.is_of_body)
 variable_of_fault paths f (returns_pending v handed t o comes owes left) = (v, owes.is_of_body)
 
 module _ (calls : Callee → ℕ → Bool) (number : ℕ) (f : FileWithCredits) (b : BodyPlace) (body : KeptBody)

@@ -1,1 +1,2 @@
 pub mod FoundParts
+mod KeptFields

@@ -10,10 +10,10 @@ use Rattle.imports.specs.Settling.{place_from}
 use Rattle.imports.proofs.GivenImports.{FirstAt, first_there, there_first}
 use Rattle.meaning_reports.specs.Loaded.{LoadedPackage, HaveDistinctPaths, PackageTable, Tables, import_list, imported_paths, no_table}
 use Rattle.meaning_reports.specs.PackageTables.{IsEmpty, IsTableBy, AreTablesBy, empty}
-use Rattle.meaning_reports.specs.PackageReports.{Rules, Said, by_paths}
+use Rattle.meaning_reports.specs.PackageReports.{Rules, Said, AreFieldsToTell, by_paths}
 use Rattle.meaning_reports.specs.OneReport.{AreDetermined}
 use Rattle.meaning_reports.proofs.ImportsOf.{list_item, no_place, in_lists, given_in_lists}
-use Rattle.meaning_reports.proofs.OneReport.{one_finding, flags_by_paths}
+use Rattle.meaning_reports.proofs.OneReport.{one_finding, one_telling, flags_by_paths}
 use Rattle.meaning_reports.proofs.RanksGiven.{HasOrder, has_order}
 use Rattle.meaning_reports.proofs.UnrankedFaults.{unranked_fault}
 use Rattle.gathering.specs.Results.{StandsBelow, IsNotGiven, AreRightBelow, Results, AreResults, AreOfRanked, AreOfAll, AreTablesOf, HaveTables}
@@ -201,7 +201,12 @@ module _ (rules : Rules) (determined : AreDetermined rules.are_flags) where
         is_as_long = long;
         of_package = λ i p said is found.
             let its = have.1.each i p said is found in
-            (its.1.is_path, its.1.are_findings, its.0);
+            record {
+              is_path = its.1.is_path;
+              are_findings = its.1.are_findings;
+              are_fields = its.1.are_fields;
+              is_table = its.0;
+            };
       }
 
   pub one_result_by : OneResultBy rules
@@ -212,8 +217,11 @@ module _ (rules : Rules) (determined : AreDetermined rules.are_flags) where
       let b = too have.0 right in
       let paths : one.path ≡ other.path = a.is_path ∙ sym b.is_path in
       let entries : one.entries ≡ other.entries = one_finding rules ps have.0 i one.entries other.entries a.are_findings b.are_findings in
+      let told = subst (λ es. AreFieldsToTell ps have.0 p es one.keeping) entries a.are_fields in
+      let keeping : one.keeping ≡ other.keeping =
+      one_telling rules ps have.0 i p other.entries one.keeping other.keeping told b.are_fields in
       let table : one.table ≡ other.table = same_table rules determined ps have.0 i p one.table other.table is a.is_table b.is_table in
-      λ j. record { path = paths j; entries = entries j; table = table j }
+      λ j. record { path = paths j; entries = entries j; keeping = keeping j; table = table j }
 
 pub results_have_tables : ResultsHaveTables
 results_have_tables declared = results_have_tables_by (by_paths declared) flags_by_paths

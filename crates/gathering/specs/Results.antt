@@ -5,7 +5,7 @@ use Rattle.std.specs.Prelude.{ℕ, ◌≡◌, ◌<◌, true, List, length, Optio
 use Rattle.imports.specs.Ranks.{Imports, Chain, HasRank}
 use Rattle.meaning_reports.specs.Loaded.{LoadedPackage, Tables, import_list, no_table}
 use Rattle.meaning_reports.specs.PackageTables.{IsTableBy, AreTablesBy}
-use Rattle.meaning_reports.specs.PackageReports.{Rules, AreFindingsBy, Said}
+use Rattle.meaning_reports.specs.PackageReports.{Rules, AreFindingsBy, AreFieldsToTell, Said}
 
 -- a chain of imports leads from the package `i` to the package `j`, one import at least
 pub record StandsBelow (ps : List LoadedPackage) (i j : ℕ) : Type 0 where
@@ -25,13 +25,14 @@ pub record AreRightBelow (rules : Rules) (ps : List LoadedPackage) (tables : Tab
       → IsTableBy rules.are_flags ps tables j q (tables q.path)
   pub of_others : (path : List ℕ) → IsNotGiven ps path → tables path ≡ rules.declared path
 
--- by these tables it is what is to be said of the package, and its table
+-- by these tables it is what is to be said of the package, the fields that its verdict tells of, and its table
 pub record IsSaidBy
     (rules : Rules) (ps : List LoadedPackage) (tables : Tables) (i : ℕ) (p : LoadedPackage) (said : Said)
     : Type 0 where
   pub is_path : said.path ≡ p.path
   pub is_table : IsTableBy rules.are_flags ps tables i p said.table
   pub are_findings : AreFindingsBy rules ps tables i said.entries
+  pub are_fields : AreFieldsToTell ps tables p said.entries said.keeping
 
 -- it is so by all tables that are right below the package
 abbrev pub IsResult : Rules → List LoadedPackage → ℕ → LoadedPackage → Said → Type 0

@@ -31,12 +31,13 @@ const HELP: &str = "Shows what ctxvet makes of Go files, step by step
   inspect graph PATH=DIR..
                          the same, and after each event: -> and the numbers of those that can directly follow it; then
                          | and for each variable what may be so before the event, as a sum. Of a cancel function:
-                         1 unset, 2 open, 4 safe, and 8, 16, .. left to the first group, the second, .. Of a group:
-                         1 not made, 2 idle, 4 live, 8 a Wait is deferred. 0 where nothing arrives
+                         1 unset, 2 open, 4 safe, 8, 16, .. left to the first group, the second, .., and in edition 2
+                         32768 kept in a field. Of a group: 1 not made, 2 idle, 4 live, 8 a Wait is deferred. 0 where
+                         nothing arrives
   inspect certs PATH=DIR..
                          certificates in words: as graph, but with the names of what may be so: of a cancel function
-                         unset, open, safe, and pending in the groups that it is left to; of a group unmade, idle, live,
-                         and awaited, where a Wait is deferred; none where nothing arrives
+                         unset, open, safe, kept in a field, and pending in the groups that it is left to; of a group
+                         unmade, idle, live, and awaited, where a Wait is deferred; none where nothing arrives
   inspect facts PATH=DIR..
                          for each package a line with PATH and, as JSON, what is known of its functions
   inspect --help

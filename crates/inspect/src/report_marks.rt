@@ -2,7 +2,8 @@
 //!
 //! A mark `/* want CODE NAME TEXT */` stands straight before the place of a diagnostic, which has this code, name and
 //! text. Marks are no part of the source: they are taken out before it is judged. Several at one place stand in the
-//! order of the report.
+//! order of the report. A mark `/* want keeping NAMES */`, wherever it stands, says that the verdict tells of these
+//! fields.
 
 use driver::{GivenPackage, Report, report_of};
 use folders::Fault;
@@ -23,6 +24,9 @@ struct MarkedSource {
 const OPENING: &str = "/* want ";
 
 const CLOSING: &str = " */";
+
+/// What a mark begins with that says of which fields the verdict tells.
+const KEEPING: &str = "keeping ";
 
 /// What is reported of this source by an edition otherwise than its marks say, with what they want, and nothing where
 /// all is as marked.
@@ -62,16 +66,20 @@ fn report_alone(alloc: Global, edition: Edition, source: Source) -> Result<Repor
 fn read_marks(alloc: Global, text: &str) -> Result<MarkedSource, AllocError> {
     let mut bare = String::new(alloc);
     let mut wanted = String::new(alloc);
+    let mut keeping = String::new(alloc);
     let mut parts = text.split(OPENING);
     bare.push_str(parts.next().unwrap_or(""))?;
     for part in parts {
         let (mark, after) = part.split_once(CLOSING).unwrap_or((part, ""));
-        let (line, column) = end_of(bare.as_str());
-        writeln!(wanted, "a.go:{line}:{column}: {mark}")?;
+        if mark.starts_with(KEEPING) {
+            keeping.push_str(mark)?;
+        } else {
+            let (line, column) = end_of(bare.as_str());
+            writeln!(wanted, "a.go:{line}:{column}: {mark}")?;
+        }
         bare.push_str(after)?;
     }
-    let verdict = if wanted.is_empty() { "yes" } else { "no" };
-    writeln!(wanted, "{verdict} {PATH}")?;
+    push_verdict(&mut wanted, keeping.as_str())?;
     Ok(MarkedSource {
         source: Source {
             name: String::from_str(alloc, "a.go")?,
@@ -79,6 +87,15 @@ fn read_marks(alloc: Global, text: &str) -> Result<MarkedSource, AllocError> {
         },
         wanted,
     })
+}
+
+/// Ends the report that is wanted: with the line of the fields, if a mark tells of some, and the verdict.
+fn push_verdict(wanted: &mut String, keeping: &str) -> Result<(), AllocError> {
+    let verdict = if wanted.is_empty() { "yes" } else { "no" };
+    if !keeping.is_empty() {
+        writeln!(wanted, "{keeping}: {PATH}")?;
+    }
+    writeln!(wanted, "{verdict} {PATH}")
 }
 
 /// The line and the column of a text's end, both from 1; a column counts bytes. Counted apart from the lexer, whose

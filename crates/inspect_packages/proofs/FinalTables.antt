@@ -87,7 +87,7 @@ module _ (kept : List KeptPackage) (said : List Judged) (ts : List Table) (are :
         is_table : IsTable ps reports.is_report.tables i p (table_view j)
         is_table =
             subst (IsTable ps reports.is_report.tables i p)
-            (sym (reports.is_report.of_package i p (said_view j) is_p here).2)
+            (sym (reports.is_report.of_package i p (said_view j) is_p here).is_table)
             (reports.is_report.are_tables.of_package i p is_p)
 
     item_at : {A : Type 0} (xs : List A) (i : ℕ) → i < length xs → (x : A) × (slice_get xs i ≡ Some x)

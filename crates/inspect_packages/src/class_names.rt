@@ -3,9 +3,10 @@
 use crate::event_words::state_text;
 use crate::graph_lines::mask_of;
 use crate::page::{Page, push_variable};
+use bodies::{
+    Arrivals, CANCEL_CLASSES, CancelClass, GroupClass, Solution, cancel_class, group_class,
+};
 use events::Variable;
-use maker::Solution;
-use states::{Arrivals, CANCEL_CLASSES, CancelClass, GroupClass, cancel_class, group_class};
 use std::alloc::AllocError;
 
 /// Each variable, in their order, with the names of its classes at the node: `none`, where none arrives.
@@ -62,6 +63,7 @@ fn push_cancel_class(
     match class {
         Some(CancelClass::Unset) => text.push_str(" unset"),
         Some(CancelClass::Opened) => text.push_str(" open"),
+        Some(CancelClass::Kept) => text.push_str(" kept"),
         Some(CancelClass::Safe) => text.push_str(" safe"),
         Some(CancelClass::Pending(group)) => {
             text.push_str(" pending in")?;

@@ -34,6 +34,24 @@ fn push_one(
     push_variable(text, page, declared)
 }
 
+/// The place of an object, in a field of which a variable is kept: that of the name that declares it.
+fn push_object(text: &mut String, page: Page<'_, '_, '_>, object: u32) -> Result<(), AllocError> {
+    let at = place_of(page.source, object);
+    write!(text, " in {}:{}", at.line, at.column)
+}
+
+/// A word, the variable that is declared there, and the object of that number.
+fn push_with(
+    text: &mut String,
+    page: Page<'_, '_, '_>,
+    word: &str,
+    variable: u32,
+    object: u32,
+) -> Result<(), AllocError> {
+    push_one(text, page, word, variable)?;
+    push_object(text, page, object)
+}
+
 fn push_known(
     text: &mut String,
     page: Page<'_, '_, '_>,
@@ -41,6 +59,21 @@ fn push_known(
 ) -> Result<(), AllocError> {
     match event {
         Event::Obtain { variable, .. } => push_one(text, page, "obtain", variable.number),
+        Event::ObtainKept {
+            variable,
+            object,
+            ..
+        } => push_with(text, page, "obtain kept", variable.number, *object),
+        Event::Renew { variable, object } => push_with(text, page, "renew", *variable, *object),
+        Event::Keep { variable, object } => push_with(text, page, "keep", *variable, *object),
+        Event::CallKept { variable, object } => {
+            push_with(text, page, "call kept", *variable, *object)
+        }
+        Event::DeferKept { variable, object } => {
+            push_with(text, page, "defer kept", *variable, *object)
+        }
+        Event::Give { variable, object } => push_with(text, page, "give", *variable, *object),
+        Event::GiveField { variable: number } => push_one(text, page, "give field", *number),
         Event::Clear { variable } => push_one(text, page, "clear", variable.number),
         Event::Call { variable: number } => push_one(text, page, "call", *number),
         Event::DeferCall { variable: number } => push_one(text, page, "defer", *number),
@@ -101,6 +134,9 @@ fn push_return(
     text.push_str("return")?;
     for item in handed {
         push_variable(text, page, item.number)?;
+        if let Some(object) = item.object {
+            push_object(text, page, object)?;
+        }
     }
     Ok(())
 }

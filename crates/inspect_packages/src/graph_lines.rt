@@ -4,11 +4,11 @@
 use crate::class_names::push_names;
 use crate::node_lines::push_node;
 use crate::page::{Classes, Page};
-use bodies::BodyGraph;
+use bodies::{
+    Arrivals, BodyGraph, CANCEL_CLASSES, GROUP_CLASSES, Solution, cancel_class, group_class,
+};
 use events::Variable;
 use flow::NodePlace;
-use maker::Solution;
-use states::{Arrivals, FIRST_PENDING, GROUP_CLASSES, cancel_class, group_class};
 use std::alloc::{AllocError, Global};
 
 /// The lines of a graph's nodes, at which these classes arrive.
@@ -111,7 +111,7 @@ fn cancel_mask(solution: &Solution, place: usize, node: usize) -> u32 {
     let groups = solution.pending_groups();
     let mut mask = 0;
     let mut bit = 1;
-    for number in 0..groups.len().saturating_add(FIRST_PENDING) {
+    for number in 0..CANCEL_CLASSES {
         if let Some(class) = cancel_class(number, groups) {
             mask |= bit_if(solution.has_cancel(place, node, class), bit);
         }

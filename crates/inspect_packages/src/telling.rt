@@ -4,6 +4,7 @@ use calls_flags::{Telling, tell_files};
 use facts::{Imported, Table, signatures};
 use names::{NameFault, Names, PackageNames, resolve};
 use std::alloc::{AllocError, Global};
+use tracked_rows::Fields;
 use tree::{Edition, File};
 
 /// Finds what the names of the files mean, as those of a package that imports no given one, and what its bodies do to
@@ -38,12 +39,17 @@ fn tell_known<'k, 't: 'k, 'a>(
     own: &'k Table<'a>,
     imported: &'k Imported<'a, 't>,
 ) -> Result<(), AllocError> {
+    let fields: Fields<'k, 'a> = Fields::These {
+        keeping: &[],
+        filled: &[],
+    };
     let telling = Telling {
         edition: Edition::First,
         files,
         names,
         table: own,
-        imported,
+        imported: &*imported,
+        fields,
         walked: &[],
     };
     tell_files(alloc, telling)?;

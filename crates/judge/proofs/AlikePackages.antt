@@ -1,6 +1,6 @@
 -- Packages that were loaded twice of the same files are alike: they are equal but for the reasons why trees are missing,
 -- which no contract tells. What `verify` says of one of them says nothing exactly where it does of the other.
-use Rattle.std.proofs.Common.{◌≡◌, ℕ, zero, suc, ◌+◌, ◌⊎◌, inl, inr, Bool, true, false, List, [], ◌∷◌, map, Some, Contains, refl, sym, ap, ◌∙◌, subst}
+use Rattle.std.proofs.Common.{◌≡◌, ℕ, zero, suc, ◌+◌, ◌⊎◌, inl, inr, Bool, true, false, List, [], ◌∷◌, map, Some, None, Contains, refl, sym, ap, ◌∙◌, subst}
 use Rattle.std.specs.Prelude.{if◌then◌else◌, flat_map, slice_get, string_bytes}
 use Rattle.std.specs.List.{list_any}
 use Rattle.std.specs.Str.{bytes_eq}
@@ -22,10 +22,11 @@ use Rattle.load.specs.Readings.{AreReadingsOf, IsLoadedAs}
 use Rattle.meaning.specs.Declarations.{declaration_of_use}
 use Rattle.meaning.specs.FunctionFacts.{package_facts}
 use Rattle.meaning.specs.OuterBlocks.{PackageNames}
+use Rattle.meaning.specs.Tracked.{Fields, each_field}
 use Rattle.meaning.specs.TwoFunctions.{FunctionName, function_names_from, second_function}
 use Rattle.meaning.specs.Uses.{Seen}
 use Rattle.meaning_packages.specs.CallsFlags.{Flags, FileWithCredits, calls_by}
-use Rattle.meaning_reports.specs.Loaded.{Reading, has_tree, has_text_fault, has_tree_fault, LoadedPackage, NumberedTree, Tables, no_table, trees_from, numbered_trees, trees_of, imports_of, import_list, name_in, name_of, package_at, package_names, imported_flags, imported_tables, signatures_of, seen_from, seen_files}
+use Rattle.meaning_reports.specs.Loaded.{Reading, has_tree, has_text_fault, has_tree_fault, LoadedPackage, NumberedTree, Tables, no_table, trees_from, numbered_trees, trees_of, imports_of, import_list, name_in, name_of, package_at, package_names, imported_flags, imported_tables, signatures_of, seen_from, fields_by, seen_files}
 use Rattle.meaning_reports.specs.DotImports.{SaysSomething, as_library, by_table, by_fault, IsLeftOut}
 use Rattle.meaning_reports.specs.UsedImports.{IsUsed, IsNeeded, in_first, has_whole_fault, is_used}
 use Rattle.meaning_reports.specs.PackageReports.{IsFindingBy, of_whole, of_import, of_dot, of_files, IsYesBy}
@@ -247,14 +248,20 @@ names_same (p ∷ ps) (q ∷ qs) h path =
     by false rest = rest
 
 -- by their edition, their trees and the names of packages alone
-abbrev seen_with : Edition → List SourceFile → PackageNames → Tables → List Seen
-seen_with edition trees names tables =
+abbrev seen_where : Fields → Edition → List SourceFile → PackageNames → Tables → List Seen
+seen_where fields edition trees names tables =
     seen_from (λ number. record {
       edition = edition;
       means = declaration_of_use trees names number;
+      fields = fields;
+      object_lefts = λ at. None;
       functions = package_facts edition (λ n. declaration_of_use trees names n) trees;
       imported = λ path. (if list_any (λ r. bytes_eq r path) (paths_in trees) then tables path else no_table).signatures;
     }) 0 trees
+
+abbrev seen_with : Edition → List SourceFile → PackageNames → Tables → List Seen
+seen_with edition trees names tables =
+    seen_where (fields_by edition (seen_where each_field edition trees names tables)) edition trees names tables
 
 abbrev table_with : List SourceFile → Tables → Tables
 table_with trees tables path = if list_any (λ r. bytes_eq r path) (paths_in trees) then tables path else no_table

@@ -4,7 +4,7 @@ use Rattle.std.proofs.Common.{◌≡◌, ℕ, Bool, true, [], Contains, refl, sy
 use Rattle.judge.proofs.LowerLaws.{LowerLaws}
 use Rattle.judge.proofs.OneTable.{IsSound, is_certified, one_table}
 use Rattle.judge.specs.AgreementLaws.{HasLeastCertificates, KeepsItsFlags, FindsNothing, LeastCertificatesAreBelieved, WhatIsBelievedHasNoFinding}
-use Rattle.judge.specs.OwnGroups.{HaveOwnGroups}
+use Rattle.judge.specs.OwnGroups.{HaveOwnGroups, KeepByEdition}
 use Rattle.checker.specs.Certificates.{is_claimed}
 use Rattle.meaning.specs.BodyEvents.{Variable, bodies_of, variables_of, unfollowed_faults}
 use Rattle.meaning.specs.FunctionFacts.{cancel}
@@ -31,7 +31,7 @@ same_file P seen one other same h =
     subst (λ c. P (with_table seen c)) credits h
 
 module _ (laws : LowerLaws) (given : Given) (own : Flags) (calls : Callee → ℕ → Bool) (number : ℕ) (seen : Seen)
-    (full other : Credits) (groups : HaveOwnGroups seen)
+    (full other : Credits) (groups : HaveOwnGroups seen) (keep : KeepByEdition seen)
     (least : HasLeastCertificates given calls number (with_table seen full))
     (are : AreGivenCredits given own calls number (with_table seen other)) where
   abbrev file : FileWithCredits
@@ -49,7 +49,7 @@ module _ (laws : LowerLaws) (given : Given) (own : Flags) (calls : Callee → �
 
     pub same_credits : (literal variable : ℕ) → other literal variable ≡ full literal variable
     same_credits =
-        one_table given own calls number seen laws full groups least other are
+        one_table given own calls number seen laws full groups keep least other are
         (λ b among followed same. sound b among followed)
 
     nothing_said : (x : Entry) → IsSaid given own calls number file x → ⊥
@@ -58,7 +58,7 @@ module _ (laws : LowerLaws) (given : Given) (own : Flags) (calls : Callee → �
     nothing_said x (verified.of_pass b f among h) = nothing _ (of_path b f among (of_a_pass f h))
     nothing_said x (verified.not_certified b among followed none) =
         none
-        (is_certified given own calls number seen laws full groups least b followed (least.each b among followed)
+        (is_certified given own calls number seen laws full groups keep least b followed (least.each b among followed)
         (sound b among followed))
 
     pub says_nothing : SaysNothing given own calls number (with_table seen other)
@@ -88,7 +88,7 @@ module _ (laws : LowerLaws) (given : Given) (own : Flags) (calls : Callee → �
         let w = place_of (variables_of seen b.at) v there in
         let paths = paths_of seen (promises_in calls other b.at) b in
         laws.keeps_claims paths (checked paths (flags_of_body own b) c.order) c.rows
-        (record { is_graph = refl; are_variables = refl; are_promises = refl })
+        (record { is_edition = refl; is_graph = refl; are_variables = refl; are_promises = refl })
         (places b (promises_in calls other b.at) among) c.holds w.0 v w.1 kind claimed
 
     sound_too : (b : BodyPlace) → Contains (bodies_of seen) b → unfollowed_faults seen b ≡ []
@@ -98,6 +98,8 @@ module _ (laws : LowerLaws) (given : Given) (own : Flags) (calls : Callee → �
       keeps = λ v there kind claimed. record {
         never_open = λ handed t o comes same.
             refuted b among followed λ c. (kept b v among there kind claimed c).never_open handed t o comes same;
+        never_kept = λ handed t o comes same.
+            refuted b among followed λ c. (kept b v among there kind claimed c).never_kept handed t o comes same;
         never_left = λ handed t o comes left.
             refuted b among followed λ c. (kept b v among there kind claimed c).never_left handed t o comes left;
       };
@@ -105,7 +107,7 @@ module _ (laws : LowerLaws) (given : Given) (own : Flags) (calls : Callee → �
 
     pub same_credits_too : (literal variable : ℕ) → other literal variable ≡ full literal variable
     same_credits_too =
-        one_table given own calls number seen laws full groups least other are λ b among followed same.
+        one_table given own calls number seen laws full groups keep least other are λ b among followed same.
         subst (λ c. IsSound own (paths_of seen (record { calls = calls; credits = c }) b) b) same
         (sound_too b among followed)
 
@@ -114,20 +116,20 @@ module _ (laws : LowerLaws) (given : Given) (own : Flags) (calls : Callee → �
 
 -- the other file is seen as the first one
 pub least_certificates_are_believed : LowerLaws → LeastCertificatesAreBelieved
-least_certificates_are_believed laws given own calls number file other groups least keeps same are nothing =
+least_certificates_are_believed laws given own calls number file other groups keep least keeps same are nothing =
     let their : AreGivenCredits given own calls number (with_table file.seen other.credits) =
     subst (λ seen. AreGivenCredits given own calls number (with_table seen other.credits)) same are in (
       record {
         is_seen_so = same;
         has_its_credits =
-            same_credits laws given own calls number file.seen file.credits other.credits groups least their keeps nothing;
+            same_credits laws given own calls number file.seen file.credits other.credits groups keep least their keeps nothing;
       },
       subst (λ seen. SaysNothing given own calls number (with_table seen other.credits)) (sym same)
-          (says_nothing laws given own calls number file.seen file.credits other.credits groups least their keeps nothing),
+          (says_nothing laws given own calls number file.seen file.credits other.credits groups keep least their keeps nothing),
     )
 
 pub what_is_believed_has_no_finding : LowerLaws → WhatIsBelievedHasNoFinding
-what_is_believed_has_no_finding laws given own calls number file other groups places least same are nothing =
+what_is_believed_has_no_finding laws given own calls number file other groups keep places least same are nothing =
     let their : AreGivenCredits given own calls number (with_table file.seen other.credits) =
     subst (λ seen. AreGivenCredits given own calls number (with_table seen other.credits)) same are in
     let quiet : SaysNothing given own calls number (with_table file.seen other.credits) =
@@ -135,8 +137,8 @@ what_is_believed_has_no_finding laws given own calls number file other groups pl
       record {
         is_seen_so = same;
         has_its_credits =
-            same_credits_too laws given own calls number file.seen file.credits other.credits groups least their places
+            same_credits_too laws given own calls number file.seen file.credits other.credits groups keep least their places
             quiet;
       },
-      finds_nothing laws given own calls number file.seen file.credits other.credits groups least their places quiet,
+      finds_nothing laws given own calls number file.seen file.credits other.credits groups keep least their places quiet,
     )

@@ -12,6 +12,7 @@ use Rattle.imports.proofs.GivenImports.{first_there}
 use Rattle.imports.specs.Ranks.{Package, Imports, Chain, ends, goes_on}
 use Rattle.imports.specs.Settling.{place_from}
 use Rattle.meaning.proofs.Membership.{contains_here, contains_there, contains_map}
+use Rattle.meaning.specs.Tracked.{Fields, each_field}
 use Rattle.meaning.specs.Uses.{Callee, Seen}
 use Rattle.meaning_packages.specs.CallsFlags.{Flags, FileWithCredits, calls_by, AreConsistent}
 use Rattle.meaning_packages.specs.Credits.{AreFullCredits}
@@ -19,7 +20,7 @@ use Rattle.meaning_reports.proofs.ImportsOf.{has_path, no_place, in_lists, given
 use Rattle.meaning_reports.proofs.OneAnswer.{one_list}
 use Rattle.meaning_reports.specs.DotImports.{SaysSomething, as_library, by_table, by_fault, IsLeftOut}
 use Rattle.meaning_reports.proofs.RanksGiven.{HasOrder, has_order}
-use Rattle.meaning_reports.specs.Loaded.{LoadedPackage, PackageTable, Tables, no_table, is_imported, import_list, imported_paths, imported_tables, imported_flags, imported_signatures, means_in, signatures_of, trees_of, seen_from, seen_files}
+use Rattle.meaning_reports.specs.Loaded.{LoadedPackage, PackageTable, Tables, no_table, is_imported, import_list, imported_paths, imported_tables, imported_flags, imported_signatures, means_in, signatures_of, trees_of, seen_from, fields_by, keeping_in, known_with, seen_files}
 use Rattle.meaning_reports.specs.PackageReports.{IsFindingBy, of_whole, of_import, of_dot, of_files, IsYesBy, IsFileFinding, SaysByPaths, by_paths}
 use Rattle.meaning_reports.specs.PackageTables.{AreCredited, no_file, file_and, IsTableBy, empty, full, AreTablesBy, IsJudged, AreFlagsByPaths}
 use Rattle.meaning_reports.specs.UsedImports.{HandsThere, IsUsed, IsNeeded, in_first, has_whole_fault, is_used}
@@ -133,14 +134,24 @@ module _ (bodies : BodiesAreApart) (consistent : ClaimsAreConsistent) (found : N
     says_something = says_still h.importer h.spec.path h.says_something;
   }
 
+  same_known : (fields : Fields) (p : LoadedPackage)
+      → known_with fields ps known p ≡ known_with fields ps more_known p
+  same_known fields p j number = record {
+    edition = p.edition;
+    means = means_in ps p number;
+    fields = fields;
+    object_lefts = λ at. None;
+    functions = signatures_of ps p;
+    imported = λ path name. same_imported p path name j;
+  }
+
+  same_keeping : (p : LoadedPackage) → keeping_in ps known p ≡ keeping_in ps more_known p
+  same_keeping p j = fields_by p.edition (seen_from (same_known each_field p j) 0 (trees_of p))
+
   same_seen : (p : LoadedPackage) → seen_files ps known p ≡ seen_files ps more_known p
-  same_seen p j =
-      seen_from (λ number. record {
-        edition = p.edition;
-        means = means_in ps p number;
-        functions = signatures_of ps p;
-        imported = λ path name. same_imported p path name j;
-      }) 0 (trees_of p)
+  same_seen p =
+      ap (λ fields. seen_from (known_with fields ps known p) 0 (trees_of p)) (same_keeping p)
+      ∙ ap (λ known_of. seen_from known_of 0 (trees_of p)) (same_known (keeping_in ps more_known p) p)
 
   -- so both use the same imports
   used_still : (i : ℕ) (path : List ℕ) → IsUsed ps more_known i path → IsUsed ps known i path

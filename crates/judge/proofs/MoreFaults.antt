@@ -7,14 +7,14 @@ use Rattle.std.proofs.lemmas.List.Elements.{Contains-append_left}
 use Rattle.calls_flags.proofs.MoreCalls.{NoWorse, after_no_worse, same_group}
 use Rattle.meaning.proofs.Membership.{contains_here, contains_there}
 use Rattle.meaning.specs.BodyEvents.{Variable, bodies_of}
-use Rattle.meaning.specs.Classes.{Promises, CancelClass, opened, safe, pending, GroupClass, entry_cancel, change_cancel, cancel_after, entry_group, group_after}
+use Rattle.meaning.specs.Classes.{Promises, CancelClass, opened, kept, safe, pending, GroupClass, entry_cancel, change_cancel, cancel_after, entry_group, group_after}
 use Rattle.meaning.specs.Code.{Occurrence}
 use Rattle.meaning.specs.Lists.{Reaches, stopped}
 use Rattle.meaning.specs.Mentions.{BodyPlace}
-use Rattle.meaning.specs.Uses.{Callee, VariableAt, Event, other, obtain, clear, call, defer_call, pass, defer_pass, lend, start, try, wait, defer_wait, make, defer_literal, return_event, Seen}
+use Rattle.meaning.specs.Uses.{Callee, VariableAt, Event, other, obtain, obtain_kept, renew, keep, call_kept, defer_kept, give, give_field, clear, call, defer_call, pass, defer_pass, lend, start, try, wait, defer_wait, make, defer_literal, return_event, Seen}
 use Rattle.meaning_packages.specs.CallsFlags.{Flags, FileWithCredits, flag_of, calls_by, AreConsistent}
 use Rattle.meaning_packages.specs.Credits.{Credits, begun_after, promises_in, no_calls}
-use Rattle.meaning_packages.specs.PathFaults.{PathFault, Paths, paths_of, cancel_class, is_lost, PassesOn, passes, defers, LeavesLive, IsLeft, IsPathFault, loses_cancel, loses_group, returns_live, returns_open, returns_pending, KeepsCall, IsPassFault, passes_on, IsFaultOf, of_a_pass, of_a_path}
+use Rattle.meaning_packages.specs.PathFaults.{PathFault, Paths, paths_of, cancel_class, is_lost, PassesOn, passes, defers, LeavesLive, IsLeft, IsPathFault, loses_cancel, loses_group, returns_live, returns_open, returns_kept, returns_pending, KeepsCall, IsPassFault, passes_on, IsFaultOf, of_a_pass, of_a_path}
 use Rattle.meaning_reports.specs.PackageReports.{IsFileFinding, outside_bodies, of_use, of_path}
 use Rattle.meaning_reports.specs.UsedImports.{HandsTo, HandsThere}
 use Rattle.meaning_reports.specs.UsedImports as used
@@ -51,6 +51,13 @@ module _ (fewer more : Callee → ℕ → Bool) (credits : ℕ → ℕ → Bool)
       → NoWorse (change_cancel by_fewer v e k) (change_cancel by_more v e j)
   change_so v other grows k j h = same_known v other k j h
   change_so v (obtain u f n is_declared) grows k j h = same_known v (obtain u f n is_declared) k j h
+  change_so v (obtain_kept u f n x) grows k j h = same_known v (obtain_kept u f n x) k j h
+  change_so v (renew u x) grows k j h = same_known v (renew u x) k j h
+  change_so v (keep u x) grows k j h = same_known v (keep u x) k j h
+  change_so v (call_kept u x) grows k j h = same_known v (call_kept u x) k j h
+  change_so v (defer_kept u x) grows k j h = same_known v (defer_kept u x) k j h
+  change_so v (give u x) grows k j h = same_known v (give u x) k j h
+  change_so v (give_field u) grows k j h = same_known v (give_field u) k j h
   change_so v (clear u) grows k j h = same_known v (clear u) k j h
   change_so v (call u) grows k j h = same_known v (call u) k j h
   change_so v (defer_call u) grows k j h = same_known v (defer_call u) k j h
@@ -169,6 +176,14 @@ module _ (fewer more : Callee → ℕ → Bool) (seen : Seen)
           is_declared_here = owes.is_declared_here;
           is_kept = owes.is_kept;
         }) (was_so v t o comes.reaches opened (λ e. cc) is_open)
+    path_fault_so f (returns_kept v handed t o comes owes is_kept elsewhere) =
+        returns_kept v handed t o (record { reaches = comes.reaches; is_return = comes.is_return })
+        (record {
+          is_of_body = owes.is_of_body;
+          is_cancel_variable = owes.is_cancel_variable;
+          is_declared_here = owes.is_declared_here;
+          is_kept = owes.is_kept;
+        }) (was_so v t o comes.reaches kept (λ e. cc) is_kept) elsewhere
     path_fault_so f (returns_pending v handed t o comes owes left) =
         returns_pending v handed t o (record { reaches = comes.reaches; is_return = comes.is_return })
         (record {
@@ -209,6 +224,9 @@ module _ (fewer more : Callee → ℕ → Bool) (seen : Seen)
       never_open = λ handed t o comes is_open.
           h.never_open handed t o (record { reaches = comes.reaches; is_return = comes.is_return })
           (was_so v t o comes.reaches opened (λ e. cc) is_open);
+      never_kept = λ handed t o comes is_kept.
+          h.never_kept handed t o (record { reaches = comes.reaches; is_return = comes.is_return })
+          (was_so v t o comes.reaches kept (λ e. cc) is_kept);
       never_left = λ handed t o comes left.
           h.never_left handed t o (record { reaches = comes.reaches; is_return = comes.is_return })
           (left_so v t o comes.reaches left);

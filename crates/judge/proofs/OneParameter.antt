@@ -4,19 +4,20 @@ use Rattle.std.specs.Prelude.{◌==◌, if◌then◌else◌}
 use Rattle.std.proofs.lemmas.Bool.Decides.{Decides-eqb}
 use Rattle.std.proofs.lemmas.List.Elements.{Contains-append_cases, Contains-append_left, Contains-append_right}
 use Rattle.meaning.proofs.Membership.{contains_here, contains_cases, contains_nil}
-use Rattle.meaning.specs.BodyEvents.{Variable, own_parameter, captured, role_in, role_in_own, opened_by, opened_in, bodies_of, variables_of}
-use Rattle.meaning.specs.FunctionFacts.{TrackedType, Item, items_of, item_type}
-use Rattle.meaning.specs.Mentions.{BodyPlace, Mention, Mark, mentions, defers_literal, returns, opens, closes}
+use Rattle.meaning.specs.BodyEvents.{Variable, own_parameter, captured, role_in, role_in_own, opened_by, opened_in, bodies_of, variables_of, seen_file}
+use Rattle.meaning.specs.FunctionFacts.{TrackedType, cancel_type, Item, items_of, item_type}
+use Rattle.meaning.specs.Mentions.{BodyPlace, Mention, Mark, mentions, of_fields, defers_literal, returns, opens, closes}
+use Rattle.meaning.specs.Objects.{ObjectKind, new_object, outer_object, ObjectRow, object_rows, first_place, field_local, field_locals}
 use Rattle.meaning.specs.Scopes.{is_blank}
 use Rattle.meaning.specs.Tracked.{Known, Placed, LocalRole, parameter, receiver, variadic, result, in_block, Local, item_local, parameter_role, parameter_locals, receiver_locals, only_cancel, result_locals, receiver_items, signature_locals, body_locals, declared_by, declared_local, locals_there, locals_of}
 use Rattle.meaning.specs.Uses.{Seen}
 use Rattle.meaning_packages.proofs.BodyPlaces.{placed_only}
 use Rattle.meaning_runs.proofs.Captured.{of_variable}
 use Rattle.meaning_runs.proofs.OwnVariables.{found_is}
-use Rattle.tree.specs.Syntax.{Identifier, Signature, signature_of}
+use Rattle.tree.specs.Syntax.{Identifier, Signature, signature_of, SourceFile}
 
 -- the position of a parameter
-abbrev position : LocalRole → Option ℕ
+abbrev pub position : LocalRole → Option ℕ
 position (parameter k) = Some k
 position receiver = None
 position variadic = None
@@ -266,6 +267,7 @@ of_mark : (known : Known) (bodies : List BodyPlace) (mark : Mark) (l : Local) (k
     → position l.role ≡ Some k
     → (b : BodyPlace) × Contains (opened_by mark) b × Contains (body_locals known b) l
 of_mark known bodies (mentions m) l k h e = absurd (declared_none known m bodies (declared_by known m) l k h e)
+of_mark known bodies (of_fields site m) l k h e = absurd (contains_nil l h)
 of_mark known bodies (defers_literal site at) l k h e = absurd (contains_nil l h)
 of_mark known bodies (returns at es) l k h e = absurd (contains_nil l h)
 of_mark known bodies (opens b) l k h e = (b, contains_here b [], h)
@@ -294,6 +296,57 @@ of_opened known (p ∷ ps) l k h e =
           }
     ]
 
+-- a field that is a variable of its own is no parameter
+
+by_field : (kind : ObjectKind) (r : ObjectRow) (number : ℕ) (l : Local) (k : ℕ) → position l.role ≡ Some k
+    → Contains (field_local kind r number) l
+    → ⊥
+by_field outer_object r number l k e h = contains_nil l h
+by_field new_object r number l k e h = by (r.field.span.start == number) h
+  where
+    its : Local
+    its = record {
+      number = number;
+      name = r.field.text;
+      at = number;
+      role = in_block;
+      typed = Some (cancel_type r.type);
+      body = r.body;
+    }
+
+    by : (t : Bool) → Contains (if t then its ∷ [] else []) l → ⊥
+    by true among = elim (contains_cases its l [] among) [
+      | inl same ↦
+          let bad : position in_block ≡ Some k = ap (λ (x : Local). position x.role) same ∙ e in
+          cc
+      | inr none ↦ contains_nil l none
+    ]
+    by false among = contains_nil l among
+
+no_field : (all rows : List ObjectRow) (l : Local) (k : ℕ) → position l.role ≡ Some k
+    → Contains (field_locals all rows) l
+    → ⊥
+no_field all [] l k e h = contains_nil l h
+no_field all (r ∷ rs) l k e h =
+    elim (Contains-append_cases (field_local r.kind r (first_place r all)) (field_locals all rs) l h) [
+      | inl here ↦ by_field r.kind r (first_place r all) l k e here
+      | inr later ↦ no_field all rs l k e later
+    ]
+
+-- each parameter among these locals has a name of its own
+abbrev pub AreNamed : Known → Seen → Type 0
+AreNamed known seen = (l : Local) (k : ℕ) → position l.role ≡ Some k → Contains seen.locals l
+    → Contains (locals_of known seen.marks) l
+
+pub named_there : (known : Known) (tree : SourceFile) → AreNamed known (seen_file known tree)
+named_there known tree l k e h =
+    let marks = (seen_file known tree).marks in
+    let rows = object_rows known marks in
+    elim (Contains-append_cases (locals_of known marks) (field_locals rows rows) l h) [
+      | inl own ↦ own
+      | inr field ↦ absurd (no_field rows rows l k e field)
+    ]
+
 -- Variables of a body
 
 role_of : (body : ℕ) (l : Local) (k : ℕ) → own_parameter k ≡ role_in body l → (l.body ≡ body) × (position l.role ≡ Some k)
@@ -311,7 +364,7 @@ role_of body l k e = by (l.body == body) (Decides-eqb l.body body).0 e
     by true same q = (same refl, its l.role q)
     by false same q = cc
 
-module _ (seen : Seen) (known : Known) (b : BodyPlace) (locals : seen.locals ≡ locals_of known seen.marks)
+module _ (seen : Seen) (known : Known) (b : BodyPlace) (named : AreNamed known seen)
     (one_each : (c d : BodyPlace) → Contains (opened_in seen.marks) c → Contains (opened_in seen.marks) d → c.at ≡ d.at → c ≡ d)
     (there : Contains (bodies_of seen) b) where
   record OfBody (v : Variable) (k : ℕ) : Type 0 where
@@ -324,7 +377,7 @@ module _ (seen : Seen) (known : Known) (b : BodyPlace) (locals : seen.locals ≡
   of_body v k h role =
       let w = of_variable seen b.at v h in
       let r = role_of b.at w.0 k (sym role ∙ w.3) in
-      let among = subst (λ ls. Contains ls w.0) locals (found_is seen (Some v.number) w.0 w.1).1 in
+      let among = named w.0 k r.1 (found_is seen (Some v.number) w.0 w.1).1 in
       let o = of_opened known seen.marks w.0 k among r.1 in
       let same : o.body ≡ b =
       one_each o.body b o.is_opened (placed_only (opened_in seen.marks) b there)

@@ -85,7 +85,7 @@ no_yes declared ps said reports h =
     let within = slice_get_within ps h.place h.loaded h.is_there in
     let long = reports.is_as_long in
     let s = there said h.place (omega (arith, within, long)) in
-    let findings = (reports.of_package h.place h.loaded s.0 h.is_there s.1).1 in
+    let findings = (reports.of_package h.place h.loaded s.0 h.is_there s.1).are_findings in
     let fault = whole_fault ps h in
     not_all said h.place s.0 s.1 (some_entry s.0.entries fault.0 ((findings.each fault.0).1 (of_whole fault.1)))
 

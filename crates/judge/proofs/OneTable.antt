@@ -8,7 +8,7 @@ use Rattle.bodies.proofs.FewVariables.{none_at_first}
 use Rattle.judge.proofs.LowerLaws.{LowerLaws}
 use Rattle.judge.proofs.MoreKnown.{settles_still}
 use Rattle.judge.specs.AgreementLaws.{IsGivenLeast, HasLeastCertificates}
-use Rattle.judge.specs.OwnGroups.{HaveOwnGroups}
+use Rattle.judge.specs.OwnGroups.{HaveOwnGroups, KeepByEdition}
 use Rattle.certificates.specs.Least.{body_with}
 use Rattle.certificates.specs.LeastLaws as certificates
 use Rattle.certificates.specs.LeastLaws.{HasNoFault}
@@ -90,7 +90,7 @@ pub record IsSound (own : Flags) (paths : Paths) (b : BodyPlace) : Type 0 where
       → KeepsCall paths v
 
 module _ (given : Given) (own : Flags) (calls : Callee → ℕ → Bool) (number : ℕ) (seen : Seen) where
-  module _ (laws : LowerLaws) (full : Credits) (groups : HaveOwnGroups seen)
+  module _ (laws : LowerLaws) (full : Credits) (groups : HaveOwnGroups seen) (keep : KeepByEdition seen)
       (least : HasLeastCertificates given calls number (with_table seen full)) where
     abbrev its_paths : BodyPlace → Paths
     its_paths b = paths_of seen (promises_in calls full b.at) b
@@ -104,10 +104,12 @@ module _ (given : Given) (own : Flags) (calls : Callee → ℕ → Bool) (number
 
       certifiable : certificates.CanHaveCertificate (its_paths b) its_body
       certifiable = record {
-        is_of = record { is_graph = refl; are_variables = refl; are_promises = refl };
+        is_of = record { is_edition = refl; is_graph = refl; are_variables = refl; are_promises = refl };
         are_few = none_at_first (too_many_faults (variables_of seen b.at)) (jump_faults seen b) followed;
         starts_in_own_groups =
             groups b (promises_in calls full b.at) its.are_least.order (flags_of_body own b);
+        keeps_by_edition =
+            keep b (promises_in calls full b.at) its.are_least.order (flags_of_body own b);
       }
 
       module _ (sound : IsSound own (its_paths b) b) where

@@ -12,7 +12,7 @@ use Rattle.judge.specs.PackageLaws.{AreGivenByPaths, ReportsAgree}
 use Rattle.meaning.proofs.Membership.{contains_nil, contains_here}
 use Rattle.meaning.specs.Uses.{Callee, Seen}
 use Rattle.meaning_packages.specs.CallsFlags.{Flags, FileWithCredits, calls_by}
-use Rattle.meaning_reports.proofs.OneReport.{one_way}
+use Rattle.meaning_reports.proofs.OneReport.{one_way, seen_by}
 use Rattle.meaning_reports.specs.Loaded.{LoadedPackage, Tables, imported_flags, seen_files}
 use Rattle.meaning_reports.specs.OneReport.{AreDetermined}
 use Rattle.meaning_reports.specs.PackageReports.{Rules, IsFindingBy, of_whole, of_import, of_dot, of_files, IsYesBy, Said, IsReportBy, SaysByPaths, by_paths}
@@ -24,7 +24,7 @@ use Rattle.meaning_runs.specs.PackageYes.{IsYesIn}
 use Rattle.meaning_runs.specs.Promise.{AreTreesOfTexts}
 use Rattle.path_faults.proofs.Places.{contains_at}
 use Rattle.report.specs.Entries.{Entry}
-use Rattle.verifier.proofs.OneVerified.{seen_of, one_claimed, seen_by}
+use Rattle.verifier.proofs.OneVerified.{seen_of, one_claimed}
 use Rattle.verifier.specs.Rules.{GivenByPath, IsVerified, AreFlagsByCertificates, SaysByCertificates, by_certificates}
 use Rattle.verifier.specs.Verified.{AreClaimed, AreGivenCredits}
 use Rattle.verifier.specs.VerifierLaws.{SaysNothing}
@@ -145,7 +145,7 @@ module _ (laws : LowerLaws) (bodies : BodiesAreApart) (declared : Tables) (given
 
       says_nothing : FindsNothing calls number file → SaysNothing (given p.path) flags calls number other
       says_nothing nothing =
-          (least_certificates_are_believed laws (given p.path) flags calls number file other its_text.have_own_groups
+          (least_certificates_are_believed laws (given p.path) flags calls number file other its_text.have_own_groups its_text.keep_by_edition
           (has_least number file is)
           (keeps_flags bodies ps tables i p (texts i p judged.is_package) files flags judged file
           (contains_at files number file is))
@@ -153,7 +153,7 @@ module _ (laws : LowerLaws) (bodies : BodiesAreApart) (declared : Tables) (given
 
       finds_nothing : SaysNothing (given p.path) flags calls number other → FindsNothing calls number file
       finds_nothing nothing =
-          (what_is_believed_has_no_finding laws (given p.path) flags calls number file other its_text.have_own_groups
+          (what_is_believed_has_no_finding laws (given p.path) flags calls number file other its_text.have_own_groups its_text.keep_by_edition
           its_text.have_own_places (has_least number file is) same (given_credits number other is_other) nothing).1
 
   module _ (by_path : AreTablesBy AreFlagsByPaths declared ps tables)
@@ -261,7 +261,7 @@ module _ (rules : Rules) (ps : List LoadedPackage) (report : List Said) (is : Is
   pub is_yes : (i : ℕ) → IsYesIn ps report i → IsYesBy rules ps is.tables i
   is_yes i its_yes x h =
       let w = is.of_package i its_yes.loaded its_yes.said its_yes.is_package its_yes.is_said in
-      contains_nil x (subst (λ xs. Contains xs x) its_yes.is_yes ((w.1.each x).1 h))
+      contains_nil x (subst (λ xs. Contains xs x) its_yes.is_yes ((w.are_findings.each x).1 h))
 
   pub said_yes : (i : ℕ) (p : LoadedPackage) → slice_get ps i ≡ Some p → IsYesBy rules ps is.tables i → IsYesIn ps report i
   said_yes i p is_package its_yes = elim (slice_get_cases report i).1 [
@@ -272,7 +272,7 @@ module _ (rules : Rules) (ps : List LoadedPackage) (report : List Said) (is : Is
           said = w.0;
           is_package = is_package;
           is_said = w.2;
-          is_yes = no_entry w.0.entries (λ x among. its_yes x ((said.1.each x).0 among));
+          is_yes = no_entry w.0.entries (λ x among. its_yes x ((said.are_findings.each x).0 among));
         }
     | inr past ↦
         let low : i < length ps = slice_get_within ps i p is_package in

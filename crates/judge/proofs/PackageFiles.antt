@@ -1,15 +1,16 @@
 -- The files of a package of texts: in their bodies no two nodes have one place, each group in which a literal is started
 -- is the body's own, no two bodies begin at one offset, and what is known of a function its body keeps.
-use Rattle.std.proofs.Common.{◌≡◌, ℕ, ◌+◌, inl, inr, Bool, true, false, ◌&&◌, List, [], ◌∷◌, Option, Some, None, Contains, refl, sym, ◌∙◌, subst, arith}
+use Rattle.std.proofs.Common.{◌≡◌, ℕ, ◌+◌, inl, inr, Bool, true, false, ◌&&◌, List, [], ◌∷◌, Option, Some, None, Contains, refl, sym, ap, ◌∙◌, subst, arith}
 use Rattle.std.specs.Prelude.{if◌then◌else◌, not, is_none, slice_get}
 use Rattle.std.specs.Str.{bytes_eq}
 use Rattle.std.proofs.lemmas.Bool.{and_from}
 use Rattle.std.proofs.lemmas.Slice.Eq.{bytes_eq-Decides}
-use Rattle.judge.proofs.OneParameter.{one_number}
+use Rattle.judge.proofs.OneParameter.{AreNamed, named_there, one_number}
 use Rattle.judge.proofs.OneTable.{credited_too}
 use Rattle.judge.proofs.OwnGroups.{starts_have_own_groups}
 use Rattle.judge.specs.AgreementLaws.{KeepsItsFlags}
-use Rattle.judge.specs.OwnGroups.{HaveOwnGroups}
+use Rattle.judge.specs.OwnGroups.{HaveOwnGroups, KeepByEdition}
+use Rattle.certificates.proofs.KeptByEdition.{first_keeps_nothing}
 use Rattle.calls_flags.specs.Claims.{called_name, function_name}
 use Rattle.checker.specs.Certificates.{is_claimed}
 use Rattle.meaning.proofs.Membership.{contains_nil, contains_cases, contains_map}
@@ -19,14 +20,14 @@ use Rattle.meaning.specs.Code.{Occurrence}
 use Rattle.meaning.specs.Mentions.{BodyPlace}
 use Rattle.meaning.specs.OuterBlocks.{is_init}
 use Rattle.meaning.specs.Scopes.{is_blank}
-use Rattle.meaning.specs.Tracked.{locals_of}
+use Rattle.meaning.specs.Tracked.{Known, has_field, each_field, some_keep}
 use Rattle.meaning.specs.TwoFunctions.{function_names_from}
 use Rattle.meaning.specs.Uses.{Seen, Event}
 use Rattle.meaning_packages.specs.CallsFlags.{Flags, FileWithCredits, calls_by, has_name, is_function}
 use Rattle.meaning_packages.specs.Credits.{promises_in, IsCredited, AreFullCredits}
 use Rattle.meaning_packages.specs.PathFaults.{Paths, paths_of, cancel_class, KeepsCall}
 use Rattle.meaning_reports.proofs.OneAnswer.{one_table_by}
-use Rattle.meaning_reports.specs.Loaded.{LoadedPackage, Tables, trees_of, imported_flags, known_in, seen_files}
+use Rattle.meaning_reports.specs.Loaded.{LoadedPackage, Tables, trees_of, imported_flags, fields_by, keeping_in, known_with, known_in, seen_from, seen_files}
 use Rattle.meaning_reports.specs.PackageTables.{AreCredited, no_file, file_and, IsJudged}
 use Rattle.meaning_runs.proofs.EntryPlaces.{seen_there, tree_seen}
 use Rattle.meaning_runs.proofs.KnownFlags.{no_second}
@@ -45,7 +46,10 @@ use Rattle.verifier.specs.VerifierLaws.{BodiesHaveOwnPlaces}
 pub record IsOfText (seen : Seen) : Type 0 where
   pub have_own_places : BodiesHaveOwnPlaces seen
   pub have_own_groups : HaveOwnGroups seen
-  pub are_locals : seen.locals ≡ locals_of seen.known seen.marks
+  pub keep_by_edition : KeepByEdition seen
+  -- what was known of the file before its marks were gone through
+  pub before : Known
+  pub are_named : AreNamed before seen
   pub one_each : (b c : BodyPlace) → Contains (opened_in seen.marks) b → Contains (opened_in seen.marks) c → b.at ≡ c.at
       → b ≡ c
 
@@ -64,8 +68,13 @@ module _ (bodies : BodiesAreApart) (ps : List LoadedPackage) (tables : Tables) (
           record {
             have_own_places = places_of_text t.0 tree (known_in ps tables p number) t.1;
             have_own_groups = starts_have_own_groups (seen_file (known_in ps tables p number) tree);
-            are_locals = refl;
-            one_each = (bodies p.edition t.0 tree t.1).one_each;
+            keep_by_edition = λ b promises order claims n o is_first there.
+                first_keeps_nothing (known_in ps tables p number) tree is_first
+                (λ f. ap (λ e. has_field (fields_by e (seen_from (known_with each_field ps tables p) 0 (trees_of p))) f)
+                is_first) b promises n o there;
+            before = known_in ps tables p number;
+            are_named = named_there (known_in ps tables p number) tree;
+            one_each = (bodies p.edition (some_keep (keeping_in ps tables p)) t.0 tree t.1).one_each;
           }
 
 -- Files with credits
@@ -147,6 +156,7 @@ function_so b name e = by (is_none b.receiver) e
 keeps_too : (paths : Paths) (u v : Variable) → u.number ≡ v.number → u.role ≡ v.role → KeepsCall paths u → KeepsCall paths v
 keeps_too paths u v number role h = record {
   never_open = λ handed t o comes open_too. h.never_open handed t o comes (same t ∙ open_too);
+  never_kept = λ handed t o comes kept_too. h.never_kept handed t o comes (same t ∙ kept_too);
   never_left = λ handed t o comes left.
       h.never_left handed t o comes (record {
         left_to = left.left_to;
@@ -199,7 +209,7 @@ module _ (bodies : BodiesAreApart) (ps : List LoadedPackage) (tables : Tables) (
         let place = place_of (seen_files ps tables p) file.seen (seen_of_file file among) in
         let text = of_text bodies ps tables p texts place.0 file.seen place.1 in
         let number =
-        one_number file.seen file.seen.known b text.are_locals text.one_each there kept.variable v known.position is_variable
+        one_number file.seen text.before b text.are_named text.one_each there kept.variable v known.position is_variable
         of_body kept.is_claim.is_parameter known.is_parameter in
         keeps_too (paths_of file.seen (promises_in calls file.credits b.at) b) kept.variable v number
         (kept.is_claim.is_parameter ∙ sym known.is_parameter) keeps

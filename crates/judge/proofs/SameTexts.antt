@@ -2,7 +2,7 @@
 use Rattle.std.proofs.Common.{◌≡◌, ℕ, suc, List, [], ◌∷◌, map, Some, refl, ap}
 use Rattle.std.specs.Prelude.{slice_get}
 use Rattle.report.specs.declared.diagnostics.PackageReport.{PackageReport}
-use Rattle.report.specs.Entries.{entry_of}
+use Rattle.report.specs.Entries.{entry_of, texts_of}
 use Rattle.report_formats.proofs.SameTexts.{SayTheSame, same_texts}
 use Rattle.report_formats.specs.Formats.{text_in}
 use Rattle.report_formats.specs.declared.formats.Format.{Format}
@@ -16,6 +16,7 @@ module _ {J : Type 0} (report_of : J → PackageReport) (table_of : J → Packag
   said_of j = record {
     path = (report_of j).path.now;
     entries = map entry_of (report_of j).diagnostics.items;
+    keeping = texts_of (report_of j).keeping.items;
     table = table_of j;
   }
 
@@ -37,6 +38,7 @@ module _ {J : Type 0} (report_of : J → PackageReport) (table_of : J → Packag
         record {
           path = ap (λ (s : Said). s.path) first;
           sources = sources 0 a b refl refl;
+          keeping = ap (λ (s : Said). s.keeping) first;
           entries = ap (λ (s : Said). s.entries) first;
         },
         say_the_same others bs rest (λ i c d is that. sources (suc i) c d is that),

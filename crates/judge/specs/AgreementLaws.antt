@@ -2,7 +2,7 @@
 -- Where it has nothing to say of the file, these are believed: `verify` relies on the same literals, and has nothing to
 -- say either. And where `verify` believes them, `check` has nothing to say.
 use Rattle.std.specs.Prelude.{ℕ, ◌≡◌, Bool, true, List, [], Some, Contains}
-use Rattle.judge.specs.OwnGroups.{HaveOwnGroups}
+use Rattle.judge.specs.OwnGroups.{HaveOwnGroups, KeepByEdition}
 use Rattle.certificates.specs.Least.{IsLeastOf}
 use Rattle.checker.specs.Certificates.{is_claimed}
 use Rattle.meaning.specs.BodyEvents.{Variable, bodies_of, variables_of, unfollowed_faults}
@@ -64,6 +64,7 @@ abbrev pub LeastCertificatesAreBelieved : Type 0
 LeastCertificatesAreBelieved =
     (given : Given) (own : Flags) (calls : Callee → ℕ → Bool) (number : ℕ) (file other : FileWithCredits)
     → HaveOwnGroups file.seen
+    → KeepByEdition file.seen
     → HasLeastCertificates given calls number file
     → KeepsItsFlags own calls file
     → other.seen ≡ file.seen
@@ -75,6 +76,7 @@ abbrev pub WhatIsBelievedHasNoFinding : Type 0
 WhatIsBelievedHasNoFinding =
     (given : Given) (own : Flags) (calls : Callee → ℕ → Bool) (number : ℕ) (file other : FileWithCredits)
     → HaveOwnGroups file.seen
+    → KeepByEdition file.seen
     → BodiesHaveOwnPlaces file.seen
     → HasLeastCertificates given calls number file
     → other.seen ≡ file.seen

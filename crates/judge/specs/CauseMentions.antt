@@ -6,7 +6,7 @@ use Rattle.std.specs.Prelude.{ℕ, ◌+◌, Bool, false, ◌||◌, if◌then◌e
 use Rattle.std.specs.List.{list_any}
 use Rattle.meaning.specs.Declarations.{declaration_of_use}
 use Rattle.meaning.specs.FunctionFacts.{Meanings, context_path, is_of}
-use Rattle.meaning.specs.Mentions.{Named, Mark, mentions, defers_literal, returns, opens, closes, marks_by, file_marks}
+use Rattle.meaning.specs.Mentions.{Named, Mark, mentions, of_fields, defers_literal, returns, opens, closes, marks_by, file_marks}
 use Rattle.meaning.specs.OuterBlocks.{PackageNames}
 use Rattle.meaning_reports.specs.Loaded.{LoadedPackage, package_names, trees_of}
 use Rattle.tree.specs.declared.edition.Edition.TheVariants.{First}
@@ -23,14 +23,15 @@ is_cause_name means n =
 
 abbrev pub mark_mentions : Meanings → Mark → Bool
 mark_mentions means (mentions m) = is_cause_name means m.named
+mark_mentions means (of_fields site m) = false
 mark_mentions means (defers_literal site at) = false
 mark_mentions means (returns at es) = false
 mark_mentions means (opens b) = false
 mark_mentions means closes = false
 
--- what conditions find out names a variable alone
+-- what conditions find out names a variable alone, and fields are no matter
 unfoldable pub file_mentions : Meanings → SourceFile → Bool
-file_mentions means tree = list_any (mark_mentions means) (marks_by First (file_marks tree))
+file_mentions means tree = list_any (mark_mentions means) (marks_by First false (file_marks tree))
 
 -- one of these files does, where the first has the number n
 abbrev pub files_mention : (ℕ → Meanings) → ℕ → List SourceFile → Bool

@@ -2,7 +2,8 @@
 -- run over all given packages, be they yes or not. `meaning_runs` has the runs. They have two premises on functions
 -- without a body, as those of packages that were not given: what is declared of one is true when it returns
 -- (`DeclaredIsTrue`); and it starts work in a group that it was lent only before it returns (`IsOutsideCall`), while
--- what it started there may start more.
+-- what it started there may start more. And runs know of objects only what a frame itself keeps in their fields: that
+-- nobody else gives such a field another value, before it is called or given to others, no run tells.
 use Rattle.std.specs.Prelude.{ℕ, ◌≡◌, true, List, Some, slice_get}
 use Rattle.meaning_reports.specs.Loaded.{LoadedPackage, Tables}
 use Rattle.one_package.specs.declared.judged.Judged.{Judged}

@@ -30,7 +30,11 @@ fn mark_mentions(names: &Names<'_>, file: usize, mark: Mark<'_, '_>) -> bool
 {
     match mark {
         Mark::Mentions(mention) => is_cause_name(names, file, mention.named),
-        Mark::DefersLiteral(_, _) | Mark::Returns(_, _) | Mark::Opens(_) | Mark::Closes => false,
+        Mark::OfFields(_, _)
+        | Mark::DefersLiteral(_, _)
+        | Mark::Returns(_, _)
+        | Mark::Opens(_)
+        | Mark::Closes => false,
     }
 }
 
@@ -45,8 +49,8 @@ fn marks_mention(names: &Names<'_>, file: usize, marks: &[Mark<'_, '_>]) -> bool
     false
 }
 
-/// Whether the file of that number mentions one. What conditions find out names none, so the marks of the first edition
-/// are enough.
+/// Whether the file of that number mentions one. What conditions find out and what is asked of fields names none, so
+/// the marks of the first edition are enough.
 #[tactic(auto, unfolding(crate::specs::CauseMentions::file_mentions))]
 fn file_mentions(
     alloc: Global,
@@ -57,7 +61,7 @@ fn file_mentions(
     ensures { IfOk result (λ does. does ≡ file_mentions (declared_at names.now number) (file_syntax file.now)) }
 {
     let arena = Bump::new(alloc);
-    let marks = file_marks(alloc, &arena, Edition::First, file)?;
+    let marks = file_marks(alloc, &arena, Edition::First, false, file)?;
     Ok(marks_mention(names, number, &marks))
 }
 

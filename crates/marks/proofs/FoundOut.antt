@@ -23,24 +23,27 @@ use Rattle.mentions.specs.declared.kept.Marks.{Marks}
 use Rattle.mentions.specs.MarkViews.{marks_view, Adds}
 use Rattle.marks.specs.declared.by_edition.Walk.{Walk}
 use Rattle.marks.specs.WalkViews.{AddsBy}
-use Rattle.marks.proofs.AddingBy.{by_both}
-use Rattle.meaning.specs.Mentions.{Mark, Row, NilTest, nil_marks, error_where, error_marks, guard_marks, behind_row, row_in, last_row, marks_by}
+use Rattle.marks.proofs.AddingBy.{by_nothing, by_both, kept_there}
+use Rattle.meaning.specs.Mentions.{Mark, Row, NilTest, is_of_fields, nil_marks, error_where, error_marks, guard_marks, behind_row, row_in, last_row, marks_by}
 
-pub no_nil : (site : ℕ) (ts : List NilTest) → marks_by First (nil_marks site ts) ≡ []
-no_nil site [] = refl
-no_nil site (t ∷ ts) = no_nil site ts
+pub no_nil : (some_keep : Bool) (site : ℕ) (ts : List NilTest) → marks_by First some_keep (nil_marks site ts) ≡ []
+no_nil some_keep site [] = refl
+no_nil some_keep site (t ∷ ts) = no_nil some_keep site ts
 
-no_error : (site : ℕ) (row : Row) (ts : List NilTest) → marks_by First (error_marks site row ts) ≡ []
-no_error site row [] = refl
-no_error site row (t ∷ ts) = no_error site row ts
+no_error : (some_keep : Bool) (site : ℕ) (row : Row) (ts : List NilTest)
+    → marks_by First some_keep (error_marks site row ts) ≡ []
+no_error some_keep site row [] = refl
+no_error some_keep site row (t ∷ ts) = no_error some_keep site row ts
 
-pub no_guard : (row : Option Row) (c : Expression) (braces : Span) → marks_by First (guard_marks row c braces) ≡ []
-no_guard None c braces = refl
-no_guard (Some row) c braces =
+pub no_guard : (some_keep : Bool) (row : Option Row) (c : Expression) (braces : Span)
+    → marks_by First some_keep (guard_marks row c braces) ≡ []
+no_guard some_keep None c braces = refl
+no_guard some_keep (Some row) c braces =
     let start = error_marks braces.start row (error_where true c) in
     let end = error_marks (braces.end - 1) row (error_where false c) in
-    by_both First start end
-    ∙ (λ i. no_error braces.start row (error_where true c) i ++ no_error (braces.end - 1) row (error_where false c) i)
+    by_both First some_keep start end
+    ∙ (λ i. no_error some_keep braces.start row (error_where true c) i
+    ++ no_error some_keep (braces.end - 1) row (error_where false c) i)
 
 -- a guard stands straight behind the row
 pub first_behind : (row : Option Row) (s : Statement) (ss : Statements)
@@ -49,34 +52,77 @@ first_behind row (statement_node (if_statement missing_statement semicolon c ts 
 first_behind row (statement_node (if_statement (present_statement t) semicolon c ts braces other) span) ss = refl
 first_behind row _ ss = refl
 
-pub none_behind : (row : Option Row) (ss : Statements) → marks_by First (behind_row row ss) ≡ []
-none_behind row (statement_and (statement_node (if_statement missing_statement semicolon c ts braces other) span) ss) =
-    no_guard row c braces
-none_behind row (statement_and (statement_node (if_statement (present_statement t) semicolon c ts braces other) span) ss) = refl
-none_behind row _ = refl
+pub none_behind : (some_keep : Bool) (row : Option Row) (ss : Statements)
+    → marks_by First some_keep (behind_row row ss) ≡ []
+none_behind some_keep row (statement_and (statement_node (if_statement missing_statement semicolon c ts braces other) span) ss) =
+    no_guard some_keep row c braces
+none_behind some_keep row (statement_and (statement_node (if_statement (present_statement t) semicolon c ts braces other) span) ss) =
+    refl
+none_behind some_keep row _ = refl
+
+-- In the second edition these are kept, also where no field keeps what it holds.
+
+abbrev pub HasNoFields : List Mark → Type 0
+HasNoFields ms = (some_keep : Bool) → marks_by Second some_keep ms ≡ ms
+
+both_none : (xs ys : List Mark) → HasNoFields xs → HasNoFields ys → HasNoFields (xs ++ ys)
+both_none xs ys first second some_keep =
+    by_both Second some_keep xs ys ∙ (λ i. first some_keep i ++ second some_keep i)
+
+one_kept : (m : Mark) → is_of_fields m ≡ false → (ms : List Mark) → HasNoFields ms → HasNoFields (m ∷ ms)
+one_kept m e ms kept false = kept_there (is_of_fields m) e m ms _ (kept false)
+one_kept m e ms kept true = refl
+
+pub nil_kept : (site : ℕ) (ts : List NilTest) → HasNoFields (nil_marks site ts)
+nil_kept site [] = by_nothing Second
+nil_kept site (t ∷ ts) = one_kept _ refl _ (nil_kept site ts)
+
+errors_kept : (site : ℕ) (row : Row) (ts : List NilTest) → HasNoFields (error_marks site row ts)
+errors_kept site row [] = by_nothing Second
+errors_kept site row (t ∷ ts) = one_kept _ refl _ (errors_kept site row ts)
+
+pub guards_kept : (row : Option Row) (c : Expression) (braces : Span) → HasNoFields (guard_marks row c braces)
+guards_kept None c braces = by_nothing Second
+guards_kept (Some row) c braces =
+    both_none _ _ (errors_kept braces.start row (error_where true c))
+    (errors_kept (braces.end - 1) row (error_where false c))
+
+pub behind_kept : (row : Option Row) (ss : Statements) → HasNoFields (behind_row row ss)
+behind_kept row (statement_and (statement_node (if_statement missing_statement semicolon c ts braces other) span) ss) =
+    guards_kept row c braces
+behind_kept row (statement_and (statement_node (if_statement (present_statement t) semicolon c ts braces other) span) ss) =
+    by_nothing Second
+behind_kept row _ = by_nothing Second
 
 -- nothing is added where the edition keeps nothing
-pub none_added : (walk : Walk) (names : List Mark) → walk.edition ≡ First → marks_by First names ≡ [] → AddsBy walk walk names
+pub none_added : (walk : Walk) (names : List Mark)
+    → walk.told.edition ≡ First
+    → marks_by First walk.told.some_keep names ≡ []
+    → AddsBy walk walk names
 none_added walk names is none = record {
   keeps = refl;
-  adds = sym (ap (λ l. marks_view walk.marks.list.items ++ l) (ap (λ e. marks_by e names) is ∙ none) ∙ append-nil (marks_view walk.marks.list.items));
+  adds = sym (ap (λ l. marks_view walk.marks.list.items ++ l) (ap (λ e. marks_by e walk.told.some_keep names) is ∙ none)
+      ∙ append-nil (marks_view walk.marks.list.items));
 }
 
 -- in the second edition all is added
 adds_in_second : (walk : Walk) (after : Marks) (names : List Mark)
-    → walk.edition ≡ Second
+    → walk.told.edition ≡ Second
+    → HasNoFields names
     → Adds walk.marks.list.items after.list.items names
-    → AddsBy walk (record { edition = walk.edition; marks = after }) names
-adds_in_second walk after names is added = record {
+    → AddsBy walk (record { told = walk.told; marks = after }) names
+adds_in_second walk after names is kept added = record {
   keeps = refl;
-  adds = added ∙ ap (λ l. marks_view walk.marks.list.items ++ l) (sym (ap (λ e. marks_by e names) is));
+  adds = added ∙ ap (λ l. marks_view walk.marks.list.items ++ l)
+      (sym (ap (λ e. marks_by e walk.told.some_keep names) is ∙ kept walk.told.some_keep));
 }
 
 pub all_added : {T E : Type 0} (result : Result T E) (walk : Walk) (after : Marks) (names : List Mark)
-    → walk.edition ≡ Second
+    → walk.told.edition ≡ Second
+    → HasNoFields names
     → OnOk result (Adds walk.marks.list.items after.list.items names)
-    → OnOk result (AddsBy walk (record { edition = walk.edition; marks = after }) names)
-all_added result walk after names is = on_ok_weaker result (adds_in_second walk after names is)
+    → OnOk result (AddsBy walk (record { told = walk.told; marks = after }) names)
+all_added result walk after names is kept = on_ok_weaker result (adds_in_second walk after names is kept)
 
 -- other statements
 

@@ -1,5 +1,5 @@
 -- What declarations outside all functions add to the marks.
-use Rattle.std.proofs.Common.{◌≡◌, ℕ, List, [], ◌∷◌, ◌++◌, Option, Some, None, option_map, refl, sym, ap, ◌∙◌}
+use Rattle.std.proofs.Common.{◌≡◌, ℕ, Bool, true, false, if◌then◌else◌, List, [], ◌∷◌, ◌++◌, Option, Some, None, option_map, refl, sym, ap, ◌∙◌}
 use Rattle.std.specs.Borrow.{Bor}
 use Rattle.std.specs.declared.alloc.Global.{Global}
 use Rattle.std.specs.declared.vec.Vec.{Vec}
@@ -7,18 +7,18 @@ use Rattle.tree.specs.declared.declaration.Spec.{Spec, Value', Type'}
 use Rattle.tree.specs.declared.expression.Param.{Param}
 use Rattle.tree.specs.declared.statement.Block.{Block, out-Block}
 use Rattle.tree.specs.declared.span.Span.{Span}
-use Rattle.tree.specs.Syntax.{Identifier, Signature, Parameters, expression_node, Specs, no_spec, Statements}
+use Rattle.tree.specs.Syntax.{Identifier, ImportSpec, Signature, Parameters, expression_node, Specs, no_spec, Statements}
 use Rattle.tree.specs.View.{block_braces, expression_form, row_expressions, held_expression, row_parameters, parameters_syntax, spec_and}
 use Rattle.tree.proofs.Views.{block_syntax-out}
+use Rattle.marks.specs.declared.by_edition.Told.{Told}
 use Rattle.marks.specs.declared.by_edition.Walk.{Walk}
-use Rattle.marks.specs.WalkViews.{AddsBy}
+use Rattle.marks.specs.WalkViews.{AddsBy, marks_told}
 use Rattle.mentions.proofs.Adding.{two_parts}
 use Rattle.std.proofs.lemmas.List.{append_assoc, append-nil}
 use Rattle.tree.specs.declared.edition.Edition.{Edition}
-use Rattle.tree.specs.declared.edition.Edition.TheVariants.{Second}
 use Rattle.mentions.specs.MarkViews.{marks_view}
-use Rattle.marks.proofs.AddingBy.{by_nothing, by_both, adds_then}
-use Rattle.meaning.specs.Mentions.{BodyPlace, Mark, opens, closes, in_body, other_use, part_of, expression_marks, expressions_marks, optional_marks, type_parameters_marks, outer_specs_marks, marks_by}
+use Rattle.marks.proofs.AddingBy.{told_nothing, told_both, adds_then}
+use Rattle.meaning.specs.Mentions.{BodyPlace, Mark, of_fields, imports_all, is_dot, import_marks, opens, closes, in_body, other_use, part_of, expression_marks, expressions_marks, optional_marks, type_parameters_marks, outer_specs_marks}
 
 pub outer_specs_more : (s : Spec) (ss : Specs) → outer_specs_marks (spec_and s ss) ≡ outer_specs_marks (spec_and s no_spec) ++ outer_specs_marks ss
 unfolding spec_and
@@ -71,9 +71,12 @@ body_same at name lent kept signature ss braces same = ap (λ ps. body_of at nam
 
 -- A loop over the declarations of a file keeps that what was added with what the rest adds is the whole.
 
-module _ (e : Edition) where
+abbrev pub told_by : Edition → Bool → Told
+told_by edition some_keep = record { edition = edition; some_keep = some_keep }
+
+module _ (told : Told) where
   abbrev pub IsSoFar : Walk → List Mark → List Mark → Type 0
-  IsSoFar now all whole = (now.edition ≡ e) × (marks_view now.marks.list.items ++ marks_by e all ≡ whole)
+  IsSoFar now all whole = (now.told ≡ told) × (marks_view now.marks.list.items ++ marks_told told all ≡ whole)
 
   pub file_next : (now next : Walk) (all marks rest whole : List Mark)
       → IsSoFar now all whole
@@ -83,22 +86,53 @@ module _ (e : Edition) where
   file_next now next all marks rest whole so_far parts added =
       let before = marks_view now.marks.list.items in (
         added.keeps ∙ so_far.0,
-        ap (λ l. l ++ marks_by e rest) (added.adds ∙ ap (λ f. before ++ marks_by f marks) so_far.0)
-            ∙ (append_assoc before (marks_by e marks) (marks_by e rest)
-            ∙ (ap (λ l. before ++ l) (sym (ap (marks_by e) parts ∙ by_both e marks rest)) ∙ so_far.1)),
+        ap (λ l. l ++ marks_told told rest) (added.adds ∙ ap (λ t. before ++ marks_told t marks) so_far.0)
+            ∙ (append_assoc before (marks_told told marks) (marks_told told rest)
+            ∙ (ap (λ l. before ++ l) (sym (ap (marks_told told) parts ∙ told_both told marks rest)) ∙ so_far.1)),
       )
 
   pub file_all : (end : Walk) (all whole : List Mark) → IsSoFar end all whole → all ≡ [] → marks_view end.marks.list.items ≡ whole
   file_all end all whole so_far nothing =
       let after = marks_view end.marks.list.items in
-      sym (append-nil after) ∙ (ap (λ l. after ++ l) (sym (ap (marks_by e) nothing ∙ by_nothing e)) ∙ so_far.1)
+      sym (append-nil after) ∙ (ap (λ l. after ++ l) (sym (ap (marks_told told) nothing ∙ told_nothing told)) ∙ so_far.1)
 
--- the second edition leaves no mark out
-pub all_marks : (start end : Walk) (xs ys : List Mark)
-    → start.edition ≡ Second
+-- what is marked is what the walk was told to mark
+pub told_marks : (start end : Walk) (told : Told) (xs ys : List Mark)
+    → start.told ≡ told
     → start.marks.list.items ≡ []
     → xs ≡ ys
     → AddsBy start end xs
-    → marks_view end.marks.list.items ≡ ys
-all_marks start end xs ys second none same added =
-    added.adds ∙ (λ i. marks_view (none i) ++ marks_by (second i) (same i))
+    → marks_view end.marks.list.items ≡ marks_told told ys
+told_marks start end told xs ys is none same added =
+    added.adds ∙ (λ i. marks_view (none i) ++ marks_told (is i) (same i))
+
+-- Imports that bring names which aren't written
+
+pub dot_marks : (s : ImportSpec) → true ≡ is_dot s.name → of_fields s.span.start imports_all ∷ [] ≡ import_marks (s ∷ [])
+dot_marks s dot = ap (λ b. (if b then of_fields s.span.start imports_all ∷ [] else []) ++ []) dot
+
+pub no_dot_marks : (s : ImportSpec) → false ≡ is_dot s.name → [] ≡ import_marks (s ∷ [])
+no_dot_marks s dot = ap (λ b. (if b then of_fields s.span.start imports_all ∷ [] else []) ++ []) dot
+
+pub imports_more : (s : ImportSpec) (ss : List ImportSpec)
+    → import_marks (s ∷ ss) ≡ import_marks (s ∷ []) ++ import_marks ss
+imports_more s ss =
+    ap (λ ms. ms ++ import_marks ss) (sym (append-nil (if is_dot s.name then of_fields s.span.start imports_all ∷ [] else [])))
+
+pub imports_joined : (xs ys : List ImportSpec) → import_marks (xs ++ ys) ≡ import_marks xs ++ import_marks ys
+imports_joined [] ys = refl
+imports_joined (x ∷ xs) ys =
+    let first = if is_dot x.name then of_fields x.span.start imports_all ∷ [] else [] in
+    ap (λ ms. first ++ ms) (imports_joined xs ys) ∙ sym (append_assoc first (import_marks xs) (import_marks ys))
+
+-- the declarations come behind the imports
+pub file_first : (told : Told) (start now : Walk) (imports rest : List Mark)
+    → start.told ≡ told
+    → start.marks.list.items ≡ []
+    → AddsBy start now imports
+    → IsSoFar told now rest (marks_told told (imports ++ rest))
+file_first told start now imports rest is none added = (
+  added.keeps ∙ is,
+  ap (λ l. l ++ marks_told told rest) (added.adds ∙ (λ i. marks_view (none i) ++ marks_told (is i) imports))
+      ∙ sym (told_both told imports rest),
+)

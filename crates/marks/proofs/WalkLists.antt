@@ -1,5 +1,5 @@
 -- What the parts of a tree add to the marks: an item of a list and the rest, a clause, a body.
-use Rattle.std.proofs.Common.{Bool, not, ◌&&◌, ◌≡◌, ℕ, List, [], ◌∷◌, ◌++◌, map, Option, Some, None, option_map, refl, ap, ◌∙◌, false}
+use Rattle.std.proofs.Common.{Bool, not, ◌&&◌, ◌≡◌, ℕ, List, [], ◌∷◌, ◌++◌, map, Option, Some, None, option_map, Result, OnOk, refl, ap, ◌∙◌, false}
 use Rattle.std.specs.Borrow.{Bor}
 use Rattle.std.specs.Option.{option_copied}
 use Rattle.tree.specs.declared.declaration.Spec.{Spec, Value', Type'}
@@ -22,9 +22,9 @@ use Rattle.mentions.specs.MarkViews.{body_view}
 use Rattle.marks.specs.declared.by_edition.Walk.{Walk}
 use Rattle.marks.specs.WalkViews.{AddsBy}
 use Rattle.meaning.specs.Scopes.{parameters_named}
-use Rattle.meaning.specs.Mentions.{Mark, Spot, part_of, declared_elsewhere, ordinary, communication, declares, row_of, value_spot, left_names, declaring, exposed, number_of, parameter_type_or, guard_in_clause, in_body, literal_body, deferral, BodyPlace, opens, closes, expression_marks, form_marks, expressions_marks, names_type_marks, signature_marks, parameters_marks, fields_marks, statements_marks, optional_statement_marks, cases_marks, communications_marks, specs_marks}
+use Rattle.meaning.specs.Mentions.{Mark, Spot, part_of, declared_elsewhere, ordinary, communication, declares, row_of, value_spot, left_names, declaring, exposed, number_of, parameter_type_or, guard_in_clause, guard_renewed, communication_given, in_body, literal_body, deferral, literal_given_to, BodyPlace, opens, closes, expression_marks, form_marks, expressions_marks, names_type_marks, signature_marks, parameters_marks, fields_marks, statements_marks, optional_statement_marks, cases_marks, communications_marks, specs_marks}
 use Rattle.mentions.proofs.Adding.{one_part, three_parts, four_parts, two_joined, three_joined}
-use Rattle.marks.proofs.AddingBy.{adds_same, adds_then}
+use Rattle.marks.proofs.AddingBy.{adds_same, adds_then, then_adds}
 
 pub parameters_more : (are_parameters : Bool) (site : ℕ) (p : Param) (ps : Parameters)
     → parameters_marks are_parameters site (parameter_and p ps)
@@ -62,64 +62,76 @@ specs_more keyword at (Type' n shape ps alias p t t_span span) ss =
     (declared_elsewhere span.start (parameters_named (row_parameters ps))) (parameters_marks false span.start (row_parameters ps))
     (expression_marks (part_of span.start) (expression_node (expression_form t) t_span)) (specs_marks keyword at ss)
 
+four_joined : (a b c d rest : List Mark) → a ++ (b ++ (c ++ (d ++ rest))) ≡ (a ++ (b ++ (c ++ d))) ++ rest
+four_joined a b c d rest = ap (λ l. a ++ l) (three_joined b c d rest) ∙ two_joined a (b ++ (c ++ d)) rest
+
 abbrev pub case_marks : ℕ → Option Identifier → CaseClause → List Mark
 case_marks at guard c =
     guard_in_clause at guard (out-CaseClause c).span
+    ++ (guard_renewed guard (out-CaseClause c).span
     ++ (expressions_marks (part_of (out-CaseClause c).span.start) (expressions_syntax (out-CaseClause c).expressions.items)
-    ++ statements_marks (statements_syntax (out-CaseClause c).statements.items))
+    ++ statements_marks (statements_syntax (out-CaseClause c).statements.items)))
 
 pub cases_more : (at : ℕ) (guard : Option Identifier) (c : CaseClause) (cs : CaseClauses)
     → cases_marks at guard (case_clause_and c cs) ≡ case_marks at guard c ++ cases_marks at guard cs
 unfolding cases_marks
 cases_more at guard c cs =
     ap (cases_marks at guard) (case_clause_and-out c cs)
-    ∙ three_joined (guard_in_clause at guard (out-CaseClause c).span)
+    ∙ four_joined (guard_in_clause at guard (out-CaseClause c).span)
+    (guard_renewed guard (out-CaseClause c).span)
     (expressions_marks (part_of (out-CaseClause c).span.start) (expressions_syntax (out-CaseClause c).expressions.items))
     (statements_marks (statements_syntax (out-CaseClause c).statements.items))
     (cases_marks at guard cs)
 
 -- a clause, whose lists the code reads as slices
-pub adds_case : (at : ℕ) (guard : Option Identifier) (clause : CaseClause) (a b c d : Walk) (es : List Expr) (ss : List Stmt)
+pub adds_case : (at : ℕ) (guard : Option Identifier) (clause : CaseClause) (a b c d f : Walk) (es : List Expr) (ss : List Stmt)
     → AddsBy a b (guard_in_clause at guard (out-CaseClause clause).span)
+    → AddsBy b c (guard_renewed guard (out-CaseClause clause).span)
     → es ≡ (out-CaseClause clause).expressions.items
-    → AddsBy b c (expressions_marks (part_of (out-CaseClause clause).span.start) (expressions_syntax es))
+    → AddsBy c d (expressions_marks (part_of (out-CaseClause clause).span.start) (expressions_syntax es))
     → ss ≡ (out-CaseClause clause).statements.items
-    → AddsBy c d (statements_marks (statements_syntax ss))
-    → AddsBy a d (case_marks at guard clause)
-adds_case at guard clause a b c d es ss first same second equal third =
+    → AddsBy d f (statements_marks (statements_syntax ss))
+    → AddsBy a f (case_marks at guard clause)
+adds_case at guard clause a b c d f es ss first second same third equal fourth =
     let o = out-CaseClause clause in
     let spot = part_of o.span.start in
     let listed = expressions_marks spot (expressions_syntax o.expressions.items) in
     let body = statements_marks (statements_syntax o.statements.items) in
-    adds_then a b d (guard_in_clause at guard o.span) (listed ++ body) first
-    (adds_then b c d listed body
-    (adds_same b c (expressions_marks spot (expressions_syntax es)) listed (ap (λ l. expressions_marks spot (expressions_syntax l)) same) second)
-    (adds_same c d (statements_marks (statements_syntax ss)) body (ap (λ l. statements_marks (statements_syntax l)) equal) third))
+    adds_then a b f (guard_in_clause at guard o.span) (guard_renewed guard o.span ++ (listed ++ body)) first
+    (adds_then b c f (guard_renewed guard o.span) (listed ++ body) second
+    (adds_then c d f listed body
+    (adds_same c d (expressions_marks spot (expressions_syntax es)) listed (ap (λ l. expressions_marks spot (expressions_syntax l)) same) third)
+    (adds_same d f (statements_marks (statements_syntax ss)) body (ap (λ l. statements_marks (statements_syntax l)) equal) fourth)))
 
 abbrev pub communication_marks : CommClause → List Mark
 communication_marks c =
     optional_statement_marks communication (optional_statement_syntax (out-CommClause c).communication)
-    ++ statements_marks (statements_syntax (out-CommClause c).statements.items)
+    ++ (communication_given (out-CommClause c).span.start (optional_statement_syntax (out-CommClause c).communication)
+    ++ statements_marks (statements_syntax (out-CommClause c).statements.items))
 
 pub communications_more : (c : CommClause) (cs : CommunicationClauses)
     → communications_marks (communication_clause_and c cs) ≡ communication_marks c ++ communications_marks cs
 unfolding communications_marks
 communications_more c cs =
     ap communications_marks (communication_clause_and-out c cs)
-    ∙ two_joined (optional_statement_marks communication (optional_statement_syntax (out-CommClause c).communication))
+    ∙ three_joined (optional_statement_marks communication (optional_statement_syntax (out-CommClause c).communication))
+    (communication_given (out-CommClause c).span.start (optional_statement_syntax (out-CommClause c).communication))
     (statements_marks (statements_syntax (out-CommClause c).statements.items))
     (communications_marks cs)
 
-pub adds_communication : (clause : CommClause) (a b c : Walk) (ss : List Stmt)
+pub adds_communication : (clause : CommClause) (a b c d : Walk) (ss : List Stmt)
     → AddsBy a b (optional_statement_marks communication (optional_statement_syntax (out-CommClause clause).communication))
+    → AddsBy b c (communication_given (out-CommClause clause).span.start (optional_statement_syntax (out-CommClause clause).communication))
     → ss ≡ (out-CommClause clause).statements.items
-    → AddsBy b c (statements_marks (statements_syntax ss))
-    → AddsBy a c (communication_marks clause)
-adds_communication clause a b c ss first same second =
+    → AddsBy c d (statements_marks (statements_syntax ss))
+    → AddsBy a d (communication_marks clause)
+adds_communication clause a b c d ss first second same third =
     let o = out-CommClause clause in
+    let waited = optional_statement_syntax o.communication in
     let body = statements_marks (statements_syntax o.statements.items) in
-    adds_then a b c (optional_statement_marks communication (optional_statement_syntax o.communication)) body first
-    (adds_same b c (statements_marks (statements_syntax ss)) body (ap (λ l. statements_marks (statements_syntax l)) same) second)
+    adds_then a b d (optional_statement_marks communication waited) (communication_given o.span.start waited ++ body) first
+    (adds_then b c d (communication_given o.span.start waited) body second
+    (adds_same c d (statements_marks (statements_syntax ss)) body (ap (λ l. statements_marks (statements_syntax l)) same) third))
 
 -- The parts of a block and of a literal, as the code reads them.
 
@@ -132,27 +144,27 @@ pub literal_marks : (spot : Spot) (span : Span) (l : Literal)
     (statements_syntax (out-Block (out-Literal l).body).statements.items) (out-Block (out-Literal l).body).span)
     (signature_marks span.start (signature_syntax (out-Literal l).signature)
     ++ statements_marks (statements_syntax (out-Block (out-Literal l).body).statements.items))
-    ++ deferral spot.literal spot.site span.start
+    ++ (deferral spot.literal spot.site span.start ++ literal_given_to spot.site spot.taker span.start)
 unfolding form_marks
 literal_marks spot span l =
     let s = signature_syntax (out-Literal l).signature in
     ap (form_marks spot span) (literal_syntax-out l)
     ∙ (λ i. let b = block_syntax-out (out-Literal l).body i in
     in_body (literal_body spot.literal span.start s b.statements b.braces) (signature_marks span.start s ++ statements_marks b.statements)
-    ++ deferral spot.literal spot.site span.start)
+    ++ (deferral spot.literal spot.site span.start ++ literal_given_to spot.site spot.taker span.start))
 
 -- what stands in a body, and what is added behind it
-pub adds_body : (a b c d e f : Walk) (place : BodyPlace) (xs ys zs : List Mark)
+pub body_adds : {T E : Type 0} (result : Result T E) (a b c d e f : Walk) (place : BodyPlace) (xs ys zs : List Mark)
     → AddsBy a b (opens place ∷ [])
     → AddsBy b c xs
     → AddsBy c d ys
     → AddsBy d e (closes ∷ [])
-    → AddsBy e f zs
-    → AddsBy a f (in_body place (xs ++ ys) ++ zs)
-adds_body a b c d e f place xs ys zs first second third fourth fifth =
-    adds_then a e f (in_body place (xs ++ ys)) zs
+    → OnOk result (AddsBy e f zs)
+    → OnOk result (AddsBy a f (in_body place (xs ++ ys) ++ zs))
+body_adds result a b c d e f place xs ys zs first second third fourth =
+    then_adds result a e f (in_body place (xs ++ ys)) zs
     (adds_then a b e (opens place ∷ []) ((xs ++ ys) ++ closes ∷ []) first
-    (adds_then b d e (xs ++ ys) (closes ∷ []) (adds_then b c d xs ys second third) fourth)) fifth
+    (adds_then b d e (xs ++ ys) (closes ∷ []) (adds_then b c d xs ys second third) fourth))
 
 -- a body that stands in the arena
 pub opens_kept : (a b : Walk) (kept : Bor KeptBody) (place : BodyPlace)

@@ -1,5 +1,5 @@
 -- Steps of the walk that adds marks.
-use Rattle.std.proofs.Common.{false, true, Bool, ◌⊎◌, inl, inr, ◌≢◌, ◌-◌, ◌≡◌, ℕ, ◌+◌, ◌<◌, ◌≤◌, List, [], ◌∷◌, ◌++◌, drop, length, map, Option, None, Result, OnOk, refl, sym, ap, ◌∙◌, arith}
+use Rattle.std.proofs.Common.{false, true, Bool, ◌⊎◌, inl, inr, ◌≢◌, ◌-◌, ◌≡◌, ℕ, ◌+◌, ◌<◌, ◌≤◌, List, [], ◌∷◌, ◌++◌, drop, length, map, Option, Some, None, Result, OnOk, refl, sym, ap, ◌∙◌, arith}
 use Rattle.std.proofs.lemmas.Bool.Decides.{eqb_tells}
 use Rattle.std.proofs.lemmas.List.{length-drop}
 use Rattle.std.proofs.Math.Dec.{eqb}
@@ -20,7 +20,7 @@ use Rattle.marks.specs.declared.by_edition.Walk.{Walk}
 use Rattle.marks.specs.WalkViews.{AddsBy, FindsNothing}
 use Rattle.marks.proofs.AddingBy.{adds_same, same_adds, then_adds, adds_then, three_adds, four_adds, alone_adds}
 use Rattle.mentions.proofs.Adding.{two_joined}
-use Rattle.meaning.specs.Mentions.{Mark, Named, Spot, Role, Call, Row, LiteralUse, Standing, ordinary, part_of, nowhere, declares, assigns, defines, returns, argument, addressed, as_bare, as_named, left, whole, return_item, row_of, value_spot, left_names, is_none_left, argument_use, argument_at, argument_or, named_or, callee_or, expression_marks, expressions_marks, arguments_marks, items_marks, lefts_marks, ranged_marks, names_type_marks, statement_marks, statements_marks, exposed_or, behind_row, row_in, CallPlace, as_statement, only_value, deferred, name_role}
+use Rattle.meaning.specs.Mentions.{Mark, Named, Spot, Role, Call, Row, Assigned, Standing, ordinary, part_of, nowhere, declares, assigns, defines, returns, argument, addressed, as_bare, as_named, left, whole, return_item, row_of, value_spot, left_names, is_one, is_none_left, arguments_place, argument_spot, argument_taker, argument_at, argument_or, given_to, field_written, field_called, receiver_given, rights_given, named_or, callee_or, callee_spot, expression_marks, expressions_marks, arguments_marks, items_marks, lefts_marks, ranged_marks, names_type_marks, statement_marks, statements_marks, exposed_or, behind_row, row_in, CallPlace, as_statement, only_value, deferred, under_go, name_role}
 
 pub at_spot : {T E : Type 0} (result : Result T E) (a b : Walk) (s t : Spot) (e : Expression)
     → s ≡ t
@@ -58,21 +58,28 @@ pub named_adds : {T E : Type 0} (result : Result T E) (a b : Walk) (n m : Option
 named_adds result a b n m site role xs ys same equal =
     same_adds result a b (named_or n site role xs) (named_or m site role ys) (λ i. named_or (same i) site role (equal i))
 
-abbrev pub used_at : LiteralUse → ℕ → Spot
-used_at used site = record { place = nowhere; literal = used; site = site }
-
--- a callee and its arguments
-pub call_adds : {T E : Type 0} (result : Result T E) (a b c : Walk) (site : ℕ) (call made : Option Call) (used other : LiteralUse) (e : Expression) (es : Expressions)
+-- a call: the receiver of its method, its arguments, and its callee, which is mentioned or stands at the spot
+pub call_adds : {T E : Type 0} (result : Result T E) (a b c d f : Walk) (spot kept : Spot) (place : CallPlace) (call made : Option Call) (e : Expression) (es : Expressions)
     → call ≡ made
-    → used ≡ other
-    → AddsBy a b (callee_or call site e (expression_marks (used_at used site) e))
-    → OnOk result (AddsBy b c (arguments_marks call site 0 es))
-    → OnOk result (AddsBy a c (callee_or made site e (expression_marks (used_at other site) e) ++ arguments_marks made site 0 es))
-call_adds result a b c site call made used other e es same equal first second =
-    same_adds result a c (callee_or call site e (expression_marks (used_at used site) e) ++ arguments_marks call site 0 es)
-    (callee_or made site e (expression_marks (used_at other site) e) ++ arguments_marks made site 0 es)
-    (λ i. callee_or (same i) site e (expression_marks (used_at (equal i) site) e) ++ arguments_marks (same i) site 0 es)
-    (then_adds result a b c (callee_or call site e (expression_marks (used_at used site) e)) (arguments_marks call site 0 es) first second)
+    → kept ≡ callee_spot spot
+    → place ≡ arguments_place spot.place e
+    → AddsBy a b (receiver_given spot.place spot.site e)
+    → AddsBy b c (arguments_marks place call spot.site 0 es)
+    → AddsBy c d (callee_or call kept.site e (expression_marks kept e))
+    → OnOk result (AddsBy d f (field_called spot.site e))
+    → OnOk result (AddsBy a f (receiver_given spot.place spot.site e
+    ++ (arguments_marks (arguments_place spot.place e) made spot.site 0 es
+    ++ (callee_or made spot.site e (expression_marks (callee_spot spot) e) ++ field_called spot.site e))))
+call_adds result a b c d f spot kept place call made e es same equal there first second third =
+    four_adds result a b c d f (receiver_given spot.place spot.site e)
+    (arguments_marks (arguments_place spot.place e) made spot.site 0 es)
+    (callee_or made spot.site e (expression_marks (callee_spot spot) e)) (field_called spot.site e) first
+    (adds_same b c (arguments_marks place call spot.site 0 es)
+    (arguments_marks (arguments_place spot.place e) made spot.site 0 es)
+    (λ i. arguments_marks (there i) (same i) spot.site 0 es) second)
+    (adds_same c d (callee_or call kept.site e (expression_marks kept e))
+    (callee_or made spot.site e (expression_marks (callee_spot spot) e))
+    (λ i. callee_or (same i) (equal i).site e (expression_marks (equal i) e)) third)
 
 -- A row as the code keeps it, whose lists it reads as slices.
 
@@ -99,21 +106,32 @@ pub declared_same : (keyword : DeclKeyword) (at : ℕ) (t : OptionalExpression) 
     → declared_row keyword at t ls vs ≡ declared_row keyword at t ns xs
 declared_same keyword at t ls ns vs xs l v = λ i. declared_row keyword at t (l i) (v i)
 
--- values, and the left sides that they are assigned to
-pub assignment_adds : {T E : Type 0} (result : Result T E) (a b c : Walk) (at : ℕ) (spot : Spot) (kept row : Row) (ms ns ws xs : List Expr)
+-- values, what they give to others, and the left sides that they are assigned to
+pub assignment_adds : {T E : Type 0} (result : Result T E) (a b c d : Walk) (at : ℕ) (spot : Spot) (kept row : Row) (ls ms ns vs ws xs : List Expr)
     → kept ≡ row
     → ws ≡ xs
+    → ls ≡ ns
+    → vs ≡ xs
     → ms ≡ ns
     → spot ≡ value_spot kept at
     → AddsBy a b (expressions_marks spot (expressions_syntax ws))
-    → OnOk result (AddsBy b c (lefts_marks kept at 0 (expressions_syntax ms)))
-    → OnOk result (AddsBy a c (expressions_marks (value_spot row at) (expressions_syntax xs) ++ lefts_marks row at 0 (expressions_syntax ns)))
-assignment_adds result a b c at spot kept row ms ns ws xs r w m s first second =
-    same_adds result a c (expressions_marks spot (expressions_syntax ws) ++ lefts_marks kept at 0 (expressions_syntax ms))
-    (expressions_marks (value_spot row at) (expressions_syntax xs) ++ lefts_marks row at 0 (expressions_syntax ns))
-    (ap (λ t. expressions_marks t (expressions_syntax ws) ++ lefts_marks kept at 0 (expressions_syntax ms)) s
-    ∙ (λ i. expressions_marks (value_spot (r i) at) (expressions_syntax (w i)) ++ lefts_marks (r i) at 0 (expressions_syntax (m i))))
-    (then_adds result a b c (expressions_marks spot (expressions_syntax ws)) (lefts_marks kept at 0 (expressions_syntax ms)) first second)
+    → AddsBy b c (rights_given at (is_one (expressions_syntax vs)) (expressions_syntax ls) (expressions_syntax vs))
+    → OnOk result (AddsBy c d (lefts_marks kept at 0 (expressions_syntax ms)))
+    → OnOk result (AddsBy a d (expressions_marks (value_spot row at) (expressions_syntax xs)
+    ++ (rights_given at (is_one (expressions_syntax xs)) (expressions_syntax ns) (expressions_syntax xs)
+    ++ lefts_marks row at 0 (expressions_syntax ns))))
+assignment_adds result a b c d at spot kept row ls ms ns vs ws xs r w l v m s first second third =
+    three_adds result a b c d (expressions_marks (value_spot row at) (expressions_syntax xs))
+    (rights_given at (is_one (expressions_syntax xs)) (expressions_syntax ns) (expressions_syntax xs))
+    (lefts_marks row at 0 (expressions_syntax ns))
+    (adds_same a b (expressions_marks spot (expressions_syntax ws)) (expressions_marks (value_spot row at) (expressions_syntax xs))
+    (ap (λ t. expressions_marks t (expressions_syntax ws)) s
+    ∙ (λ i. expressions_marks (value_spot (r i) at) (expressions_syntax (w i)))) first)
+    (adds_same b c (rights_given at (is_one (expressions_syntax vs)) (expressions_syntax ls) (expressions_syntax vs))
+    (rights_given at (is_one (expressions_syntax xs)) (expressions_syntax ns) (expressions_syntax xs))
+    (λ i. rights_given at (is_one (expressions_syntax (v i))) (expressions_syntax (l i)) (expressions_syntax (v i))) second)
+    (same_adds result c d (lefts_marks kept at 0 (expressions_syntax ms)) (lefts_marks row at 0 (expressions_syntax ns))
+    (λ i. lefts_marks (r i) at 0 (expressions_syntax (m i))) third)
 
 -- values, and the names that are defined by them
 pub definition_adds : {T E : Type 0} (result : Result T E) (a b c : Walk) (at : ℕ) (spot : Spot) (kept row : Row) (ms ns : List KeptIdentifier) (ws xs : List Expr)
@@ -176,17 +194,6 @@ no_operator (Unary' op p e e_span) span call site index xs other =
 no_operator (FuncLit' p (Literal' ps_shape ps rs_shape rs brackets body)) span call site index xs other = refl
 no_operator _ span call site index xs other = refl
 
--- an argument of a call of another expression
-pub alone_adds_argument : {T E : Type 0} (result : Result T E) (a b : Walk) (call : Option Call) (site index : ℕ) (is_last : Bool) (used : LiteralUse) (e : Expression)
-    → call ≡ None
-    → used ≡ argument_use call
-    → OnOk result (AddsBy a b (expression_marks (used_at used site) e))
-    → OnOk result (AddsBy a b (argument_at call site index is_last e (expression_marks (used_at (argument_use call) site) e)))
-alone_adds_argument result a b call site index is_last used e none same =
-    let marks = expression_marks (used_at (argument_use call) site) e in
-    same_adds result a b (expression_marks (used_at used site) e) (argument_at call site index is_last e marks)
-    (ap (λ u. expression_marks (used_at u site) e) same ∙ sym (ap (λ o. argument_at o site index is_last e marks) none))
-
 -- an argument with an operator
 pub operator_argument : (k : ExprKind) (op : UnaryOperator) (e : Box Expr Global) (span : Span) (call : Call) (site index : ℕ) (n : Option Named) (xs : List Mark)
     → k ≡ Unary op e
@@ -203,16 +210,25 @@ place_finds as_statement site n = refl
 place_finds (only_value row) site n = refl
 place_finds (return_item k) site n = refl
 place_finds deferred site n = refl
+place_finds under_go site n = refl
 
 -- The first of a list, and the rest.
 
-pub argument_first : (call : Option Call) (site k : ℕ) (is_last : Bool) (e : Expression) (es : Expressions)
+pub argument_first : (place : CallPlace) (call : Option Call) (site k : ℕ) (is_last : Bool) (e : Expression) (es : Expressions)
     → is_last ≡ is_none_left es
-    → arguments_marks call site k (expression_and e es)
-    ≡ argument_at call site k is_last e (expression_marks (used_at (argument_use call) site) e) ++ arguments_marks call site (k + 1) es
+    → arguments_marks place call site k (expression_and e es)
+    ≡ (argument_at call site k is_last e (expression_marks (argument_spot place call site) e)
+    ++ given_to site (argument_taker place call) e)
+    ++ arguments_marks place call site (k + 1) es
 unfolding arguments_marks
-argument_first call site k is_last e es last =
-    λ i. argument_at call site k (sym last i) e (expression_marks (used_at (argument_use call) site) e) ++ arguments_marks call site (k + 1) es
+argument_first place call site k is_last e es last =
+    (λ i. argument_at call site k (sym last i) e (expression_marks (argument_spot place call site) e)
+    ++ (given_to site (argument_taker place call) e ++ arguments_marks place call site (k + 1) es))
+    ∙ two_joined (argument_at call site k is_last e (expression_marks (argument_spot place call site) e))
+    (given_to site (argument_taker place call) e) (arguments_marks place call site (k + 1) es)
+
+abbrev pub assigned_at : ℕ → Row → Assigned
+assigned_at k row = record { left_side = k; row = row }
 
 pub item_first : (site k : ℕ) (e : Expression) (es : Expressions)
     → items_marks site k (expression_and e es) ≡ expression_marks (whole (return_item k) site) e ++ items_marks site (k + 1) es
@@ -221,16 +237,20 @@ item_first site k e es = refl
 
 pub left_first : (row : Row) (site k : ℕ) (e : Expression) (es : Expressions)
     → lefts_marks row site k (expression_and e es)
-    ≡ named_or (as_bare e) site (left k row) (exposed_or site e (expression_marks (part_of site) e))
+    ≡ (named_or (as_bare e) site (left k row) (exposed_or site e (expression_marks (part_of site) e))
+    ++ field_written site (Some (assigned_at k row)) e)
     ++ lefts_marks row site (k + 1) es
 unfolding lefts_marks
-left_first row site k e es = refl
+left_first row site k e es =
+    two_joined (named_or (as_bare e) site (left k row) (exposed_or site e (expression_marks (part_of site) e)))
+    (field_written site (Some (assigned_at k row)) e) (lefts_marks row site (k + 1) es)
 
 pub ranged_first : (site : ℕ) (e : Expression) (es : Expressions)
     → ranged_marks site (expression_and e es)
-    ≡ exposed_or site e (expression_marks (part_of site) e) ++ ranged_marks site es
+    ≡ (exposed_or site e (expression_marks (part_of site) e) ++ field_written site None e) ++ ranged_marks site es
 unfolding ranged_marks
-ranged_first site e es = refl
+ranged_first site e es =
+    two_joined (exposed_or site e (expression_marks (part_of site) e)) (field_written site None e) (ranged_marks site es)
 
 pub statement_first : (s : Statement) (ss : Statements)
     → statements_marks (statement_and s ss) ≡ (statement_marks ordinary s ++ behind_row (row_in s) ss) ++ statements_marks ss

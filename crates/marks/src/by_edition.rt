@@ -1,4 +1,5 @@
-//! What conditions find out, which is marked in the second edition alone.
+//! What a walk marks: what conditions find out in the second edition alone, and fields there where some field keeps
+//! what it holds.
 
 ghost use Rattle.std.specs.Prelude.{◌≡◌, ◌+◌, ◌<◌, OnOk, drop, length};
 ghost use Rattle.meaning.specs.Mentions.{nil_where, nil_marks, row_in, first_row, guard_marks, behind_row};
@@ -13,10 +14,17 @@ use mentions::found::{found_nil as all_found_nil, guard_marks};
 use std::alloc::AllocError;
 use tree::{Edition, Expr, Span, Stmt, StmtKind};
 
-/// A walk over a file: the edition by which it marks, and the marks so far.
+/// By what is marked: an edition, and whether some field keeps what it holds. In the first edition none does.
+#[derive(Clone, Copy)]
+pub struct Told {
+    pub edition: Edition,
+    pub some_keep: bool,
+}
+
+/// A walk over a file: by what it marks, and the marks so far.
 #[derive(Drop)]
 pub struct Walk<'m, 'a> {
-    pub edition: Edition,
+    pub told: Told,
     pub marks: Marks<'m, 'a>,
 }
 
@@ -34,7 +42,7 @@ pub fn found_nil<'m, 'a>(
     ensures { OnOk result (AddsBy walk.old walk.new (nil_marks site
         (nil_where outcome (expression_syntax condition.now)))) }
 {
-    match walk.edition {
+    match walk.told.edition {
         Edition::First => Ok(()),
         Edition::Second => all_found_nil(&mut walk.marks, site, outcome, condition),
     }
@@ -54,7 +62,7 @@ pub fn first_guard<'m, 'a>(
     ensures { OnOk result (AddsBy walk.old walk.new (guard_marks (first_row (optional_statement_syntax init.now))
         (expression_syntax condition.now) braces)) }
 {
-    match walk.edition {
+    match walk.told.edition {
         Edition::First => Ok(()),
         Edition::Second => guard_marks(&mut walk.marks, first_row(init), condition, braces),
     }
@@ -75,7 +83,7 @@ pub fn behind_row<'m, 'a>(
     ensures { OnOk result (AddsBy walk.old walk.new (behind_row (row_in (statement_syntax statement.now))
         (statements_syntax (drop (index + 1) list.now)))) }
 {
-    match walk.edition {
+    match walk.told.edition {
         Edition::First => Ok(()),
         Edition::Second => match list.get(index + 1) {
             Some(next) => guard_behind(&mut walk.marks, statement, next),

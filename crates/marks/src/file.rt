@@ -1,14 +1,17 @@
 //! The marks of a whole file.
 
-ghost use Rattle.std.specs.Prelude.{◌≡◌, OnOk, IfOk, map, option_map};
-ghost use Rattle.meaning.specs.Mentions.{part_of, expression_marks, declared_elsewhere, receiver_marks, type_parameters_marks, function_types_marks, function_marks, outer_specs_marks, top_level_marks, statements_marks, marks_by, file_marks};
+ghost use Rattle.std.specs.Prelude.{◌≡◌, [], ◌∷◌, false, OnOk, IfOk, map, option_map};
+ghost use Rattle.meaning.specs.Mentions.{part_of, expression_marks, declared_elsewhere, receiver_marks, type_parameters_marks, function_types_marks, function_marks, outer_specs_marks, top_level_marks, statements_marks, marks_by, is_dot, import_marks, file_marks};
+ghost use Rattle.meaning.specs.OuterBlocks.{specs_of};
 ghost use Rattle.marks.specs.WalkViews.{AddsBy};
 ghost use Rattle.mentions.specs.MarkViews.{Adds, marks_view};
 ghost use Rattle.scopes.specs.Views.{bare_view};
+ghost use Rattle.tree.specs.declared.edition.Edition.TheVariants.{Second};
 ghost use Rattle.tree.specs.Syntax.{no_spec};
-ghost use Rattle.tree.specs.View.{expression_syntax, parameters_syntax, block_syntax, function_syntax, specs_syntax, statements_syntax, spec_and, top_level_syntax, file_syntax};
+ghost use Rattle.tree.specs.View.{expression_syntax, parameters_syntax, block_syntax, function_syntax, identifier_syntax, import_spec_syntax, import_syntax, specs_syntax, statements_syntax, spec_and, top_level_syntax, file_syntax};
 
-use crate::by_edition::Walk;
+use crate::by_edition::{Told, Walk};
+use crate::by_fields::imports_all;
 use crate::walk::{expression, expressions, optional, parameters, signature, statements};
 use bumpalo::Bump;
 use mentions::Marks;
@@ -16,10 +19,14 @@ use mentions::mark::{BodyPlace, LiteralUse, Mark};
 use mentions::parts::{declare_text, declared_parameters, part_of};
 use scopes::{BareName, named_in_types};
 use std::alloc::{AllocError, Global};
-use tree::{Block, Edition, Expr, File, Func, Param, Spec, Stmt, TopLevelDecl};
+use tree::{
+    Block, Edition, Expr, File, Func, Identifier, ImportDecl, ImportSpec, Param, Spec, Stmt,
+    TopLevelDecl,
+};
 
 /// The marks of a file, in the order in which its statements do what they say; in the first edition without what
-/// conditions find out. What they refer to stands in the arena.
+/// conditions find out. In the second edition fields are marked where some field keeps what it holds. What marks refer
+/// to stands in the arena.
 ///
 /// # Errors
 ///
@@ -28,25 +35,73 @@ pub fn file_marks<'m, 'a>(
     alloc: Global,
     arena: &'m Bump,
     edition: Edition,
+    some_keep: bool,
     file: &'a File,
 ) -> Result<Vec<Mark<'m, 'a>>, AllocError>
-    ensures { IfOk result (λ marks. marks_view marks.items ≡ marks_by edition (file_marks (file_syntax file.now))) }
+    ensures { IfOk result (λ marks. marks_view marks.items ≡ marks_by edition some_keep
+        (file_marks (file_syntax file.now))) }
 {
     let mut walk = Walk {
-        edition,
+        told: Told { edition, some_keep },
         marks: Marks {
             arena,
             list: Vec::new(alloc),
         },
     };
+    all_imports(&mut walk, &file.imports)?;
     for declaration in &file.declarations {
         top_level(alloc, &mut walk, declaration)?;
     }
     Ok(walk.marks.list)
 }
 
+/// Whether an import brings all names of its package, without its name before them.
+fn is_dot(name: &Option<Identifier>) -> bool
+    ensures { result ≡ is_dot (option_map identifier_syntax name.now) }
+{
+    match name {
+        Some(name) => name.text.as_str() == ".",
+        None => false,
+    }
+}
+
+/// An import that brings such names.
+fn one_import<'m, 'a>(walk: &mut Walk<'m, 'a>, spec: &'a ImportSpec) -> Result<(), AllocError>
+    ensures { OnOk result (AddsBy walk.old walk.new (import_marks (import_spec_syntax spec.now ∷ []))) }
+{
+    if is_dot(&spec.name) {
+        imports_all(walk, spec.span.start)
+    } else {
+        Ok(())
+    }
+}
+
+/// The specs of an import declaration that bring such names.
+fn imports<'m, 'a>(walk: &mut Walk<'m, 'a>, specs: &'a [ImportSpec]) -> Result<(), AllocError>
+    ensures { OnOk result (AddsBy walk.old walk.new (import_marks (map import_spec_syntax specs.now))) }
+{
+    for spec in specs {
+        one_import(walk, spec)?;
+    }
+    Ok(())
+}
+
+/// Those of all import declarations of the file.
+fn all_imports<'m, 'a>(
+    walk: &mut Walk<'m, 'a>,
+    declarations: &'a [ImportDecl],
+) -> Result<(), AllocError>
+    ensures { OnOk result (AddsBy walk.old walk.new (import_marks (specs_of
+        (map import_syntax declarations.now)))) }
+{
+    for declaration in declarations {
+        imports(walk, &declaration.specs)?;
+    }
+    Ok(())
+}
+
 /// The marks of an expression that stands nowhere as a whole, as if its site were at offset 0; in its literals with
-/// what conditions find out.
+/// what conditions find out, and with those of fields.
 ///
 /// # Errors
 ///
@@ -60,7 +115,10 @@ pub fn expression_marks<'m, 'a>(
         (part_of 0) (expression_syntax value.now)) }
 {
     let mut walk = Walk {
-        edition: Edition::Second,
+        told: Told {
+            edition: Edition::Second,
+            some_keep: true,
+        },
         marks: Marks {
             arena,
             list: Vec::new(alloc),
@@ -70,7 +128,7 @@ pub fn expression_marks<'m, 'a>(
     Ok(walk.marks.list)
 }
 
-/// The marks of statements, with what conditions find out.
+/// The marks of statements, with what conditions find out, and without those of fields.
 ///
 /// # Errors
 ///
@@ -80,10 +138,14 @@ pub fn statement_marks<'m, 'a>(
     arena: &'m Bump,
     list: &'a [Stmt],
 ) -> Result<Vec<Mark<'m, 'a>>, AllocError>
-    ensures { IfOk result (λ marks. marks_view marks.items ≡ statements_marks (statements_syntax list.now)) }
+    ensures { IfOk result (λ marks. marks_view marks.items ≡ marks_by Second false
+        (statements_marks (statements_syntax list.now))) }
 {
     let mut walk = Walk {
-        edition: Edition::Second,
+        told: Told {
+            edition: Edition::Second,
+            some_keep: false,
+        },
         marks: Marks {
             arena,
             list: Vec::new(alloc),

@@ -3,6 +3,7 @@
 #![tactic(auto)]
 
 mod by_edition;
+mod by_fields;
 mod file;
 mod returns;
 mod rows;

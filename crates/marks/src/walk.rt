@@ -1,24 +1,29 @@
 //! The marks of expressions, types and statements.
 
-ghost use Rattle.std.specs.Prelude.{◌≡◌, ◌+◌, ◌<◌, ◌&&◌, not, OnOk, drop, length, option_map};
-ghost use Rattle.meaning.specs.Mentions.{nowhere, exposed, part_of, named_or, exposed_or, as_bare, addressed_within, new_literal_or, as_new_literal, callee_or, argument_use, argument_at, argument_or, is_none_left, parameter_type_or, literal_body, in_body, deferral, expression_marks, form_marks, expressions_marks, optional_marks, arguments_marks, items_marks, lefts_marks, ranged_marks, names_type_marks, signature_marks, parameters_marks, fields_marks, statement_marks, statement_form_marks, statements_marks, optional_statement_marks, cases_marks, communications_marks, specs_marks};
-ghost use Rattle.mentions.specs.MarkViews.{named_view, row_view, place_view, call_view, optional_call, use_view, role_view, standing_view, spot_view};
+ghost use Rattle.std.specs.Prelude.{◌≡◌, ◌+◌, ◌++◌, ◌<◌, ◌&&◌, not, None, OnOk, drop, length, option_map};
+ghost use Rattle.meaning.specs.Mentions.{pointed_to, part_of, named_or, exposed_or, field_written, as_bare, addressed_within, new_literal_or, as_new_literal, callee_or, argument_at, argument_or, is_none_left, parameter_type_or, expression_marks, form_marks, expressions_marks, optional_marks, arguments_marks, items_marks, lefts_marks, ranged_marks, names_type_marks, signature_marks, parameters_marks, fields_marks, statement_marks, statement_form_marks, statements_marks, optional_statement_marks, cases_marks, communications_marks, specs_marks};
+ghost use Rattle.mentions.specs.MarkViews.{named_view, row_view, place_view, call_view, optional_call, role_view, standing_view, spot_view};
 ghost use Rattle.marks.specs.WalkViews.{AddsBy, FindsNothing};
 ghost use Rattle.tree.specs.Syntax.{no_parameter, no_field, no_spec};
 ghost use Rattle.tree.specs.View.{identifier_syntax, expression_form, expression_syntax, expressions_syntax, optional_expression_syntax, signature_syntax, parameters_syntax, fields_syntax, statement_form, statement_syntax, statements_syntax, optional_statement_syntax, cases_syntax, communications_syntax, specs_syntax, parameter_and, field_and, spec_and, literal_syntax};
 
 use crate::by_edition::{Walk, behind_row, first_guard, found_nil};
+use crate::by_fields::{
+    argument_given, behind_literal, communication_given, field_called, field_written,
+    guard_renewed, receiver_given, rights_given, sent,
+};
+use mentions::fields::arguments_place;
 use mentions::mark::{
-    BodyPlace, Call, CallPlace, LiteralUse, Mark, Named, Position, Role, Row, RowForm, Spot,
-    Standing,
+    Assigned, BodyPlace, Call, CallPlace, Mark, Named, Position, Role, Row, RowForm, Spot, Standing,
 };
 use mentions::named::{
     addressed, addressed_within, as_bare, as_bracketed, as_named, as_new_literal, as_pointer,
     bare_within, embedded, select_from,
 };
 use mentions::parts::{
-    argument_use, call_of, callee_use, declare_elsewhere, declared_elsewhere, declared_parameters,
-    guard_in_clause, left_names, mention, name_role, part_of, place_in, value_spot, whole,
+    argument_spot, call_of, callee_spot, declare_elsewhere, declared_elsewhere,
+    declared_parameters, guard_in_clause, left_names, mention, name_role, part_of, place_in,
+    value_spot, whole,
 };
 use std::alloc::AllocError;
 use tree::{
@@ -118,7 +123,7 @@ fn expression_form<'m, 'a>(
         }
         ExprKind::LiteralValue(elements) => expressions(walk, part_of(spot.site), elements),
         ExprKind::KeyValue(key, value) => {
-            part(walk, spot.site, key)?;
+            named_or(walk, as_bare(key), Role::Key, spot.site, key)?;
             part(walk, spot.site, value)
         }
         ExprKind::Paren(operand) => part(walk, spot.site, operand),
@@ -148,8 +153,11 @@ fn expression_form<'m, 'a>(
             let call = walk
                 .marks
                 .keep_call(call_of(spot.place, callee, arguments, *has_ellipsis))?;
-            callee_or(walk, call, callee_use(spot.place), spot.site, callee)?;
-            all_arguments(walk, call, spot.site, arguments)
+            receiver_given(walk, spot.place, spot.site, callee)?;
+            let place: CallPlace<'m, 'a> = arguments_place(spot.place, callee);
+            all_arguments(walk, place, call, spot.site, arguments)?;
+            callee_or(walk, call, callee_spot(spot), callee)?;
+            field_called(walk, spot.site, callee)
         }
         ExprKind::Star(operand) => part(walk, spot.site, operand),
         ExprKind::Unary(operator, operand) => unary(walk, spot, *operator, operand),
@@ -174,7 +182,7 @@ fn expression_form<'m, 'a>(
     }
 }
 
-/// A literal is a body; called under `defer` it has an event of its own.
+/// A literal is a body.
 #[cycle(marks)]
 fn function_literal<'m, 'a>(
     walk: &mut Walk<'m, 'a>,
@@ -199,14 +207,7 @@ fn function_literal<'m, 'a>(
     signature(walk, span.start, &literal.signature)?;
     statements(walk, list)?;
     walk.marks.push(Mark::Closes)?;
-    match spot.literal {
-        LiteralUse::DeferredCall => {
-            walk.marks.push(Mark::DefersLiteral(spot.site, span.start))?;
-            Ok(())
-        }
-        LiteralUse::Other => Ok(()),
-        LiteralUse::StartedBy(_) => Ok(()),
-    }
+    behind_literal(walk, spot, span.start)
 }
 
 /// The marks of an operator and its operand; `&T{}` may be the only value of a row.
@@ -219,7 +220,7 @@ fn unary<'m, 'a>(
 ) -> Result<(), AllocError>
     ensures { OnOk result (AddsBy walk.old walk.new (new_literal_or (place_view spot.entry.place) spot.entry.site
         (as_new_literal operator (expression_syntax operand.now))
-        (named_or (addressed_within operator (expression_syntax operand.now)) spot.entry.site exposed
+        (named_or (addressed_within operator (expression_syntax operand.now)) spot.entry.site pointed_to
         (expression_marks (part_of spot.entry.site) (expression_syntax operand.now))))) }
 {
     match spot.place {
@@ -231,7 +232,7 @@ fn unary<'m, 'a>(
     }
 }
 
-/// The marks of an operand, whose name is exposed if the operator takes its address.
+/// The marks of an operand, with its role if it is a name of which the operator takes the address.
 #[cycle(marks)]
 fn behind_operator<'m, 'a>(
     walk: &mut Walk<'m, 'a>,
@@ -240,11 +241,11 @@ fn behind_operator<'m, 'a>(
     operand: &'a Expr,
 ) -> Result<(), AllocError>
     ensures { OnOk result (AddsBy walk.old walk.new (named_or
-        (addressed_within operator (expression_syntax operand.now)) site exposed
+        (addressed_within operator (expression_syntax operand.now)) site pointed_to
         (expression_marks (part_of site) (expression_syntax operand.now)))) }
 {
     let named = addressed_within(operator, operand);
-    named_or(walk, named, Role::Exposed, site, operand)
+    named_or(walk, named, Role::PointedTo, site, operand)
 }
 
 /// The marks of an expression whose name, in brackets or not, is exposed.
@@ -256,30 +257,35 @@ fn exposed_or<'m, 'a>(walk: &mut Walk<'m, 'a>, site: u32, inner: &'a Expr) -> Re
     named_or(walk, bare_within(inner), Role::Exposed, site, inner)
 }
 
-/// The callee of a call: a mention, in brackets too, or another expression.
+/// The marks of an expression that gets another value, by no row: its name is exposed, or its field is written.
+#[cycle(marks)]
+fn overwritten<'m, 'a>(
+    walk: &mut Walk<'m, 'a>,
+    site: u32,
+    inner: &'a Expr,
+) -> Result<(), AllocError>
+    ensures { OnOk result (AddsBy walk.old walk.new (exposed_or site (expression_syntax inner.now)
+        (expression_marks (part_of site) (expression_syntax inner.now))
+        ++ field_written site None (expression_syntax inner.now))) }
+{
+    exposed_or(walk, site, inner)?;
+    field_written(walk, site, None, inner)
+}
+
+/// The callee of a call: a mention, in brackets too, or another expression, which stands at the spot.
 #[cycle(marks)]
 fn callee_or<'m, 'a>(
     walk: &mut Walk<'m, 'a>,
     call: Option<&'m Call<'m, 'a>>,
-    literal: LiteralUse<'a>,
-    site: u32,
+    spot: Spot<'m, 'a>,
     callee: &'a Expr,
 ) -> Result<(), AllocError>
-    ensures { OnOk result (AddsBy walk.old walk.new (callee_or (optional_call call.entry) site
-        (expression_syntax callee.now) (expression_marks record {
-          place = nowhere;
-          literal = use_view literal.entry;
-          site = site;
-        } (expression_syntax callee.now)))) }
+    ensures { OnOk result (AddsBy walk.old walk.new (callee_or (optional_call call.entry) spot.entry.site
+        (expression_syntax callee.now) (expression_marks (spot_view spot.entry) (expression_syntax callee.now)))) }
 {
     match call {
-        Some(call) => mention(&mut walk.marks, site, Role::Called(call), call.callee),
+        Some(call) => mention(&mut walk.marks, spot.site, Role::Called(call), call.callee),
         None => {
-            let spot = Spot {
-                place: CallPlace::Nowhere,
-                literal,
-                site,
-            };
             let named = as_bracketed(callee);
             named_at(walk, named, Role::CalledInBrackets, spot, callee)
         }
@@ -326,23 +332,26 @@ pub fn optional<'m, 'a>(
     }
 }
 
-/// The arguments of a call.
+/// The arguments of a call that stands at the place.
 #[cycle(marks)]
 fn all_arguments<'m, 'a>(
     walk: &mut Walk<'m, 'a>,
+    place: CallPlace<'m, 'a>,
     call: Option<&'m Call<'m, 'a>>,
     site: u32,
     list: &'a [Expr],
 ) -> Result<(), AllocError>
     ensures { OnOk result (AddsBy walk.old walk.new
-        (arguments_marks (optional_call call.entry) site 0 (expressions_syntax list.now))) }
+        (arguments_marks (place_view place.entry) (optional_call call.entry) site 0 (expressions_syntax list.now))) }
 {
+    let spot = argument_spot(place, call, site);
     for (index, item) in list.iter().enumerate() {
         let position = Position {
             index,
             is_last: is_last(index, list),
         };
-        argument(walk, call, site, position, item)?;
+        argument(walk, call, spot, position, item)?;
+        argument_given(walk, place, call, site, item)?;
     }
     Ok(())
 }
@@ -355,28 +364,21 @@ fn is_last(index: usize, list: &[Expr]) -> bool
     index + 1 == list.len()
 }
 
-/// The argument at that position; under `...` it is at none.
+/// The argument at that position, if it is none that is named as one an expression at the spot; under `...` it is at no
+/// position.
 #[cycle(marks)]
 fn argument<'m, 'a>(
     walk: &mut Walk<'m, 'a>,
     call: Option<&'m Call<'m, 'a>>,
-    site: u32,
+    spot: Spot<'m, 'a>,
     position: Position,
     argument: &'a Expr,
 ) -> Result<(), AllocError>
     ensures { OnOk result (AddsBy walk.old walk.new
-        (argument_at (optional_call call.entry) site position.index
-        position.is_last (expression_syntax argument.now) (expression_marks record {
-          place = nowhere;
-          literal = argument_use (optional_call call.entry);
-          site = site;
-        } (expression_syntax argument.now)))) }
+        (argument_at (optional_call call.entry) spot.entry.site position.index
+        position.is_last (expression_syntax argument.now)
+        (expression_marks (spot_view spot.entry) (expression_syntax argument.now)))) }
 {
-    let spot = Spot {
-        place: CallPlace::Nowhere,
-        literal: argument_use(call),
-        site,
-    };
     match call {
         Some(call) => {
             if position.is_last && call.has_ellipsis {
@@ -460,6 +462,11 @@ fn lefts<'m, 'a>(
     for (index, item) in list.iter().enumerate() {
         let role = Role::Left(index, row);
         left_side(walk, role, site, item)?;
+        let assigned = Assigned {
+            left_side: index,
+            row,
+        };
+        field_written(walk, site, Some(assigned), item)?;
     }
     Ok(())
 }
@@ -470,7 +477,7 @@ fn ranged<'m, 'a>(walk: &mut Walk<'m, 'a>, site: u32, list: &'a [Expr]) -> Resul
     ensures { OnOk result (AddsBy walk.old walk.new (ranged_marks site (expressions_syntax list.now))) }
 {
     for item in list {
-        exposed_or(walk, site, item)?;
+        overwritten(walk, site, item)?;
     }
     Ok(())
 }
@@ -653,10 +660,11 @@ fn statement_form<'m, 'a>(
         }
         StmtKind::Send(channel, value) => {
             part(walk, at, channel)?;
-            part(walk, at, value)
+            part(walk, at, value)?;
+            sent(walk, standing, at, value)
         }
-        StmtKind::Increment(operand) => exposed_or(walk, at, operand),
-        StmtKind::Decrement(operand) => exposed_or(walk, at, operand),
+        StmtKind::Increment(operand) => overwritten(walk, at, operand),
+        StmtKind::Decrement(operand) => overwritten(walk, at, operand),
         StmtKind::Assign(left, values) => {
             let row = walk.marks.keep_row(Row {
                 form: RowForm::Assigns(left),
@@ -665,11 +673,13 @@ fn statement_form<'m, 'a>(
                 standing,
             })?;
             expressions(walk, value_spot(row, at), values)?;
+            rights_given(walk, at, left, values)?;
             lefts(walk, row, at, left)
         }
         StmtKind::AssignOp(_, left, right) => {
             exposed_or(walk, at, left)?;
-            part(walk, at, right)
+            part(walk, at, right)?;
+            field_written(walk, at, None, left)
         }
         StmtKind::Define(names, values) => {
             let row = walk.marks.keep_row(Row {
@@ -681,7 +691,7 @@ fn statement_form<'m, 'a>(
             expressions(walk, value_spot(row, at), values)?;
             left_names(&mut walk.marks, row, at, names)
         }
-        StmtKind::Go(call) => part(walk, at, call),
+        StmtKind::Go(call) => expression(walk, whole(CallPlace::UnderGo, at), call),
         StmtKind::Defer(call) => expression(walk, whole(CallPlace::Deferred, at), call),
         StmtKind::Return(values) => {
             items(walk, at, values)?;
@@ -800,6 +810,7 @@ fn cases<'m, 'a>(
 {
     for clause in clauses {
         guard_in_clause(&mut walk.marks, at, guard, clause.span)?;
+        guard_renewed(walk, guard, clause.span)?;
         expressions(walk, part_of(clause.span.start), &clause.expressions)?;
         statements(walk, &clause.statements)?;
     }
@@ -816,6 +827,7 @@ fn communications<'m, 'a>(
 {
     for clause in clauses {
         optional_statement(walk, Standing::Communication, &clause.communication)?;
+        communication_given(walk, clause.span.start, &clause.communication)?;
         statements(walk, &clause.statements)?;
     }
     Ok(())

@@ -1,5 +1,5 @@
 -- The first token of what a rule takes.
-use Rattle.std.proofs.Common.{◌≡◌, ℕ, Bool, true, List, drop, sym, ap, true≢false}
+use Rattle.std.proofs.Common.{◌≡◌, Bool, true, drop, sym, ap, true≢false}
 use Rattle.lexer.specs.declared.token.TokenKind.{TokenKind}
 use Rattle.tree.specs.declared.operator.ChanDirection.TheVariants.{Both, Send, Receive}
 use Rattle.tree.specs.declared.operator.UnaryOperator.TheVariants.{Tilde}

@@ -3,6 +3,9 @@ pub mod DelicateTrees
 pub mod FirstTokens
 pub mod Fronts
 pub mod GuardOperand
+pub mod KeptExamples
+pub mod ObjectExamples
+pub mod KeptLaws
 pub mod Membership
 pub mod NameExamples
 pub mod RefusedTrees

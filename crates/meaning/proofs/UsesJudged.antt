@@ -1,13 +1,13 @@
 -- Each mention of a tracked variable is a binding, an allowed mention or a fault; each event stands at one site.
-use Rattle.std.proofs.Common.{◌≡◌, ◌≢◌, ℕ, Bool, true, false, true≢false, if◌then◌else◌, List, [], Option, Some, None, inl, inr, refl, sym, ap, ◌∙◌}
+use Rattle.std.proofs.Common.{◌≡◌, ℕ, Bool, true, false, true≢false, if◌then◌else◌, List, [], Option, Some, None, inl, inr, refl, sym, ap, ◌∙◌}
 use Rattle.std.specs.Prelude.{◌==◌}
 use Rattle.std.proofs.lemmas.Bool.Decides.{eqb_tells}
 use Rattle.tree.specs.declared.edition.Edition.{Edition}
 use Rattle.tree.specs.declared.edition.Edition.TheVariants.{First, Second}
 use Rattle.meaning.specs.FunctionFacts.{VariableKind, cancel, group}
-use Rattle.meaning.specs.Mentions.{BodyPlace, Row, Role, elsewhere, exposed, found_nil, found_error, called, called_in_brackets, argument, returned, left, names_type, new_literal, parameter_pointer, Mention, Mark, mentions, defers_literal, returns, opens, closes}
-use Rattle.meaning.specs.Tracked.{variable_of, Local, kind_of_local}
-use Rattle.meaning.specs.Uses.{Seen, found, may_be_tracked, tracked_kind, kind_of, Binding, binding_at, Event, kind_use, cancel_type_of, cancel_use_by, group_use, use_outcome, mention_outcome, row_outcome, role_outcome, local_outcome, variable_outcome}
+use Rattle.meaning.specs.Mentions.{BodyPlace, Row, Role, elsewhere, as_key, exposed, pointed_to, found_nil, found_error, called, called_in_brackets, argument, returned, left, names_type, new_literal, parameter_pointer, Mention, Mark, mentions, of_fields, defers_literal, returns, opens, closes}
+use Rattle.meaning.specs.Tracked.{Local, kind_of_local}
+use Rattle.meaning.specs.Uses.{Seen, may_be_tracked, tracked_kind, kind_of, Binding, binding_at, Event, kind_use, cancel_type_of, cancel_use_by, group_use, use_outcome, mention_outcome, row_outcome, role_outcome, local_outcome, variable_outcome}
 use Rattle.meaning.specs.BodyEvents.{mark_events, is_site}
 use Rattle.meaning.specs.UseLaws.{IsMentionOf, binding_of, IsOneOfThree, binds, is_allowed, is_fault, EachMentionIsOneOfThree, EventsStandAtOneSite}
 
@@ -63,7 +63,9 @@ module _ (seen : Seen) (bodies : List BodyPlace) (m : Mention) (l : Local) (kind
   by_role : (r : Role) → m.role ≡ r → IsOneOfThree seen bodies m l kind
   by_role (left k row) e = at_left k row e _ refl
   by_role elsewhere e = other_role elsewhere e refl refl
+  by_role as_key e = other_role as_key e refl refl
   by_role exposed e = other_role exposed e refl refl
+  by_role pointed_to e = other_role pointed_to e refl refl
   by_role (found_nil nil) e = other_role (found_nil nil) e refl refl
   by_role (found_error nil row) e = other_role (found_error nil row) e refl refl
   by_role (called c) e = other_role (called c) e refl refl
@@ -88,6 +90,7 @@ number_itself a = elim (eqb_tells a a) [ inl c ↦ c.0 | inr c ↦ absurd (c.1 r
 a_site : (seen : Seen) (bodies : List BodyPlace) (m : Mark) → (mark_events seen bodies m ≡ [] → ⊥)
     → (at : ℕ) × (is_site m at ≡ true)
 a_site seen bodies (mentions m) some = (m.site, number_itself m.site)
+a_site seen bodies (of_fields site m) some = (site, number_itself site)
 a_site seen bodies (defers_literal site literal) some = (site, number_itself site)
 a_site seen bodies (returns site es) some = (site, number_itself site)
 a_site seen bodies (opens b) some = absurd (some refl)
@@ -95,6 +98,7 @@ a_site seen bodies closes some = absurd (some refl)
 
 no_other_site : (m : Mark) (at other : ℕ) → is_site m at ≡ true → is_site m other ≡ true → at ≡ other
 no_other_site (mentions m) at other e f = sym (same_number m.site at e) ∙ same_number m.site other f
+no_other_site (of_fields site m) at other e f = sym (same_number site at e) ∙ same_number site other f
 no_other_site (defers_literal site literal) at other e f = sym (same_number site at e) ∙ same_number site other f
 no_other_site (returns site es) at other e f = sym (same_number site at e) ∙ same_number site other f
 no_other_site (opens b) at other e f = absurd (true≢false (sym e))

@@ -13,15 +13,17 @@ use Rattle.meaning.specs.declared.TheConstants.{MOST_CANCELS, MOST_GROUPS}
 use Rattle.meaning.specs.OuterBlocks.{has_any}
 use Rattle.meaning.specs.Jumps.{jumps_in}
 use Rattle.meaning.specs.StatementCode.{Sites}
-use Rattle.meaning.specs.Mentions.{Named, as_bare, Role, called, Mention, BodyPlace, Mark, mentions, defers_literal, returns, opens, closes, marks_by, file_marks}
+use Rattle.meaning.specs.Mentions.{Named, as_bare, Role, called, Mention, BodyPlace, Mark, mentions, of_fields, defers_literal, returns, opens, closes, marks_by, file_marks}
 use Rattle.meaning.specs.FunctionFacts.{VariableKind, cancel, group, CancelResult}
-use Rattle.meaning.specs.Tracked.{Known, is_of_universe, local_meant_or, variable_of, Placed, LocalRole, parameter, receiver, variadic, result, in_block, Local, body_locals}
-use Rattle.meaning.specs.Uses.{Seen, seen_in, found, tracked_kind, cancel_type_of, is_given_as, is_outside, is_of_local, is_body, body_gives, is_statement_place, Handed, Event, other, defer_literal, return_event, goto_used, too_many_variables, UseFault, fault_at, error_events, variable_outcome, mention_faults, recover_faults, result_faults, is_cancel}
+use Rattle.meaning.specs.Tracked.{Known, some_keep, is_of_universe, local_meant_or, variable_of, Placed, LocalRole, parameter, receiver, variadic, result, in_block, Local, body_locals}
+use Rattle.meaning.specs.Uses.{Seen, seen_in, found, tracked_kind, cancel_type_of, is_given_as, is_outside, is_of_local, is_body, body_gives, is_statement_place, Handed, Event, other, defer_literal, return_event, goto_used, too_many_variables, UseFault, fault_at, error_events, variable_outcome, field_faults, mention_faults, recover_faults, result_faults, is_cancel}
+use Rattle.meaning.specs.Kept.{object_events, field_events, handed_in_fields}
 
 -- Bodies of a file
 
 abbrev pub opened_by : Mark → List BodyPlace
 opened_by (mentions m) = []
+opened_by (of_fields site m) = []
 opened_by (defers_literal site at) = []
 opened_by (returns at es) = []
 opened_by (opens b) = b ∷ []
@@ -52,7 +54,8 @@ abbrev pub handed_at : Seen → ℕ → List CancelResult → Option VariableKin
 handed_at seen k gives None l = []
 handed_at seen k gives (Some group) l = []
 handed_at seen k gives (Some cancel) l =
-    if is_given_as k (cancel_type_of seen l) gives then record { number = l.number; position = k } ∷ [] else []
+    if is_given_as k (cancel_type_of seen l) gives
+    then record { number = l.number; position = k; object = None } ∷ [] else []
 
 abbrev pub handed_there : Seen → ℕ → List CancelResult → Option Local → List Handed
 handed_there seen k gives None = []
@@ -65,19 +68,24 @@ item_variable known (Some n) = local_meant_or (known.means n.at) None
 abbrev pub handed_item : Seen → List CancelResult → ℕ → Expression → List Handed
 handed_item seen gives k e = handed_there seen k gives (found seen (item_variable seen.known (as_bare e)))
 
-abbrev pub handed_on : Seen → List CancelResult → ℕ → Expressions → List Handed
-handed_on seen gives k no_expression = []
-handed_on seen gives k (expression_and e es) = handed_item seen gives k e ++ handed_on seen gives (k + 1) es
+abbrev pub handed_on : Seen → List BodyPlace → ℕ → Expressions → List Handed
+handed_on seen bodies k no_expression = []
+handed_on seen bodies k (expression_and e es) =
+    handed_item seen (body_gives seen.known bodies) k e
+    ++ (handed_in_fields seen bodies k e ++ handed_on seen bodies (k + 1) es)
 
 abbrev pub mark_events : Seen → List BodyPlace → Mark → List Event
-mark_events seen bodies (mentions m) = (variable_outcome seen bodies m).events ++ error_events seen m m.role
+mark_events seen bodies (mentions m) =
+    (variable_outcome seen bodies m).events ++ (error_events seen m m.role ++ object_events seen bodies m)
+mark_events seen bodies (of_fields site m) = field_events seen bodies (of_fields site m) m
 mark_events seen bodies (defers_literal site at) = defer_literal at ∷ []
-mark_events seen bodies (returns at es) = return_event (handed_on seen (body_gives seen.known bodies) 0 es) ∷ []
+mark_events seen bodies (returns at es) = return_event (handed_on seen bodies 0 es) ∷ []
 mark_events seen bodies (opens b) = []
 mark_events seen bodies closes = []
 
 abbrev pub is_site : Mark → ℕ → Bool
 is_site (mentions m) at = m.site == at
+is_site (of_fields site m) at = site == at
 is_site (defers_literal site literal) at = site == at
 is_site (returns site es) at = site == at
 is_site (opens b) at = false
@@ -141,6 +149,7 @@ lesser m n = if nat_le m n then m else n
 
 abbrev pub occurrence : Mark → ℕ
 occurrence (mentions m) = m.named.at
+occurrence (of_fields site m) = site
 occurrence (defers_literal site at) = at
 occurrence (returns at es) = at
 occurrence (opens b) = b.at
@@ -281,6 +290,7 @@ abbrev pub mark_faults : Seen → List BodyPlace → Mark → List UseFault
 mark_faults seen bodies (mentions m) =
     mention_faults seen bodies m
     ++ (if forbids_recover seen.known.edition seen bodies then recover_faults seen.known m else [])
+mark_faults seen bodies (of_fields site m) = field_faults seen m
 mark_faults seen bodies (defers_literal site at) = []
 mark_faults seen bodies (returns at es) = []
 mark_faults seen bodies (opens b) = result_faults (body_locals seen.known b) ++ jump_faults seen b
@@ -314,4 +324,4 @@ outer_faults seen = outer_faults_of seen seen.marks
 
 -- a file with what is known of it
 abbrev pub seen_file : Known → SourceFile → Seen
-seen_file known file = seen_in known (marks_by known.edition (file_marks file))
+seen_file known file = seen_in known (marks_by known.edition (some_keep known.fields) (file_marks file))

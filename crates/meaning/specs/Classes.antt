@@ -1,12 +1,13 @@
 -- What is known of a tracked variable after a list of a body's events. A cancel variable is unset, or open (it holds a
--- cancel function that was not called), or safe (its function was called, or its call is saved for the return), or
--- pending in a group (a literal that the group started calls it). A group is unmade, idle or live (its work may go on),
--- or awaited (a Wait is saved for the return). Each variable is followed by itself.
+-- cancel function that was not called), or kept (the newest object of a declaration holds that function in a field, and
+-- was not given to others yet), or safe (its function was called, or its call is saved for the return, or others got it
+-- in a field), or pending in a group (a literal that the group started calls it). A group is unmade, idle or live (its
+-- work may go on), or awaited (a Wait is saved for the return). Each variable is followed by itself.
 -- (The documentation of `context` and `golang.org/x/sync/errgroup`.)
 use Rattle.std.specs.Prelude.{ℕ, ◌==◌, ◌&&◌, Bool, if◌then◌else◌, List, [], ◌∷◌, Option, Some, None}
 use Rattle.meaning.specs.Code.{Occurrence}
 use Rattle.meaning.specs.Tracked.{GroupState, idle, live}
-use Rattle.meaning.specs.Uses.{Callee, VariableAt, Event, other, obtain, clear, call, defer_call, pass, defer_pass, lend, start, try, wait, defer_wait, make, defer_literal, return_event}
+use Rattle.meaning.specs.Uses.{Callee, Event, other, obtain, obtain_kept, renew, keep, call_kept, defer_kept, give, give_field, clear, call, defer_call, pass, defer_pass, lend, start, try, wait, defer_wait, make, defer_literal, return_event}
 use Rattle.meaning.specs.BodyEvents.{VariableRole, own_parameter, own_receiver, declared_in_body, captured}
 
 -- what a body relies on: of functions, and of the literals of its own file
@@ -22,6 +23,7 @@ pub record Promises : Type 0 where
 pub data CancelClass : Type 0 where
   unset : CancelClass
   opened : CancelClass
+  kept : CancelClass
   safe : CancelClass
   -- in the group of that number
   pending : ℕ → CancelClass
@@ -37,6 +39,7 @@ entry_cancel captured = opened
 abbrev pub left_to : ℕ → CancelClass → CancelClass
 left_to g unset = unset
 left_to g opened = pending g
+left_to g kept = kept
 left_to g safe = safe
 left_to g (pending h) = pending h
 
@@ -44,6 +47,7 @@ left_to g (pending h) = pending h
 abbrev pub ended : ℕ → CancelClass → CancelClass
 ended g unset = unset
 ended g opened = opened
+ended g kept = kept
 ended g safe = safe
 ended g (pending h) = if g == h then safe else pending h
 
@@ -51,10 +55,48 @@ abbrev pub started : Promises → ℕ → ℕ → Option ℕ → CancelClass →
 started p v g None k = k
 started p v g (Some literal) k = if p.credits literal v then left_to g k else k
 
+-- the declaration of the object in which it is kept makes a new one
+abbrev pub given_back : CancelClass → CancelClass
+given_back unset = unset
+given_back opened = opened
+given_back kept = opened
+given_back safe = safe
+given_back (pending g) = pending g
+
+abbrev pub kept_from : CancelClass → CancelClass
+kept_from unset = unset
+kept_from opened = kept
+kept_from kept = kept
+kept_from safe = safe
+kept_from (pending g) = pending g
+
+-- what is kept is called, or given to others
+abbrev pub settled_from_kept : CancelClass → CancelClass
+settled_from_kept unset = unset
+settled_from_kept opened = opened
+settled_from_kept kept = safe
+settled_from_kept safe = safe
+settled_from_kept (pending g) = pending g
+
+-- what is kept nowhere is given to others in a field
+abbrev pub settled_from_open : CancelClass → CancelClass
+settled_from_open unset = unset
+settled_from_open opened = safe
+settled_from_open kept = kept
+settled_from_open safe = safe
+settled_from_open (pending g) = pending g
+
 -- the class of the cancel variable v after an event, where it was k before
 abbrev pub change_cancel : Promises → ℕ → Event → CancelClass → CancelClass
 change_cancel p v other k = k
 change_cancel p v (obtain u f n is_declared) k = if u.number == v then opened else k
+change_cancel p v (obtain_kept u f n x) k = if u.number == v then kept else k
+change_cancel p v (renew u x) k = if u == v then given_back k else k
+change_cancel p v (keep u x) k = if u == v then kept_from k else k
+change_cancel p v (call_kept u x) k = if u == v then settled_from_kept k else k
+change_cancel p v (defer_kept u x) k = if u == v then settled_from_kept k else k
+change_cancel p v (give u x) k = if u == v then settled_from_kept k else k
+change_cancel p v (give_field u) k = if u == v then settled_from_open k else k
 change_cancel p v (clear u) k = if u.number == v then unset else k
 change_cancel p v (call u) k = if u == v then safe else k
 change_cancel p v (defer_call u) k = if u == v then safe else k
@@ -106,6 +148,13 @@ at_rest awaited = awaited
 abbrev pub change_group : Promises → ℕ → Event → GroupClass → GroupClass
 change_group p v other k = k
 change_group p v (obtain u f n is_declared) k = k
+change_group p v (obtain_kept u f n x) k = k
+change_group p v (renew u x) k = k
+change_group p v (keep u x) k = k
+change_group p v (call_kept u x) k = k
+change_group p v (defer_kept u x) k = k
+change_group p v (give u x) k = k
+change_group p v (give_field u) k = k
 change_group p v (clear u) k = k
 change_group p v (call u) k = k
 change_group p v (defer_call u) k = k

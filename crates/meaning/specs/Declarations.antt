@@ -2,7 +2,7 @@
 -- functions, by Scopes; around them the file block and the package block, by OuterBlocks; and around those the
 -- universe, which has whatever is declared nowhere. Of two declarations of a name in one block the first counts.
 -- (The Go specification, "Declarations and scope", "Short variable declarations".)
-use Rattle.std.specs.Prelude.{ℕ, ◌==◌, Bool, true, false, ◌&&◌, ◌||◌, if◌then◌else◌, List, [], ◌∷◌, Option, Some, None, option_map, slice_get, nat_le, nat_lt}
+use Rattle.std.specs.Prelude.{ℕ, ◌==◌, Bool, false, ◌&&◌, ◌||◌, if◌then◌else◌, List, [], ◌∷◌, Option, Some, None, option_map, slice_get, nat_le, nat_lt}
 use Rattle.std.specs.Str.{bytes_eq}
 use Rattle.tree.specs.declared.operator.DeclKeyword.{DeclKeyword}
 use Rattle.tree.specs.Syntax.{SourceFile}

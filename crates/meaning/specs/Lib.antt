@@ -19,16 +19,23 @@ pub mod Declarations
 pub mod Mentions
 pub mod FunctionFacts
 pub mod Tracked
+pub mod Objects
 pub mod Uses
+pub mod Kept
 pub mod BodyEvents
+pub mod KeepingFields
 -- What is known of the variables after a list of events: to be trusted.
 pub mod Classes
 -- What is proved of them.
 pub mod Laws
 pub mod UseLaws
+pub mod KeptLaws
 pub mod Conditions
 -- For a reader of the grammar: texts and trees to try it on.
 pub mod TreeExamples
 -- For a reader of the rules for names, and of what statements do: functions and statements to try them on.
 pub mod NameExamples
 pub mod StatementExamples
+-- For a reader of the rules for fields: functions to try them on.
+pub mod KeptExamples
+pub mod ObjectExamples

@@ -4,11 +4,12 @@
 -- where it stands as a whole: as a statement, as the only value of `:=`, `=` or `var`, as an item of a return list, or
 -- behind `defer`. What stands in brackets stands elsewhere; a callee in brackets has a role of its own.
 -- The marks of a file are in the order in which its statements do what they say: values before the names that they are
--- bound to; what the condition of an `if` finds out is marked at the block's braces. Between the two marks that open
--- and close a body is all that stands in it, its signature too.
+-- bound to, arguments before their callee; what the condition of an `if` finds out is marked at the block's braces.
+-- Between the two marks that open and close a body is all that stands in it, its signature too. In the second edition
+-- fields are marked too, and places where something is given to others.
 -- (The Go specification, "Expression statements", "Assignment statements", "Short variable declarations", "Variable
 -- declarations", "Return statements", "Defer statements", "Calls", "Function literals".)
-use Rattle.std.specs.Prelude.{ℕ, ◌+◌, Bool, true, false, not, ◌&&◌, ◌||◌, if◌then◌else◌, List, [], ◌∷◌, ◌++◌, Option, Some, None, option_map, codes, ◌-◌}
+use Rattle.std.specs.Prelude.{ℕ, ◌+◌, Bool, true, false, not, ◌&&◌, ◌||◌, if◌then◌else◌, List, [], ◌∷◌, ◌++◌, Option, Some, None, is_some, option_map, codes, ◌-◌}
 use Rattle.std.specs.List.{filter}
 use Rattle.std.specs.Str.{bytes_eq}
 use Rattle.tree.specs.declared.edition.Edition.{Edition}
@@ -19,7 +20,8 @@ use Rattle.tree.specs.declared.operator.BinaryOperator.TheVariants.{Equal, NotEq
 use Rattle.tree.specs.declared.operator.UnaryOperator.{UnaryOperator}
 use Rattle.tree.specs.declared.operator.UnaryOperator.TheVariants.{Address}
 use Rattle.tree.specs.declared.span.Span.{Span}
-use Rattle.tree.specs.Syntax.{Identifier, TypeName, Expression, expression_node, ExpressionForm, name_expression, basic_literal, function_literal, composite_literal, literal_value, key_value, parenthesized, selector_expression, index_expression, instance_expression, slice_expression, type_assertion, call_expression, star_expression, unary_expression, binary_expression, array_type, ellipsis_array_type, slice_type, map_type, channel_type, function_type, struct_type, interface_type, Expressions, no_expression, expression_and, OptionalExpression, missing_expression, present_expression, Signature, signature_of, Parameters, no_parameter, named_and, unnamed_and, name_alone_and, Fields, no_field, fields_and, embedded_and, element_and, method_and, Statement, statement_node, StatementForm, empty_statement, declaration_statement, labeled_statement, expression_statement, send_statement, increment_statement, decrement_statement, assignment, operator_assignment, define_statement, go_statement, defer_statement, return_statement, break_statement, continue_statement, goto_statement, fallthrough_statement, block_statement, if_statement, for_statement, range_assignment, range_definition, switch_statement, type_switch_statement, select_statement, Statements, no_statement, statement_and, OptionalStatement, missing_statement, present_statement, CaseClauses, no_case, case_and, CommunicationClauses, no_communication, communication_and, Declaration, declaration_of, Specs, no_spec, value_and, type_and, Block, Function, TopLevelDeclaration, function_declaration, general_declaration, SourceFile}
+use Rattle.tree.specs.Syntax.{Identifier, TypeName, Expression, expression_node, ExpressionForm, name_expression, basic_literal, function_literal, composite_literal, literal_value, key_value, parenthesized, selector_expression, index_expression, instance_expression, slice_expression, type_assertion, call_expression, star_expression, unary_expression, binary_expression, array_type, ellipsis_array_type, slice_type, map_type, channel_type, function_type, struct_type, interface_type, Expressions, no_expression, expression_and, OptionalExpression, missing_expression, present_expression, Signature, signature_of, Parameters, no_parameter, named_and, unnamed_and, name_alone_and, Fields, no_field, fields_and, embedded_and, element_and, method_and, Statement, statement_node, StatementForm, empty_statement, declaration_statement, labeled_statement, expression_statement, send_statement, increment_statement, decrement_statement, assignment, operator_assignment, define_statement, go_statement, defer_statement, return_statement, break_statement, continue_statement, goto_statement, fallthrough_statement, block_statement, if_statement, for_statement, range_assignment, range_definition, switch_statement, type_switch_statement, select_statement, Statements, no_statement, statement_and, OptionalStatement, missing_statement, present_statement, CaseClauses, no_case, case_and, CommunicationClauses, no_communication, communication_and, Declaration, declaration_of, Specs, no_spec, value_and, type_and, Block, Function, TopLevelDeclaration, function_declaration, general_declaration, ImportSpec, SourceFile}
+use Rattle.meaning.specs.OuterBlocks.{specs_of}
 use Rattle.meaning.specs.Scopes.{is_blank, first_of, parameters_named, named_in_types}
 
 -- Names
@@ -106,6 +108,7 @@ pub data CallPlace : Type 0 where
   only_value : Row → CallPlace
   return_item : ℕ → CallPlace
   deferred : CallPlace
+  under_go : CallPlace
 
 -- no call of a `select`'s communication stands as a whole
 abbrev pub place_in : Standing → CallPlace → CallPlace
@@ -163,9 +166,13 @@ callee_use place = other_use
 -- what a place asks of a name
 pub data Role : Type 0 where
   elsewhere : Role
-  -- n where no row declares it, where its address is taken, or where it may get another value, and is no argument and
-  -- no whole left side of a row: `&n`, `(n) = ..`, `n += ..`, `n++`, the names of a `range`, a type switch and a type
+  -- n as key of an element of a composite literal
+  as_key : Role
+  -- n where no row declares it, or where it may get another value, and is no whole left side of a row: `(n) = ..`,
+  -- `n += ..`, `n++`, the names of a `range`, a type switch and a type
   exposed : Role
+  -- n of `&n` that is no argument
+  pointed_to : Role
   -- n of `n == nil` or `n != nil`, mentioned once more at the brace at which it is known to be nil; with the offset of
   -- `nil`
   found_nil : ℕ → Role
@@ -207,8 +214,51 @@ pub record BodyPlace : Type 0 where
   pub braces : Span
   pub literal : LiteralUse
 
+-- Fields
+
+-- a left side `e.f`, in brackets or not
+pub record FieldLeft : Type 0 where
+  pub field : Identifier
+  -- n, where it is `n.f`, or `(n).f`, `(*n).f` or `(&n).f`
+  pub object : Option Named
+  -- round it, or round e
+  pub has_brackets : Bool
+
+-- it is the left side of that number of a row
+pub record Assigned : Type 0 where
+  pub left_side : ℕ
+  pub row : Row
+
+-- who gets what stands at a place
+pub data Taker : Type 0 where
+  no_taker : Taker
+  -- the function that is called, as its name says, if it has one
+  called_function : Option Named → Taker
+  -- `append`, of which the value goes to someone
+  appending : Named → Taker
+  -- the method of that name, under `go` or `defer`
+  method : List ℕ → Taker
+  -- whoever reads a channel, or a place that is no name, or a goroutine
+  some_taker : Taker
+
+pub data FieldMark : Type 0 where
+  -- `e.f(..)`
+  calls_field : List ℕ → FieldMark
+  -- `e.f` gets a value: by a row, or otherwise
+  writes_field : FieldLeft → Option Assigned → FieldMark
+  -- the expression is given to the taker
+  hands_over : Taker → Expression → FieldMark
+  -- so is the literal at that offset, with what it mentions
+  hands_literal : Taker → ℕ → FieldMark
+  -- a clause makes the local of that number anew
+  renews : ℕ → FieldMark
+  -- an import of the file brings names that aren't written
+  imports_all : FieldMark
+
 pub data Mark : Type 0 where
   mentions : Mention → Mark
+  -- with its site
+  of_fields : ℕ → FieldMark → Mark
   -- a literal is called under `defer`: the offsets of the statement and of the literal
   defers_literal : ℕ → ℕ → Mark
   -- a return, its offset and its items
@@ -216,17 +266,18 @@ pub data Mark : Type 0 where
   opens : BodyPlace → Mark
   closes : Mark
 
--- where an expression stands: as a whole, how it is used if it is a literal, and the offset of its site
+-- where an expression stands: as a whole, how it is used and who gets it if it is a literal, and the offset of its site
 pub record Spot : Type 0 where
   pub place : CallPlace
   pub literal : LiteralUse
+  pub taker : Taker
   pub site : ℕ
 
 abbrev pub part_of : ℕ → Spot
-part_of site = record { place = nowhere; literal = other_use; site = site }
+part_of site = record { place = nowhere; literal = other_use; taker = no_taker; site = site }
 
 abbrev pub whole : CallPlace → ℕ → Spot
-whole place site = record { place = place; literal = other_use; site = site }
+whole place site = record { place = place; literal = other_use; taker = no_taker; site = site }
 
 abbrev pub mention : ℕ → Role → Named → Mark
 mention site role n = mentions record { named = n; role = role; site = site; declares = None }
@@ -258,6 +309,119 @@ addressed_within op e = None
 
 abbrev pub exposed_or : ℕ → Expression → List Mark → List Mark
 exposed_or site e marks = named_or (bare_within e) site exposed marks
+
+-- Fields and what is given
+
+abbrev pub in_more_brackets : FieldLeft → FieldLeft
+in_more_brackets l = record { field = l.field; object = l.object; has_brackets = true }
+
+-- n, in brackets, and behind `*` and `&`
+abbrev pub object_of : Expression → Option Named
+object_of (expression_node (parenthesized e) span) = object_of e
+object_of (expression_node (star_expression e) span) = object_of e
+object_of (expression_node (unary_expression Address e) span) = object_of e
+object_of e = as_bare e
+
+abbrev pub is_in_brackets : Expression → Bool
+is_in_brackets (expression_node (parenthesized e) span) = true
+is_in_brackets e = false
+
+abbrev pub field_left : Expression → Option FieldLeft
+field_left (expression_node (selector_expression e f) span) =
+    Some record { field = f; object = object_of e; has_brackets = is_in_brackets e }
+field_left (expression_node (parenthesized e) span) = option_map in_more_brackets (field_left e)
+field_left e = None
+
+abbrev pub written : ℕ → Option Assigned → Option FieldLeft → List Mark
+written site by None = []
+written site by (Some l) = of_fields site (writes_field l by) ∷ []
+
+abbrev pub field_written : ℕ → Option Assigned → Expression → List Mark
+field_written site by e = written site by (field_left e)
+
+abbrev pub field_called : ℕ → Expression → List Mark
+field_called site (expression_node (selector_expression e f) span) = of_fields site (calls_field f.text) ∷ []
+field_called site e = []
+
+-- what stands there is given to the taker
+abbrev pub given_to : ℕ → Taker → Expression → List Mark
+given_to site no_taker e = []
+given_to site taker e = of_fields site (hands_over taker e) ∷ []
+
+abbrev pub literal_given_to : ℕ → Taker → ℕ → List Mark
+literal_given_to site no_taker at = []
+literal_given_to site taker at = of_fields site (hands_literal taker at) ∷ []
+
+abbrev pub called_name : Option Call → Option Named
+called_name c = option_map (λ k. k.callee) c
+
+abbrev pub place_but_for : Option Named → CallPlace → CallPlace
+place_but_for (Some n) place = nowhere
+place_but_for None place = place
+
+-- what a name in brackets calls gets nothing for certain
+abbrev pub arguments_place : CallPlace → Expression → CallPlace
+arguments_place place e = place_but_for (as_bracketed e) place
+
+-- the arguments of a call that stands as a whole go to what is called
+abbrev pub argument_taker : CallPlace → Option Call → Taker
+argument_taker nowhere c = no_taker
+argument_taker place c = called_function (called_name c)
+
+-- of literals, those of a call that is made there and then
+abbrev pub literal_taker : CallPlace → Option Call → Taker
+literal_taker deferred c = no_taker
+literal_taker under_go c = no_taker
+literal_taker place c = argument_taker place c
+
+-- a literal that is called under `go` goes to a goroutine
+abbrev pub callee_taker : CallPlace → Taker
+callee_taker under_go = some_taker
+callee_taker place = no_taker
+
+-- x of `go x.m(..)` and `defer x.m(..)`
+abbrev pub receiver_given : CallPlace → ℕ → Expression → List Mark
+receiver_given deferred site (expression_node (selector_expression e m) span) = given_to site (method m.text) e
+receiver_given under_go site (expression_node (selector_expression e m) span) = given_to site (method m.text) e
+receiver_given place site e = []
+
+abbrev pub all_given_to : ℕ → Taker → Expressions → List Mark
+all_given_to site taker no_expression = []
+all_given_to site taker (expression_and e es) = given_to site taker e ++ all_given_to site taker es
+
+abbrev pub appended : ℕ → Option Named → Expressions → List Mark
+appended site None es = []
+appended site (Some n) es = if bytes_eq n.name (codes "append") then all_given_to site (appending n) es else []
+
+-- The right side of an assignment to what is no name; of several ones, the arguments of `append` too. (Those of one
+-- that is the only value are arguments of a call that stands as a whole.)
+abbrev pub right_given : ℕ → Bool → Expression → List Mark
+right_given site is_only (expression_node (call_expression f es ellipsis) span) =
+    if is_only then [] else appended site (as_bare f) es
+right_given site is_only e = given_to site some_taker e
+
+abbrev pub rights_given : ℕ → Bool → Expressions → Expressions → List Mark
+rights_given site is_only (expression_and l ls) (expression_and r rs) =
+    (if is_some (bare_within l) then [] else right_given site is_only r) ++ rights_given site is_only ls rs
+rights_given site is_only ls rs = []
+
+-- what a `select` waits to send, or declares, is so where the clause is entered
+abbrev pub sent : Standing → ℕ → Expression → List Mark
+sent communication at v = []
+sent standing at v = given_to at some_taker v
+
+abbrev pub renewed : ℕ → List Identifier → List Mark
+renewed site [] = []
+renewed site (n ∷ ns) = of_fields site (renews n.span.start) ∷ renewed site ns
+
+abbrev pub communication_given : ℕ → OptionalStatement → List Mark
+communication_given clause (present_statement (statement_node (send_statement c v) span)) = given_to clause some_taker v
+communication_given clause (present_statement (statement_node (define_statement ns rs) span)) = renewed clause ns
+communication_given clause c = []
+
+abbrev pub guard_renewed : Option Identifier → Span → List Mark
+guard_renewed None clause = []
+guard_renewed (Some n) clause = of_fields clause.start (renews clause.start) ∷ []
 
 -- Conditions that find something nil
 
@@ -410,6 +574,18 @@ behind_row row (statement_and (statement_node (if_statement missing_statement se
     guard_marks row c braces
 behind_row row ss = []
 
+abbrev pub callee_spot : Spot → Spot
+callee_spot spot = record {
+  place = nowhere;
+  literal = callee_use spot.place;
+  taker = callee_taker spot.place;
+  site = spot.site;
+}
+
+abbrev pub argument_spot : CallPlace → Option Call → ℕ → Spot
+argument_spot place c site =
+    record { place = nowhere; literal = argument_use c; taker = literal_taker place c; site = site }
+
 unfoldable mutual
   pub expression_marks : Spot → Expression → List Mark
   expression_marks spot (expression_node form span) = form_marks spot span form
@@ -421,12 +597,13 @@ unfoldable mutual
   form_marks spot span (function_literal signature ss braces) =
       in_body (literal_body spot.literal span.start signature ss braces)
       (signature_marks span.start signature ++ statements_marks ss)
-      ++ deferral spot.literal spot.site span.start
+      ++ (deferral spot.literal spot.site span.start ++ literal_given_to spot.site spot.taker span.start)
   form_marks spot span (composite_literal t es) =
       expression_marks (part_of spot.site) t ++ expressions_marks (part_of spot.site) es
   form_marks spot span (literal_value es) = expressions_marks (part_of spot.site) es
   form_marks spot span (key_value k v) =
-      expression_marks (part_of spot.site) k ++ expression_marks (part_of spot.site) v
+      named_or (as_bare k) spot.site as_key (expression_marks (part_of spot.site) k)
+      ++ expression_marks (part_of spot.site) v
   form_marks spot span (parenthesized e) = expression_marks (part_of spot.site) e
   form_marks spot span (selector_expression e n) =
       named_or (select_from (as_bare e) n) spot.site elsewhere (expression_marks (part_of spot.site) e)
@@ -440,13 +617,14 @@ unfoldable mutual
   form_marks spot span (type_assertion e t) =
       expression_marks (part_of spot.site) e ++ expression_marks (part_of spot.site) t
   form_marks spot span (call_expression e es ellipsis) =
-      callee_or (call_of spot.place e es ellipsis) spot.site e
-      (expression_marks record { place = nowhere; literal = callee_use spot.place; site = spot.site } e)
-      ++ arguments_marks (call_of spot.place e es ellipsis) spot.site 0 es
+      receiver_given spot.place spot.site e
+      ++ (arguments_marks (arguments_place spot.place e) (call_of spot.place e es ellipsis) spot.site 0 es
+      ++ (callee_or (call_of spot.place e es ellipsis) spot.site e (expression_marks (callee_spot spot) e)
+      ++ field_called spot.site e))
   form_marks spot span (star_expression e) = expression_marks (part_of spot.site) e
   form_marks spot span (unary_expression op e) =
       new_literal_or spot.place spot.site (as_new_literal op e)
-      (named_or (addressed_within op e) spot.site exposed (expression_marks (part_of spot.site) e))
+      (named_or (addressed_within op e) spot.site pointed_to (expression_marks (part_of spot.site) e))
   form_marks spot span (binary_expression op l r) =
       expression_marks (part_of spot.site) l ++ expression_marks (part_of spot.site) r
   form_marks spot span (array_type n t) =
@@ -469,13 +647,12 @@ unfoldable mutual
   optional_marks site missing_expression = []
   optional_marks site (present_expression e) = expression_marks (part_of site) e
 
-  -- the arguments of a call, from the one of that number on
-  pub arguments_marks : Option Call → ℕ → ℕ → Expressions → List Mark
-  arguments_marks c site k no_expression = []
-  arguments_marks c site k (expression_and e es) =
-      argument_at c site k (is_none_left es) e
-      (expression_marks record { place = nowhere; literal = argument_use c; site = site } e)
-      ++ arguments_marks c site (k + 1) es
+  -- the arguments of a call that stands there, from the one of that number on
+  pub arguments_marks : CallPlace → Option Call → ℕ → ℕ → Expressions → List Mark
+  arguments_marks place c site k no_expression = []
+  arguments_marks place c site k (expression_and e es) =
+      argument_at c site k (is_none_left es) e (expression_marks (argument_spot place c site) e)
+      ++ (given_to site (argument_taker place c) e ++ arguments_marks place c site (k + 1) es)
 
   -- the items of a return list, from the one of that number on
   pub items_marks : ℕ → ℕ → Expressions → List Mark
@@ -488,13 +665,13 @@ unfoldable mutual
   lefts_marks row site k no_expression = []
   lefts_marks row site k (expression_and e es) =
       named_or (as_bare e) site (left k row) (exposed_or site e (expression_marks (part_of site) e))
-      ++ lefts_marks row site (k + 1) es
+      ++ (field_written site (Some record { left_side = k; row = row }) e ++ lefts_marks row site (k + 1) es)
 
   -- the left sides of a `range`
   pub ranged_marks : ℕ → Expressions → List Mark
   ranged_marks site no_expression = []
   ranged_marks site (expression_and e es) =
-      exposed_or site e (expression_marks (part_of site) e) ++ ranged_marks site es
+      exposed_or site e (expression_marks (part_of site) e) ++ (field_written site None e ++ ranged_marks site es)
 
   -- the type of a row's names
   pub names_type_marks : Row → ℕ → OptionalExpression → List Mark
@@ -534,18 +711,21 @@ unfoldable mutual
   statement_form_marks standing at (expression_statement e) =
       expression_marks (whole (place_in standing as_statement) at) e
   statement_form_marks standing at (send_statement c v) =
-      expression_marks (part_of at) c ++ expression_marks (part_of at) v
-  statement_form_marks standing at (increment_statement e) = exposed_or at e (expression_marks (part_of at) e)
-  statement_form_marks standing at (decrement_statement e) = exposed_or at e (expression_marks (part_of at) e)
+      expression_marks (part_of at) c ++ (expression_marks (part_of at) v ++ sent standing at v)
+  statement_form_marks standing at (increment_statement e) =
+      exposed_or at e (expression_marks (part_of at) e) ++ field_written at None e
+  statement_form_marks standing at (decrement_statement e) =
+      exposed_or at e (expression_marks (part_of at) e) ++ field_written at None e
   statement_form_marks standing at (assignment ls rs) =
       expressions_marks (value_spot (row_of standing at (assigns ls) rs) at) rs
-      ++ lefts_marks (row_of standing at (assigns ls) rs) at 0 ls
+      ++ (rights_given at (is_one rs) ls rs ++ lefts_marks (row_of standing at (assigns ls) rs) at 0 ls)
   statement_form_marks standing at (operator_assignment op l r) =
-      exposed_or at l (expression_marks (part_of at) l) ++ expression_marks (part_of at) r
+      exposed_or at l (expression_marks (part_of at) l)
+      ++ (expression_marks (part_of at) r ++ field_written at None l)
   statement_form_marks standing at (define_statement ns rs) =
       expressions_marks (value_spot (row_of standing at (defines ns) rs) at) rs
       ++ left_names (row_of standing at (defines ns) rs) at 0 ns
-  statement_form_marks standing at (go_statement e) = expression_marks (part_of at) e
+  statement_form_marks standing at (go_statement e) = expression_marks (whole under_go at) e
   statement_form_marks standing at (defer_statement e) = expression_marks (whole deferred at) e
   statement_form_marks standing at (return_statement es) = items_marks at 0 es ++ returns at es ∷ []
   statement_form_marks standing at (break_statement n) = []
@@ -588,12 +768,14 @@ unfoldable mutual
   cases_marks at guard no_case = []
   cases_marks at guard (case_and es ss span cs) =
       guard_in_clause at guard span
-      ++ (expressions_marks (part_of span.start) es ++ (statements_marks ss ++ cases_marks at guard cs))
+      ++ (guard_renewed guard span
+      ++ (expressions_marks (part_of span.start) es ++ (statements_marks ss ++ cases_marks at guard cs)))
 
   pub communications_marks : CommunicationClauses → List Mark
   communications_marks no_communication = []
   communications_marks (communication_and c ss span cs) =
-      optional_statement_marks communication c ++ (statements_marks ss ++ communications_marks cs)
+      optional_statement_marks communication c
+      ++ (communication_given span.start c ++ (statements_marks ss ++ communications_marks cs))
 
   pub declaration_marks : Declaration → List Mark
   declaration_marks (declaration_of keyword specs is_grouped span) = specs_marks keyword span.start specs
@@ -669,10 +851,24 @@ is_found (mentions m) = is_found_role m.role
     is_found_role role = false
 is_found mark = false
 
--- In the first edition conditions find out nothing.
-abbrev pub marks_by : Edition → List Mark → List Mark
-marks_by First ms = filter (λ m. not (is_found m)) ms
-marks_by Second ms = ms
+abbrev pub is_of_fields : Mark → Bool
+is_of_fields (of_fields site m) = true
+is_of_fields mark = false
+
+-- In the first edition conditions find out nothing, and nothing is asked of fields; in the second fields are told of
+-- where some keep what they hold.
+abbrev pub marks_by : Edition → Bool → List Mark → List Mark
+marks_by First some_keep ms = filter (λ m. not (is_found m || is_of_fields m)) ms
+marks_by Second false ms = filter (λ m. not (is_of_fields m)) ms
+marks_by Second true ms = ms
+
+abbrev pub is_dot : Option Identifier → Bool
+is_dot None = false
+is_dot (Some n) = bytes_eq n.text (codes ".")
+
+abbrev pub import_marks : List ImportSpec → List Mark
+import_marks [] = []
+import_marks (s ∷ ss) = (if is_dot s.name then of_fields s.span.start imports_all ∷ [] else []) ++ import_marks ss
 
 abbrev pub file_marks : SourceFile → List Mark
-file_marks file = top_levels_marks file.declarations
+file_marks file = import_marks (specs_of file.imports) ++ top_levels_marks file.declarations

@@ -7,7 +7,7 @@ use Rattle.std.specs.Prelude.{ℕ, ◌==◌, Bool, true, false, not, ◌&&◌, �
 use Rattle.std.specs.List.{list_any}
 use Rattle.std.specs.Str.{bytes_eq}
 use Rattle.lexer.specs.Bytes.{slash}
-use Rattle.tree.specs.Syntax.{Identifier, ImportSpec, ImportDeclaration, Specs, no_spec, value_and, type_and, Declaration, declaration_of, Function, TopLevelDeclaration, function_declaration, general_declaration, SourceFile}
+use Rattle.tree.specs.Syntax.{Identifier, ImportSpec, ImportDeclaration, Specs, no_spec, value_and, type_and, declaration_of, Function, TopLevelDeclaration, function_declaration, general_declaration, SourceFile}
 use Rattle.meaning.specs.Scopes.{is_blank}
 
 -- Imports

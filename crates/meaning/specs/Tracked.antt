@@ -3,7 +3,8 @@
 -- `context.CancelFunc` or `context.CancelCauseFunc`. A cancel variable is a local that some row obtains from one of
 -- them, or that is declared with one of these types; a group variable is a local that some row makes, or a parameter of
 -- type `*errgroup.Group`. A row binds only variables of its own kind: where one of its variables is of another kind, it
--- binds nothing. Named results and variadic parameters are never tracked.
+-- nothing. Named results and variadic parameters are never tracked. Where a field keeps what it holds, a row may obtain
+-- into a field of an object; Objects says of which.
 -- (The documentation of `context` and `golang.org/x/sync/errgroup`; this tool's rules.)
 use Rattle.std.specs.Prelude.{ℕ, zero, suc, ◌+◌, ◌==◌, Bool, true, false, ◌&&◌, ◌||◌, if◌then◌else◌, List, [], ◌∷◌, ◌++◌, Option, Some, None, is_none, is_some, option_map, map, slice_get, codes, length}
 use Rattle.std.specs.List.{list_any, list_all}
@@ -11,20 +12,51 @@ use Rattle.std.specs.Str.{bytes_eq}
 use Rattle.tree.specs.declared.edition.Edition.{Edition}
 use Rattle.tree.specs.declared.edition.Edition.TheVariants.{First, Second}
 use Rattle.tree.specs.declared.operator.DeclKeyword.TheVariants.{Const, Var, «Type» as type_keyword}
-use Rattle.tree.specs.Syntax.{Identifier, Expression, expression_node, call_expression, unary_expression, Expressions, no_expression, expression_and, OptionalExpression, missing_expression, present_expression, Signature, signature_of, Parameters}
+use Rattle.tree.specs.Syntax.{Identifier, Expression, expression_node, name_expression, selector_expression, call_expression, unary_expression, Expressions, no_expression, expression_and, OptionalExpression, missing_expression, present_expression, Signature, signature_of, Parameters}
 use Rattle.meaning.specs.Scopes.{is_blank}
-use Rattle.meaning.specs.OuterBlocks.{or_else}
+use Rattle.meaning.specs.OuterBlocks.{or_else, has_any}
 use Rattle.meaning.specs.Declarations.{Meaning, local_name, import_name, function_name, package_name, universe_name}
-use Rattle.meaning.specs.Mentions.{Named, bare, as_bare, as_named, as_new_literal, RowForm, defines, assigns, declares, Standing, ordinary, first_of_for, communication, Row, Call, call_of, only_value, Role, left, Mention, BodyPlace, Mark, mentions, defers_literal, returns, opens, closes, number_of}
+use Rattle.meaning.specs.Mentions.{Named, bare, as_named, as_new_literal, RowForm, defines, assigns, declares, Standing, ordinary, first_of_for, communication, Row, Call, call_of, only_value, Role, left, Mention, BodyPlace, Mark, mentions, of_fields, defers_literal, returns, opens, closes, number_of}
 use Rattle.meaning.specs.FunctionFacts.{Meanings, context_path, errgroup_path, is_of, is_of_some, CancelType, plain, with_cause, TrackedType, cancel_type, group_type, tracked_type, VariableKind, cancel, group, kind_of_type, Item, items_of, item_type, CancelResult, FunctionFacts}
 
 -- What is known
 
+-- the fields that keep cancel functions, of a package
+pub data Fields : Type 0 where
+  -- each field is taken for one, where it is asked which are
+  each_field : Fields
+  -- and the names of those that are assigned to, or are keys of elements
+  these_fields : List (List ℕ) → List (List ℕ) → Fields
+
+abbrev pub has_field : Fields → List ℕ → Bool
+has_field each_field name = true
+has_field (these_fields names filled) name = list_any (λ f. bytes_eq f name) names
+
+-- it may be a field's, and no method's
+abbrev pub may_be_field : Fields → List ℕ → Bool
+may_be_field each_field name = true
+may_be_field (these_fields names filled) name =
+    list_any (λ f. bytes_eq f name) names || list_any (λ f. bytes_eq f name) filled
+
+abbrev pub some_keep : Fields → Bool
+some_keep each_field = true
+some_keep (these_fields names filled) = has_any names
+
+-- a left side `x.f` into which a maker or giver gives what the field keeps
+pub data ObjectLeft : Type 0 where
+  -- x is an object that others hold
+  left_of_outer : ObjectLeft
+  -- x is a new object, of that number, and `x.f` a variable of its own
+  left_of_new : ℕ → ℕ → ObjectLeft
+
 -- the edition of the rules, what the uses of a file mean, and the facts of functions: of this package's by name, and of
--- the given imports' by path and name
+-- the given imports' by path and name; and the fields that keep
 pub record Known : Type 0 where
   pub edition : Edition
   pub means : Meanings
+  pub fields : Fields
+  -- by the offset of f in `x.f`, where that is such a left side
+  pub object_lefts : ℕ → Option ObjectLeft
   pub functions : List ℕ → Option FunctionFacts
   pub imported : List ℕ → List ℕ → Option FunctionFacts
 
@@ -124,6 +156,8 @@ pub data Left : Type 0 where
   blank_left : Left
   -- a name, with the number of the local that it declares, if it declares
   name_left : Named → Option ℕ → Left
+  -- `n.f`, by the offset of f
+  field_left : ℕ → Left
   other_left : Left
 
 abbrev pub left_name : Named → Option ℕ → Left
@@ -132,33 +166,55 @@ left_name n number = if is_blank n.name then blank_left else name_left n number
 abbrev pub left_of_name : Identifier → Left
 left_of_name n = left_name (bare n.text n.span.start) (number_of n)
 
-abbrev pub left_of_named : Option Named → Left
-left_of_named None = other_left
-left_of_named (Some n) = left_name n None
+abbrev pub left_of_expression : Expression → Left
+left_of_expression (expression_node (name_expression text) span) = left_name (bare text span.start) None
+left_of_expression (expression_node (selector_expression (expression_node (name_expression n) at) f) span) =
+    field_left f.span.start
+left_of_expression e = other_left
 
 abbrev pub lefts_of_expressions : Expressions → List Left
 lefts_of_expressions no_expression = []
-lefts_of_expressions (expression_and e es) = left_of_named (as_bare e) ∷ lefts_of_expressions es
+lefts_of_expressions (expression_and e es) = left_of_expression e ∷ lefts_of_expressions es
 
 abbrev pub lefts_of : RowForm → List Left
 lefts_of (defines ns) = map left_of_name ns
 lefts_of (assigns ls) = lefts_of_expressions ls
 lefts_of (declares keyword ns t) = map left_of_name ns
 
+abbrev pub own_variable : Option ObjectLeft → Option ℕ
+own_variable None = None
+own_variable (Some left_of_outer) = None
+own_variable (Some (left_of_new object number)) = Some number
+
+abbrev pub is_of_outer : Option ObjectLeft → Bool
+is_of_outer None = false
+is_of_outer (Some left_of_outer) = true
+is_of_outer (Some (left_of_new object number)) = false
+
 abbrev pub left_local : Known → Option Left → Option ℕ
 left_local known None = None
 left_local known (Some blank_left) = None
 left_local known (Some (name_left n number)) = local_meant_or (known.means n.at) number
+left_local known (Some (field_left at)) = own_variable (known.object_lefts at)
 left_local known (Some other_left) = None
 
 -- the local on the left side of that number
 abbrev pub local_at : Known → Row → ℕ → Option ℕ
 local_at known row k = left_local known (slice_get (lefts_of row.form) k)
 
+abbrev pub is_outer_left : Known → Option Left → Bool
+is_outer_left known (Some (field_left at)) = is_of_outer (known.object_lefts at)
+is_outer_left known l = false
+
+-- an outer object stands there, with a field that keeps
+abbrev pub is_outer_at : Known → Row → ℕ → Bool
+is_outer_at known row k = is_outer_left known (slice_get (lefts_of row.form) k)
+
 abbrev pub is_blank_left : Option Left → Bool
 is_blank_left None = false
 is_blank_left (Some blank_left) = true
 is_blank_left (Some (name_left n number)) = false
+is_blank_left (Some (field_left at)) = false
 is_blank_left (Some other_left) = false
 
 abbrev pub is_blank_at : Row → ℕ → Bool
@@ -201,14 +257,19 @@ row_giving known row =
 abbrev pub is_given : ℕ → List CancelResult → Bool
 is_given k = list_any (λ g. g.position == k)
 
+abbrev pub type_given : ℕ → List CancelResult → CancelType
+type_given k [] = plain
+type_given k (g ∷ gs) = if g.position == k then g.type else type_given k gs
+
 abbrev pub are_locals : Known → Row → List CancelResult → Bool
-are_locals known row = list_all (λ g. is_some (local_at known row g.position))
+are_locals known row = list_all (λ g. is_some (local_at known row g.position) || is_outer_at known row g.position)
 
 abbrev pub obtains_there : Known → Row → ℕ → Option Giving → Bool
 obtains_there known row k None = false
 obtains_there known row k (Some g) = is_given k g.gives && are_locals known row g.gives
 
--- the row obtains what stands on its left side k, by its form: a local stands at each position that is given
+-- The row obtains what stands on its left side k, by its form: a local stands at each position that is given. (Or a
+-- field of an outer object does; what that gets nobody owes.)
 abbrev pub row_obtains : Known → Row → ℕ → Bool
 row_obtains known row k = obtains_there known row k (row_giving known row)
 
@@ -297,6 +358,7 @@ outer (b ∷ bs) = bs
 unfoldable pub placed : List BodyPlace → List Mark → List Placed
 placed bodies [] = []
 placed bodies (mentions m ∷ ms) = record { mark = mentions m; bodies = bodies } ∷ placed bodies ms
+placed bodies (of_fields site m ∷ ms) = record { mark = of_fields site m; bodies = bodies } ∷ placed bodies ms
 placed bodies (defers_literal site at ∷ ms) =
     record { mark = defers_literal site at; bodies = bodies } ∷ placed bodies ms
 placed bodies (returns at es ∷ ms) = record { mark = returns at es; bodies = bodies } ∷ placed bodies ms
@@ -403,12 +465,13 @@ declared_local known m (b ∷ bs) (Some number) =
 
 abbrev pub locals_there : Known → List BodyPlace → Mark → List Local
 locals_there known bodies (mentions m) = declared_local known m bodies (declared_by known m)
+locals_there known bodies (of_fields site m) = []
 locals_there known bodies (defers_literal site at) = []
 locals_there known bodies (returns at es) = []
 locals_there known bodies (opens b) = body_locals known b
 locals_there known bodies closes = []
 
--- the locals of a file
+-- the locals of a file that have names of their own
 unfoldable pub locals_of : Known → List Placed → List Local
 locals_of known [] = []
 locals_of known (p ∷ ps) = locals_there known p.bodies p.mark ++ locals_of known ps

@@ -1,11 +1,11 @@
 -- What is proved of the rules for uses, each by a public function of src/lib.rt: a mention of a tracked variable is a
 -- binding, an allowed mention, or neither and then a fault; and what has events stands at one site. What a binding
 -- gives is not said here: an event, a fault, or both.
-use Rattle.std.specs.Prelude.{ℕ, ◌≡◌, Bool, true, List, [], Option, Some, None}
+use Rattle.std.specs.Prelude.{ℕ, ◌≡◌, true, List, [], Option, Some, None}
 use Rattle.meaning.specs.FunctionFacts.{VariableKind}
 use Rattle.meaning.specs.Mentions.{BodyPlace, Role, left, Mention, Mark}
 use Rattle.meaning.specs.Tracked.{variable_of, Local}
-use Rattle.meaning.specs.Uses.{Seen, found, tracked_kind, Binding, binding_at, Event, kind_use, fault_at, otherwise, Outcome, only_faults, variable_outcome}
+use Rattle.meaning.specs.Uses.{Seen, found, tracked_kind, Binding, binding_at, Event, kind_use, fault_at, otherwise, only_faults, variable_outcome}
 use Rattle.meaning.specs.BodyEvents.{mark_events, is_site}
 
 -- the mention is of the local, which is tracked as that kind

@@ -13,9 +13,10 @@ use Rattle.tree.specs.Syntax.{Identifier, Expression, expression_node, parenthes
 use Rattle.meaning.specs.Scopes.{is_blank}
 use Rattle.meaning.specs.OuterBlocks.{is_init}
 use Rattle.meaning.specs.Declarations.{Meaning, import_name}
-use Rattle.meaning.specs.Mentions.{Named, as_bare, RowForm, defines, assigns, declares, Standing, ordinary, first_of_for, communication, Row, Call, CallPlace, nowhere, as_statement, only_value, return_item, deferred, Role, elsewhere, found_nil, found_error, called, called_in_brackets, argument, returned, left, names_type, new_literal, parameter_pointer, Mention, LiteralUse, other_use, deferred_call, started_by, BodyPlace, Mark, mentions, defers_literal, returns, opens, closes, is_none_left, expression_marks, part_of}
+use Rattle.meaning.specs.Mentions.{Named, as_bare, RowForm, defines, assigns, declares, Standing, ordinary, first_of_for, communication, Row, Call, CallPlace, nowhere, as_statement, only_value, return_item, deferred, under_go, Role, elsewhere, as_key, found_nil, found_error, called, called_in_brackets, argument, returned, left, names_type, new_literal, parameter_pointer, Mention, LiteralUse, other_use, deferred_call, started_by, BodyPlace, FieldMark, writes_field, Mark, mentions, of_fields, defers_literal, returns, opens, closes, is_none_left, expression_marks, part_of}
 use Rattle.meaning.specs.FunctionFacts.{errgroup_path, is_import, is_selected, CancelType, plain, with_cause, is_same_type, is_cancel_type, TrackedType, cancel_type, group_type, is_same_tracked, VariableKind, cancel, group, kind_of_type, TrackedParameter, CancelResult, Unless, FunctionFacts, items_of, cancel_results, listed}
-use Rattle.meaning.specs.Tracked.{Known, facts_of, is_universe, is_of_universe, is_maker, Giving, giving_of, local_meant_or, variable_of, declared_by, Left, left_local, lefts_of, local_at, is_blank_at, is_binding_form, may_bind, call_giving, call_in, only_call, row_giving, are_locals, row_obtains, GroupState, row_makes, Placed, placed, LocalRole, parameter, receiver, variadic, result, in_block, Local, find_local, locals_of, is_variable, kind_of_local}
+use Rattle.meaning.specs.Tracked.{Known, facts_of, is_universe, is_of_universe, is_maker, Giving, giving_of, local_meant_or, variable_of, declared_by, Left, left_local, lefts_of, local_at, is_blank_at, is_binding_form, may_bind, call_giving, call_in, only_call, row_giving, type_given, own_variable, is_outer_at, are_locals, row_obtains, GroupState, row_makes, Placed, placed, LocalRole, parameter, receiver, variadic, result, in_block, Local, find_local, locals_of, is_variable, kind_of_local}
+use Rattle.meaning.specs.Objects.{ObjectRow, object_rows, object_left, field_locals}
 
 -- A file with what is known of it
 
@@ -24,12 +25,16 @@ pub record Seen : Type 0 where
   pub marks : List Placed
   pub locals : List Local
 
-abbrev pub seen_in : Known → List Mark → Seen
-seen_in known ms = record {
-  known = known;
-  marks = placed [] ms;
-  locals = locals_of known (placed [] ms);
+-- with the rows that obtain into fields
+abbrev pub seen_with : Known → List Placed → List ObjectRow → Seen
+seen_with known marks rows = record {
+  known = record known { object_lefts = object_left rows rows };
+  marks = marks;
+  locals = locals_of known marks ++ field_locals rows rows;
 }
+
+abbrev pub seen_in : Known → List Mark → Seen
+seen_in known ms = seen_with known (placed [] ms) (object_rows known (placed [] ms))
 
 -- The kind of a local, whatever its role is: what it would be tracked as.
 abbrev pub kind_of : Seen → Option Local → Option VariableKind
@@ -59,6 +64,7 @@ is_tracked seen number = is_some (tracked_kind seen (found seen number))
 -- some mark among these is of a tracked variable
 abbrev pub names_tracked : Seen → Mark → Bool
 names_tracked seen (mentions m) = is_tracked seen (variable_of seen.known m)
+names_tracked seen (of_fields site m) = false
 names_tracked seen (defers_literal site at) = false
 names_tracked seen (returns at es) = false
 names_tracked seen (opens b) = false
@@ -120,17 +126,14 @@ kind_at seen row k = kind_of seen (found seen (local_at seen.known row k))
 
 abbrev pub are_cancels : Seen → Row → Option Giving → Bool
 are_cancels seen row None = false
-are_cancels seen row (Some g) = list_all (λ p. is_cancel (kind_at seen row p.position)) g.gives
+are_cancels seen row (Some g) =
+    list_all (λ p. is_cancel (kind_at seen row p.position) || is_outer_at seen.known row p.position) g.gives
 
 -- the row binds all cancel variables that it obtains
 abbrev pub row_binds : Seen → Row → Bool
 row_binds seen row = are_cancels seen row (row_giving seen.known row)
 
 -- The type of a cancel variable
-
-abbrev pub type_given : ℕ → List CancelResult → CancelType
-type_given k [] = plain
-type_given k (g ∷ gs) = if g.position == k then g.type else type_given k gs
 
 -- the type of the position from which a row obtains what stands on its left side k
 abbrev pub type_from : ℕ → Option Giving → CancelType
@@ -394,10 +397,12 @@ body_gives known (b ∷ bs) = gives_of known b.name b.receiver b.signature
 
 -- Events
 
--- a variable that a return hands on, and the position of its item
+-- a variable that a return hands on, and the position of its item; with the object in which it is kept, if it is that
+-- which the item names
 pub record Handed : Type 0 where
   pub number : ℕ
   pub position : ℕ
+  pub object : Option ℕ
 
 -- a variable, with the offset of its name where it is bound or passed: there a fault of a path stands
 pub record VariableAt : Type 0 where
@@ -411,6 +416,19 @@ pub data Event : Type 0 where
   clear : VariableAt → Event
   call : ℕ → Event
   defer_call : ℕ → Event
+  -- a field of the object of that number, which is a variable of its own: it obtains what the field keeps from then on
+  obtain_kept : VariableAt → Callee → ℕ → ℕ → Event
+  -- a variable that is kept, in a field of the object of that number: the declaration of the object is evaluated,
+  renew : ℕ → ℕ → Event
+  -- the field gets what the variable holds,
+  keep : ℕ → ℕ → Event
+  -- the field is called, or its call is saved,
+  call_kept : ℕ → ℕ → Event
+  defer_kept : ℕ → ℕ → Event
+  -- and the object is given to others
+  give : ℕ → ℕ → Event
+  -- what the variable holds goes to others in a field
+  give_field : ℕ → Event
   -- the variable, the function, and the position of the argument
   pass : VariableAt → Callee → ℕ → Event
   defer_pass : VariableAt → Callee → ℕ → Event
@@ -434,6 +452,7 @@ is_value_place as_statement = false
 is_value_place (only_value row) = is_binding_form row.form
 is_value_place (return_item k) = false
 is_value_place deferred = false
+is_value_place under_go = false
 
 abbrev pub is_statement_place : CallPlace → Bool
 is_statement_place nowhere = false
@@ -441,6 +460,7 @@ is_statement_place as_statement = true
 is_statement_place (only_value row) = false
 is_statement_place (return_item k) = false
 is_statement_place deferred = false
+is_statement_place under_go = false
 
 abbrev pub is_item_place : CallPlace → Bool
 is_item_place nowhere = false
@@ -448,6 +468,7 @@ is_item_place as_statement = false
 is_item_place (only_value row) = false
 is_item_place (return_item k) = true
 is_item_place deferred = false
+is_item_place under_go = false
 
 abbrev pub is_deferred_place : CallPlace → Bool
 is_deferred_place nowhere = false
@@ -455,6 +476,7 @@ is_deferred_place as_statement = false
 is_deferred_place (only_value row) = false
 is_deferred_place (return_item k) = false
 is_deferred_place deferred = true
+is_deferred_place under_go = false
 
 abbrev pub is_statement_or_value : CallPlace → Bool
 is_statement_or_value p = is_statement_place p || is_value_place p
@@ -553,6 +575,7 @@ cancel_use known t l bodies m role = None
 -- that a copy takes nothing away from who has to call it. A call with other arguments than its own is no read.
 abbrev pub is_read : CancelType → Role → Option (List ℕ) → Bool
 is_read t elsewhere selected = true
+is_read t as_key selected = true
 is_read t (called c) selected = is_some selected || has_its_arguments t c
 is_read t called_in_brackets selected = true
 is_read t (argument k has_address c) selected = not has_address
@@ -719,6 +742,30 @@ binding_outcome seen l kind bodies m row b in_block = record {
   events = event_here l bodies (binding_event seen.known l m row b);
 }
 
+-- a field of a new object that a row obtains into, which is a variable of its own
+abbrev pub field_obtained : Seen → Local → Identifier → Row → ℕ → List UseFault
+field_obtained seen v f row k =
+    (if is_first row.standing then fault_at f.span.start cancel_used_otherwise f.text else [])
+    ++ if_not (is_same_type (cancel_type_of seen v) (type_from k (row_giving seen.known row)))
+    (fault_at f.span.start cancel_used_otherwise f.text)
+  where
+    is_first : Standing → Bool
+    is_first ordinary = false
+    is_first first_of_for = true
+    is_first communication = false
+
+abbrev pub field_left_faults : Seen → Option Local → Identifier → Row → ℕ → List UseFault
+field_left_faults seen None f row k = []
+field_left_faults seen (Some v) f row k = if row_binds seen row then field_obtained seen v f row k else []
+
+abbrev pub field_variable : Seen → Identifier → Option Local
+field_variable seen f = found seen (own_variable (seen.known.object_lefts f.span.start))
+
+abbrev pub field_faults : Seen → FieldMark → List UseFault
+field_faults seen (writes_field l (Some a)) =
+    field_left_faults seen (field_variable seen l.field) l.field a.row a.left_side
+field_faults seen mark = []
+
 -- Behind a giver with an error nothing was given where its error is not nil.
 abbrev pub error_events : Seen → Mention → Role → List Event
 error_events seen m (found_error nil row) =
@@ -786,6 +833,7 @@ call_faults seen bodies m g (only_value row) = row_call_faults seen m.named row 
 call_faults seen bodies m g (return_item k) =
     if_not (hands_on (body_gives seen.known bodies) k g) (last_fault cancel_used_otherwise m.named)
 call_faults seen bodies m g deferred = last_fault cancel_used_otherwise m.named
+call_faults seen bodies m g under_go = last_fault cancel_used_otherwise m.named
 
 -- In the first edition a giver may be named where it is not called, a maker not; in the second neither may. A call of
 -- an instance is no call here, so that what it names stands elsewhere.
@@ -811,6 +859,7 @@ is_making_place seen as_statement = false
 is_making_place seen (only_value row) = makes_group seen row
 is_making_place seen (return_item k) = false
 is_making_place seen deferred = false
+is_making_place seen under_go = false
 
 -- it stands in a making, or is a whole type of a parameter
 abbrev pub is_made_or_parameter : Seen → Mention → Role → Bool

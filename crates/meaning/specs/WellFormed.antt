@@ -12,7 +12,7 @@
 -- "Instantiations", "General interfaces".)
 use Rattle.std.specs.Prelude.{◌≡◌, ℕ, ◌≤◌, ◌<◌, Bool, true, false, ◌||◌, ◌&&◌}
 use Rattle.tree.specs.declared.operator.BinaryOperator.{BinaryOperator}
-use Rattle.tree.specs.declared.operator.BinaryOperator.TheVariants.{LogicalOr, LogicalAnd, Equal, NotEqual, Less, LessOrEqual, Greater, GreaterOrEqual, Add, Subtract, Or, Xor, Multiply}
+use Rattle.tree.specs.declared.operator.BinaryOperator.TheVariants.{LogicalOr, LogicalAnd, Equal, NotEqual, Less, LessOrEqual, Greater, GreaterOrEqual, Add, Subtract, Or, Xor}
 use Rattle.tree.specs.declared.operator.ChanDirection.TheVariants.{Both, Send, Receive}
 use Rattle.tree.specs.declared.operator.UnaryOperator.TheVariants.{Receive as receive_operator, Tilde}
 use Rattle.tree.specs.Syntax.{Expression, expression_node, ExpressionForm, name_expression, composite_literal, parenthesized, selector_expression, index_expression, instance_expression, slice_expression, type_assertion, call_expression, star_expression, unary_expression, binary_expression, array_type, ellipsis_array_type, slice_type, map_type, channel_type, function_type, struct_type, interface_type, Expressions, no_expression, expression_and, Parameters, no_parameter, named_and, unnamed_and, name_alone_and, statement_node, StatementForm, empty_statement, expression_statement, send_statement, increment_statement, decrement_statement, assignment, operator_assignment, define_statement, block_statement, if_statement, OptionalStatement, missing_statement, present_statement, OptionalExpression, missing_expression, present_expression}

@@ -3,8 +3,11 @@
 #![tactic(auto)]
 
 ghost use Rattle.meaning.specs.Conditions.{ConditionsFindOut};
+ghost use Rattle.meaning.specs.KeptExamples.{KeptInFields};
+ghost use Rattle.meaning.specs.KeptLaws.{KeptIsOwed};
 ghost use Rattle.meaning.specs.Laws.{EachFrontStops, FallingOffReturns};
 ghost use Rattle.meaning.specs.NameExamples.{TypeParametersHide};
+ghost use Rattle.meaning.specs.ObjectExamples.{KeptForCertain};
 ghost use Rattle.meaning.specs.StatementExamples.{FallingAndJumping};
 ghost use Rattle.meaning.specs.TreeExamples.{DelicateTrees, RefusedTrees};
 ghost use Rattle.meaning.specs.UseLaws.{EachMentionIsOneOfThree, EventsStandAtOneSite};
@@ -67,4 +70,22 @@ pub fn events_stand_at_one_site()
 /// a row it finds to be an error was not.
 pub fn conditions_find_out()
     ensures { ConditionsFindOut }
+{}
+
+/// In small functions a field keeps a cancel function, and what is given to others, called or returned is as the rules
+/// say.
+pub fn kept_in_fields()
+    ensures { KeptInFields }
+{}
+
+/// In small functions an element is that of a field for certain, or may be that of a map; and an object may get another
+/// value by its address, or can't.
+pub fn kept_for_certain()
+    ensures { KeptForCertain }
+{}
+
+/// What is kept in a field stays so until it is called, given to others, bound again or given back; nothing else that
+/// becomes of an object settles what it doesn't keep.
+pub fn kept_is_owed()
+    ensures { KeptIsOwed }
 {}

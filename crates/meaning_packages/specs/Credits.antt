@@ -12,7 +12,7 @@ use Rattle.meaning.specs.Mentions.{BodyPlace}
 use Rattle.meaning.specs.Tracked.{live, idle}
 use Rattle.meaning.specs.Uses.{Callee, Handed, Event, Seen}
 use Rattle.meaning.specs.BodyEvents.{Variable, captured, bodies_of, variables_of, unfollowed_faults}
-use Rattle.meaning.specs.Classes.{Promises, CancelClass, unset, opened, safe, pending, GroupClass, unmade, in_state, awaited}
+use Rattle.meaning.specs.Classes.{Promises, CancelClass, unset, opened, kept, safe, pending, GroupClass, unmade, in_state, awaited}
 use Rattle.meaning_packages.specs.PathFaults.{Paths, cancel_class, group_class, ComesToReturn, paths_of}
 
 -- Bodies of a file
@@ -43,6 +43,7 @@ no_calls f k = false
 abbrev pub is_safe : CancelClass → Bool
 is_safe unset = false
 is_safe opened = false
+is_safe kept = false
 is_safe safe = true
 is_safe (pending g) = false
 

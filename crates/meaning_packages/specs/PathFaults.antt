@@ -2,16 +2,17 @@
 -- variable. A path's fault is what some list of the body's events comes to, as `Reaches` of
 -- `meaning/specs/Lists.antt` says it; so statements that no list reaches have none, and of the paths of a body with
 -- too many variables, or with variables and a `goto`, nothing is said.
---  - A cancel variable is overwritten where a list comes to a binding of it with the variable open, or pending in a
---    group that is not the body's own (one that it declares, and that is no parameter).
+--  - A cancel variable is overwritten where a list comes to a binding of it with the variable open or kept, or pending
+--    in a group that is not the body's own (one that it declares, and that is no parameter).
 --  - A group is overwritten where a list comes to a making of it with the group live.
 --  - At a return that a list comes to: an own group may be live; a cancel variable that the body declares, no
 --    parameter, and does not hand on there, may not have been called; it may be pending in a group that some list, the
---    same or another one, leaves live at that place.
+--    same or another one, leaves live at that place. A return that hands on the object in which it is kept hands it on
+--    where it is kept, and nowhere else.
 -- A pass of a cancel variable to a function of which nobody knows that it calls it is a fault wherever it stands, on a
 -- path or not, in the first edition of the rules; in the second it is a read.
 -- (The documentation of `context` and `golang.org/x/sync/errgroup`.)
-use Rattle.std.specs.Prelude.{ℕ, ◌≡◌, ◌≢◌, ◌==◌, not, ◌&&◌, Bool, true, false, List, [], Contains, Some}
+use Rattle.std.specs.Prelude.{ℕ, ◌≡◌, ◌≢◌, ◌==◌, not, ◌&&◌, Bool, true, false, List, [], Contains, Some, is_none}
 use Rattle.std.specs.List.{list_any}
 use Rattle.tree.specs.declared.edition.Edition.{Edition}
 use Rattle.tree.specs.declared.edition.Edition.TheVariants.{First}
@@ -22,9 +23,9 @@ use Rattle.meaning.specs.StatementCode.{body_code}
 use Rattle.meaning.specs.FunctionFacts.{cancel, group}
 use Rattle.meaning.specs.Mentions.{BodyPlace}
 use Rattle.meaning.specs.Tracked.{GroupState, live}
-use Rattle.meaning.specs.Uses.{Callee, VariableAt, Handed, Event, obtain, clear, pass, defer_pass, make, return_event, Seen, is_group}
+use Rattle.meaning.specs.Uses.{Callee, VariableAt, Handed, Event, obtain, obtain_kept, clear, pass, defer_pass, make, return_event, Seen, is_group}
 use Rattle.meaning.specs.BodyEvents.{Variable, VariableRole, own_parameter, own_receiver, declared_in_body, captured, sites_of, events_at, variables_of, unfollowed_faults}
-use Rattle.meaning.specs.Classes.{Promises, CancelClass, unset, opened, safe, pending, entry_cancel, cancel_after, GroupClass, in_state, entry_group, group_after}
+use Rattle.meaning.specs.Classes.{Promises, CancelClass, unset, opened, kept, safe, pending, entry_cancel, cancel_after, GroupClass, in_state, entry_group, group_after}
 
 -- what is said of a path or a pass; in a report these are LC04, LC05, LC07, LC08, LC10 and LC06
 pub data PathCode : Type 0 where
@@ -63,11 +64,17 @@ makes_it vs g = list_any (λ v. (v.number == g) && (is_group (Some v.kind) && is
 abbrev pub is_lost : List Variable → CancelClass → Bool
 is_lost vs unset = false
 is_lost vs opened = true
+is_lost vs kept = true
 is_lost vs safe = false
 is_lost vs (pending g) = not (makes_it vs g)
 
+-- whatever is known of it
 abbrev pub is_handed : ℕ → List Handed → Bool
-is_handed number = list_any (λ h. h.number == number)
+is_handed number = list_any (λ h. (h.number == number) && is_none h.object)
+
+-- or where it is kept in an object
+abbrev pub is_handed_kept : ℕ → List Handed → Bool
+is_handed_kept number = list_any (λ h. h.number == number)
 
 -- the class of a variable of the body after a list
 abbrev pub cancel_class : Paths → Variable → List (Occurrence Event) → CancelClass
@@ -79,6 +86,7 @@ group_class b g t = group_after b.promises g.number (entry_group g.role) t
 -- an event that binds a cancel variable, and where
 pub data BindsCancel : Event → VariableAt → Type 0 where
   obtains : {u : VariableAt} {f : Callee} {k : ℕ} {is_declared : Bool} → BindsCancel (obtain u f k is_declared) u
+  obtains_into : {u : VariableAt} {f : Callee} {k x : ℕ} → BindsCancel (obtain_kept u f k x) u
   clears : {u : VariableAt} → BindsCancel (clear u) u
 
 -- an event that passes a cancel variable to a function that is not known to call it
@@ -144,6 +152,12 @@ pub data IsPathFault (b : Paths) : PathFault → Type 0 where
       → OwesCall b v handed
       → cancel_class b v t ≡ opened
       → IsPathFault b record { at = o.at; code = not_called; name = v.name }
+  returns_kept : (v : Variable) (handed : List Handed) (t : List (Occurrence Event)) (o : Occurrence Event)
+      → ComesToReturn b t o handed
+      → OwesCall b v handed
+      → cancel_class b v t ≡ kept
+      → is_handed_kept v.number handed ≡ false
+      → IsPathFault b record { at = o.at; code = not_called; name = v.name }
   returns_pending : (v : Variable) (handed : List Handed) (t : List (Occurrence Event)) (o : Occurrence Event)
       → ComesToReturn b t o handed
       → OwesCall b v handed
@@ -151,11 +165,15 @@ pub data IsPathFault (b : Paths) : PathFault → Type 0 where
       → IsPathFault b record { at = o.at; code = left_to_live_group; name = v.name }
 
 -- At each return that a list comes to, the variable has been called, or its call is saved, whether it is handed on
--- there or not: it is neither open there, nor pending in a group that some list leaves live there.
+-- there or not: it is neither open there, nor kept in an object, nor pending in a group that some list leaves live
+-- there.
 pub record KeepsCall (b : Paths) (v : Variable) : Type 0 where
   pub never_open : (handed : List Handed) (t : List (Occurrence Event)) (o : Occurrence Event)
       → ComesToReturn b t o handed
       → cancel_class b v t ≢ opened
+  pub never_kept : (handed : List Handed) (t : List (Occurrence Event)) (o : Occurrence Event)
+      → ComesToReturn b t o handed
+      → cancel_class b v t ≢ kept
   pub never_left : (handed : List Handed) (t : List (Occurrence Event)) (o : Occurrence Event)
       → ComesToReturn b t o handed
       → IsLeft b v t o

@@ -77,7 +77,7 @@ module _ (rules : Rules) (each : AreSaidOfFiles rules.says) where
   pub entries_are_of_files_by : EntriesAreOfFilesBy rules
   entries_are_of_files_by ps report p said x is_report of among =
       let w = is_report.of_package of.place p said of.is_package of.is_said in
-      finding_within ps is_report.tables of.place x ((w.1.each x).0 among) p of.is_package
+      finding_within ps is_report.tables of.place x ((w.are_findings.each x).0 among) p of.is_package
 
 -- By paths
 

@@ -1,5 +1,5 @@
 -- Two lists of the same elements in one order are one list. So are two lists of the same entries in the order of a
--- report.
+-- report, and two lists of the same texts in theirs.
 use Rattle.std.proofs.Common.{◌≡◌, ℕ, suc, inl, inr, List, [], ◌∷◌, Contains, refl, sym, ap, ◌∙◌, subst, arith}
 use Rattle.std.specs.Prelude.{◌↔◌}
 use Rattle.std.specs.List.{AllPairs}
@@ -83,17 +83,25 @@ module _ {X : Type 0} (Before : X → X → Type 0) (not_both : (a b : X) → Be
       (λ z among. later_too y x z ys xs k (sym same) among (back z (contains_there y z ys among))) in
       λ i. same i ∷ rest i
 
--- Entries in the order of a report
+-- Entries in the order of a report, and texts
 
-in_order : (xs : List Entry) → AllPairs Precedes xs → AreInOrder Precedes xs
-in_order [] h = tt
-in_order (x ∷ xs) h = (
-  λ y among. subst (Precedes x) among.2 (h 0 (suc among.0) y (omega arith) (omega (arith, among.1))),
-  in_order xs λ i j d l m. h (suc i) (suc j) d (omega (arith, l)) (omega (arith, m)),
+in_order : {X : Type 0} (Before : X → X → Type 0) (xs : List X) → AllPairs Before xs → AreInOrder Before xs
+in_order Before [] h = tt
+in_order Before (x ∷ xs) h = (
+  λ y among. subst (Before x) among.2 (h 0 (suc among.0) y (omega arith) (omega (arith, among.1))),
+  in_order Before xs λ i j d l m. h (suc i) (suc j) d (omega (arith, l)) (omega (arith, m)),
 )
 
 pub one_order : (xs ys : List Entry) → AllPairs Precedes xs → AllPairs Precedes ys
     → ((z : Entry) → Contains xs z ↔ Contains ys z)
     → xs ≡ ys
 one_order xs ys h k same =
-    one_list Precedes not_both xs ys (in_order xs h) (in_order ys k) (λ z. (same z).0) (λ z. (same z).1)
+    one_list Precedes not_both xs ys (in_order Precedes xs h) (in_order Precedes ys k) (λ z. (same z).0)
+    (λ z. (same z).1)
+
+pub one_order_of_texts : (xs ys : List (List ℕ)) → AllPairs TextPrecedes xs → AllPairs TextPrecedes ys
+    → ((z : List ℕ) → Contains xs z ↔ Contains ys z)
+    → xs ≡ ys
+one_order_of_texts xs ys h k same =
+    one_list TextPrecedes not_both_texts xs ys (in_order TextPrecedes xs h) (in_order TextPrecedes ys k)
+    (λ z. (same z).0) (λ z. (same z).1)

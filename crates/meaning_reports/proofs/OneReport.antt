@@ -3,19 +3,20 @@
 use Rattle.std.proofs.Common.{◌≡◌, ℕ, zero, suc, ◌<◌, inl, inr, Bool, true, false, if◌then◌else◌, List, [], ◌∷◌, length, Option, Some, None, is_some, refl, sym, ap, ◌∙◌, subst, arith, true≢false}
 use Rattle.std.specs.Prelude.{slice_get}
 use Rattle.std.proofs.lemmas.Option.{slice_get_within, slice_get_cases}
+use Rattle.meaning.specs.Tracked.{Fields, each_field}
 use Rattle.meaning.specs.Uses.{Seen}
 use Rattle.meaning_packages.specs.CallsFlags.{Flags, FileWithCredits, AreMost}
 use Rattle.imports.specs.Ranks.{Package}
 use Rattle.imports.specs.Settling.{place_from}
 use Rattle.imports.proofs.GivenImports.{first_there}
 use Rattle.report.specs.Entries.{Entry}
-use Rattle.meaning_reports.specs.Loaded.{LoadedPackage, PackageTable, Tables, no_table, is_imported, imported_tables, imported_paths, import_list, means_in, signatures_of, trees_of, seen_from}
+use Rattle.meaning_reports.specs.Loaded.{LoadedPackage, PackageTable, Tables, no_table, is_imported, imported_tables, imported_paths, import_list, means_in, signatures_of, trees_of, seen_from, fields_by}
 use Rattle.meaning_reports.specs.WholeFaults.{HasNoWholeFault}
 use Rattle.meaning_reports.specs.PackageTables.{AreCredited, IsEmpty, FlagsRule, IsTableBy, empty, full, AreTablesBy, AreFlagsByPaths}
-use Rattle.meaning_reports.specs.PackageReports.{Rules, AreFindingsBy, Said, by_paths}
+use Rattle.meaning_reports.specs.PackageReports.{Rules, AreFindingsBy, Said, AreFieldsToTell, of_no, of_yes, by_paths}
 use Rattle.meaning_reports.specs.OneReport.{AreDetermined, OneReportBy, OneReport}
 use Rattle.meaning_reports.proofs.OneAnswer.{one_list, one_most}
-use Rattle.meaning_reports.proofs.EntryOrder.{one_order}
+use Rattle.meaning_reports.proofs.EntryOrder.{one_order, one_order_of_texts}
 use Rattle.meaning_reports.proofs.ImportsOf.{has_path, no_place, in_lists, given_in_lists, names_first, cannot_be_unranked}
 use Rattle.meaning_reports.proofs.RanksGiven.{HasOrder, has_order}
 
@@ -136,6 +137,15 @@ module _ (rules : Rules) (ps : List LoadedPackage) (tables : Tables) (i : ℕ) w
     λ c. (h.each z).1 ((k.each z).0 c),
   )
 
+  pub one_telling : (p : LoadedPackage) (es : List Entry) (xs ys : List (List ℕ)) → AreFieldsToTell ps tables p es xs
+      → AreFieldsToTell ps tables p es ys
+      → xs ≡ ys
+  one_telling p (e ∷ es) xs ys of_no of_no = refl
+  one_telling p [] xs ys (of_yes h each) (of_yes k other) = one_order_of_texts xs ys h k λ z. (
+    λ c. (other z).1 ((each z).0 c),
+    λ c. (each z).1 ((other z).0 c),
+  )
+
 pub one_report_by : (rules : Rules) → AreDetermined rules.are_flags → OneReportBy rules
 one_report_by rules determined ps one other h k = same_lists one other (h.is_as_long ∙ sym k.is_as_long) each
   where
@@ -147,11 +157,16 @@ one_report_by rules determined ps one other h k = same_lists one other (h.is_as_
     said_of i p x y is here there =
         let a = h.of_package i p x is here in
         let b = k.of_package i p y is there in
-        let paths : x.path ≡ y.path = a.0 ∙ sym b.0 in
-        let its = subst (λ (t : Tables). AreFindingsBy rules ps t i x.entries) tables a.1 in
-        let entries : x.entries ≡ y.entries = one_finding rules ps k.tables i x.entries y.entries its b.1 in
-        let table : x.table ≡ y.table = a.2 ∙ (ap (λ (t : Tables). t p.path) tables ∙ sym b.2) in
-        λ j. record { path = paths j; entries = entries j; table = table j }
+        let paths : x.path ≡ y.path = a.is_path ∙ sym b.is_path in
+        let its = subst (λ (t : Tables). AreFindingsBy rules ps t i x.entries) tables a.are_findings in
+        let entries : x.entries ≡ y.entries =
+        one_finding rules ps k.tables i x.entries y.entries its b.are_findings in
+        let told = subst (λ (t : Tables). AreFieldsToTell ps t p x.entries x.keeping) tables a.are_fields in
+        let too = subst (λ (es : List Entry). AreFieldsToTell ps k.tables p es x.keeping) entries told in
+        let keeping : x.keeping ≡ y.keeping =
+        one_telling rules ps k.tables i p y.entries x.keeping y.keeping too b.are_fields in
+        let table : x.table ≡ y.table = a.is_table ∙ (ap (λ (t : Tables). t p.path) tables ∙ sym b.is_table) in
+        λ j. record { path = paths j; entries = entries j; keeping = keeping j; table = table j }
 
     each : (i : ℕ) (x y : Said) → slice_get one i ≡ Some x → slice_get other i ≡ Some y → x ≡ y
     each i x y here there = elim (slice_get_cases ps i).1 [
@@ -165,15 +180,20 @@ one_report_by rules determined ps one other h k = same_lists one other (h.is_as_
 
 -- By paths
 
--- what the files of a package are seen with, by the tables of what it imports
-abbrev pub seen_by : List LoadedPackage → LoadedPackage → Tables → List Seen
-seen_by ps p known =
+-- what the files of a package are seen with, by the fields that keep, and the tables of what it imports
+abbrev pub seen_where : Fields → List LoadedPackage → LoadedPackage → Tables → List Seen
+seen_where fields ps p known =
     seen_from (λ number. record {
       edition = p.edition;
       means = means_in ps p number;
+      fields = fields;
+      object_lefts = λ at. None;
       functions = signatures_of ps p;
       imported = λ path. (known path).signatures;
     }) 0 (trees_of p)
+
+abbrev pub seen_by : List LoadedPackage → LoadedPackage → Tables → List Seen
+seen_by ps p known = seen_where (fields_by p.edition (seen_where each_field ps p known)) ps p known
 
 pub flags_by_paths : AreDetermined AreFlagsByPaths
 flags_by_paths ps one other i p flags more is none same first second =

@@ -5,14 +5,17 @@ use Rattle.std.specs.Prelude.{ℕ, ◌+◌, ◌≡◌, Bool, false, if◌then◌
 use Rattle.std.specs.List.{list_any}
 use Rattle.std.specs.Str.{bytes_eq}
 use Rattle.tree.specs.declared.edition.Edition.{Edition}
+use Rattle.tree.specs.declared.edition.Edition.TheVariants.{First, Second}
 use Rattle.tree.specs.Syntax.{ImportSpec, SourceFile}
 use Rattle.meaning.specs.OuterBlocks.{PackageNames, specs_of}
 use Rattle.meaning.specs.Declarations.{declaration_of_use}
 use Rattle.meaning.specs.FunctionFacts.{Meanings, FunctionFacts, package_facts}
-use Rattle.meaning.specs.Tracked.{Known}
+use Rattle.meaning.specs.Tracked.{Fields, each_field, these_fields, Known}
 use Rattle.meaning.specs.Uses.{Seen}
 use Rattle.meaning.specs.BodyEvents.{seen_file}
+use Rattle.meaning.specs.KeepingFields.{fields_in_files}
 use Rattle.meaning_packages.specs.CallsFlags.{Flags}
+use Rattle.meaning_reports.specs.MethodNames.{methods_in, but_methods}
 use Rattle.report.specs.declared.codes.TextFault.{TextFault}
 use Rattle.report.specs.declared.codes.TreeFault.{TreeFault}
 use Rattle.imports.specs.Ranks.{Package}
@@ -127,10 +130,13 @@ imported_signatures p tables path = (imported_tables p tables path).signatures
 abbrev pub imported_flags : LoadedPackage → Tables → List ℕ → Flags
 imported_flags p tables path = (imported_tables p tables path).calls
 
-abbrev pub known_in : List LoadedPackage → Tables → LoadedPackage → ℕ → Known
-known_in ps tables p number = record {
+-- where these fields keep
+abbrev pub known_with : Fields → List LoadedPackage → Tables → LoadedPackage → ℕ → Known
+known_with fields ps tables p number = record {
   edition = p.edition;
   means = means_in ps p number;
+  fields = fields;
+  object_lefts = λ at. None;
   functions = signatures_of ps p;
   imported = imported_signatures p tables;
 }
@@ -139,6 +145,18 @@ known_in ps tables p number = record {
 abbrev pub seen_from : (ℕ → Known) → ℕ → List SourceFile → List Seen
 seen_from known n [] = []
 seen_from known n (tree ∷ trees) = seen_file (known n) tree ∷ seen_from known (n + 1) trees
+
+-- in the first edition no field keeps
+abbrev pub fields_by : Edition → List Seen → Fields
+fields_by First files = these_fields [] []
+fields_by Second files = but_methods (flat_map methods_in files) (fields_in_files files)
+
+-- the fields of a package that keep
+abbrev pub keeping_in : List LoadedPackage → Tables → LoadedPackage → Fields
+keeping_in ps tables p = fields_by p.edition (seen_from (known_with each_field ps tables p) 0 (trees_of p))
+
+abbrev pub known_in : List LoadedPackage → Tables → LoadedPackage → ℕ → Known
+known_in ps tables p = known_with (keeping_in ps tables p) ps tables p
 
 abbrev pub seen_files : List LoadedPackage → Tables → LoadedPackage → List Seen
 seen_files ps tables p = seen_from (known_in ps tables p) 0 (trees_of p)

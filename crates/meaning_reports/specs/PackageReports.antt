@@ -2,12 +2,13 @@
 -- yes and that it needs, each import with a dot that is left out, and what the rules say of its files. The rules of
 -- paths say there the use faults of what stands in no body, and the faults of each body: its use faults, those of its
 -- passes and those of its paths. A package is yes if there is nothing to say of it.
-use Rattle.std.specs.Prelude.{ℕ, ◌≡◌, ◌↔◌, Bool, List, length, Some, slice_get, Contains}
+use Rattle.std.specs.Prelude.{ℕ, ◌≡◌, ◌↔◌, Bool, List, [], ◌∷◌, length, Some, slice_get, Contains}
 use Rattle.std.specs.List.{AllPairs}
 use Rattle.tree.specs.Syntax.{Identifier, ImportSpec}
 use Rattle.meaning.specs.Mentions.{BodyPlace}
-use Rattle.meaning.specs.Uses.{Callee, UseFault, UseCode, recover_used, goto_used, cancel_discarded, cancel_used_otherwise, group_used_otherwise, bound_again, too_many_variables}
+use Rattle.meaning.specs.Uses.{Callee, Seen, UseFault, UseCode, recover_used, goto_used, cancel_discarded, cancel_used_otherwise, group_used_otherwise, bound_again, too_many_variables}
 use Rattle.meaning.specs.BodyEvents.{outer_faults, body_faults}
+use Rattle.meaning.specs.KeepingFields.{fields_kept}
 use Rattle.meaning_packages.specs.PathFaults.{PathFault, PathCode, overwritten, not_called, group_is_live, group_overwritten, left_to_live_group, passed_on, IsFaultOf}
 use Rattle.meaning_packages.specs.Credits.{promises_in}
 use Rattle.meaning.specs.BodyEvents.{bodies_of}
@@ -15,8 +16,8 @@ use Rattle.meaning_packages.specs.CallsFlags.{Flags, calls_by, FileWithCredits}
 use Rattle.report.specs.declared.codes.DiagnosticCode.{DiagnosticCode}
 use Rattle.report.specs.declared.codes.DiagnosticCode.TheVariants.{LeftOut, Discarded, Overwritten, NotCalled, CancelMisused, GroupIsLive, GroupOverwritten, GroupMisused, LeftToLiveGroup, BoundAgain, TooMany, ImportIsNotYes}
 use Rattle.report.specs.declared.codes.TreeFault.TheVariants.{Recover, Goto}
-use Rattle.report.specs.Entries.{Entry, Precedes}
-use Rattle.meaning_reports.specs.Loaded.{LoadedPackage, PackageTable, Tables, imported_flags}
+use Rattle.report.specs.Entries.{Entry, TextPrecedes, Precedes}
+use Rattle.meaning_reports.specs.Loaded.{LoadedPackage, PackageTable, Tables, imported_flags, seen_files}
 use Rattle.meaning_reports.specs.WholeFaults.{ImportsAt, import_entry, IsWholeFault, HasNoWholeFault}
 use Rattle.meaning_reports.specs.DotImports.{IsLeftOut, dot_entry}
 use Rattle.meaning_reports.specs.UsedImports.{IsNeeded}
@@ -59,11 +60,35 @@ pub record AreFindingsBy (rules : Rules) (ps : List LoadedPackage) (tables : Tab
   pub in_order : AllPairs Precedes entries
   pub each : (x : Entry) → Contains entries x ↔ IsFindingBy rules ps tables i x
 
--- what is said of a package: its path, the findings, and its table
+-- a body of the package keeps in the field what it obtained
+pub record IsKeptIn (ps : List LoadedPackage) (tables : Tables) (p : LoadedPackage) (field : List ℕ) : Type 0 where
+  pub file : Seen
+  pub is_file : Contains (seen_files ps tables p) file
+  pub is_kept : Contains (fields_kept file) field
+
+-- The fields that a verdict tells of, each once, byte by byte. Only a yes tells of fields.
+pub data AreFieldsToTell (ps : List LoadedPackage) (tables : Tables) (p : LoadedPackage)
+    : List Entry → List (List ℕ) → Type 0 where
+  of_no : {x : Entry} {xs : List Entry} → AreFieldsToTell ps tables p (x ∷ xs) []
+  of_yes : {fields : List (List ℕ)}
+      → AllPairs TextPrecedes fields
+      → ((field : List ℕ) → Contains fields field ↔ IsKeptIn ps tables p field)
+      → AreFieldsToTell ps tables p [] fields
+
+-- what is said of a package: its path, the findings, the fields in which it keeps cancel functions, if it is yes, and
+-- its table
 pub record Said : Type 0 where
   pub path : List ℕ
   pub entries : List Entry
+  pub keeping : List (List ℕ)
   pub table : PackageTable
+
+pub record IsSaid (rules : Rules) (ps : List LoadedPackage) (tables : Tables) (i : ℕ) (p : LoadedPackage) (said : Said)
+    : Type 0 where
+  pub is_path : said.path ≡ p.path
+  pub are_findings : AreFindingsBy rules ps tables i said.entries
+  pub are_fields : AreFieldsToTell ps tables p said.entries said.keeping
+  pub is_table : said.table ≡ tables p.path
 
 -- the report has for each package, in their order, what is to be said of it
 pub record IsReportBy (rules : Rules) (ps : List LoadedPackage) (report : List Said) : Type 0 where
@@ -73,7 +98,7 @@ pub record IsReportBy (rules : Rules) (ps : List LoadedPackage) (report : List S
   pub of_package : (i : ℕ) (p : LoadedPackage) (said : Said)
       → slice_get ps i ≡ Some p
       → slice_get report i ≡ Some said
-      → (said.path ≡ p.path) × AreFindingsBy rules ps tables i said.entries × (said.table ≡ tables p.path)
+      → IsSaid rules ps tables i p said
 
 -- By paths
 

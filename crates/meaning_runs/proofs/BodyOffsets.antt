@@ -1,16 +1,18 @@
 -- In the tree of a text no two bodies begin at one offset, and a body that stands in another begins behind it.
-use Rattle.std.proofs.Common.{◌≡◌, ℕ, ◌<◌, ◌≤◌, length, arith, inl, inr, Bool, true, false, List, [], ◌∷◌, ◌++◌, Option, Some, None, Contains, refl, sym, ap, subst, append_assoc}
-use Rattle.std.specs.Prelude.{◌-◌}
+use Rattle.std.proofs.Common.{◌≡◌, ℕ, ◌<◌, ◌≤◌, length, arith, inl, inr, Bool, true, false, List, [], ◌∷◌, ◌++◌, Option, Some, None, Contains, refl, sym, ap, subst, append_assoc, ◌∙◌, append-nil}
+use Rattle.std.specs.Prelude.{◌-◌, if◌then◌else◌}
 use Rattle.std.proofs.lemmas.List.Elements.{Contains-append_cases}
 use Rattle.tree.specs.declared.operator.DeclKeyword.{DeclKeyword}
-use Rattle.tree.specs.Syntax.{Parameters, Specs, no_spec, value_and, type_and, declaration_of, Block, Function, TopLevelDeclaration, function_declaration, general_declaration, ImportSpec, ImportDeclaration, SourceFile}
-use Rattle.meaning.specs.Mentions.{BodyPlace, Mark, mentions, defers_literal, returns, opens, closes, part_of, expressions_marks, expression_marks, optional_marks, signature_marks, statements_marks, declared_elsewhere, type_parameters_marks, receiver_marks, function_body, function_marks, outer_specs_marks, top_level_marks, top_levels_marks, file_marks}
+use Rattle.tree.specs.declared.span.Span.{Span}
+use Rattle.tree.specs.Syntax.{Identifier, Parameters, Specs, no_spec, value_and, type_and, declaration_of, Block, Function, TopLevelDeclaration, function_declaration, general_declaration, ImportSpec, ImportDeclaration, SourceFile}
+use Rattle.meaning.specs.Mentions.{BodyPlace, Mark, mentions, defers_literal, returns, opens, closes, part_of, expressions_marks, expression_marks, optional_marks, signature_marks, statements_marks, declared_elsewhere, type_parameters_marks, receiver_marks, function_body, function_marks, outer_specs_marks, top_level_marks, top_levels_marks, file_marks, of_fields, imports_all, is_dot, import_marks}
 use Rattle.meaning.specs.Tracked.{Placed, outer, placed}
 use Rattle.tree.specs.declared.edition.Edition.{Edition}
-use Rattle.meaning.specs.Cursor.{GoText, read_in}
+use Rattle.meaning.specs.Cursor.{GoText, read_in, ◌⨾◌, spanning, string_token}
+use Rattle.meaning.specs.OuterBlocks.{specs_of}
 use Rattle.meaning.specs.Scopes.{parameters_named, named_in_types}
 use Rattle.meaning.specs.TreeOfText.{first_place, IsTreeOf}
-use Rattle.meaning.specs.Grammar.{as_type, as_expression, IsLast, type_parameters, SpellsTypeParameters, SpellsSpecs, SpellsDeclaration, SpellsImportSpec, SpellsImportSpecs, SpellsOneImport, SpellsImports, SpellsReceiver, SpellsBody, SpellsFunction, SpellsTopLevel, SpellsTopLevels, SpellsFile}
+use Rattle.meaning.specs.Grammar.{as_type, as_expression, IsLast, type_parameters, SpellsTypeParameters, SpellsSpecs, SpellsDeclaration, SpellsImportSpec, SpellsImportSpecs, SpellsOneImport, SpellsImports, SpellsReceiver, SpellsBody, SpellsFunction, SpellsTopLevel, SpellsTopLevels, SpellsFile, import_name}
 use Rattle.meaning.proofs.Membership.{contains_nil, contains_here, contains_there, contains_cases}
 use Rattle.meaning.specs.BodyEvents.{opened_by, opened_in}
 use Rattle.meaning_runs.specs.BodyOffsets.{BodiesAreApart, BeginOnce, BodiesBeginOnce}
@@ -18,9 +20,9 @@ use Rattle.meaning_runs.proofs.LeftSides.{is_placed}
 use Rattle.meaning_runs.proofs.BodyOffsetsWithin.{AllBefore, OpenOnce}
 use Rattle.meaning_runs.proofs.BodyOffsetsTokens.{tokens_ordered, tokens_under}
 use Rattle.meaning_runs.proofs.AskedSites.{CodeSite, unasked_at, asked_statements}
-use Rattle.meaning_runs.proofs.SitesWithin.{Sited, no_site, from_site}
+use Rattle.meaning_runs.proofs.SitesWithin.{Sited, no_site, from_site, AreMentions}
 use Rattle.meaning_runs.proofs.BodyOffsetsRules.{Gives, both, behind, ending, given, spanned, loosely, gives_nothing, gives_never, gives_token, gives_chosen, gives_only_if, enclosed, gives_string, gives_semicolon, gives_identifier, gives_identifiers, moved, plain_before, spanned_begun, unasked, foreign, past, simple, led, braced, bodied}
-use Rattle.meaning_runs.proofs.BodyOffsetsParts.{names_around, gives_perhaps, gives_import_name, gives_type_parameters, gives_after_name, gives_expressions}
+use Rattle.meaning_runs.proofs.BodyOffsetsParts.{names_around, gives_perhaps, gives_type_parameters, gives_after_name, gives_expressions, gives_written_name}
 use Rattle.meaning_runs.proofs.BodyOffsetsSpelled.{gives_keyword, no_parameters_marked, no_expressions, three_and_one, last_gives, of_expression, of_each, of_optional, of_signature, of_items, of_type_parameters, of_statements}
 use Rattle.meaning_runs.proofs.EditionMarks.{placed_among, same_opened}
 
@@ -31,6 +33,20 @@ no_outer_specs (type_and n ps is_alias t span specs) h = absurd h
 
 abbrev block_sites : Block → List CodeSite
 block_sites b = unasked_at b.braces.start ∷ (asked_statements b.statements ++ unasked_at (b.braces.end - 1) ∷ [])
+
+abbrev import_mark : Bool → ℕ → List Mark
+import_mark b site = if b then of_fields site imports_all ∷ [] else []
+
+import_around : (b : Bool) (site : ℕ) → AreMentions (from_site site) (import_mark b site)
+import_around true site = (refl, tt)
+import_around false site = tt
+
+of_both_imports : (ss ts : List ImportSpec) → import_marks (ss ++ ts) ≡ import_marks ss ++ import_marks ts
+of_both_imports [] ts = refl
+of_both_imports (s ∷ ss) ts =
+    let first = import_mark (is_dot s.name) s.span.start in
+    ap (λ (l : List Mark). first ++ l) (of_both_imports ss ts)
+    ∙ sym (append_assoc first (import_marks ss) (import_marks ts))
 
 module _ (text : GoText) where
   outer_specs : (keyword : DeclKeyword) (is_grouped : Bool) (specs : Specs)
@@ -104,33 +120,48 @@ module _ (text : GoText) where
   top_levels [] = gives_nothing
   top_levels (d ∷ ds) = both (top_level d) (behind gives_semicolon (top_levels ds))
 
-  pub import_spec : (i : ImportSpec) → Gives false no_site [] [] (SpellsImportSpec text i)
-  import_spec i = given (spanned (behind (gives_import_name text i.name) (spanned gives_string)))
+  -- a spec by its name: the mark of one with a dot stands where the spec does
+  named_import : (span path : Span) (name : Option Identifier)
+      → Gives false no_site [] (import_mark (is_dot name) span.start)
+      (spanning span (import_name text name ⨾ spanning path string_token))
+  named_import span path None = spanned (behind gives_nothing (spanned gives_string))
+  named_import span path (Some n) =
+      let ms = import_mark (is_dot (Some n)) span.start in
+      loosely (spanned_begun (unasked (simple (moved (append-nil ms)
+      (plain_before ms (import_around (is_dot (Some n)) span.start)
+      (behind (gives_written_name text n) (spanned gives_string)))))))
 
-  import_specs : (is : List ImportSpec) → Gives false no_site [] [] (SpellsImportSpecs text is)
+  pub import_spec : (i : ImportSpec)
+      → Gives false no_site [] (import_mark (is_dot i.name) i.span.start) (SpellsImportSpec text i)
+  import_spec i = given (named_import i.span i.path_span i.name)
+
+  import_specs : (is : List ImportSpec) → Gives false no_site [] (import_marks is) (SpellsImportSpecs text is)
   import_specs [] = gives_nothing
-  import_specs (i ∷ is) = behind (import_spec i) (behind gives_semicolon (import_specs is))
+  import_specs (i ∷ is) = both (import_spec i) (behind gives_semicolon (import_specs is))
 
-  one_import : (is : List ImportSpec) → Gives false no_site [] [] (SpellsOneImport text is)
+  one_import : (is : List ImportSpec) → Gives false no_site [] (import_marks is) (SpellsOneImport text is)
   one_import [] = gives_never
-  one_import (i ∷ []) = import_spec i
+  one_import (i ∷ []) = moved (sym (append-nil (import_mark (is_dot i.name) i.span.start))) (import_spec i)
   one_import (i ∷ j ∷ is) = gives_never
 
-  pub imports : (ds : List ImportDeclaration) → Gives false no_site [] [] (SpellsImports text ds)
+  pub imports : (ds : List ImportDeclaration)
+      → Gives false no_site [] (import_marks (specs_of ds)) (SpellsImports text ds)
   imports [] = gives_nothing
   imports (d ∷ ds) =
-      loosely (behind (spanned (behind (gives_token _)
+      moved (sym (of_both_imports d.specs (specs_of ds)))
+      (loosely (both (spanned (behind (gives_token _)
       (gives_chosen d.is_grouped (loosely (enclosed _ _ (import_specs d.specs))) (one_import d.specs))))
-      (behind gives_semicolon (imports ds)))
+      (behind gives_semicolon (imports ds))))
 
   whole_file : (file : SourceFile) → Gives true no_site [] (file_marks file) (SpellsFile text file)
   whole_file file =
       spanned (behind (gives_token _) (behind (gives_identifier text file.package_name) (behind gives_semicolon
-      (behind (imports file.imports) (top_levels file.declarations)))))
+      (both (imports file.imports) (top_levels file.declarations)))))
 
 -- the bodies that placed marks open
 opened_here : (m : Mark) (b : BodyPlace) → Contains (opened_by m) b → m ≡ opens b
 opened_here (mentions m) b h = absurd (contains_nil b h)
+opened_here (of_fields site m) b h = absurd (contains_nil b h)
 opened_here (defers_literal site at) b h = absurd (contains_nil b h)
 opened_here (returns at es) b h = absurd (contains_nil b h)
 opened_here (opens c) b h = elim (contains_cases c b [] h) [
@@ -155,13 +186,13 @@ no_bodies_before : AllBefore 0 []
 no_bodies_before c h = absurd (contains_nil c h)
 
 pub bodies_are_apart : BodiesAreApart
-bodies_are_apart edition text tree t =
+bodies_are_apart edition some_keep text tree t =
     let g = whole_file (read_in edition text) tree (first_place t.tokens) t.last 0 tt (tokens_ordered text t.tokens t.cut) t.spelled in
     let w = g.within in
     let marks = file_marks tree in
-    let same_bodies = same_opened edition marks in
+    let same_bodies = same_opened edition some_keep marks in
     record {
-      falling = λ p among. w.falls [] tt no_bodies_before p (placed_among edition marks p among);
+      falling = λ p among. w.falls [] tt no_bodies_before p (placed_among edition some_keep marks p among);
       one_each = λ b c first second same.
           let opens_b = opens_one marks b (subst (λ (bs : List BodyPlace). Contains bs b) same_bodies first) in
           let opens_c = opens_one marks c (subst (λ (bs : List BodyPlace). Contains bs c) same_bodies second) in
@@ -173,6 +204,7 @@ begin_once : (bodies : List BodyPlace) (ms : List Mark) → OpenOnce ms → Begi
 unfolding placed
 begin_once bodies [] h = tt
 begin_once bodies (mentions m ∷ ms) h = begin_once bodies ms h.1
+begin_once bodies (of_fields site m ∷ ms) h = begin_once bodies ms h.1
 begin_once bodies (defers_literal site at ∷ ms) h = begin_once bodies ms h.1
 begin_once bodies (returns at es ∷ ms) h = begin_once bodies ms h.1
 begin_once bodies (opens b ∷ ms) h = (
@@ -185,9 +217,9 @@ begin_once bodies (opens b ∷ ms) h = (
 begin_once bodies (closes ∷ ms) h = begin_once (outer bodies) ms h.1
 
 pub bodies_begin_once : BodiesBeginOnce
-bodies_begin_once edition text tree t =
+bodies_begin_once edition some_keep text tree t =
     let g = whole_file (read_in edition text) tree (first_place t.tokens) t.last 0 tt (tokens_ordered text t.tokens t.cut) t.spelled in
-    subst BeginOnce (sym (same_opened edition (file_marks tree))) (begin_once [] (file_marks tree) g.within.once)
+    subst BeginOnce (sym (same_opened edition some_keep (file_marks tree))) (begin_once [] (file_marks tree) g.within.once)
 
 -- the sites of a file whose tree is the tree of a text
 pub record AreSited (text : List ℕ) (tree : SourceFile) : Type 0 where

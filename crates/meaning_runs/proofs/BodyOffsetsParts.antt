@@ -1,5 +1,5 @@
 -- What the small rules of the grammar give, and marks of which some are one mention in place of a part's own.
-use Rattle.std.proofs.Common.{◌≡◌, ℕ, ◌+◌, Bool, true, false, List, [], ◌∷◌, ◌++◌, Option, Some, None, refl, sym, ap}
+use Rattle.std.proofs.Common.{◌≡◌, ℕ, ◌+◌, Bool, true, false, List, [], ◌∷◌, ◌++◌, Option, Some, None, Contains, refl, sym, ap}
 use Rattle.std.specs.Prelude.{◌&&◌, if◌then◌else◌}
 use Rattle.lexer.specs.declared.token.TokenKind.TheVariants.{CaseKeyword}
 use Rattle.tree.specs.declared.edition.Edition.{Edition}
@@ -11,14 +11,15 @@ use Rattle.tree.specs.declared.operator.ChanDirection.{ChanDirection}
 use Rattle.tree.specs.declared.operator.ChanDirection.TheVariants.{Both, Send, Receive}
 use Rattle.tree.specs.Syntax.{Identifier, TypeName, Expression, expression_node, ExpressionForm, array_type, unary_expression, Expressions, no_expression, expression_and, OptionalExpression, missing_expression, present_expression, OptionalStatement, missing_statement, present_statement, Parameters, no_parameter, named_and, unnamed_and, name_alone_and}
 use Rattle.meaning.specs.Scopes.{is_blank}
-use Rattle.meaning.specs.Mentions.{Named, as_bare, as_named, as_bracketed, as_pointer, Row, CallPlace, nowhere, as_statement, only_value, return_item, deferred, Call, is_none_left, argument_use, Role, called, called_in_brackets, argument, left, new_literal, parameter_pointer, Mark, Spot, part_of, whole, mention, declaring, named_or, callee_or, addressed, argument_or, argument_at, new_literal_or, parameter_type_or, left_names, declared_elsewhere, guard_in_clause, expression_marks, expressions_marks, arguments_marks, items_marks, lefts_marks, exposed, bare_within, ranged_marks}
+use Rattle.meaning.specs.Mentions.{Named, as_bare, as_named, as_bracketed, as_pointer, Row, CallPlace, nowhere, as_statement, only_value, return_item, deferred, Call, is_none_left, Role, called, called_in_brackets, argument, left, new_literal, parameter_pointer, Mark, Spot, part_of, whole, mention, declaring, named_or, callee_or, addressed, argument_or, argument_at, new_literal_or, parameter_type_or, left_names, declared_elsewhere, guard_in_clause, expression_marks, expressions_marks, arguments_marks, items_marks, lefts_marks, exposed, bare_within, ranged_marks, under_go, Assigned, Taker, FieldMark, argument_spot, argument_taker, given_to, field_written}
 use Rattle.meaning.specs.Cursor.{GoText, Rule, ◌⨾◌}
 use Rattle.meaning.specs.OperatorTokens.{assign_operator}
 use Rattle.meaning.specs.Grammar.{Position, as_type, as_expression, as_value, as_element, as_constraint, end_of_selector, end_of_name, end_of_type, channel, arguments, perhaps, elements, third_bound, guard_name, initial, range_left, case_head, communication_head, optional_tag, before_item, after_items, after_instance, type_parameters, parameters_stand, length_stands, no_type_parameters, after_type_name, qualifier, type_name, import_name, SpellsExpression, SpellsExpressions, SpellsMore}
 use Rattle.meaning_runs.proofs.AskedSites.{CodeSite, asked_at}
 use Rattle.meaning_runs.proofs.SitesWithin.{Around, no_site, from_site, behind_site}
-use Rattle.meaning_runs.proofs.SitesWithin.{AreMentions}
-use Rattle.meaning_runs.proofs.BodyOffsetsRules.{Gives, both, behind, ending, given, spanned, loosely, gives_one, gives_nothing, gives_never, gives_not_before, gives_token, gives_optional, gives_only_if, enclosed, gives_string, gives_semicolon, gives_identifier, moved, asked_so, replaced, beginning, unasked, foreign, past, led}
+use Rattle.meaning_runs.proofs.SitesWithin.{AreMentions, AreAskedMentions}
+use Rattle.meaning_runs.proofs.FieldMarks.{FieldsOnly, no_more, and_one, Any, any, given_only, written_only}
+use Rattle.meaning_runs.proofs.BodyOffsetsRules.{Gives, both, behind, ending, given, spanned, loosely, gives_one, gives_nothing, gives_never, gives_not_before, gives_token, gives_optional, gives_only_if, enclosed, gives_string, gives_semicolon, gives_identifier, moved, asked_so, replaced, beginning, unasked, foreign, past, led, plain_before}
 
 pub named : (o : Option Named) (site : ℕ) (role : Role) {takes : Bool} {ms : List Mark} {rule : Rule}
     → Gives takes (from_site site) [] ms rule
@@ -60,11 +61,37 @@ newly as_statement site n h = h
 newly (only_value row) site n h = named n site (new_literal row) h
 newly (return_item k) site n h = h
 newly deferred site n h = h
+newly under_go site n h = h
 
 pub typed : (is_plain : Bool) (t : Expression) (site : ℕ) {takes : Bool} {ms : List Mark} {rule : Rule}
     → Gives takes (from_site site) [] ms rule
     → Gives takes (from_site site) [] (parameter_type_or is_plain t site ms) rule
 typed is_plain t site h = either is_plain (named (as_pointer t) site parameter_pointer h) h
+
+-- marks of fields, of the site around
+pub fields_around : {P : FieldMark → Type 0} {site : ℕ} (ms : List Mark) → FieldsOnly P site ms
+    → AreMentions (from_site site) ms
+fields_around ms no_more = tt
+fields_around ms (and_one {ms = rest} m p h) = (refl, fields_around rest h)
+
+pub fields_behind : {P : FieldMark → Type 0} {site : ℕ} (ms : List Mark) → FieldsOnly P site ms
+    → AreMentions (behind_site site) ms
+fields_behind ms no_more = tt
+fields_behind ms (and_one {ms = rest} m p h) = (refl, fields_behind rest h)
+
+pub fields_asked : {P : FieldMark → Type 0} {site : ℕ} (asks : List CodeSite) (ms : List Mark)
+    → Contains asks (asked_at site)
+    → FieldsOnly P site ms
+    → AreAskedMentions asks ms
+fields_asked asks ms among no_more = tt
+fields_asked asks ms among (and_one {ms = rest} m p h) = (among, fields_asked asks rest among h)
+
+pub writes_around : (site : ℕ) (by : Option Assigned) (e : Expression)
+    → AreMentions (from_site site) (field_written site by e)
+writes_around site by e = fields_around (field_written site by e) (written_only Any any site by e (λ l q. tt))
+
+pub gives_around : (site : ℕ) (taker : Taker) (e : Expression) → AreMentions (from_site site) (given_to site taker e)
+gives_around site taker e = fields_around (given_to site taker e) (given_only Any any site taker e)
 
 -- marks of the site around
 pub names : (row : Row) (site k : ℕ) (ns : List Identifier) → AreMentions (from_site site) (left_names row site k ns)
@@ -232,11 +259,13 @@ gives_qualifier text (Some n) = loosely (behind (gives_identifier text n) (gives
 pub gives_type_name : {own : Around} (text : GoText) (n : TypeName) → Gives false own [] [] (type_name text n)
 gives_type_name text n = spanned (behind (gives_qualifier text n.qualifier) (gives_identifier text n.name))
 
+pub gives_written_name : {own : Around} (text : GoText) (n : Identifier) → Gives true own [] [] (import_name text (Some n))
+gives_written_name text n = gives_one (gives_identifier text n) (given (given (spanned (gives_token _))))
+
 pub gives_import_name : {own : Around} (text : GoText) (n : Option Identifier)
     → Gives false own [] [] (import_name text n)
 gives_import_name text None = gives_nothing
-gives_import_name text (Some n) =
-    gives_one (loosely (gives_identifier text n)) (given (given (loosely (spanned (gives_token _)))))
+gives_import_name text (Some n) = loosely (gives_written_name text n)
 
 -- Instances and type parameters
 
@@ -305,24 +334,26 @@ module _ (text : GoText) (place : Position) where
   gives_expressions spot no_expression h = gives_never
   gives_expressions spot (expression_and e es) h = both (h.0 spot) (more_expressions spot es h.1)
 
-  more_arguments : (c : Option Call) (site k : ℕ) (es : Expressions)
+  more_arguments : (at : CallPlace) (c : Option Call) (site k : ℕ) (es : Expressions)
       → EachGives es
-      → Gives false (from_site site) [] (arguments_marks c site k es) (SpellsMore text place es)
+      → Gives false (from_site site) [] (arguments_marks at c site k es) (SpellsMore text place es)
   unfolding SpellsMore arguments_marks
-  more_arguments c site k no_expression h = gives_nothing
-  more_arguments c site k (expression_and e es) h =
+  more_arguments at c site k no_expression h = gives_nothing
+  more_arguments at c site k (expression_and e es) h =
       loosely (behind (gives_token _)
-      (both (argued_at c site k (is_none_left es) e (h.0 record { place = nowhere; literal = argument_use c; site = site }))
-      (more_arguments c site (k + 1) es h.1)))
+      (both (argued_at c site k (is_none_left es) e (h.0 (argument_spot at c site)))
+      (plain_before (given_to site (argument_taker at c) e) (gives_around site (argument_taker at c) e)
+      (more_arguments at c site (k + 1) es h.1))))
 
-  pub gives_argument_list : (c : Option Call) (site k : ℕ) (es : Expressions)
+  pub gives_argument_list : (at : CallPlace) (c : Option Call) (site k : ℕ) (es : Expressions)
       → EachGives es
-      → Gives true (from_site site) [] (arguments_marks c site k es) (SpellsExpressions text place es)
+      → Gives true (from_site site) [] (arguments_marks at c site k es) (SpellsExpressions text place es)
   unfolding SpellsExpressions arguments_marks
-  gives_argument_list c site k no_expression h = gives_never
-  gives_argument_list c site k (expression_and e es) h =
-      both (argued_at c site k (is_none_left es) e (h.0 record { place = nowhere; literal = argument_use c; site = site }))
-      (more_arguments c site (k + 1) es h.1)
+  gives_argument_list at c site k no_expression h = gives_never
+  gives_argument_list at c site k (expression_and e es) h =
+      both (argued_at c site k (is_none_left es) e (h.0 (argument_spot at c site)))
+      (plain_before (given_to site (argument_taker at c) e) (gives_around site (argument_taker at c) e)
+      (more_arguments at c site (k + 1) es h.1))
 
   more_items : (site k : ℕ) (es : Expressions)
       → EachGives es
@@ -347,7 +378,8 @@ module _ (text : GoText) (place : Position) where
   more_lefts row site k (expression_and e es) h =
       loosely (behind (gives_token _)
       (both (named (as_bare e) site (left k row) (named (bare_within e) site exposed (h.0 (part_of site))))
-      (more_lefts row site (k + 1) es h.1)))
+      (plain_before (field_written site (Some record { left_side = k; row = row }) e)
+      (writes_around site (Some record { left_side = k; row = row }) e) (more_lefts row site (k + 1) es h.1))))
 
   pub gives_lefts : (row : Row) (site k : ℕ) (es : Expressions)
       → EachGives es
@@ -356,7 +388,8 @@ module _ (text : GoText) (place : Position) where
   gives_lefts row site k no_expression h = gives_never
   gives_lefts row site k (expression_and e es) h =
       both (named (as_bare e) site (left k row) (named (bare_within e) site exposed (h.0 (part_of site))))
-      (more_lefts row site (k + 1) es h.1)
+      (plain_before (field_written site (Some record { left_side = k; row = row }) e)
+      (writes_around site (Some record { left_side = k; row = row }) e) (more_lefts row site (k + 1) es h.1))
 
   more_ranged : (site : ℕ) (es : Expressions)
       → EachGives es
@@ -365,7 +398,8 @@ module _ (text : GoText) (place : Position) where
   more_ranged site no_expression h = gives_nothing
   more_ranged site (expression_and e es) h =
       loosely (behind (gives_token _)
-      (both (named (bare_within e) site exposed (h.0 (part_of site))) (more_ranged site es h.1)))
+      (both (named (bare_within e) site exposed (h.0 (part_of site)))
+      (plain_before (field_written site None e) (writes_around site None e) (more_ranged site es h.1))))
 
   pub gives_ranged : (site : ℕ) (es : Expressions)
       → EachGives es
@@ -373,4 +407,5 @@ module _ (text : GoText) (place : Position) where
   unfolding SpellsExpressions ranged_marks
   gives_ranged site no_expression h = gives_never
   gives_ranged site (expression_and e es) h =
-      both (named (bare_within e) site exposed (h.0 (part_of site))) (more_ranged site es h.1)
+      both (named (bare_within e) site exposed (h.0 (part_of site)))
+      (plain_before (field_written site None e) (writes_around site None e) (more_ranged site es h.1))

@@ -7,7 +7,7 @@ use Rattle.lexer.specs.declared.token.TokenKind.{TokenKind}
 use Rattle.lexer.specs.declared.token.TokenKind.TheVariants.{FuncKeyword, ReturnKeyword, LeftBrace, RightBrace}
 use Rattle.tree.specs.declared.span.Span.{Span}
 use Rattle.tree.specs.Syntax.{Identifier, Expressions, StatementForm}
-use Rattle.meaning.specs.Mentions.{BodyPlace, LiteralUse, other_use, deferred_call, started_by, deferral, Mark, mentions, defers_literal, returns, opens, closes, in_body}
+use Rattle.meaning.specs.Mentions.{BodyPlace, LiteralUse, other_use, deferred_call, started_by, deferral, Mark, mentions, defers_literal, returns, opens, closes, in_body, of_fields}
 use Rattle.meaning.specs.Cursor.{GoText, Cursor, Rule, ◌⨾◌, ◌⇒◌, nothing, never, one_of, optional, chosen, token, string_token, not_before, semicolon, TakesSemicolon, Semicolons, no_semicolon, semicolon_and, spanning, start_at, first_start, identifier, optional_identifier, more_identifiers, identifiers}
 use Rattle.meaning.specs.Grammar.{statement_start}
 use Rattle.meaning.proofs.Membership.{contains_nil, contains_here, contains_there}
@@ -303,6 +303,7 @@ asked_so {takes} {own} {ms = ms} {rule = rule} e h = subst (λ (l : List CodeSit
 
 plain_own : (own : Around) (m : Mark) → IsOwn own m → IsPlain m
 plain_own own (mentions m) h = tt
+plain_own own (of_fields site m) h = tt
 plain_own own (defers_literal site at) h = tt
 plain_own own (returns site es) h = absurd h
 plain_own own (opens b) h = absurd h
@@ -319,6 +320,7 @@ all_plain own (m ∷ ms) h = (plain_own own m h.0, all_plain own ms h.1)
 
 one_asked_plain : (asks : List CodeSite) (m : Mark) → IsAskedMention asks m → IsPlain m
 one_asked_plain asks (mentions m) h = tt
+one_asked_plain asks (of_fields site m) h = tt
 one_asked_plain asks (defers_literal site at) h = absurd h
 one_asked_plain asks (returns site es) h = absurd h
 one_asked_plain asks (opens b) h = absurd h

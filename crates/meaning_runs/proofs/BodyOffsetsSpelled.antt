@@ -9,7 +9,7 @@ use Rattle.tree.specs.declared.operator.UnaryOperator.TheVariants.{Plus, Negate,
 use Rattle.tree.specs.declared.operator.DeclKeyword.{DeclKeyword}
 use Rattle.tree.specs.declared.operator.DeclKeyword.TheVariants.{Const, Var, «Type» as type_keyword}
 use Rattle.tree.specs.Syntax.{Identifier, Expression, expression_node, ExpressionForm, name_expression, basic_literal, function_literal, composite_literal, literal_value, key_value, parenthesized, selector_expression, index_expression, instance_expression, slice_expression, type_assertion, call_expression, star_expression, unary_expression, binary_expression, array_type, ellipsis_array_type, slice_type, map_type, channel_type, function_type, struct_type, interface_type, Expressions, no_expression, expression_and, OptionalExpression, missing_expression, present_expression, Signature, signature_of, Parameters, no_parameter, named_and, unnamed_and, name_alone_and, Fields, no_field, fields_and, embedded_and, element_and, method_and, Statement, statement_node, StatementForm, empty_statement, declaration_statement, labeled_statement, expression_statement, send_statement, increment_statement, decrement_statement, assignment, operator_assignment, define_statement, go_statement, defer_statement, return_statement, break_statement, continue_statement, goto_statement, fallthrough_statement, block_statement, if_statement, for_statement, range_assignment, range_definition, switch_statement, type_switch_statement, select_statement, Statements, no_statement, statement_and, OptionalStatement, missing_statement, present_statement, CaseClauses, no_case, case_and, CommunicationClauses, no_communication, communication_and, Declaration, declaration_of, Specs, no_spec, value_and, type_and}
-use Rattle.meaning.specs.Mentions.{bare, as_bare, as_named, as_new_literal, select_from, embedded, defines, assigns, declares, Standing, ordinary, first_of_for, communication, Row, nowhere, as_statement, deferred, place_in, Call, call_of, callee_use, elsewhere, names_type, Mark, Spot, part_of, whole, mention, declaring, number_of, name_role, literal_body, value_spot, left_names, declared_elsewhere, guard_in_clause, row_of, expression_marks, form_marks, expressions_marks, optional_marks, arguments_marks, items_marks, names_type_marks, signature_marks, parameters_marks, fields_marks, statement_marks, statement_form_marks, statements_marks, optional_statement_marks, cases_marks, communications_marks, declaration_marks, specs_marks, exposed, addressed_within, ranged_marks, NilTest, nil_marks, nil_where, bare_within, error_where, error_marks, row_in, first_row, guard_marks, behind_row}
+use Rattle.meaning.specs.Mentions.{bare, as_bare, as_named, as_new_literal, select_from, embedded, defines, assigns, declares, Standing, ordinary, first_of_for, communication, Row, as_statement, deferred, place_in, Call, call_of, elsewhere, names_type, Mark, Spot, part_of, whole, mention, declaring, number_of, name_role, literal_body, value_spot, left_names, declared_elsewhere, guard_in_clause, row_of, expression_marks, form_marks, expressions_marks, optional_marks, arguments_marks, items_marks, names_type_marks, signature_marks, parameters_marks, fields_marks, statement_marks, statement_form_marks, statements_marks, optional_statement_marks, cases_marks, communications_marks, declaration_marks, specs_marks, exposed, addressed_within, ranged_marks, NilTest, nil_marks, nil_where, bare_within, error_where, error_marks, row_in, first_row, guard_marks, behind_row, CallPlace, under_go, pointed_to, in_body, deferral, callee_spot, receiver_given, field_called, field_written, literal_given_to, sent, rights_given, is_one, guard_renewed, communication_given, as_key, arguments_place}
 use Rattle.meaning.specs.Scopes.{parameters_named}
 use Rattle.meaning.specs.Cursor.{GoText, Rule, ◌⇒◌, nothing, token, semicolons, spanning, word}
 use Rattle.meaning.specs.OperatorTokens.{literal_token, unary_token, keyword_token}
@@ -18,7 +18,8 @@ use Rattle.meaning_runs.proofs.AskedSites.{CodeSite, asked_specs, asked_declarat
 use Rattle.meaning_runs.proofs.BodyOffsetsTokens.{is_solid}
 use Rattle.meaning_runs.proofs.SitesWithin.{Around, no_site, from_site, behind_site, AreMentions, AreAskedMentions}
 use Rattle.meaning_runs.proofs.BodyOffsetsRules.{Gives, both, turned, behind, ending, given, spanned, loosely, gives_nothing, gives_never, gives_not_before, gives_token, gives_chosen, gives_only_if, enclosed, gives_semicolon, gives_semicolons, gives_identifier, gives_optional_identifier, gives_identifiers, moved, asked_so, replaced, plain_before, plain_behind, statement_at, begun, given_begun, spanned_begun, foreign, past, simple, led, lone, noted, braced, returned, bodied, whole_literal, branched, asked_first}
-use Rattle.meaning_runs.proofs.BodyOffsetsParts.{named, callee_named, newly, typed, names, names_around, names_elsewhere, guarded, gives_end_of_name, gives_end_of_selector, gives_end_of_type, gives_channel, gives_arguments, gives_perhaps, gives_elements, gives_range_left, clause, gives_third_bound, gives_guard_name, gives_initial, communication_clause, gives_tag, gives_before_item, gives_after_items, gives_assign_operator, gives_type_name, gives_after_instance, gives_after_name, EachGives, gives_expressions, gives_argument_list, gives_items, gives_lefts, gives_ranged}
+use Rattle.meaning_runs.proofs.FieldMarks.{Any, any, called_only, literal_only, receiver_only, rights_only, sent_only, communication_only, guard_only}
+use Rattle.meaning_runs.proofs.BodyOffsetsParts.{named, callee_named, newly, typed, names, names_around, names_elsewhere, guarded, gives_end_of_name, gives_end_of_selector, gives_end_of_type, gives_channel, gives_arguments, gives_perhaps, gives_elements, gives_range_left, clause, gives_third_bound, gives_guard_name, gives_initial, communication_clause, gives_tag, gives_before_item, gives_after_items, gives_assign_operator, gives_type_name, gives_after_instance, gives_after_name, EachGives, gives_expressions, gives_argument_list, gives_items, gives_lefts, gives_ranged, fields_around, fields_behind, fields_asked, writes_around}
 use Rattle.meaning.proofs.Membership.{contains_here, contains_there}
 use Rattle.std.proofs.lemmas.List.Elements.{Contains-append_left, Contains-append_right}
 
@@ -99,9 +100,9 @@ pub no_expressions : (spot : Spot) → expressions_marks spot no_expression ≡ 
 unfolding expressions_marks
 no_expressions spot = refl
 
-pub no_arguments : (c : Option Call) (site k : ℕ) → arguments_marks c site k no_expression ≡ []
+pub no_arguments : (place : CallPlace) (c : Option Call) (site k : ℕ) → arguments_marks place c site k no_expression ≡ []
 unfolding arguments_marks
-no_arguments c site k = refl
+no_arguments place c site k = refl
 
 pub no_ranged : (site : ℕ) → ranged_marks site no_expression ≡ []
 unfolding ranged_marks
@@ -207,10 +208,16 @@ module _ (text : GoText) where
         (behind (gives_word text name) (gives_end_of_name text.edition place)))
     of_form place spot span (basic_literal kind) = spanned (given (gives_literal kind))
     of_form place spot span (function_literal signature ss braces) = λ from to lo f o s.
-        whole_literal (literal_body spot.literal span.start signature ss braces) spot.literal spot.site
+        moved (append_assoc (in_body (literal_body spot.literal span.start signature ss braces)
+        (signature_marks span.start signature ++ statements_marks ss)) (deferral spot.literal spot.site span.start)
+        (literal_given_to spot.site spot.taker span.start))
+        (plain_behind (literal_given_to spot.site spot.taker span.start)
+        (fields_around (literal_given_to spot.site spot.taker span.start)
+        (literal_only Any any spot.site spot.taker span.start))
+        (whole_literal (literal_body spot.literal span.start signature ss braces) spot.literal spot.site
         (signature_marks span.start signature ++ statements_marks ss)
         (bodied (literal_body spot.literal span.start signature ss braces) {span = span} refl
-        (both (past (of_signature span.start signature)) (foreign (braced (of_statements ss)))))
+        (both (past (of_signature span.start signature)) (foreign (braced (of_statements ss)))))))
         from to lo f o (s.0.1, s.1, s.2)
     of_form place spot span (composite_literal t es) =
         spanned (given (given (both (of_expression as_type (part_of spot.site) t)
@@ -221,7 +228,7 @@ module _ (text : GoText) where
         (no_expressions (part_of spot.site))
         (gives_expressions text as_element (part_of spot.site) es (of_each as_element es)))))
     of_form place spot span (key_value k v) =
-        spanned (given (both (of_expression as_value (part_of spot.site) k)
+        spanned (given (both (named (as_bare k) spot.site as_key (of_expression as_value (part_of spot.site) k))
         (behind (gives_token _) (of_expression as_value (part_of spot.site) v))))
     of_form place spot span (parenthesized e) =
         spanned (enclosed _ _ (of_expression (inside place) (part_of spot.site) e))
@@ -244,17 +251,22 @@ module _ (text : GoText) where
         spanned (given (given (both (of_expression as_expression (part_of spot.site) e)
         (behind (gives_token _) (enclosed _ _ (of_expression as_type (part_of spot.site) t))))))
     of_form place spot span (call_expression e es ellipsis) =
-        spanned (given (given (both (callee_named (call_of spot.place e es ellipsis) spot.site e
-        (of_expression as_expression record { place = nowhere; literal = callee_use spot.place; site = spot.site } e))
-        (enclosed _ _ (gives_arguments es ellipsis (arguments_marks (call_of spot.place e es ellipsis) spot.site 0)
-        (no_arguments (call_of spot.place e es ellipsis) spot.site 0)
-        (gives_argument_list text as_expression (call_of spot.place e es ellipsis) spot.site 0 es
-        (of_each as_expression es)))))))
+        spanned (given (given (plain_before (receiver_given spot.place spot.site e)
+        (fields_around (receiver_given spot.place spot.site e) (receiver_only Any any spot.place spot.site e))
+        (turned (plain_behind (field_called spot.site e)
+        (fields_around (field_called spot.site e) (called_only Any any spot.site e))
+        (callee_named (call_of spot.place e es ellipsis) spot.site e
+        (of_expression as_expression (callee_spot spot) e)))
+        (enclosed _ _ (gives_arguments es ellipsis
+        (arguments_marks (arguments_place spot.place e) (call_of spot.place e es ellipsis) spot.site 0)
+        (no_arguments (arguments_place spot.place e) (call_of spot.place e es ellipsis) spot.site 0)
+        (gives_argument_list text as_expression (arguments_place spot.place e) (call_of spot.place e es ellipsis) spot.site 0 es
+        (of_each as_expression es))))))))
     of_form place spot span (star_expression e) =
         spanned (given (behind (gives_token _) (of_expression (inside place) (part_of spot.site) e)))
     of_form place spot span (unary_expression op e) =
         spanned (given (given (newly spot.place spot.site (as_new_literal op e)
-        (named (addressed_within op e) spot.site exposed
+        (named (addressed_within op e) spot.site pointed_to
         (behind (gives_unary op) (of_expression as_expression (part_of spot.site) e))))))
     of_form place spot span (binary_expression op l r) =
         spanned (given (given (both (of_expression (operand place) (part_of spot.site) l)
@@ -374,20 +386,27 @@ module _ (text : GoText) where
         loosely (simple (of_expression as_expression (whole (place_in standing as_statement) at) e))
     of_statement_form standing at (send_statement c v) =
         loosely (simple (both (of_expression as_expression (part_of at) c)
-        (behind (gives_token _) (of_expression as_expression (part_of at) v))))
+        (behind (gives_token _) (plain_behind (sent standing at v)
+        (fields_around (sent standing at v) (sent_only Any any standing at v))
+        (of_expression as_expression (part_of at) v)))))
     of_statement_form standing at (increment_statement e) =
-        loosely (simple (ending (named (bare_within e) at exposed (of_expression as_expression (part_of at) e)) (gives_token _)))
+        loosely (simple (plain_behind (field_written at None e) (writes_around at None e)
+        (ending (named (bare_within e) at exposed (of_expression as_expression (part_of at) e)) (gives_token _))))
     of_statement_form standing at (decrement_statement e) =
-        loosely (simple (ending (named (bare_within e) at exposed (of_expression as_expression (part_of at) e)) (gives_token _)))
+        loosely (simple (plain_behind (field_written at None e) (writes_around at None e)
+        (ending (named (bare_within e) at exposed (of_expression as_expression (part_of at) e)) (gives_token _))))
     of_statement_form standing at (assignment ls rs) =
         loosely (simple (turned
-        (gives_lefts text as_expression (row_of standing at (assigns ls) rs) at 0 ls (of_each as_expression ls))
+        (plain_before (rights_given at (is_one rs) ls rs)
+        (fields_around (rights_given at (is_one rs) ls rs) (rights_only Any any at (is_one rs) ls rs))
+        (gives_lefts text as_expression (row_of standing at (assigns ls) rs) at 0 ls (of_each as_expression ls)))
         (behind (gives_token _)
         (gives_expressions text as_expression (value_spot (row_of standing at (assigns ls) rs) at) rs
         (of_each as_expression rs)))))
     of_statement_form standing at (operator_assignment op l r) =
         loosely (simple (both (named (bare_within l) at exposed (of_expression as_expression (part_of at) l))
-        (behind (gives_assign_operator op) (of_expression as_expression (part_of at) r))))
+        (behind (gives_assign_operator op) (plain_behind (field_written at None l) (writes_around at None l)
+        (of_expression as_expression (part_of at) r)))))
     of_statement_form standing at (define_statement ns rs) =
         loosely (simple (plain_behind (left_names (row_of standing at (defines ns) rs) at 0 ns)
         (names (row_of standing at (defines ns) rs) at 0 ns)
@@ -395,7 +414,7 @@ module _ (text : GoText) where
         (gives_expressions text as_expression (value_spot (row_of standing at (defines ns) rs) at) rs
         (of_each as_expression rs))))))
     of_statement_form standing at (go_statement e) =
-        loosely (given_begun (led _ refl (past (of_expression as_expression (part_of at) e))))
+        loosely (given_begun (led _ refl (past (of_expression as_expression (whole under_go at) e))))
     of_statement_form standing at (defer_statement e) =
         loosely (given_begun (led _ refl (past (of_expression as_expression (whole deferred at) e))))
     of_statement_form standing at (return_statement es) =
@@ -475,21 +494,27 @@ module _ (text : GoText) where
     of_cases at guard no_case = gives_nothing
     of_cases at guard (case_and es ss span cs) =
         plain_before (guard_in_clause at guard span) (guarded at guard span)
+        (asked_first (guard_renewed guard span)
+        (fields_asked (asked_cases (case_and es ss span cs)) (guard_renewed guard span)
+        (contains_here (asked_at span.start) (asked_statements ss ++ asked_cases cs)) (guard_only Any any guard span))
         (moved (append_assoc (expressions_marks (part_of span.start) es) (statements_marks ss) (cases_marks at guard cs))
         (loosely (both (foreign (spanned_begun
         (clause span.start es (expressions_marks (part_of span.start)) (no_expressions (part_of span.start))
         (gives_expressions text as_expression (part_of span.start) es (of_each as_expression es))
-        (behind (gives_token _) (foreign (of_statements ss)))))) (of_cases at guard cs))))
+        (behind (gives_token _) (foreign (of_statements ss)))))) (of_cases at guard cs)))))
 
     of_communications : (cs : CommunicationClauses)
         → Gives false no_site (asked_communications cs) (communications_marks cs) (SpellsCommunications text cs)
     of_communications no_communication = gives_nothing
     of_communications (communication_and c ss span cs) =
-        moved (append_assoc (optional_statement_marks communication c) (statements_marks ss) (communications_marks cs))
+        moved (three_and_one (optional_statement_marks communication c) (communication_given span.start c)
+        (statements_marks ss) (communications_marks cs))
         (given (loosely (both (spanned_begun
         (communication_clause span.start c (missing_statement_gives_none communication c)
         (of_optional_statement communication c)
-        (behind (gives_token _) (foreign (of_statements ss))))) (of_communications cs))))
+        (behind (gives_token _) (plain_before (communication_given span.start c)
+        (fields_behind (communication_given span.start c) (communication_only Any any span.start c))
+        (foreign (of_statements ss)))))) (of_communications cs))))
 
     of_declaration : (d : Declaration)
         → Gives false no_site (asked_declaration d) (declaration_marks d) (SpellsDeclaration text d)

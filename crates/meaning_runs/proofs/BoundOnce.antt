@@ -1,29 +1,30 @@
 -- Where nothing is found in a file, a variable that a literal mentions is bound only where it is declared: elsewhere its
 -- binding is a fault.
 use Rattle.std.proofs.Common.{◌≡◌, ℕ, zero, suc, Bool, true, false, inl, inr, List, [], ◌∷◌, ◌++◌, map, Option, Some, None, Contains, refl, sym, ap, ◌∙◌, subst}
-use Rattle.std.specs.Prelude.{◌&&◌, if◌then◌else◌, not, is_some, slice_get}
+use Rattle.std.specs.Prelude.{◌&&◌, if◌then◌else◌, not, is_some, slice_get, ◌||◌}
 use Rattle.std.proofs.lemmas.Bool.{and_parts, eq-eqb}
 use Rattle.std.proofs.lemmas.List.Elements.{Contains-append_left, Contains-append_right}
 use Rattle.std.proofs.lemmas.Option.{same_Some}
-use Rattle.tree.specs.Syntax.{Identifier, Expressions, no_expression, expression_and}
+use Rattle.tree.specs.Syntax.{Identifier, Expression, Expressions, no_expression, expression_and}
 use Rattle.meaning.specs.Code.{Occurrence}
 use Rattle.meaning.specs.Lists.{Reaches}
 use Rattle.meaning.specs.Scopes.{is_blank}
 use Rattle.meaning.specs.Declarations.{Meaning}
 use Rattle.meaning.specs.FunctionFacts.{VariableKind}
-use Rattle.meaning.specs.Mentions.{Named, bare, as_bare, RowForm, defines, assigns, declares, Row, Role, elsewhere, called, called_in_brackets, argument, returned, left, names_type, new_literal, parameter_pointer, Mention, BodyPlace, Mark, mentions, defers_literal, returns, opens, closes, exposed, found_nil, found_error}
-use Rattle.meaning.specs.Tracked.{Known, Giving, local_meant_or, variable_of, declared_there, declared_by, blank_left, name_left, other_left, left_name, left_of_name, left_of_named, lefts_of_expressions, lefts_of, left_local, local_at, may_bind, row_giving, is_given, are_locals, obtains_there, row_obtains, row_makes, made_by_form, Placed, LocalRole, parameter, receiver, variadic, result, in_block, Local}
-use Rattle.meaning.specs.Uses.{Seen, found, kind_of, tracked_kind, VariableAt, Event, other, defer_literal, return_event, Binding, obtained, cleared, made, is_cancel, kind_at, row_binds, row_clears, made_binding, binding_at, binding_event, is_in_literal, fault_at, bound_again, UseFault, first_faults, type_faults, again_faults, binding_outcome, row_outcome, role_outcome, local_outcome, variable_outcome, is_own, is_body, body_gives, mention_faults}
+use Rattle.meaning.specs.Mentions.{Named, bare, RowForm, defines, assigns, declares, Row, Role, elsewhere, as_key, called, called_in_brackets, argument, returned, left, names_type, new_literal, parameter_pointer, Mention, BodyPlace, Mark, mentions, defers_literal, returns, opens, closes, exposed, found_nil, found_error, pointed_to, of_fields}
+use Rattle.meaning.specs.Tracked.{Known, Giving, local_meant_or, variable_of, declared_there, declared_by, blank_left, name_left, other_left, left_name, left_of_name, left_of_expression, field_left, is_outer_at, lefts_of_expressions, lefts_of, left_local, local_at, may_bind, row_giving, is_given, are_locals, obtains_there, row_obtains, row_makes, made_by_form, Placed, LocalRole, parameter, receiver, variadic, result, in_block, Local}
+use Rattle.meaning.specs.Uses.{Seen, found, kind_of, tracked_kind, VariableAt, Event, other, defer_literal, return_event, Binding, obtained, cleared, made, is_cancel, kind_at, row_binds, row_clears, made_binding, binding_at, binding_event, is_in_literal, fault_at, bound_again, UseFault, first_faults, type_faults, again_faults, binding_outcome, row_outcome, role_outcome, local_outcome, variable_outcome, is_own, is_body, mention_faults}
 use Rattle.meaning.specs.BodyEvents.{handed_on, mark_events, mark_faults, faults_of, variables_of, too_many_faults, body_faults}
 use Rattle.meaning.proofs.Membership.{contains_here, contains_cases, contains_nil}
 use Rattle.meaning_runs.specs.Bodies.{Body, code_of}
-use Rattle.meaning_runs.specs.World.{is_declaration}
+use Rattle.meaning_runs.specs.World.{own_cell, is_declaration}
 use Rattle.meaning_runs.specs.EventSources.{HasSource, says_nothing, falls_off, of_mark}
 use Rattle.meaning_runs.proofs.EventSources.{events_have_sources}
-use Rattle.meaning_runs.proofs.Bindings.{Binds, obtains, clears, makes, no_binding, single, mention_harmless, of_variable}
+use Rattle.meaning_runs.proofs.Bindings.{Binds, obtains, clears, makes, no_binding, single, mention_harmless, of_variable, object_binds_own}
+use Rattle.meaning_runs.proofs.KeptEvents.{IsOwnLocal, field_events_are}
 use Rattle.meaning_runs.proofs.OwnVariables.{find_is, found_is}
-use Rattle.meaning_runs.proofs.TrackedBindings.{each_of}
-use Rattle.meaning_runs.proofs.LeftSides.{Fits, Stands}
+use Rattle.meaning_runs.proofs.TrackedBindings.{each_of, first_of_either, named_is_no_outer}
+use Rattle.meaning_runs.proofs.LeftSides.{Fits, Stands, left_cases}
 
 -- A left side that declares a local declares the one of its own offset
 
@@ -40,18 +41,26 @@ at_names (i ∷ is) zero n d e = by (is_blank i.text) (same_Some (left_of_name i
         ap (λ (x : Named). x.at) (sym same) ∙ number
 at_names (i ∷ is) (suc k) n d e = at_names is k n d e
 
-named_declares_none : (o : Option Named) (n : Named) (d : ℕ) → left_of_named o ≡ name_left n (Some d) → ⊥
-named_declares_none None n d e = let bad : other_left ≡ name_left n (Some d) = e in cc
-named_declares_none (Some m) n d e = by (is_blank m.name) e
+bare_declares_none : (m n : Named) (d : ℕ) → left_name m None ≡ name_left n (Some d) → ⊥
+bare_declares_none m n d e = by (is_blank m.name) e
   where
     by : (b : Bool) → (if b then blank_left else name_left m None) ≡ name_left n (Some d) → ⊥
     by true q = let bad : blank_left ≡ name_left n (Some d) = q in cc
     by false q = let bad : name_left m None ≡ name_left n (Some d) = q in cc
 
+named_declares_none : (x : Expression) (n : Named) (d : ℕ) → left_of_expression x ≡ name_left n (Some d) → ⊥
+named_declares_none x n d e = elim (left_cases x) [
+  | inl r ↦ bare_declares_none r.0 n d (sym r.2 ∙ e)
+  | inr r ↦ elim r.1 [
+    | inl f ↦ (let bad : field_left f.0 ≡ name_left n (Some d) = sym f.1 ∙ e in cc)
+    | inr o ↦ (let bad : other_left ≡ name_left n (Some d) = sym o ∙ e in cc)
+  ]
+]
+
 expressions_declare_none : (ls : Expressions) (k : ℕ) (n : Named) (d : ℕ) → slice_get (lefts_of_expressions ls) k ≡ Some (name_left n (Some d)) → ⊥
 expressions_declare_none no_expression k n d e = let bad : None ≡ Some (name_left n (Some d)) = e in cc
 expressions_declare_none (expression_and x xs) zero n d e =
-    named_declares_none (as_bare x) n d (same_Some (left_of_named (as_bare x)) (name_left n (Some d)) e)
+    named_declares_none x n d (same_Some (left_of_expression x) (name_left n (Some d)) e)
 expressions_declare_none (expression_and x xs) (suc k) n d e = expressions_declare_none xs k n d e
 
 at_left : (form : RowForm) (k : ℕ) (n : Named) (d : ℕ) → slice_get (lefts_of form) k ≡ Some (name_left n (Some d)) → n.at ≡ d
@@ -61,11 +70,12 @@ at_left (declares keyword ns t) k n d e = at_names ns k n d e
 
 -- A local stands on a left side that is bound
 
-obtained_is_local : (known : Known) (row : Row) (k : ℕ) (g : Option Giving) → obtains_there known row k g ≡ true → is_some (local_at known row k) ≡ true
-obtained_is_local known row k None e = let bad : false ≡ true = e in cc
-obtained_is_local known row k (Some g) e =
+obtained_is_local : (known : Known) (row : Row) (k : ℕ) (g : Option Giving) → is_outer_at known row k ≡ false → obtains_there known row k g ≡ true → is_some (local_at known row k) ≡ true
+obtained_is_local known row k None named e = let bad : false ≡ true = e in cc
+obtained_is_local known row k (Some g) named e =
     let parts = and_parts (is_given k g.gives) (are_locals known row g.gives) e in
-    each_of (λ j. is_some (local_at known row j)) g.gives k parts.0 parts.1
+    first_of_either (is_some (local_at known row k)) (is_outer_at known row k)
+    (each_of (λ j. is_some (local_at known row j) || is_outer_at known row j) g.gives k parts.0 parts.1) named
 
 cancel_is_local : (seen : Seen) (o : Option ℕ) → is_cancel (kind_of seen (found seen o)) ≡ true → is_some o ≡ true
 cancel_is_local seen None e = let bad : false ≡ true = e in cc
@@ -80,14 +90,14 @@ made_is_local seen row k binding e = by (may_bind row.standing row.form) (is_som
     by false true q = refl
     by false false q = let bad : None ≡ Some binding = q in cc
 
-bound_is_local : (seen : Seen) (row : Row) (k : ℕ) (binding : Binding) → binding_at seen row k ≡ Some binding → is_some (local_at seen.known row k) ≡ true
-bound_is_local seen row k binding e =
+bound_is_local : (seen : Seen) (row : Row) (k : ℕ) (binding : Binding) → is_outer_at seen.known row k ≡ false → binding_at seen row k ≡ Some binding → is_some (local_at seen.known row k) ≡ true
+bound_is_local seen row k binding named e =
     by (row_obtains seen.known row k) (row_binds seen row) (row_clears seen.known row k && is_cancel (kind_at seen row k)) refl refl e
   where
     by : (o r x : Bool) → row_obtains seen.known row k ≡ o → (row_clears seen.known row k && is_cancel (kind_at seen row k)) ≡ x
         → (if o then if r then Some (obtained k) else None else if x then Some cleared else made_binding seen row (row_makes seen.known row k)) ≡ Some binding
         → is_some (local_at seen.known row k) ≡ true
-    by true r x p q h = obtained_is_local seen.known row k (row_giving seen.known row) p
+    by true r x p q h = obtained_is_local seen.known row k (row_giving seen.known row) named p
     by false r true p q h =
         cancel_is_local seen (local_at seen.known row k) (and_parts (row_clears seen.known row k) (is_cancel (kind_at seen row k)) q).1
     by false r false p q h = made_is_local seen row k binding h
@@ -160,7 +170,7 @@ module _ (seen : Seen) (bodies : List BodyPlace) (m : Mention) (e : Event) (u : 
     once : (row : Row) (k : ℕ) (binding : Binding) → Fits m.named m.declares (left k row) → binding_at seen row k ≡ Some binding → IsWithout (again_faults seen l m) → Binds (binding_event seen.known l m row binding) u → IsOnce seen u l
     once row k binding fits q none b =
         let r = bound_there seen.known l m row binding u b in
-        (r.0, λ inside. sym r.1 ∙ declares_its_offset seen m row k l fits is (bound_is_local seen row k binding q) (is_declared_again seen l m none inside) ∙ r.0)
+        (r.0, λ inside. sym r.1 ∙ declares_its_offset seen m row k l fits is (bound_is_local seen row k binding (named_is_no_outer seen.known row k m.named m.declares fits) q) (is_declared_again seen l m none inside) ∙ r.0)
 
     by_row : (kind : Option VariableKind) (row : Row) (k : ℕ) (binding : Option Binding) → Fits m.named m.declares (left k row) → binding_at seen row k ≡ binding → IsWithout (row_outcome seen l kind bodies m row binding).faults → Contains (row_outcome seen l kind bodies m row binding).events e → IsOnce seen u l
     by_row None row k None fits q none h = absurd (contains_nil e h)
@@ -172,7 +182,9 @@ module _ (seen : Seen) (bodies : List BodyPlace) (m : Mention) (e : Event) (u : 
     by_role : (r : Role) → Fits m.named m.declares r → IsWithout (role_outcome seen l bodies m r).faults → Contains (role_outcome seen l bodies m r).events e → IsOnce seen u l
     by_role (left k row) fits none h = by_row (kind_of seen (Some l)) row k (binding_at seen row k) fits refl none h
     by_role elsewhere fits none h = absurd (mention_harmless seen l (tracked_kind seen (Some l)) bodies m e h u binds)
+    by_role as_key fits none h = absurd (mention_harmless seen l (tracked_kind seen (Some l)) bodies m e h u binds)
     by_role exposed fits none h = absurd (mention_harmless seen l (tracked_kind seen (Some l)) bodies m e h u binds)
+    by_role pointed_to fits none h = absurd (mention_harmless seen l (tracked_kind seen (Some l)) bodies m e h u binds)
     by_role (found_nil nil) fits none h = absurd (mention_harmless seen l (tracked_kind seen (Some l)) bodies m e h u binds)
     by_role (found_error nil row) fits none h = absurd (mention_harmless seen l (tracked_kind seen (Some l)) bodies m e h u binds)
     by_role (called c) fits none h = absurd (mention_harmless seen l (tracked_kind seen (Some l)) bodies m e h u binds)
@@ -188,11 +200,26 @@ module _ (seen : Seen) (bodies : List BodyPlace) (m : Mention) (e : Event) (u : 
   by_found (Some l) q fits none h =
       (l, (found_is seen (variable_of seen.known m) l q).0, by_role l q m.role fits none h)
 
+-- a field of an object that is a variable of its own is bound as if it was declared there
+in_its_cell : (seen : Seen) (bodies : List BodyPlace) (e : Event) (u : VariableAt)
+    → IsOwnLocal seen bodies u.number × (u ≡ own_cell u.number)
+    → HasLocal seen u
+in_its_cell seen bodies e u (own, cell) = (
+  own.local,
+  ap (λ n. found seen (Some n)) own.is_it ∙ own.is_found,
+  (own.is_it, λ inside. ap (λ (x : VariableAt). x.at) cell),
+)
+
 by_mark : (seen : Seen) (bodies : List BodyPlace) (mark : Mark) (e : Event) (u : VariableAt) → Stands mark → IsWithout (mark_faults seen bodies mark) → Contains (mark_events seen bodies mark) e → Binds e u → HasLocal seen u
-by_mark seen bodies (mentions m) e u fits none h binds =
-    by_found seen bodies m e u binds (found seen (variable_of seen.known m)) refl fits (λ x k. none x (Contains-append_left (mention_faults seen bodies m) _ x (Contains-append_left (variable_outcome seen bodies m).faults _ x k))) (of_variable seen bodies m e u h binds)
+by_mark seen bodies (mentions m) e u fits none h binds = elim (of_variable seen bodies m e u h binds) [
+  | inl own ↦ by_found seen bodies m e u binds (found seen (variable_of seen.known m)) refl fits
+      (λ x k. none x (Contains-append_left (mention_faults seen bodies m) _ x (Contains-append_left (variable_outcome seen bodies m).faults _ x k))) own
+  | inr is ↦ in_its_cell seen bodies e u (object_binds_own e u is binds)
+]
+by_mark seen bodies (of_fields site m) e u fits none h binds =
+    in_its_cell seen bodies e u (object_binds_own e u (field_events_are seen bodies site m e h) binds)
 by_mark seen bodies (defers_literal site at) e u fits none h binds = absurd (single (defer_literal at) refl e h u binds)
-by_mark seen bodies (returns at es) e u fits none h binds = absurd (single (return_event (handed_on seen (body_gives seen.known bodies) 0 es)) refl e h u binds)
+by_mark seen bodies (returns at es) e u fits none h binds = absurd (single (return_event (handed_on seen bodies 0 es)) refl e h u binds)
 by_mark seen bodies (opens x) e u fits none h binds = absurd (contains_nil e h)
 by_mark seen bodies closes e u fits none h binds = absurd (contains_nil e h)
 

@@ -8,8 +8,8 @@ use Rattle.meaning.specs.Tracked.{GroupState}
 use Rattle.meaning.specs.Uses.{Callee, VariableAt, Event}
 use Rattle.meaning.proofs.Membership.{contains_here, contains_there, contains_cases, contains_nil}
 use Rattle.meaning_runs.specs.Bodies.{Program, Body}
-use Rattle.meaning_runs.specs.World.{Value, nothing, cancel_function, Place, Store, put_at, IsAny, any_nothing, any_function, with_new, calling, ending, with_member, waiting_for, Given, Passing, Saved, saved_call, saved_pass, saved_literal, saved_wait, Frame, World, with_stack, in_cell, held, held_group, with_cells, bound_cell, binding, new_frame, nothing_around}
-use Rattle.meaning_runs.specs.Steps.{WasCalled, MayJoin, evaluating, lending, Obtains, new_one, earlier_one, none_at_all, Makes, zero_group, with_context, DeclaredIsTrue, at_code, IsOutsideCall, at_once, saved_before, Begins, of_function, of_none, Acts, moves_on, does_other, obtains_one, clears_one, calls_one, saves_call, makes_group, tries_nothing, ends_wait, saves_wait, evaluates, evaluates_deferred, lends, makes_call, calls_outside, saves_pass, saves_literal, comes_to_return, runs_call, runs_pass, runs_literal, runs_wait, returns_now, ChangesMembers, starts_member, starts_stranger, starts_outside, starts_beside, leaves_group, Surrounds, starts, evaluates_literal, starts_literal, makes_cells, makes_one, ends_one, calls_any, makes_outside, joins_outside, Step, of_goroutine, of_members, of_environment}
+use Rattle.meaning_runs.specs.World.{Value, nothing, cancel_function, Place, Store, put_at, IsAny, any_nothing, any_function, with_new, calling, ending, with_member, waiting_for, Given, Passing, Saved, saved_call, saved_pass, saved_literal, saved_wait, Frame, World, with_stack, in_cell, held, held_group, with_cells, bound_cell, binding, new_frame, nothing_around, own_cell, kept_value}
+use Rattle.meaning_runs.specs.Steps.{WasCalled, MayJoin, evaluating, lending, Obtains, new_one, earlier_one, none_at_all, Makes, zero_group, with_context, DeclaredIsTrue, at_code, IsOutsideCall, at_once, saved_before, Begins, of_function, of_none, Acts, moves_on, does_other, obtains_one, clears_one, calls_one, saves_call, makes_group, tries_nothing, ends_wait, saves_wait, evaluates, evaluates_deferred, lends, makes_call, calls_outside, saves_pass, saves_literal, comes_to_return, runs_call, runs_pass, runs_literal, runs_wait, returns_now, ChangesMembers, starts_member, starts_stranger, starts_outside, starts_beside, leaves_group, Surrounds, starts, evaluates_literal, starts_literal, makes_cells, makes_one, ends_one, calls_any, makes_outside, joins_outside, Step, of_goroutine, of_members, of_environment, obtains_into, keeps_one, renews_object, calls_kept, saves_kept, gives_object, gives_in_field}
 use Rattle.meaning_runs.specs.Runs.{Run, no_step, step_more}
 use Rattle.meaning_runs.specs.Laws.{GoesTo, Leads, stays, one_more, LeadsTo}
 use Rattle.meaning_runs.specs.CallSteps.{CallsHaveSteps}
@@ -140,7 +140,7 @@ calling_more : (s : Store) (x : Value) → (s.context_count ≤ (calling s x).co
 calling_more s nothing = (omega arith, refl)
 calling_more s (cancel_function a) = (omega arith, refl)
 
-obtaining : (s made : Store) (c : Callee) (x : Value) → Obtains s c x made → AreAny s → (s.context_count ≤ made.context_count) × AreAny made × IsAny made x
+pub obtaining : (s made : Store) (c : Callee) (x : Value) → Obtains s c x made → AreAny s → (s.context_count ≤ made.context_count) × AreAny made × IsAny made x
 obtaining s made c x (new_one parent earlier) h =
     (omega arith, any_other s (with_new s parent) (omega arith) refl h, any_function (omega arith))
 obtaining s made c x (earlier_one a m l) h = (omega arith, h, any_function l)
@@ -206,6 +206,20 @@ acted p s place f after frames (obtains_one {u = u} {c = c} {value = value} {mad
     alone s (binding made f u value) _ more (any_binding made f u value r.1 r.2) (still_full s (binding made f u value) more f full)
 acted p s place f after frames (clears_one {u = u} d) h full =
     alone s (binding s f u nothing) _ (omega arith) (any_binding s f u nothing h any_nothing) (still_full s (binding s f u nothing) (omega arith) f full)
+acted p s place f after frames (obtains_into {u = u} {c = c} {value = value} {made = made} d o) h full =
+    let r = obtaining s made c value o h in
+    let m = r.0 in
+    let cell = own_cell u.number in
+    let more : s.context_count ≤ (binding made f cell value).context_count = omega (arith, m) in
+    alone s (binding made f cell value) _ more (any_binding made f cell value r.1 r.2) (still_full s (binding made f cell value) more f full)
+acted p s place f after frames (keeps_one d) h full = standing s _ h full
+acted p s place f after frames (renews_object d) h full = standing s _ h full
+acted p s place f after frames (calls_kept {v = v} {x = x} d) h full = calls_it s (kept_value f.kept v x) _ h full
+acted p s place f after frames (saves_kept {v = v} {x = x} d) h full =
+    let value = kept_value f.kept v x in
+    standing s _ h (saving s f.waiting f.saved (saved_call value) (λ q e. absurd (no_pass value q e)) full)
+acted p s place f after frames (gives_object d) h full = standing s _ h full
+acted p s place f after frames (gives_in_field d) h full = standing s _ h full
 acted p s place f after frames (calls_one {v = v} d) h full = calls_it s (held s f v) _ h full
 acted p s place f after frames (saves_call {v = v} d) h full =
     standing s _ h (saving s f.waiting f.saved (saved_call (held s f v)) (λ q e. absurd (no_pass (held s f v) q e)) full)

@@ -2,23 +2,25 @@
 use Rattle.std.proofs.Common.{◌≡◌, ℕ, ◌<◌, ◌⊎◌, inl, inr, true, false, List, [], ◌∷◌, ◌++◌, length, map, Option, Some, None, Contains, refl, ap, subst, sym, arith}
 use Rattle.std.proofs.lemmas.Option.{none-some}
 use Rattle.meaning.proofs.Membership.{contains_here}
-use Rattle.meaning.specs.Code.{Occurrence}
+use Rattle.meaning.specs.Code.{Occurrence, Code}
 use Rattle.meaning.specs.FunctionFacts.{group as group_kind}
 use Rattle.meaning.specs.Lists.{Reaches}
-use Rattle.meaning.specs.Uses.{Event, obtain, clear, make}
+use Rattle.meaning.specs.Uses.{Event, obtain, obtain_kept, renew, keep, call_kept, defer_kept, give, give_field, clear, make}
 use Rattle.meaning.specs.BodyEvents.{Variable}
 use Rattle.meaning.specs.Classes.{Promises}
 use Rattle.meaning_reports.specs.UsedImports.{passes, defers}
 use Rattle.meaning_runs.specs.Bodies.{Program, Body, IsOf, code_of, variables_in}
-use Rattle.meaning_runs.specs.World.{frame_at, Place, Store, Passing, Saved, saved_call, saved_literal, saved_pass, saved_wait, runs, exits, Frame, held, held_group, binds, new_frame, nothing_around}
-use Rattle.meaning_runs.specs.Steps.{Starts, IsAtEnd, at_code, with_function, evaluating, lending, Begins, of_function, of_none, Acts, moves_on, does_other, obtains_one, clears_one, calls_one, saves_call, makes_group, tries_nothing, ends_wait, saves_wait, evaluates, evaluates_deferred, lends, makes_call, calls_outside, saves_pass, saves_literal, comes_to_return, runs_call, runs_pass, runs_literal, runs_wait, returns_now}
+use Rattle.meaning_runs.specs.World.{frame_at, Place, Store, Passing, Saved, saved_call, saved_literal, saved_pass, saved_wait, runs, exits, Frame, held, held_group, kept_value, without_kept, with_kept, giving_away, handed_by, own_cell, binds, new_frame, nothing_around}
+use Rattle.meaning_runs.specs.Steps.{Starts, IsAtEnd, at_code, with_function, evaluating, lending, Begins, of_function, of_none, Acts, moves_on, does_other, obtains_one, obtains_into, keeps_one, renews_object, calls_kept, saves_kept, gives_object, gives_in_field, clears_one, calls_one, saves_call, makes_group, tries_nothing, ends_wait, saves_wait, evaluates, evaluates_deferred, lends, makes_call, calls_outside, saves_pass, saves_literal, comes_to_return, runs_call, runs_pass, runs_literal, runs_wait, returns_now, DoesNext}
 use Rattle.meaning_runs.specs.Duties.{IsWaitingFor}
-use Rattle.meaning_runs.proofs.Bindings.{obtains, clears, makes}
-use Rattle.meaning_runs.proofs.CaredBindings.{cared_clearing, cared_obtaining, cared_making, cared_new}
+use Rattle.meaning_runs.proofs.Bindings.{obtains, obtains_into as binds_into, clears, makes}
+use Rattle.meaning_runs.proofs.CaredBindings.{cared_clearing, cared_obtaining, cared_obtaining_into, cared_making, cared_new}
 use Rattle.meaning_runs.proofs.CaredCalls.{cared_caller, cared_outside, cared_saving_pass, cared_argument, cared_running_call, cared_running_pass, cared_running_outside, cared_running_literal, cared_running_wait, cared_returning, must_at_end}
 use Rattle.meaning_runs.proofs.CaredEvents.{cared_other, cared_silent, cared_calling, cared_saving_call, cared_evaluating, cared_lending, cared_trying, cared_waiting, cared_saving_wait, cared_saving_literal}
 use Rattle.meaning_runs.proofs.CaredFor.{IsCalledUnder, MustCall, MustSee, IsCared, SeenAbove, AreCared, LowestMust, IsRelied}
 use Rattle.meaning_runs.proofs.CaredGoesOn.{LeftStill, left_same, all_cared, lowest_same}
+use Rattle.meaning_runs.proofs.CaredObjects.{cared_keeping, cared_renewing, cared_calling_kept, cared_saving_kept, cared_giving, cared_giving_field}
+use Rattle.meaning_runs.proofs.ObjectEvents.{IsKeptWell, events_keep_well}
 use Rattle.meaning_runs.proofs.Holders.{IsKnown, IsHolder, AreHolders}
 use Rattle.meaning_runs.proofs.HolderFrames.{reached}
 use Rattle.meaning_runs.proofs.HolderSteps.{ActsWell, acts_held}
@@ -70,6 +72,13 @@ module _ (p : Program) (used : BodiesAreWellUsed p) (kept : BodiesAreKept p) whe
       acts_roots (does_other d) h = refl
       acts_roots (obtains_one d gives) h = refl
       acts_roots (clears_one d) h = refl
+      acts_roots (obtains_into d gives) h = refl
+      acts_roots (keeps_one d) h = refl
+      acts_roots (renews_object d) h = refl
+      acts_roots (calls_kept d) h = refl
+      acts_roots (saves_kept d) h = refl
+      acts_roots (gives_object d) h = refl
+      acts_roots (gives_in_field d) h = refl
       acts_roots (calls_one d) h = refl
       acts_roots (saves_call d) h = refl
       acts_roots (makes_group d its_context) h = refl
@@ -156,6 +165,11 @@ module _ (p : Program) (used : BodiesAreWellUsed p) (kept : BodiesAreKept p) whe
       lowest_gone ended [] a x = inl (last_return ended a (inl x))
       lowest_gone ended (e ∷ fs) a x = inr x
 
+      -- what the rules of objects give of an event that it comes to
+      keeps_well : (e : Event) (rest : Code Event) (d : DoesNext f e rest) → IsKeptWell f.body e
+      keeps_well e rest d =
+          events_keep_well p f.body it.is_of q.events (occurrence_of d.comes_to) (reached p o s place q f it e rest d.comes_to)
+
       pub acts_cared : {after : Store} {frames : List Frame} (acts : Acts p s place f after frames)
           → CaresWell (origins_after acts o) after (frames ++ others) (pasts_after acts o q ++ qs)
       acts_cared (moves_on {rest = rest} d) =
@@ -169,6 +183,34 @@ module _ (p : Program) (used : BodiesAreWellUsed p) (kept : BodiesAreKept p) whe
           (record (binds made f u) { stage = runs rest; obtained = with_function value f.obtained }) (behind q d.comes_to) (λ a x. x) (λ a x. x)
           (cared_obtaining it cared kept.binds d gives
           (used.binds_own f.body q.events (occurrence_of d.comes_to) u it.is_of (reached p o s place q f it (obtain u c n is_new) rest d.comes_to) obtains).0 (well (obtains_one d gives)).grows)
+      acts_cared (obtains_into {u = u} {c = c} {n = n} {x = x} {rest = rest} {value = value} {made = made} d gives) =
+          let cell = own_cell u.number in
+          one (obtains_into d gives)
+          (with_kept (record (binds made f cell) { stage = runs rest; obtained = with_function value f.obtained }) u.number x value)
+          (behind q d.comes_to) (λ a y. y) (λ a y. y)
+          (cared_obtaining_into it cared kept.binds d gives (keeps_well (obtain_kept u c n x) rest d)
+          (used.binds_own f.body q.events (occurrence_of d.comes_to) cell it.is_of
+          (reached p o s place q f it (obtain_kept u c n x) rest d.comes_to) binds_into).0 (well (obtains_into d gives)).grows)
+      acts_cared (keeps_one {v = v} {x = x} {rest = rest} d) =
+          let well_kept = keeps_well (keep v x) rest d in
+          one (keeps_one d) (with_kept (at_code f rest) v x (held s f v)) (behind q d.comes_to) (λ a y. y) (λ a y. y)
+          (cared_keeping it cared d well_kept.0 well_kept.1)
+      acts_cared (renews_object {v = v} {x = x} {rest = rest} d) =
+          one (renews_object d) (record f { stage = runs rest; kept = without_kept f.kept v x }) (behind q d.comes_to)
+          (λ a y. y) (λ a y. y) (cared_renewing it cared d (keeps_well (renew v x) rest d).is_declared_here)
+      acts_cared (calls_kept {v = v} {x = x} {rest = rest} d) =
+          one (calls_kept d) (at_code f rest) (behind q d.comes_to) (λ a y. y) (λ a y. y)
+          (cared_calling_kept it cared d (keeps_well (call_kept v x) rest d))
+      acts_cared (saves_kept {v = v} {x = x} {rest = rest} d) =
+          one (saves_kept d) (record f { stage = runs rest; saved = saved_call (kept_value f.kept v x) ∷ f.saved })
+          (behind q d.comes_to) (λ a y. y) (λ a y. y)
+          (cared_saving_kept it cared d (keeps_well (defer_kept v x) rest d))
+      acts_cared (gives_object {v = v} {x = x} {rest = rest} d) =
+          one (gives_object d) (giving_away (at_code f rest) (kept_value f.kept v x)) (behind q d.comes_to)
+          (λ a y. y) (λ a y. y) (cared_giving it cared d (keeps_well (give v x) rest d))
+      acts_cared (gives_in_field {v = v} {rest = rest} d) =
+          one (gives_in_field d) (giving_away (at_code f rest) (held s f v)) (behind q d.comes_to)
+          (λ a y. y) (λ a y. y) (cared_giving_field it cared d (keeps_well (give_field v) rest d))
       acts_cared (clears_one {u = u} {rest = rest} d) =
           one (clears_one d) (at_code (binds s f u) rest) (behind q d.comes_to) (λ a x. x) (λ a x. x)
           (cared_clearing it cared d
@@ -221,7 +263,7 @@ module _ (p : Program) (used : BodiesAreWellUsed p) (kept : BodiesAreKept p) whe
           one (saves_literal b d is_in is_at) (record f { stage = runs rest; saved = saved_literal record { literal = b; newest = f.newest } ∷ f.saved }) (behind q d.comes_to) (λ a x. x) (λ a x. x)
           (cared_saving_literal it cared used b d is_in is_at)
       acts_cared (comes_to_return {handed = handed} d) =
-          one (comes_to_return d) (record f { stage = exits; handed_on = map (λ h. held s f h.number) handed }) (behind q d.comes_to) (λ a x. x) (λ a x. x)
+          one (comes_to_return d) (record f { stage = exits; handed_on = map (handed_by s f) handed }) (behind q d.comes_to) (λ a x. x) (λ a x. x)
           (cared_returning it cared over d)
       acts_cared (runs_call {left = left} r) =
           one (runs_call r) (record f { saved = left }) q (λ a x. x) (λ a x. x)

@@ -5,17 +5,17 @@ use Rattle.std.proofs.lemmas.Bool.{true≢false, cases_Bool, cases_eq, and_parts
 use Rattle.std.proofs.lemmas.Option.{none-some}
 use Rattle.meaning.specs.Code.{Code}
 use Rattle.meaning.specs.Tracked.{GroupState}
-use Rattle.meaning.specs.Uses.{Callee, VariableAt, Event, obtain, clear, make}
+use Rattle.meaning.specs.Uses.{Callee, VariableAt, Event, obtain, obtain_kept, clear, make}
 use Rattle.meaning.specs.BodyEvents.{Variable, captured}
-use Rattle.meaning.specs.Classes.{Promises, unset, opened, safe, pending, change_cancel, GroupClass, in_state, change_group}
+use Rattle.meaning.specs.Classes.{Promises, unset, opened, kept, safe, pending, change_cancel, GroupClass, in_state, change_group}
 use Rattle.meaning.proofs.Membership.{contains_nil, contains_there, contains_cases}
-use Rattle.meaning_packages.specs.PathFaults.{loses_cancel, is_lost, BindsCancel, obtains, clears, is_declared}
+use Rattle.meaning_packages.specs.PathFaults.{loses_cancel, is_lost, BindsCancel, obtains, obtains_into, clears, is_declared}
 use Rattle.meaning_runs.specs.Bodies.{Program, Body, IsOf, code_of, variables_in, is_parameter_of, is_captured_by}
-use Rattle.meaning_runs.specs.World.{Value, nothing, cancel_function, nobody, frame_at, Place, Store, put_at, with_group, with_cells, runs, Frame, in_cell, group_in_cell, held, held_group, bound_cell, binding, binding_group, binds, new_frame}
+use Rattle.meaning_runs.specs.World.{Value, nothing, cancel_function, nobody, frame_at, Place, Store, put_at, with_group, with_cells, runs, InObject, Frame, in_cell, group_in_cell, held, held_group, kept_value, own_cell, bound_cell, binding, binding_group, binds, new_frame}
 use Rattle.meaning_runs.specs.Steps.{DoesNext, at_code, with_function, Obtains, Makes}
 use Rattle.meaning_runs.specs.Duties.{IsWaitingFor}
 use Rattle.meaning_runs.proofs.Captured.{any_there}
-use Rattle.meaning_runs.proofs.CaredFor.{IsOpen, is_held, is_pending, IsStillLeft, IsSeen, was_called, is_open, IsCared, IsOwn, IsRelied, of_flag, of_credit, relied_there}
+use Rattle.meaning_runs.proofs.CaredFor.{IsOpen, is_held, is_kept, is_pending, IsStillLeft, IsSeen, was_called, is_open, IsCared, IsOwn, AreKept, IsRelied, of_flag, of_credit, relied_there}
 use Rattle.meaning_runs.proofs.CaredGoesOn.{LeftStill, left_same, left_or_called, cared_on, sees_more}
 use Rattle.meaning_runs.proofs.Contexts.{put_at-same, put_at-other}
 use Rattle.meaning_runs.proofs.Credited.{same_kind}
@@ -26,6 +26,8 @@ use Rattle.meaning_runs.proofs.Holders.{Grows, IsHolder}
 use Rattle.meaning_runs.proofs.HolderBindings.{captured_holds}
 use Rattle.meaning_runs.proofs.HolderFrames.{reached}
 use Rattle.meaning_runs.proofs.HolderSteps.{obtaining_changes, making_changes}
+use Rattle.meaning_runs.proofs.KeptEvents.{IsPutInto, one_object}
+use Rattle.meaning_runs.proofs.KeptValues.{kept_first, kept_other}
 use Rattle.meaning_runs.proofs.MadeGroups.{HasNoFaultUnder, Nothing}
 use Rattle.meaning_runs.proofs.OwnBindings.{BindsOwn, BindsItsOwn}
 use Rattle.meaning_runs.proofs.OwnNumbers.{captured_is_not, parameter_is_own, wait_is_captured, credit_is_captured, flag_is_its}
@@ -44,7 +46,7 @@ same_number : (b : Body) (u v : Variable) → Contains (variables_in b) u → Co
 same_number b u v c d declared other_one same =
     true≢false (sym declared ∙ ap is_declared (same_role b u v c d same) ∙ other_one)
 
-declared_elsewhere : (b : Body) (w : ℕ) → is_declared_in b w ≡ true → (v : Variable) → Contains (variables_in b) v
+pub declared_elsewhere : (b : Body) (w : ℕ) → is_declared_in b w ≡ true → (v : Variable) → Contains (variables_in b) v
     → is_declared v.role ≡ false
     → w ≡ v.number
     → ⊥
@@ -64,11 +66,18 @@ module _ {p : Program} {o : Origins} {s : Store} {place : Place} {q : Past} {f :
     module _ {after_o : Origins} {after : Store} (grows : Grows (frame_at place) o after_o s after)
         (still : LeftStill o s after_o after) {e : Event} {rest : Code Event} (d : DoesNext f e rest)
         (w : ℕ) (own : is_declared_in f.body w ≡ true) (cell : Option ℕ) (obtained made : List ℕ)
+        (keeping : List InObject)
         (cells : (k v : ℕ) → (v ≡ w → ⊥) → after.cells k v ≡ s.cells k v)
         (holds : (k v : ℕ) → (v ≡ w → ⊥) → after.holds k v ≡ s.holds k v)
       where
         abbrev pub bound : Frame
-        bound = record f { stage = runs rest; newest = put_at f.newest w cell; obtained = obtained; made = made }
+        bound = record f {
+          stage = runs rest;
+          newest = put_at f.newest w cell;
+          obtained = obtained;
+          made = made;
+          kept = keeping;
+        }
 
         abbrev pub SeenNow : Type 0 → ℕ → Type 0
         SeenNow Open a = IsSeen p after_o after Nothing bound Open a
@@ -104,6 +113,8 @@ module _ {p : Program} {o : Origins} {s : Store} {place : Place} {q : Past} {f :
         -- what the event does to classes of other variables
         pub record KeepsOthers : Type 0 where
           pub open_ones : (relies : Promises) (v : ℕ) → (w ≡ v → ⊥) → change_cancel relies v e opened ≡ opened
+          pub kept_ones : (relies : Promises) (v : ℕ) → (w ≡ v → ⊥) → change_cancel relies v e kept ≡ kept
+          pub in_objects : (v x : ℕ) → (w ≡ v → ⊥) → kept_value keeping v x ≡ kept_value f.kept v x
           pub pending_ones : (relies : Promises) (v u : ℕ) → (w ≡ v → ⊥) → (w ≡ u → ⊥)
               → change_cancel relies v e (pending u) ≡ pending u
           pub groups : (relies : Promises) (u : ℕ) → (w ≡ u → ⊥) → (k : GroupClass) → change_group relies u e k ≡ k
@@ -114,6 +125,9 @@ module _ {p : Program} {o : Origins} {s : Store} {place : Place} {q : Past} {f :
               → SeenNow (OpenNow relies v a) a
           open_elsewhere relies v a ne (is_held c stage k h) =
               is_open (is_held rest refl (class_now relies v ∙ ap (λ x. change_cancel relies v.number e x) k ∙ keeps.open_ones relies v.number ne) (value_now v.number ne ∙ h))
+          open_elsewhere relies v a ne (is_kept c stage k declared h in_object) =
+              is_open (is_kept rest refl (class_now relies v ∙ ap (λ x. change_cancel relies v.number e x) k ∙ keeps.kept_ones relies v.number ne)
+              declared (value_now v.number ne ∙ h) (λ x is. keeps.in_objects v.number x ne ∙ in_object x is))
           open_elsewhere relies v a ne (is_pending k h) =
               let u = k.left_to in
               let far = declared_elsewhere f.body w own u k.is_other.is_of_body k.is_other.is_not_declared_here in
@@ -161,7 +175,10 @@ module _ {p : Program} {o : Origins} {s : Store} {place : Place} {q : Past} {f :
             same_body = refl;
             sees = sees_more grows still bound refl (λ x h. h) more (λ a bad. absurd bad)
                 (λ passing x a h. absurd (none-some passing (sym d.none_waits ∙ h)));
-            hands = λ a h. absurd (exits≢runs d.comes_to.goes_on.code (sym h.0 ∙ d.comes_to.goes_on.stage));
+            hands = λ a h. elim h [
+              | inl x ↦ absurd (exits≢runs d.comes_to.goes_on.code (sym x.0 ∙ d.comes_to.goes_on.stage))
+              | inr x ↦ inr x
+            ];
             obtained = new_ones;
             own = λ relies v a none its h. inr (elim (cases_eq w v.number) [
               | inl same ↦ absurd (lost relies v a none its same h)
@@ -185,6 +202,9 @@ module _ {p : Program} {o : Origins} {s : Store} {place : Place} {q : Past} {f :
     lost_none {e} {rest} d u is_binding relies v a none own same (is_held c stage k h) =
         none.none _ (loses_cancel v u q.events (occurrence_of d.comes_to) own.is_of_body own.is_cancel_variable
         (reached p o s place q f it e rest d.comes_to) is_binding same (ap (is_lost (variables_in f.body)) k))
+    lost_none {e} {rest} d u is_binding relies v a none own same (is_kept c stage k declared h in_object) =
+        none.none _ (loses_cancel v u q.events (occurrence_of d.comes_to) own.is_of_body own.is_cancel_variable
+        (reached p o s place q f it e rest d.comes_to) is_binding same (ap (is_lost (variables_in f.body)) k))
     lost_none {e} {rest} d u is_binding relies v a none own same (is_pending k h) =
         let r = binds_none_pending relies f.body none.none v u k.left_to.number q.events (occurrence_of d.comes_to)
         own.is_of_body own.is_cancel_variable (reached p o s place q f it e rest d.comes_to) is_binding same k.is_pending in
@@ -193,7 +213,8 @@ module _ {p : Program} {o : Origins} {s : Store} {place : Place} {q : Past} {f :
 
     -- a cancel variable is bound, in a store that changed in contexts alone
     module _ {t : Store} (changes : ChangesContexts s t) {e : Event} {rest : Code Event} (d : DoesNext f e rest)
-        (u : VariableAt) (value : Value) (obtained : List ℕ) (own : is_declared_in f.body u.number ≡ true)
+        (u : VariableAt) (value : Value) (obtained : List ℕ) (keeping : List InObject)
+        (own : is_declared_in f.body u.number ≡ true)
         (grows : Grows (frame_at place) o (written o place f.body (bound_cell t f u) u.number) s (binding t f u value))
       where
         abbrev k0 : ℕ
@@ -212,7 +233,7 @@ module _ {p : Program} {o : Origins} {s : Store} {place : Place} {q : Past} {f :
         holds_stay k v ne = ap (λ (c : ℕ → ℕ → Option ℕ). c k v) changes.same_holds
 
         abbrev now : Frame
-        now = record (binds t f u) { stage = runs rest; obtained = obtained }
+        now = record (binds t f u) { stage = runs rest; obtained = obtained; kept = keeping }
 
         abbrev ItsOpen : Promises → Variable → ℕ → Type 0
         ItsOpen relies v a = IsOpen relies (written o place f.body k0 u.number) after (behind q d.comes_to) now v a
@@ -232,16 +253,29 @@ module _ {p : Program} {o : Origins} {s : Store} {place : Place} {q : Past} {f :
             is_open (is_held rest refl (class_next relies v q.events (occurrence_of d.comes_to) ∙ opens)
             (bound_value v.number same ∙ is))
 
-        cared_value : BindsCancel e u
-            → KeepsOthers grows its_left d u.number own (Some k0) obtained f.made cells_stay holds_stay
+        -- its variable is kept, and its object keeps the value
+        kept_now : (relies : Promises) (v : Variable) (a : ℕ) → v.number ≡ u.number
+            → change_cancel relies v.number e (class_of relies v q.events) ≡ kept
+            → is_declared v.role ≡ true
+            → value ≡ cancel_function a
+            → AreKept now v.number a
+            → IsSeen p (written o place f.body k0 u.number) after Nothing now (ItsOpen relies v a) a
+        kept_now relies v a same keeps declared is in_object =
+            is_open (is_kept rest refl (class_next relies v q.events (occurrence_of d.comes_to) ∙ keeps) declared
+            (bound_value v.number same ∙ is) in_object)
+
+        cared_value : (b : VariableAt) → BindsCancel e b
+            → b.number ≡ u.number
+            → KeepsOthers grows its_left d u.number own (Some k0) obtained f.made keeping cells_stay holds_stay
             → ((relies : Promises) (a : ℕ) → HasNoFaultUnder p f.body relies
             → Contains obtained a
             → Contains f.obtained a ⊎ ((v : Variable) × IsOwn f.body v
             × IsSeen p (written o place f.body k0 u.number) after Nothing now (ItsOpen relies v a) a))
             → IsCared p (written o place f.body k0 u.number) after Nothing (behind q d.comes_to) now
-        cared_value is_binding keeps new_ones =
-            cared_binding grows its_left d u.number own (Some k0) obtained f.made cells_stay holds_stay keeps
-            (lost_none d u is_binding) (λ group h. h) new_ones
+        cared_value b is_binding its_number keeps new_ones =
+            cared_binding grows its_left d u.number own (Some k0) obtained f.made keeping cells_stay holds_stay keeps
+            (λ relies v a none its same h. lost_none d b is_binding relies v a none its (its_number ∙ same) h)
+            (λ group h. h) new_ones
 
     pub cared_clearing : {u : VariableAt} {rest : Code Event} (d : DoesNext f (clear u) rest)
         → is_declared_in f.body u.number ≡ true
@@ -249,8 +283,10 @@ module _ {p : Program} {o : Origins} {s : Store} {place : Place} {q : Past} {f :
         → IsCared p (written o place f.body (bound_cell s f u) u.number) (binding s f u nothing) Nothing
         (behind q d.comes_to) (at_code (binds s f u) rest)
     cared_clearing {u} d own grows =
-        cared_value (no_change s) d u nothing f.obtained own grows clears record {
+        cared_value (no_change s) d u nothing f.obtained f.kept own grows u clears refl record {
           open_ones = λ relies v ne. named_otherwise u.number v unset opened ne;
+          kept_ones = λ relies v ne. named_otherwise u.number v unset kept ne;
+          in_objects = λ v x ne. refl;
           pending_ones = λ relies v w ne far. named_otherwise u.number v unset (pending w) ne;
           groups = λ relies w ne k. refl;
         } (λ relies a none h. inl h)
@@ -264,8 +300,10 @@ module _ {p : Program} {o : Origins} {s : Store} {place : Place} {q : Past} {f :
         (behind q d.comes_to)
         (record (binds made f u) { stage = runs rest; obtained = with_function value f.obtained })
     cared_obtaining own_bindings {u} {c} {n} {is_new} {rest} {value} {made} d gives own grows =
-        cared_value changes d u value (with_function value f.obtained) own grows obtains record {
+        cared_value changes d u value (with_function value f.obtained) f.kept own grows u obtains refl record {
           open_ones = λ relies v ne. named_otherwise u.number v opened opened ne;
+          kept_ones = λ relies v ne. named_otherwise u.number v opened kept ne;
+          in_objects = λ v x ne. refl;
           pending_ones = λ relies v w ne far. named_otherwise u.number v opened (pending w) ne;
           groups = λ relies w ne k. refl;
         } (λ relies a none h. new_one relies value a refl h)
@@ -281,7 +319,7 @@ module _ {p : Program} {o : Origins} {s : Store} {place : Place} {q : Past} {f :
             → Contains f.obtained a ⊎ ((v : Variable) × IsOwn f.body v
             × IsSeen p (written o place f.body (bound_cell made f u) u.number) (binding made f u value) Nothing
             (record (binds made f u) { stage = runs rest; obtained = with_function value f.obtained })
-            (ItsOpen changes d u value (with_function value f.obtained) own grows relies v a) a)
+            (ItsOpen changes d u value (with_function value f.obtained) f.kept own grows relies v a) a)
         new_one relies nothing a is h = inl h
         new_one relies (cancel_function b) a is h = elim (contains_cases b a f.obtained h) [
           | inr i ↦ inl i
@@ -292,10 +330,84 @@ module _ {p : Program} {o : Origins} {s : Store} {place : Place} {q : Past} {f :
               is_cancel_variable = its.is_of_kind;
               is_declared_here = its.is_declared_here;
             },
-            open_now changes d u value (with_function value f.obtained) own grows relies its.variable a its.is_it
+            open_now changes d u value (with_function value f.obtained) f.kept own grows relies its.variable a its.is_it
                 (named_so u.number its.variable.number opened (class_of relies its.variable q.events) (sym its.is_it))
                 (is ∙ ap cancel_function same),
           )
+        ]
+
+    -- a field of a new object obtains a function, and keeps it
+    pub cared_obtaining_into : BindsItsOwn p → {u : VariableAt} {c : Callee} {n x : ℕ} {rest : Code Event}
+        {value : Value} {made : Store} (d : DoesNext f (obtain_kept u c n x) rest)
+        → Obtains s c value made
+        → IsPutInto f.body.file u.number x
+        → is_declared_in f.body u.number ≡ true
+        → Grows (frame_at place) o (written o place f.body (bound_cell made f (own_cell u.number)) u.number) s
+        (binding made f (own_cell u.number) value)
+        → IsCared p (written o place f.body (bound_cell made f (own_cell u.number)) u.number)
+        (binding made f (own_cell u.number) value) Nothing (behind q d.comes_to)
+        (record (binds made f (own_cell u.number)) {
+          stage = runs rest;
+          obtained = with_function value f.obtained;
+          kept = record { variable = u.number; object = x; value = value } ∷ f.kept;
+        })
+    cared_obtaining_into own_bindings {u} {c} {n} {x} {rest} {value} {made} d gives put own grows =
+        cared_value changes d cell value (with_function value f.obtained) (one ∷ f.kept) own grows u obtains_into refl record {
+          open_ones = λ relies v ne. named_otherwise u.number v kept opened ne;
+          kept_ones = λ relies v ne. named_otherwise u.number v kept kept ne;
+          in_objects = λ v y ne. kept_other f.kept one v y ne;
+          pending_ones = λ relies v w ne far. named_otherwise u.number v kept (pending w) ne;
+          groups = λ relies w ne k. refl;
+        } (λ relies a none h. new_one relies value a refl h)
+      where
+        cell : VariableAt
+        cell = own_cell u.number
+
+        one : InObject
+        one = record { variable = u.number; object = x; value = value }
+
+        changes : ChangesContexts s made
+        changes = obtaining_changes s made c value gives
+
+        its : BindsOwn f.body u
+        its = own_bindings.each f.body q.events (occurrence_of d.comes_to) u it.is_of
+            (reached p o s place q f it (obtain_kept u c n x) rest d.comes_to) obtains_into
+
+        its_own : IsOwn f.body its.variable
+        its_own = record {
+          is_of_body = its.is_of_body;
+          is_cancel_variable = its.is_of_kind;
+          is_declared_here = its.is_declared_here;
+        }
+
+        keeps : (a : ℕ) → value ≡ cancel_function a
+            → AreKept (now changes d cell value (with_function value f.obtained) (one ∷ f.kept) own grows) its.variable.number a
+        keeps a is y its_object =
+            kept_first f.kept one its.variable.number y (sym its.is_it)
+            (sym (one_object f.body.file its.variable.number y x its_object
+            (subst (λ v. IsPutInto f.body.file v x) (sym its.is_it) put))) ∙ is
+
+        new_one : (relies : Promises) (y : Value) (a : ℕ) → value ≡ y → Contains (with_function y f.obtained) a
+            → Contains f.obtained a ⊎ ((v : Variable) × IsOwn f.body v
+            × IsSeen p (written o place f.body (bound_cell made f (own_cell u.number)) u.number)
+            (binding made f (own_cell u.number) value) Nothing
+            (record (binds made f (own_cell u.number)) {
+              stage = runs rest;
+              obtained = with_function value f.obtained;
+              kept = record { variable = u.number; object = x; value = value } ∷ f.kept;
+            })
+            (ItsOpen changes d (own_cell u.number) value (with_function value f.obtained)
+            (record { variable = u.number; object = x; value = value } ∷ f.kept) own grows relies v a) a)
+        new_one relies nothing a is h = inl h
+        new_one relies (cancel_function b) a is h = elim (contains_cases b a f.obtained h) [
+          | inr i ↦ inl i
+          | inl same ↦ (let held_now = is ∙ ap cancel_function same in inr (
+            its.variable,
+            its_own,
+            kept_now changes d cell value (with_function value f.obtained) (one ∷ f.kept) own grows relies its.variable a its.is_it
+                (named_so u.number its.variable.number kept (class_of relies its.variable q.events) (sym its.is_it))
+                its.is_declared_here held_now (keeps a held_now),
+          ))
         ]
 
     -- a group is made
@@ -309,8 +421,10 @@ module _ {p : Program} {o : Origins} {s : Store} {place : Place} {q : Past} {f :
         (binding_group (with_group made (frame_at place) context) f u made.group_count) Nothing (behind q d.comes_to)
         (record (binds made f u) { stage = runs rest; made = made.group_count ∷ f.made })
     cared_making used {u} {state} {context} {made} {rest} d makes own grows =
-        cared_binding grows its_left d u.number own (Some k0) f.obtained (made.group_count ∷ f.made) cells_stay holds_stay record {
+        cared_binding grows its_left d u.number own (Some k0) f.obtained (made.group_count ∷ f.made) f.kept cells_stay holds_stay record {
           open_ones = λ relies v ne. refl;
+          kept_ones = λ relies v ne. refl;
+          in_objects = λ v x ne. refl;
           pending_ones = λ relies v w ne far. named_otherwise u.number w safe (pending w) far;
           groups = λ relies w ne k. named_otherwise u.number w (in_state state) k ne;
         } lost (λ group h. contains_there made.group_count group f.made h) (λ relies a none h. inl h)

@@ -7,22 +7,24 @@ use Rattle.meaning.specs.Uses.{Handed, Event, return_event}
 use Rattle.meaning.specs.BodyEvents.{Variable}
 use Rattle.meaning.specs.Classes.{Promises, awaited}
 use Rattle.meaning.proofs.Membership.{contains_nil, contains_here, contains_there, contains_cases, contains_map}
-use Rattle.meaning_packages.specs.PathFaults.{returns_open, OwesCall, ComesToReturn, paths_of, is_handed}
+use Rattle.meaning_packages.specs.PathFaults.{returns_open, returns_kept, OwesCall, ComesToReturn, paths_of, is_handed, is_handed_kept}
 use Rattle.meaning_runs.specs.Bodies.{Program, Body, IsFunction}
-use Rattle.meaning_runs.specs.World.{Value, nothing, cancel_function, nobody, frame_at, Place, Store, MayEndWait, calling, waiting_for, with_cells, Given, Passing, Closure, Saved, saved_call, saved_pass, saved_literal, saved_wait, exits, Frame, in_cell, group_in_cell, held, nothing_around}
+use Rattle.meaning_runs.specs.World.{Value, nothing, cancel_function, nobody, frame_at, Place, Store, MayEndWait, calling, waiting_for, with_cells, Given, Passing, Closure, Saved, saved_call, saved_pass, saved_literal, saved_wait, exits, Frame, in_cell, group_in_cell, held, kept_value, value_handed, handed_by, nothing_around}
 use Rattle.meaning_runs.specs.Steps.{DoesNext, RunsSaved, IsAtEnd, Fits, HasNoBody, WasCalled, DeclaredIsTrue}
 use Rattle.meaning_runs.specs.Runs.{Owes}
 use Rattle.meaning_runs.specs.Duties.{TakesUp, IsWaitingFor, AreTakenUp}
 use Rattle.meaning_runs.proofs.CaredBindings.{captured_no_parameter}
 use Rattle.meaning_runs.proofs.CaredEvents.{left_still}
-use Rattle.meaning_runs.proofs.CaredFor.{IsCalledUnder, IsLeftTo, MustCall, MustAwait, MustSee, SavesCall, calls_it, passes_it, credits_it, IsPending, IsOpen, is_held, is_pending, IsStillLeft, IsSeen, was_called, is_saved, is_passed, is_waiting, left_to_made, left_to_awaited, is_open, IsCared, SeenAbove, IsOwn, HandsOn, IsRelied, of_flag, of_credit}
+use Rattle.meaning_runs.proofs.CaredFor.{IsCalledUnder, IsLeftTo, MustCall, MustAwait, MustSee, SavesCall, calls_it, passes_it, credits_it, IsPending, IsOpen, is_held, is_kept, is_pending, IsStillLeft, IsSeen, was_called, is_saved, is_passed, is_waiting, left_to_made, left_to_awaited, is_open, IsCared, SeenAbove, IsOwn, LetsGo, AreKept, IsRelied, of_flag, of_credit}
 use Rattle.meaning_runs.proofs.CaredGoesOn.{LeftStill, left_same, none_left, left_or_called, cared_on, saves_call_grows, sees_more, cared_goes, cared_stands}
 use Rattle.meaning_runs.proofs.GroupPaths.{returns_none_pending, kept_is_not_pending, group_class_of}
 use Rattle.meaning_runs.proofs.Holders.{Grows, IsHolder}
 use Rattle.meaning_runs.proofs.HolderFrames.{reached}
+use Rattle.meaning_runs.proofs.KeptEvents.{IsItsObject}
+use Rattle.meaning_runs.proofs.ObjectEvents.{events_keep_well}
 use Rattle.meaning_runs.proofs.MadeGroups.{HasNoFaultUnder, IsWaitedForUnder, SavesWait, by_wait, by_literal, IsOver, IsSettled, is_over, is_saved as is_saved_for, is_above, is_live, IsSeenOver, Nothing}
 use Rattle.meaning_runs.proofs.MadeGroupsStand.{saves_grow}
-use Rattle.meaning_runs.proofs.Places.{called_now, exits≢runs, handed_there}
+use Rattle.meaning_runs.proofs.Places.{called_now, exits≢runs, handed_there, handed_kept_there, handed_neither}
 use Rattle.meaning_runs.proofs.Remembered.{Origins, Past, with_block, behind, occurrence_of, no_past}
 use Rattle.meaning_runs.proofs.StoreGrowth.{frame-nobody, no_change, calling_changes, waiting_changes, contexts_grow, block_grows}
 use Rattle.meaning_runs.proofs.OwnNumbers.{flag_is_its}
@@ -258,7 +260,7 @@ module _ {p : Program} {o : Origins} {s : Store} {place : Place} {q : Past} {f :
     module _ (over : IsSeenOver p o s place Nothing Nothing q f) where
       -- the frame when it has come to its return
       abbrev pub back : List Handed → Frame
-      back handed = record f { stage = exits; handed_on = map (λ h. held s f h.number) handed }
+      back handed = record f { stage = exits; handed_on = map (handed_by s f) handed }
 
       abbrev SeenBack : List Handed → Past → Promises → Variable → ℕ → Type 0
       SeenBack handed now relies v a = IsSeen p o s Nothing (back handed) (IsOpen relies o s now (back handed) v a) a
@@ -269,7 +271,10 @@ module _ {p : Program} {o : Origins} {s : Store} {place : Place} {q : Past} {f :
         same_body = refl;
         sees = sees_more same_grows same_left (back handed) refl (λ x h. h) (λ group h. h) (λ a bad. absurd bad)
             (λ passing x a w. absurd (none-some passing (sym d.none_waits ∙ w)));
-        hands = λ a h. absurd (exits≢runs d.comes_to.goes_on.code (sym h.0 ∙ d.comes_to.goes_on.stage));
+        hands = λ a h. elim h [
+          | inl x ↦ absurd (exits≢runs d.comes_to.goes_on.code (sym x.0 ∙ d.comes_to.goes_on.stage))
+          | inr x ↦ inr x
+        ];
         obtained = λ relies a none h. inl h;
         own = own;
         duty = duty;
@@ -294,14 +299,35 @@ module _ {p : Program} {o : Origins} {s : Store} {place : Place} {q : Past} {f :
               k.stage class k.is_held in
               left_to_awaited k.group r.0 r.1 r.2 k.is_left
 
-          hand : (v a : ℕ) → is_handed v handed ≡ true → held s f v ≡ cancel_function a
-              → HandsOn (back handed) a
+          hands_on : (h : Handed) (a : ℕ) → Contains handed h → handed_by s f h ≡ cancel_function a → LetsGo (back handed) a
+          hands_on h a among is =
+              inl (refl, subst (λ y. Contains (map (handed_by s f) handed) y) is (contains_map (handed_by s f) handed h among))
+
+          -- by itself
+          hand : (v a : ℕ) → is_handed v handed ≡ true → held s f v ≡ cancel_function a → LetsGo (back handed) a
           hand v a e h =
-              let r = handed_there handed v e in (
-                refl,
-                subst (λ y. Contains (map (λ (z : Handed). held s f z.number) handed) y) (ap (held s f) r.2 ∙ h)
-                    (contains_map (λ (z : Handed). held s f z.number) handed r.0 r.1),
-              )
+              let r = handed_there handed v e in
+              hands_on r.0 a r.1 (of_none r.0 r.3 ∙ ap (held s f) r.2 ∙ h)
+            where
+              of_none : (y : Handed) → y.object ≡ None → handed_by s f y ≡ held s f y.number
+              of_none y none = ap (value_handed s f y.number) none
+
+          -- or in its object
+          hand_kept : (v a : ℕ) → is_handed_kept v handed ≡ true → held s f v ≡ cancel_function a → AreKept f v a
+              → LetsGo (back handed) a
+          hand_kept v a e h keeps =
+              let r = handed_kept_there handed v e in
+              hands_on r.0 a r.1 (by r.0 r.1 r.2 r.0.object refl)
+            where
+              by : (y : Handed) → Contains handed y → y.number ≡ v → (x : Option ℕ) → y.object ≡ x
+                  → handed_by s f y ≡ cancel_function a
+              by y among same None e = ap (value_handed s f y.number) e ∙ ap (held s f) same ∙ h
+              by y among same (Some x) e =
+                  ap (value_handed s f y.number) e
+                  ∙ ap (λ n. kept_value f.kept n x) same
+                  ∙ keeps x (subst (λ n. IsItsObject f.body.file n x) same
+                  (events_keep_well p f.body it.is_of q.events (occurrence_of d.comes_to)
+                  (reached p o s place q f it (return_event handed) rest d.comes_to) y among x e))
 
           owes : (relies : Promises) (v : Variable) → IsOwn f.body v → is_handed v.number handed ≡ false
               → OwesCall (paths_of f.body.file relies f.body.place) v handed
@@ -315,11 +341,16 @@ module _ {p : Program} {o : Origins} {s : Store} {place : Place} {q : Past} {f :
           own : (relies : Promises) (v : Variable) (a : ℕ) → HasNoFaultUnder p f.body relies
               → IsOwn f.body v
               → IsOpen relies o s q f v a
-              → HandsOn (back handed) a
+              → LetsGo (back handed) a
               ⊎ SeenBack handed (behind q d.comes_to) relies v a
           own relies v a none its (is_held c stage k h) = elim (cases_Bool (is_handed v.number handed)) [
             | inl e ↦ inl (hand v.number a e h)
             | inr e ↦ absurd (none.none _ (returns_open v handed q.events (occurrence_of d.comes_to) (returns relies) (owes relies v its e) k))
+          ]
+          own relies v a none its (is_kept c stage k declared h keeps) = elim (cases_Bool (is_handed_kept v.number handed)) [
+            | inl e ↦ inl (hand_kept v.number a e h keeps)
+            | inr e ↦ absurd (none.none _ (returns_kept v handed q.events (occurrence_of d.comes_to) (returns relies)
+                (owes relies v its (handed_neither v.number handed e)) k e))
           ]
           own relies v a none its (is_pending k h) = elim k.is_working [
             | inr class ↦ inr (waited relies v a k none.are_taken_up class)
@@ -335,6 +366,8 @@ module _ {p : Program} {o : Origins} {s : Store} {place : Place} {q : Past} {f :
               → SeenBack handed (behind q d.comes_to) relies v a
           duty relies v a under (is_held c stage k h) =
               absurd (under.keeps.never_open handed q.events (occurrence_of d.comes_to) (returns relies) k)
+          duty relies v a under (is_kept c stage k declared h keeps) =
+              absurd (under.keeps.never_kept handed q.events (occurrence_of d.comes_to) (returns relies) k)
           duty relies v a under (is_pending k h) = elim k.is_working [
             | inr class ↦ waited relies v a k under.are_taken_up class
             | inl works ↦ absurd (kept_is_not_pending relies f.body v k.left_to handed q.events (occurrence_of d.comes_to) under.keeps
@@ -372,11 +405,12 @@ module _ {p : Program} {o : Origins} {s : Store} {place : Place} {q : Past} {f :
 
           closed_at_end : (relies : Promises) (v : Variable) (a : ℕ) → IsOpen relies o s q f v a → ⊥
           closed_at_end relies v a (is_held c stage k h) = exits≢runs c (sym ended.stage ∙ stage)
+          closed_at_end relies v a (is_kept c stage k declared h keeps) = exits≢runs c (sym ended.stage ∙ stage)
           closed_at_end relies v a (is_pending k h) = exits≢runs k.code (sym ended.stage ∙ k.stage)
 
           pub owed_at_end : (a : ℕ) → Owes f a → Contains s.called a
           owed_at_end a owes = elim (cared.obtained none.0 a none.1 owes.was_obtained) [
-            | inl h ↦ absurd (owes.is_kept h.1)
+            | inl h ↦ elim h [ inl x ↦ absurd (owes.is_kept x.1) | inr x ↦ absurd (owes.is_its_own x) ]
             | inr r ↦ seen_at_end a (closed_at_end none.0 r.0 a) r.2
           ]
 

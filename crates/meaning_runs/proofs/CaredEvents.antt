@@ -8,7 +8,7 @@ use Rattle.meaning.specs.FunctionFacts.{cancel, group as group_kind}
 use Rattle.meaning.specs.Tracked.{live}
 use Rattle.meaning.specs.Uses.{Callee, VariableAt, Event, other, call, defer_call, lend, try, wait, defer_wait, defer_literal}
 use Rattle.meaning.specs.BodyEvents.{Variable}
-use Rattle.meaning.specs.Classes.{Promises, CancelClass, opened, safe, pending, left_to, started, change_cancel, GroupClass, in_state, awaited, at_work, at_rest, change_group}
+use Rattle.meaning.specs.Classes.{Promises, CancelClass, opened, kept, safe, pending, left_to, started, change_cancel, GroupClass, in_state, awaited, at_work, at_rest, change_group}
 use Rattle.meaning.proofs.Membership.{contains_here, contains_there}
 use Rattle.meaning_packages.specs.PathFaults.{is_declared}
 use Rattle.meaning_reports.specs.UsedImports.{HandsTo}
@@ -16,7 +16,7 @@ use Rattle.meaning_runs.specs.Bodies.{Program, Body, IsLiteralIn, variables_in}
 use Rattle.meaning_runs.specs.World.{nothing, cancel_function, nobody, Place, Store, MayEndWait, calling, waiting_for, Given, Lent, Passing, Closure, Saved, saved_call, saved_literal, saved_wait, runs, Frame, in_cell, held, held_group}
 use Rattle.meaning_runs.specs.Steps.{GoesOn, ComesTo, DoesNext, MayJoin, is_first, is_next, joining, evaluating, lending, at_code, Starts, by_start, by_try}
 use Rattle.meaning_runs.specs.Duties.{TakesUp, IsWaitingFor, AreTakenUp}
-use Rattle.meaning_runs.proofs.CaredFor.{IsLeftTo, calls_it, credits_it, IsOtherGroup, IsPending, IsOpen, is_held, is_pending, IsStillLeft, IsSeen, was_called, is_saved, is_waiting, left_to_made, left_to_awaited, is_open, IsCared, relied_there}
+use Rattle.meaning_runs.proofs.CaredFor.{IsLeftTo, calls_it, credits_it, IsOtherGroup, IsPending, IsOpen, is_held, is_kept, is_pending, IsStillLeft, IsSeen, was_called, is_saved, is_waiting, left_to_made, left_to_awaited, is_open, IsCared, relied_there, AreKept}
 use Rattle.meaning_runs.proofs.CaredGoesOn.{LeftStill, left_same, none_left, left_or_called, seen_anyway, cared_on, still_value, sees_more, cared_goes}
 use Rattle.meaning_runs.proofs.GroupClasses.{group_next, work_live, starting_change, named_so, named_otherwise}
 use Rattle.meaning_runs.proofs.GroupPaths.{is_made, made_works, still_works, group_class_of, IsWorking}
@@ -105,6 +105,16 @@ module _ {p : Program} {o : Origins} {s : Store} {place : Place} {q : Past} {f :
             ≡ change_group relies v.number e (group_class_of relies v q.events)
         group_class_now relies v = group_next relies v q.events (occurrence_of d)
 
+        pub kept_still : (relies : Promises) (v : Variable) (a : ℕ) → change_cancel relies v.number e kept ≡ kept
+            → class_of relies v q.events ≡ kept
+            → is_declared v.role ≡ true
+            → held s f v.number ≡ cancel_function a
+            → AreKept f v.number a
+            → SeenNow (OpenNow relies v a) a
+        kept_still relies v a stays k declared h keeps =
+            is_open (is_kept rest refl (class_now relies v ∙ ap (λ c. change_cancel relies v.number e c) k ∙ stays) declared
+            (value_now v.number ∙ h) keeps)
+
         pub held_still : (relies : Promises) (v : Variable) (a : ℕ) → change_cancel relies v.number e opened ≡ opened
             → class_of relies v q.events ≡ opened
             → held s f v.number ≡ cancel_function a
@@ -160,10 +170,13 @@ module _ {p : Program} {o : Origins} {s : Store} {place : Place} {q : Past} {f :
             → IsOpen relies o s q f v a
             → SeenNow (OpenNow relies v a) a
         safely relies v a (inl same) works (is_held c stage k h) = held_still relies v a (same opened) k h
+        safely relies v a (inl same) works (is_kept c stage k declared h keeps) =
+            kept_still relies v a (same kept) k declared h keeps
         safely relies v a (inl same) works (is_pending k h) =
             pending_still relies v a k (same (pending k.left_to.number))
             (works k.left_to k.is_other (group_class_of relies k.left_to q.events) k.is_working) h
         safely relies v a (inr sees) works (is_held c stage k h) = seen_anyway (sees h)
+        safely relies v a (inr sees) works (is_kept c stage k declared h keeps) = seen_anyway (sees h)
         safely relies v a (inr sees) works (is_pending k h) = seen_anyway (sees h)
 
         pub live_still : (relies : Promises) (v : Variable) (group a : ℕ)
@@ -206,7 +219,10 @@ module _ {p : Program} {o : Origins} {s : Store} {place : Place} {q : Past} {f :
         cared_event waits more opens lives = cared_on record {
           same_body = refl;
           sees = sees_more grows still gone refl more (λ group h. h) (λ a bad. absurd bad) waits;
-          hands = λ a h. absurd (exits≢runs d.goes_on.code (sym h.0 ∙ d.goes_on.stage));
+          hands = λ a h. elim h [
+            | inl x ↦ absurd (exits≢runs d.goes_on.code (sym x.0 ∙ d.goes_on.stage))
+            | inr x ↦ inr x
+          ];
           obtained = λ relies a none h. inl h;
           own = λ relies v a none own h.
               inr (opens relies v a none.are_taken_up (own.is_of_body, own.is_cancel_variable) h);
@@ -407,6 +423,8 @@ module _ {p : Program} {o : Origins} {s : Store} {place : Place} {q : Past} {f :
         opens : (relies : Promises) (u : Variable) (a : ℕ) → IsOpen relies o s q f u a
             → SeenNow grows still c f.waiting f.saved (OpenNow grows still c f.waiting f.saved relies u a) a
         opens relies u a (is_held code stage k h) = held_still grows still c f.waiting f.saved relies u a refl k h
+        opens relies u a (is_kept code stage k declared h keeps) =
+            kept_still grows still c f.waiting f.saved relies u a refl k declared h keeps
         opens relies u a (is_pending k h) = pending_elsewhere relies u a k h (cases_eq v k.left_to.number)
 
         lives : (relies : Promises) (u : Variable) (group a : ℕ) → IsStillLeft relies o s q f u group a
@@ -594,6 +612,8 @@ module _ {p : Program} {o : Origins} {s : Store} {place : Place} {q : Past} {f :
                 left_now changes relies u a
                 (class_left relies u (class_of relies u q.events) credit ∙ ap (λ x. left_to g x) k) h
                 (lefts relies u a at up its refl credit h) (cases_Bool (is_declared group_variable.role))
+            by_credit relies u a up its (is_kept code stage k declared h keeps) (inl credit) =
+                kept_still grows still c f.waiting f.saved relies u a (class_left relies u kept credit) k declared h keeps
             by_credit relies u a up its (is_pending k h) (inl credit) =
                 pending_still grows still c f.waiting f.saved relies u a k
                 (class_left relies u (pending k.left_to.number) credit)

@@ -1,17 +1,19 @@
 -- What becomes of each cancel function that a frame has to see to: it was called, or its call is saved, or a frame
--- above has to call it, or a variable holds it and is open, or it was left to a member of a group: of one that the frame
--- made, or of one that a saved item waits for, or of one in which the variable is pending.
+-- above has to call it, or a variable holds it and is open, or an object keeps it too, or it was left to a member of a
+-- group: of one that the frame made, or of one that a saved item waits for, or of one in which the variable is pending.
+-- Or the frame hands it on, or gave it to others in a field.
 use Rattle.std.specs.Prelude.{◌≡◌, ℕ, ◌<◌, ◌⊎◌, true, false, List, [], ◌∷◌, Some, Contains}
 use Rattle.meaning.specs.Code.{Code}
 use Rattle.meaning.specs.FunctionFacts.{group, cancel}
 use Rattle.meaning.specs.Uses.{Event}
 use Rattle.meaning.specs.BodyEvents.{Variable}
-use Rattle.meaning.specs.Classes.{Promises, opened, pending}
+use Rattle.meaning.specs.Classes.{Promises, opened, kept, pending}
 use Rattle.meaning_packages.specs.PathFaults.{paths_of, is_declared, KeepsCall}
 use Rattle.meaning_runs.specs.Bodies.{Program, Body, variables_in}
-use Rattle.meaning_runs.specs.World.{Value, cancel_function, Store, Given, Passing, Closure, Saved, saved_call, saved_pass, saved_literal, runs, Frame, World, held, held_group, exits}
+use Rattle.meaning_runs.specs.World.{Value, cancel_function, Store, Given, Passing, Closure, Saved, saved_call, saved_pass, saved_literal, runs, Frame, World, held, held_group, kept_value, exits}
 use Rattle.meaning_runs.specs.Duties.{IsCreditedWith, TakesUp, AreTakenUp, IsWaitingFor, IsFlagged}
 pub use Rattle.meaning_runs.proofs.GroupPaths.{group_class_of, IsWorking}
+use Rattle.meaning_runs.proofs.KeptEvents.{IsItsObject}
 use Rattle.meaning_runs.proofs.Places.{class_of}
 use Rattle.meaning_runs.proofs.Remembered.{Root, Origins, Past, Memory}
 use Rattle.meaning_runs.proofs.MadeGroups.{HasNoFaultUnder, IsWaitedForUnder, SavesWait, IsLive}
@@ -26,6 +28,14 @@ pub record IsOwn (b : Body) (v : Variable) : Type 0 where
 
 abbrev pub HandsOn : Frame → ℕ → Type 0
 HandsOn f a = (f.stage ≡ exits) × Contains f.handed_on (cancel_function a)
+
+-- others have it now
+abbrev pub LetsGo : Frame → ℕ → Type 0
+LetsGo f a = HandsOn f a ⊎ Contains f.given_away (cancel_function a)
+
+-- what the variable holds its object keeps
+abbrev pub AreKept : Frame → ℕ → ℕ → Type 0
+AreKept f v a = (x : ℕ) → IsItsObject f.body.file v x → kept_value f.kept v x ≡ cancel_function a
 
 -- a variable whose function the body is known to call
 pub data IsRelied (p : Program) (b : Body) (v : Variable) : Type 0 where
@@ -106,7 +116,7 @@ pub record IsPending
   pub is_held : held_group s f left_to.number ≡ Some group
   pub is_left : IsLeftTo o s group a
 
--- the variable holds the function, and is open, or pending so
+-- the variable holds the function, and is open, or kept, or pending so
 pub data IsOpen
     (relies : Promises) (o : Origins) (s : Store) (past : Past) (f : Frame) (v : Variable) (a : ℕ)
     : Type 0 where
@@ -114,6 +124,13 @@ pub data IsOpen
       → f.stage ≡ runs c
       → class_of relies v past.events ≡ opened
       → held s f v.number ≡ cancel_function a
+      → IsOpen relies o s past f v a
+  is_kept : (c : Code Event)
+      → f.stage ≡ runs c
+      → class_of relies v past.events ≡ kept
+      → is_declared v.role ≡ true
+      → held s f v.number ≡ cancel_function a
+      → AreKept f v.number a
       → IsOpen relies o s past f v a
   is_pending : IsPending relies o s past f v a → held s f v.number ≡ cancel_function a → IsOpen relies o s past f v a
 
@@ -150,7 +167,7 @@ pub record IsCared
     : Type 0 where
   pub obtained : (relies : Promises) (a : ℕ) → HasNoFaultUnder p f.body relies
       → Contains f.obtained a
-      → HandsOn f a ⊎ ((v : Variable) × IsOwn f.body v × IsSeen p o s must f (IsOpen relies o s past f v a) a)
+      → LetsGo f a ⊎ ((v : Variable) × IsOwn f.body v × IsSeen p o s must f (IsOpen relies o s past f v a) a)
   pub duties : (relies : Promises) (v : Variable) (a : ℕ) → IsCalledUnder p f.body relies v
       → past.given v.number ≡ cancel_function a
       → IsSeen p o s must f (IsOpen relies o s past f v a) a

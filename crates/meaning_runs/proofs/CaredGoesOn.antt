@@ -12,7 +12,7 @@ use Rattle.meaning_runs.proofs.Holders.{Grows, IsHolder, AreHolders}
 use Rattle.meaning_runs.proofs.HolderFrames.{safe_in, still_holds}
 use Rattle.meaning_runs.proofs.MadeGroups.{HasNoFaultUnder, IsWaitedForUnder, SavesWait}
 use Rattle.meaning_runs.proofs.MadeGroupsStand.{saves_grow}
-use Rattle.meaning_runs.proofs.CaredFor.{IsCalledUnder, MustRoot, IsLeftTo, MustCall, SavesCall, calls_it, passes_it, credits_it, IsOpen, is_held, is_pending, IsStillLeft, IsSeen, was_called, is_saved, is_passed, is_waiting, left_to_made, left_to_awaited, is_open, IsCared, SeenAbove, AreCared, LowestMust, IsOwn, HandsOn}
+use Rattle.meaning_runs.proofs.CaredFor.{IsCalledUnder, MustRoot, IsLeftTo, MustCall, SavesCall, calls_it, passes_it, credits_it, IsOpen, is_held, is_kept, is_pending, IsStillLeft, IsSeen, was_called, is_saved, is_passed, is_waiting, left_to_made, left_to_awaited, is_open, IsCared, SeenAbove, AreCared, LowestMust, IsOwn, LetsGo}
 use Rattle.meaning_runs.proofs.StoreGrowth.{counts_more, in_cell_grows}
 
 -- What members have to call
@@ -102,7 +102,7 @@ pub record CaresOn
     : Type 0 where
   pub same_body : next.body ≡ f.body
   pub sees : SeesOn p o after_o s after must must_now f next
-  pub hands : (a : ℕ) → HandsOn f a → HandsOn next a
+  pub hands : (a : ℕ) → LetsGo f a → LetsGo next a
   pub obtained : (relies : Promises) (a : ℕ) → HasNoFaultUnder p f.body relies
       → Contains next.obtained a
       → Contains f.obtained a
@@ -111,7 +111,7 @@ pub record CaresOn
   pub own : (relies : Promises) (v : Variable) (a : ℕ) → HasNoFaultUnder p f.body relies
       → IsOwn f.body v
       → IsOpen relies o s q f v a
-      → HandsOn next a
+      → LetsGo next a
       ⊎ IsSeen p after_o after must_now next (IsOpen relies after_o after (record q { events = events }) next v a) a
   pub duty : (relies : Promises) (v : Variable) (a : ℕ) → IsCalledUnder p f.body relies v
       → IsOpen relies o s q f v a
@@ -130,9 +130,9 @@ module _ {p : Program} {o after_o : Origins} {s after : Store} {must must_now : 
 
     -- an own variable, of which it is known what it comes to when open
     own_seen : (relies : Promises) (v : Variable) (a : ℕ)
-        → (IsOpen relies o s q f v a → HandsOn next a ⊎ IsSeen p after_o after must_now next (OpenNow relies v a) a)
+        → (IsOpen relies o s q f v a → LetsGo next a ⊎ IsSeen p after_o after must_now next (OpenNow relies v a) a)
         → IsSeen p o s must f (IsOpen relies o s q f v a) a
-        → HandsOn next a ⊎ IsSeen p after_o after must_now next (OpenNow relies v a) a
+        → LetsGo next a ⊎ IsSeen p after_o after must_now next (OpenNow relies v a) a
     own_seen relies v a opens (was_called h) = inr (was_called (on.sees.called a h))
     own_seen relies v a opens (is_saved x h c) = inr (seen_anyway (on.sees.saves x a h c))
     own_seen relies v a opens (is_passed h) = inr (seen_anyway (on.sees.musts a h))
@@ -161,8 +161,8 @@ module _ {p : Program} {o after_o : Origins} {s after : Store} {must must_now : 
         its v o = subst (λ b. IsOwn b v) (sym on.same_body) o
 
         of_old : (relies : Promises) (a : ℕ) → HasNoFaultUnder p f.body relies
-            → HandsOn f a ⊎ ((v : Variable) × IsOwn f.body v × IsSeen p o s must f (IsOpen relies o s q f v a) a)
-            → HandsOn next a
+            → LetsGo f a ⊎ ((v : Variable) × IsOwn f.body v × IsSeen p o s must f (IsOpen relies o s q f v a) a)
+            → LetsGo next a
             ⊎ ((v : Variable) × IsOwn next.body v × IsSeen p after_o after must_now next (OpenNow relies v a) a)
         of_old relies a none (inl h) = inl (on.hands a h)
         of_old relies a none (inr (v, o, h)) =
@@ -231,6 +231,9 @@ module _ {at : Maker} {o after_o : Origins} {s after : Store} (grows : Grows at 
         open_goes goes relies v a (is_held c at_code opens h) =
             let r = goes c at_code in
             is_open (is_held r.0 r.1 opens (still_value p place q f elsewhere it v.number ∙ h))
+        open_goes goes relies v a (is_kept c at_code class declared h keeps) =
+            let r = goes c at_code in
+            is_open (is_kept r.0 r.1 class declared (still_value p place q f elsewhere it v.number ∙ h) keeps)
         open_goes goes relies v a (is_pending k h) =
             let r = goes k.code k.stage in
             left_or_called still k.group a (λ l. is_open (is_pending record {
@@ -266,7 +269,7 @@ module _ {at : Maker} {o after_o : Origins} {s after : Store} (grows : Grows at 
         cared_goes goes ends sees cared = cared_on {events = q.events} record {
           same_body = refl;
           sees = sees;
-          hands = λ a h. (ends h.0, h.1);
+          hands = λ a h. elim h [ inl x ↦ inl (ends x.0, x.1) | inr x ↦ inr x ];
           obtained = λ relies a none h. inl h;
           own = λ relies v a none own h. inr (open_goes goes relies v a h);
           duty = λ relies v a under h. open_goes goes relies v a h;

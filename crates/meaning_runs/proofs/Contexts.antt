@@ -6,7 +6,7 @@ use Rattle.meaning.specs.Tracked.{GroupState}
 use Rattle.meaning.specs.Uses.{Callee}
 use Rattle.meaning_runs.specs.Bodies.{Program}
 use Rattle.meaning_runs.specs.World.{Value, nothing, cancel_function, Place, Store, put_at, ComesFrom, itself, made_from, IsDone, with_new, calling, ending, waiting_for, Frame, World, Passing}
-use Rattle.meaning_runs.specs.Steps.{Obtains, new_one, earlier_one, none_at_all, Makes, zero_group, with_context, Begins, of_function, of_none, Acts, moves_on, does_other, obtains_one, clears_one, calls_one, saves_call, makes_group, tries_nothing, ends_wait, saves_wait, evaluates, evaluates_deferred, lends, makes_call, calls_outside, saves_pass, saves_literal, comes_to_return, runs_call, runs_pass, runs_literal, runs_wait, returns_now, ChangesMembers, starts_member, starts_stranger, starts_outside, starts_beside, leaves_group, Surrounds, starts, evaluates_literal, starts_literal, makes_cells, makes_one, ends_one, calls_any, makes_outside, joins_outside, Step, of_goroutine, of_members, of_environment}
+use Rattle.meaning_runs.specs.Steps.{Obtains, new_one, earlier_one, none_at_all, Makes, zero_group, with_context, Begins, of_function, of_none, Acts, moves_on, does_other, obtains_one, clears_one, calls_one, saves_call, makes_group, tries_nothing, ends_wait, saves_wait, evaluates, evaluates_deferred, lends, makes_call, calls_outside, saves_pass, saves_literal, comes_to_return, runs_call, runs_pass, runs_literal, runs_wait, returns_now, ChangesMembers, starts_member, starts_stranger, starts_outside, starts_beside, leaves_group, Surrounds, starts, evaluates_literal, starts_literal, makes_cells, makes_one, ends_one, calls_any, makes_outside, joins_outside, Step, of_goroutine, of_members, of_environment, obtains_into, keeps_one, renews_object, calls_kept, saves_kept, gives_object, gives_in_field}
 use Rattle.meaning_runs.specs.Runs.{Run, no_step, step_more}
 use Rattle.meaning_runs.specs.Laws.{ContextsAreSound}
 
@@ -114,6 +114,14 @@ acting_follows p s place f after frames (does_other d) h = same_contexts s s h r
 acting_follows p s place f after frames (obtains_one {c = c} {value = value} {made = made} d o) h =
     other_cells s made _ (obtaining_follows s made c value o h) refl refl refl refl
 acting_follows p s place f after frames (clears_one d) h = same_contexts s _ h refl refl refl refl
+acting_follows p s place f after frames (obtains_into {c = c} {value = value} {made = made} d o) h =
+    other_cells s made _ (obtaining_follows s made c value o h) refl refl refl refl
+acting_follows p s place f after frames (keeps_one d) h = same_contexts s s h refl refl refl refl
+acting_follows p s place f after frames (renews_object d) h = same_contexts s s h refl refl refl refl
+acting_follows p s place f after frames (calls_kept d) h = after_calling s _ h
+acting_follows p s place f after frames (saves_kept d) h = same_contexts s s h refl refl refl refl
+acting_follows p s place f after frames (gives_object d) h = same_contexts s s h refl refl refl refl
+acting_follows p s place f after frames (gives_in_field d) h = same_contexts s s h refl refl refl refl
 acting_follows p s place f after frames (calls_one d) h = after_calling s _ h
 acting_follows p s place f after frames (saves_call d) h = same_contexts s s h refl refl refl refl
 acting_follows p s place f after frames (makes_group {state = state} {context = context} {made = made} d m) h =

@@ -2,9 +2,9 @@
 use Rattle.std.proofs.Common.{◌≡◌, ℕ, true, inl, inr, List, [], ◌∷◌, Contains, refl, sym, ap, ◌∙◌, subst}
 use Rattle.meaning.specs.Code.{Occurrence}
 use Rattle.meaning.specs.Lists.{Exit, Lists}
-use Rattle.meaning.specs.Mentions.{LiteralUse, deferred_call, BodyPlace, Mark, mentions, defers_literal, returns, opens, closes, file_marks, marks_by}
-use Rattle.meaning.specs.Tracked.{Placed, placed}
-use Rattle.meaning.specs.Uses.{Seen, Handed, Event, other, defer_literal, return_event, is_body, body_gives}
+use Rattle.meaning.specs.Mentions.{LiteralUse, deferred_call, BodyPlace, Mark, mentions, defers_literal, returns, opens, closes, file_marks, marks_by, of_fields}
+use Rattle.meaning.specs.Tracked.{Placed, placed, some_keep}
+use Rattle.meaning.specs.Uses.{Seen, Handed, Event, other, defer_literal, return_event, is_body}
 use Rattle.meaning.specs.BodyEvents.{handed_on, mark_events, sites_of}
 use Rattle.meaning.proofs.Membership.{contains_nil, contains_cases}
 use Rattle.meaning_packages.specs.PathFaults.{block_of}
@@ -12,7 +12,8 @@ use Rattle.meaning_runs.specs.Bodies.{Body, IsLiteralIn, code_of}
 use Rattle.meaning_runs.specs.RunLists.{IsOfText, DeferredLiteralsAreThere}
 use Rattle.meaning_runs.proofs.EventSources.{list_has, of_body, marked}
 use Rattle.meaning_runs.proofs.MarksBeside.{OpensLiteral, IsBeside, AreInForm, in_form}
-use Rattle.meaning_runs.proofs.MentionEvents.{mentions_defer_no_literal}
+use Rattle.meaning_runs.proofs.MentionEvents.{mentions_defer_no_literal, objects_defer_no_literal}
+use Rattle.meaning_runs.proofs.KeptEvents.{IsOfObject, field_events_are}
 
 -- a literal at that offset stands in the body, and is used so
 pub record HasLiteral (b : Body) (at : ℕ) (used : LiteralUse) : Type 0 where
@@ -67,6 +68,9 @@ module _ (b : Body) (form : AreInForm b.file.marks) where
   by_mark p among here (mentions m) is e h at q =
       absurd (mentions_defer_no_literal b.file p.bodies m at
       (subst (λ (x : Event). Contains (mark_events b.file p.bodies (mentions m)) x) q h))
+  by_mark p among here (of_fields site x) is e h at q =
+      absurd (objects_defer_no_literal at (subst (IsOfObject b.file p.bodies (of_fields site x)) q
+      (field_events_are b.file p.bodies site x e h)))
   by_mark p among here (defers_literal site offset) is e h at q =
       let opened = subst (λ m. IsBesideMark p m) is (form.beside p among) in
       elim (contains_cases (defer_literal offset) e [] h) [
@@ -75,7 +79,7 @@ module _ (b : Body) (form : AreInForm b.file.marks) where
         | inr none ↦ absurd (contains_nil e none)
       ]
   by_mark p among here (returns site es) is e h at q =
-      let handed = handed_on b.file (body_gives b.file.known p.bodies) 0 es in
+      let handed = handed_on b.file p.bodies 0 es in
       elim (contains_cases (return_event handed) e [] h) [
         | inl same ↦ absurd (no_return handed at (same ∙ q))
         | inr none ↦ absurd (contains_nil e none)
@@ -99,9 +103,10 @@ module _ (b : Body) (form : AreInForm b.file.marks) where
 
 pub of_text_in_form : (b : Body) → IsOfText b → AreInForm b.file.marks
 of_text_in_form b text =
-    let marks = marks_by text.known.edition (file_marks text.tree) in
+    let keeps = some_keep text.known.fields in
+    let marks = marks_by text.known.edition keeps (file_marks text.tree) in
     let same : b.file.marks ≡ placed [] marks = ap (λ (s : Seen). s.marks) text.is_file in
-    subst AreInForm (sym same) (in_form text.known.edition text.tree)
+    subst AreInForm (sym same) (in_form text.known.edition keeps text.tree)
 
 pub deferred_literals_are_there : DeferredLiteralsAreThere
 deferred_literals_are_there b t x o at text lists among q =

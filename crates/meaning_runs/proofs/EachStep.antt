@@ -2,10 +2,10 @@
 use Rattle.std.proofs.Common.{◌≡◌, ℕ, Bool, true, false, List, [], ◌∷◌, ◌++◌, length, None, refl, sym, subst}
 use Rattle.meaning.specs.Code.{Code}
 use Rattle.meaning.specs.Tracked.{idle, live}
-use Rattle.meaning.specs.Uses.{Callee, Event, other, obtain, clear, call, defer_call, pass, defer_pass, lend, start, try, wait, defer_wait, make, defer_literal, return_event}
+use Rattle.meaning.specs.Uses.{Callee, Event, other, obtain, clear, call, defer_call, pass, defer_pass, lend, start, try, wait, defer_wait, make, defer_literal, return_event, obtain_kept, renew, keep, call_kept, defer_kept, give, give_field}
 use Rattle.meaning_runs.specs.Bodies.{Program}
 use Rattle.meaning_runs.specs.World.{nothing, Store, Stage, runs, Frame, World}
-use Rattle.meaning_runs.specs.Steps.{DoesNext, new_one, zero_group, with_context, MayJoin, is_first, Acts, moves_on, does_other, obtains_one, clears_one, calls_one, saves_call, makes_group, tries_nothing, ends_wait, saves_wait, evaluates, evaluates_deferred, lends, saves_literal, comes_to_return, runs_call, runs_literal, runs_wait, returns_now, by_start, of_goroutine}
+use Rattle.meaning_runs.specs.Steps.{DoesNext, new_one, zero_group, with_context, MayJoin, is_first, Acts, moves_on, does_other, obtains_one, clears_one, calls_one, saves_call, makes_group, tries_nothing, ends_wait, saves_wait, evaluates, evaluates_deferred, lends, saves_literal, comes_to_return, runs_call, runs_literal, runs_wait, returns_now, by_start, of_goroutine, obtains_into, keeps_one, renews_object, calls_kept, saves_kept, gives_object, gives_in_field}
 use Rattle.meaning_runs.specs.Laws.{GoesTo, StandsAt, stage_behind, IsReady, FramesGoOn, FramesHaveSteps}
 use Rattle.meaning_runs.proofs.Contexts.{put_at-same}
 use Rattle.meaning_runs.proofs.FreeGoroutines.{none_given, starts_one}
@@ -31,6 +31,13 @@ module _ (p : Program) (w : World) (g : ℕ) (f : Frame) (others : List Frame) (
       → GoesTo p w g (StandsAt f (stage_behind e rest) others)
   by_its_event other rest d h = stands _ _ _ (does_other d) refl refl
   by_its_event (obtain u c n is_new) rest d h = stands _ _ _ (obtains_one d (new_one None tt)) refl refl
+  by_its_event (obtain_kept u c n x) rest d h = stands _ _ _ (obtains_into d (new_one None tt)) refl refl
+  by_its_event (renew v x) rest d h = stands _ _ _ (renews_object d) refl refl
+  by_its_event (keep v x) rest d h = stands _ _ _ (keeps_one d) refl refl
+  by_its_event (call_kept v x) rest d h = stands _ _ _ (calls_kept d) refl refl
+  by_its_event (defer_kept v x) rest d h = stands _ _ _ (saves_kept d) refl refl
+  by_its_event (give v x) rest d h = stands _ _ _ (gives_object d) refl refl
+  by_its_event (give_field v) rest d h = stands _ _ _ (gives_in_field d) refl refl
   by_its_event (clear u) rest d h = stands _ _ _ (clears_one d) refl refl
   by_its_event (call v) rest d h = stands _ _ _ (calls_one d) refl refl
   by_its_event (defer_call v) rest d h = stands _ _ _ (saves_call d) refl refl

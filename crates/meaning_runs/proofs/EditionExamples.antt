@@ -9,6 +9,7 @@ use Rattle.tree.specs.declared.edition.Edition.{Edition}
 use Rattle.tree.specs.declared.edition.Edition.TheVariants.{First, Second}
 use Rattle.meaning.specs.Uses.{Seen, Event, call, UseFault, fault_at, cancel_used_otherwise, clear}
 use Rattle.meaning.specs.BodyEvents.{seen_file, events_at, body_faults}
+use Rattle.meaning.specs.Kept.{gifts}
 use Rattle.meaning_reports.specs.Loaded.{has_tree, LoadedPackage, no_tables, known_in}
 use Rattle.meaning_runs.specs.Examples.{from_to, doing, node, use_of, call_at, binding_at, function_to, file_with, name, maker_at, of_context}
 use Rattle.meaning_runs.specs.LoudReturns.{using}
@@ -32,7 +33,7 @@ unfolding seeing
 using_first = refl
 
 using_second : faults_by Second using ≡ []
-unfolding seeing
+unfolding seeing gifts
 using_second = refl
 
 -- `_ = &cancel`, and `_ = &(cancel)`
@@ -46,11 +47,11 @@ addressing e =
     no_statement))
 
 address_second : faults_by Second (addressing (use_of (codes "cancel") 99)) ≡ fault_at 99 cancel_used_otherwise (codes "cancel")
-unfolding seeing
+unfolding seeing gifts
 address_second = refl
 
 brackets_second : faults_by Second (addressing (node 99 107 (parenthesized (use_of (codes "cancel") 100)))) ≡ fault_at 100 cancel_used_otherwise (codes "cancel")
-unfolding seeing
+unfolding seeing gifts
 brackets_second = refl
 
 -- `(cancel) = nil`
@@ -64,7 +65,7 @@ rebinding =
     no_statement))
 
 rebinding_second : faults_by Second rebinding ≡ fault_at 95 cancel_used_otherwise (codes "cancel")
-unfolding seeing
+unfolding seeing gifts
 rebinding_second = refl
 
 -- `if cancel != nil { cancel() }`, or with `==`
@@ -87,23 +88,23 @@ unfolding seeing
 guard_first_gives_nothing = refl
 
 guard_second : faults_by Second (guarding NotEqual) ≡ []
-unfolding seeing
+unfolding seeing gifts
 guard_second = refl
 
 guard_second_past : events_by Second (guarding NotEqual) 125 ≡ call 61 ∷ []
-unfolding seeing
+unfolding seeing gifts
 guard_second_past = refl
 
 guard_second_block : events_by Second (guarding NotEqual) 111 ≡ []
-unfolding seeing
+unfolding seeing gifts
 guard_second_block = refl
 
 equal_second_past : events_by Second (guarding Equal) 125 ≡ []
-unfolding seeing
+unfolding seeing gifts
 equal_second_past = refl
 
 equal_second_block : events_by Second (guarding Equal) 111 ≡ call 61 ∷ []
-unfolding seeing
+unfolding seeing gifts
 equal_second_block = refl
 
 -- `if cancel != nil && p != nil { .. }` says nothing past it, and `if p == nil || cancel != nil { .. }` does
@@ -123,19 +124,19 @@ joined op test =
     no_statement))
 
 and_second : events_by Second (joined LogicalAnd NotEqual) 136 ≡ []
-unfolding seeing
+unfolding seeing gifts
 and_second = refl
 
 and_second_block : events_by Second (joined LogicalAnd Equal) 122 ≡ call 61 ∷ []
-unfolding seeing
+unfolding seeing gifts
 and_second_block = refl
 
 or_second : events_by Second (joined LogicalOr NotEqual) 136 ≡ call 61 ∷ []
-unfolding seeing
+unfolding seeing gifts
 or_second = refl
 
 or_second_block : events_by Second (joined LogicalOr Equal) 122 ≡ []
-unfolding seeing
+unfolding seeing gifts
 or_second_block = refl
 
 -- A second statement behind `_, cancel := context.WithCancel(p)`, from offset 94 to that one
@@ -159,11 +160,11 @@ unfolding seeing
 clear_first = refl
 
 clear_second : faults_by Second clearing ≡ []
-unfolding seeing
+unfolding seeing gifts
 clear_second = refl
 
 clear_second_events : events_by Second clearing 94 ≡ clear record { number = 61; at = 94 } ∷ []
-unfolding seeing
+unfolding seeing gifts
 clear_second_events = refl
 
 -- `cancel, p = p, context.WithCancel(p)`: a pair whose other value is a maker's call clears, and the call is a fault
@@ -174,11 +175,11 @@ pairing =
     (expression_and (use_of (codes "p") 106) (one_of (maker_at 109))))
 
 pair_second : events_by Second pairing 94 ≡ clear record { number = 61; at = 94 } ∷ []
-unfolding seeing
+unfolding seeing gifts
 pair_second = refl
 
 pair_second_said : faults_by Second pairing ≡ fault_at 109 cancel_used_otherwise (codes "WithCancel")
-unfolding seeing
+unfolding seeing gifts
 pair_second_said = refl
 
 -- `cancel, p = context.WithCancel(p), p`: the value of the pair is the call
@@ -189,11 +190,11 @@ crossing =
     (expression_and (maker_at 106) (one_of (use_of (codes "p") 129))))
 
 cross_second : events_by Second crossing 94 ≡ []
-unfolding seeing
+unfolding seeing gifts
 cross_second = refl
 
 cross_second_said : faults_by Second crossing ≡ fault_at 106 cancel_used_otherwise (codes "WithCancel") ++ said_at 94
-unfolding seeing
+unfolding seeing gifts
 cross_second_said = refl
 
 -- `cancel, p = p()`: one call for several names
@@ -208,7 +209,7 @@ unfolding seeing
 spread_first = refl
 
 spread_second : events_by Second spreading 94 ≡ clear record { number = 61; at = 94 } ∷ []
-unfolding seeing
+unfolding seeing gifts
 spread_second = refl
 
 -- `cancel, p, p = p, p`: two values for three names bind nothing
@@ -219,16 +220,16 @@ missing_one =
     (expression_and (use_of (codes "p") 109) (one_of (use_of (codes "p") 112))))
 
 missing_second : events_by Second missing_one 94 ≡ []
-unfolding seeing
+unfolding seeing gifts
 missing_second = refl
 
 missing_second_said : faults_by Second missing_one ≡ said_at 94
-unfolding seeing
+unfolding seeing gifts
 missing_second_said = refl
 
 -- `cancel++`
 incrementing_second : faults_by Second (beside 102 (increment_statement (use_of (codes "cancel") 94))) ≡ said_at 94
-unfolding seeing
+unfolding seeing gifts
 incrementing_second = refl
 
 incrementing_first : faults_by First (beside 102 (increment_statement (use_of (codes "cancel") 94))) ≡ said_at 94
@@ -238,14 +239,14 @@ incrementing_first = refl
 -- `cancel += p`
 adding_second
     : faults_by Second (beside 105 (operator_assignment Add (use_of (codes "cancel") 94) (use_of (codes "p") 104))) ≡ said_at 94
-unfolding seeing
+unfolding seeing gifts
 adding_second = refl
 
 -- `for cancel = range p {}`
 ranging_second
     : faults_by Second (beside 117 (range_assignment (one_of (use_of (codes "cancel") 98)) (use_of (codes "p") 113) no_statement (from_to 115 117)))
     ≡ said_at 98
-unfolding seeing
+unfolding seeing gifts
 ranging_second = refl
 
 -- `go p(cancel)`
@@ -257,11 +258,11 @@ unfolding seeing
 going_first = refl
 
 going_second : faults_by Second going ≡ []
-unfolding seeing
+unfolding seeing gifts
 going_second = refl
 
 going_second_events : events_by Second going 94 ≡ []
-unfolding seeing
+unfolding seeing gifts
 going_second_events = refl
 
 -- `if nil == cancel { cancel() }`
@@ -273,11 +274,11 @@ turned =
     (from_to 111 126) missing_statement)
 
 turned_second : events_by Second turned 111 ≡ call 61 ∷ []
-unfolding seeing
+unfolding seeing gifts
 turned_second = refl
 
 turned_second_past : events_by Second turned 125 ≡ []
-unfolding seeing
+unfolding seeing gifts
 turned_second_past = refl
 
 -- A giver with an error:
@@ -372,26 +373,26 @@ unfolding seeing
 error_first = refl
 
 error_second : given_at Second (asking at_once NotEqual) (giving no_error) 96 ≡ call 61 ∷ []
-unfolding seeing
+unfolding seeing gifts
 error_second = refl
 
 error_second_past : given_at Second (asking at_once NotEqual) (giving no_error) 108 ≡ []
-unfolding seeing
+unfolding seeing gifts
 error_second_past = refl
 
 no_error_second : given_at Second (asking at_once Equal) (giving no_error) 96 ≡ []
-unfolding seeing
+unfolding seeing gifts
 no_error_second = refl
 
 no_error_second_past : given_at Second (asking at_once Equal) (giving no_error) 108 ≡ call 61 ∷ []
-unfolding seeing
+unfolding seeing gifts
 no_error_second_past = refl
 
 -- where something stands between, and where the giver may give both, nothing is known
 later_second : given_at Second (asking later NotEqual) (giving no_error) 96 ≡ []
-unfolding seeing
+unfolding seeing gifts
 later_second = refl
 
 both_given_second : given_at Second (asking at_once NotEqual) (giving (use_of (codes "p") 293)) 96 ≡ []
-unfolding seeing
+unfolding seeing gifts
 both_given_second = refl

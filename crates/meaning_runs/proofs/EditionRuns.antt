@@ -7,6 +7,7 @@ use Rattle.meaning.specs.Code.{Code, skip, does, then_code, either}
 use Rattle.meaning.specs.Mentions.{opens}
 use Rattle.meaning.specs.Uses.{Seen, Event, other, call, return_event}
 use Rattle.meaning.specs.BodyEvents.{seen_file}
+use Rattle.meaning.specs.Kept.{gifts}
 use Rattle.meaning_reports.specs.Loaded.{known_in}
 use Rattle.meaning_runs.specs.Bodies.{Body, IsOf, IsOutermost, code_of}
 use Rattle.meaning_runs.specs.World.{in_cell}
@@ -32,7 +33,7 @@ body_second op = record {
 }
 
 is_of : IsOf (second_with (guarding NotEqual ∷ [])) (body_second NotEqual)
-unfolding seeing
+unfolding seeing gifts
 is_of = record {
   loaded = second_of (guarding NotEqual ∷ []);
   is_package = refl;
@@ -42,7 +43,7 @@ is_of = record {
 }
 
 is_outermost : IsOutermost (body_second NotEqual)
-unfolding seeing
+unfolding seeing gifts
 is_outermost = record {
   mark = record { mark = opens (place_of (guarding NotEqual)); bodies = place_of (guarding NotEqual) ∷ [] };
   is_of_file = (0, omega arith, refl);
@@ -51,7 +52,7 @@ is_outermost = record {
 }
 
 is_of_nil : IsOf (second_with (guarding Equal ∷ [])) (body_second Equal)
-unfolding seeing
+unfolding seeing gifts
 is_of_nil = record {
   loaded = second_of (guarding Equal ∷ []);
   is_package = refl;
@@ -61,7 +62,7 @@ is_of_nil = record {
 }
 
 is_outermost_nil : IsOutermost (body_second Equal)
-unfolding seeing
+unfolding seeing gifts
 is_outermost_nil = record {
   mark = record { mark = opens (place_of (guarding Equal)); bodies = place_of (guarding Equal) ∷ [] };
   is_of_file = (0, omega arith, refl);
@@ -77,11 +78,11 @@ abbrev after_call : Code Event
 after_call = then_code (one (event_at 111 (call 61))) (calling_at 115)
 
 guarding_is : code_of (body_second NotEqual) ≡ code_with (tested (calling_at 115) (calling_at 125)) 127
-unfolding seeing
+unfolding seeing gifts
 guarding_is = refl
 
 guarding_nil_is : code_of (body_second Equal) ≡ code_with (tested after_call skip) 127
-unfolding seeing
+unfolding seeing gifts
 guarding_nil_is = refl
 
 quiet_by_guard : HasQuietReturn (second_with (guarding NotEqual ∷ []))
@@ -100,7 +101,7 @@ quiet_by_guard = from_there (obtained_one _ _ _ _ is_of is_outermost guarding_is
         let r9 = act _ _ _ _ _ _ r8 refl (moves_on (goes _ _ _ _ refl (first_moves first_is_done))) in
         let r10 = act _ _ _ _ _ _ r9 refl (moves_on (goes _ _ _ _ refl first_is_done)) in
         let r11 = act _ _ _ _ _ _ r10 refl (comes_to_return (next_at _ 127 (return_event []) _ _ refl happens refl)) in
-        quiet_of _ _ _ r11 refl record { stage = refl; saved = refl } refl refl refl refl (called_now h.world.store _ 0 (ap (in_cell h.world.store 61) h.has_cell ∙ h.holds_it))
+        quiet_of _ _ _ r11 refl record { stage = refl; saved = refl } refl refl refl refl refl (called_now h.world.store _ 0 (ap (in_cell h.world.store 61) h.has_cell ∙ h.holds_it))
 
 loud_by_guard : HasLoudReturn (second_with (guarding Equal ∷ []))
 loud_by_guard = from_there (obtained_one _ _ _ _ is_of_nil is_outermost_nil guarding_nil_is)
@@ -115,7 +116,7 @@ loud_by_guard = from_there (obtained_one _ _ _ _ is_of_nil is_outermost_nil guar
         let r6 = act _ _ _ _ _ _ r5 refl (moves_on (goes _ _ _ _ refl (first_moves first_is_done))) in
         let r7 = act _ _ _ _ _ _ r6 refl (moves_on (goes _ _ _ _ refl first_is_done)) in
         let r8 = act _ _ _ _ _ _ r7 refl (comes_to_return (next_at _ 127 (return_event []) _ _ refl happens refl)) in
-        loud_of _ _ _ r8 refl record { stage = refl; saved = refl } refl refl refl h.none_called
+        loud_of _ _ _ r8 refl record { stage = refl; saved = refl } refl refl refl refl h.none_called
 
 pub edition_returns_exist : EditionReturnsExist
 edition_returns_exist = record { guarding_is_quiet = quiet_by_guard; guarding_nil_is_loud = loud_by_guard }

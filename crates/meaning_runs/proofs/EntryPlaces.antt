@@ -8,8 +8,8 @@ use Rattle.std.proofs.lemmas.List.Elements.{Contains-append_cases, Contains-appe
 use Rattle.tree.specs.Syntax.{SourceFile}
 use Rattle.meaning.specs.Code.{Occurrence, Code, repeats}
 use Rattle.meaning.specs.Lists.{Exit, stopped, Lists, Reaches, not_begun, skipped, done, just_done, left, ends_in_first, goes_on, in_first, in_second, ends_in_turn, turns_again, arrives, passes}
-use Rattle.meaning.specs.Mentions.{BodyPlace, Mention, Mark, mentions, defers_literal, returns, opens, closes, file_marks, marks_by}
-use Rattle.meaning.specs.Tracked.{Known, placed}
+use Rattle.meaning.specs.Mentions.{BodyPlace, Mention, Mark, mentions, defers_literal, returns, opens, closes, file_marks, marks_by, of_fields}
+use Rattle.meaning.specs.Tracked.{Known, placed, some_keep}
 use Rattle.meaning.specs.TreeOfText.{IsTreeOf}
 use Rattle.meaning.specs.Uses.{Callee, Event, Seen}
 use Rattle.meaning.specs.BodyEvents.{opened_in, bodies_of, sites_of, seen_file}
@@ -33,7 +33,7 @@ use Rattle.meaning_runs.proofs.OccurrencePlaces.{occurrences_lie_in_texts}
 use Rattle.meaning_runs.proofs.PartSites.{jump_is_asked}
 use Rattle.meaning_runs.proofs.FilePlaces.{dot_in, whole_places_lie_in_files}
 use Rattle.meaning_runs.proofs.NamePlaces.{names_lie_in_texts}
-use Rattle.meaning_runs.proofs.FaultPlaces.{MarkStandsWithin, MarksStandWithin, FileStandsWithin, locals_lie, outer_faults_lie, body_faults_lie, fault_lies}
+use Rattle.meaning_runs.proofs.FaultPlaces.{MarkStandsWithin, MarksStandWithin, FileStandsWithin, all_locals_lie, outer_faults_lie, body_faults_lie, fault_lies}
 use Rattle.meaning_runs.proofs.EditionMarks.{among_all, placed_among}
 
 -- Occurrences
@@ -89,6 +89,7 @@ module _ (text : List ℕ) (tree : SourceFile) (known : Known) (is : IsTreeOf kn
 
   mark_in : (mark : Mark) → Contains (file_marks tree) mark → MarkStandsWithin (length text) mark
   mark_in (mentions m) among = (site_in m among, names_lie_in_texts known.edition text tree (mentions m) is among)
+  mark_in (of_fields site m) among = names_lie_in_texts known.edition text tree (of_fields site m) is among
   mark_in (defers_literal site at) among = tt
   mark_in (returns at es) among = tt
   mark_in (opens b) among = (
@@ -101,20 +102,20 @@ module _ (text : List ℕ) (tree : SourceFile) (known : Known) (is : IsTreeOf kn
   )
   mark_in closes among = tt
 
-  marks_in : MarksStandWithin (length text) (placed [] (marks_by known.edition (file_marks tree)))
+  marks_in : MarksStandWithin (length text) (placed [] (marks_by known.edition (some_keep known.fields) (file_marks tree)))
   marks_in = record {
     each = λ p among.
-        mark_in p.mark (is_placed [] (file_marks tree) p (placed_among known.edition (file_marks tree) p among));
+        mark_in p.mark (is_placed [] (file_marks tree) p (placed_among known.edition (some_keep known.fields) (file_marks tree) p among));
   }
 
   file_stands : Stands (length text) (seen_file known tree)
   file_stands = record {
-    lies = record { marks = marks_in; locals = locals_lie (length text) known (placed [] (marks_by known.edition (file_marks tree))) marks_in };
+    lies = record { marks = marks_in; locals = all_locals_lie (length text) known (placed [] (marks_by known.edition (some_keep known.fields) (file_marks tree))) marks_in };
     begun = λ b among.
         let file = are_sited known.edition text tree is in
-        let marks = marks_by known.edition (file_marks tree) in
+        let marks = marks_by known.edition (some_keep known.fields) (file_marks tree) in
         let there = opens_one marks b (placed_only (opened_in (placed [] marks)) b among) in
-        let low = file.begun b (among_all known.edition (file_marks tree) (opens b) there) in
+        let low = file.begun b (among_all known.edition (some_keep known.fields) (file_marks tree) (opens b) there) in
         let end = file.in_text in
         omega (arith, low, end);
     reached = λ promises b t o among reaches.
@@ -217,7 +218,7 @@ module _ (rules : Rules) (each : LieInFiles rules.says) where
   pub entries_lie_in_files_by : EntriesLieInFilesBy rules
   entries_lie_in_files_by ps report p said texts x is_report of are among =
       let w = is_report.of_package of.place p said of.is_package of.is_said in
-      stands ps is_report.tables of.place p texts of.is_package are x ((w.1.each x).0 among)
+      stands ps is_report.tables of.place p texts of.is_package are x ((w.are_findings.each x).0 among)
 
 -- Entries by paths
 

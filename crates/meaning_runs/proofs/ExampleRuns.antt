@@ -39,13 +39,17 @@ begins p b h out = step_more no_step (of_environment (starts 0 b (λ v. nothing)
 pub only_one : {A : Type 0} (x y : A) → Contains (x ∷ []) y → x ≡ y
 only_one x y h = elim (contains_cases x y [] h) [ inl e ↦ e | inr g ↦ absurd (contains_nil y g) ]
 
-owes_first : (f : Frame) → Contains f.obtained 0 → f.handed_on ≡ [] → Owes f 0
-owes_first f h none = record { was_obtained = h; is_kept = λ x. contains_nil (cancel_function 0) (subst (λ l. Contains l (cancel_function 0)) none x) }
+owes_first : (f : Frame) → Contains f.obtained 0 → f.handed_on ≡ [] → f.given_away ≡ [] → Owes f 0
+owes_first f h none own = record {
+  was_obtained = h;
+  is_kept = λ x. contains_nil (cancel_function 0) (subst (λ l. Contains l (cancel_function 0)) none x);
+  is_its_own = λ x. contains_nil (cancel_function 0) (subst (λ l. Contains l (cancel_function 0)) own x);
+}
 
 -- the frame owes one function, which was called
-pub quiet_of : (p : Program) (w : World) (f : Frame) → Run p w → w.stacks 0 ≡ f ∷ [] → IsAtEnd f → f.body.home ≡ p.looked_at → f.obtained ≡ 0 ∷ [] → f.handed_on ≡ [] → f.made ≡ [] → Contains w.store.called 0 → HasQuietReturn p
-quiet_of p w f run at end home obtained none unmade called =
-    (w, f, record { run = run; is_returning = record { goroutine = 0; others = []; is_running = at; is_at_end = end }; is_of_package = home; owed = 0; owes = owes_first f (subst (λ l. Contains l 0) (sym obtained) (contains_here 0 [])) none }, record { called = each; done = λ a b o h. called_done w.store a b (run_is_sound p w run) (each a o) h; ended = λ group m. absurd (no_group group m); groups_done = λ group a m is. absurd (no_group group m) })
+pub quiet_of : (p : Program) (w : World) (f : Frame) → Run p w → w.stacks 0 ≡ f ∷ [] → IsAtEnd f → f.body.home ≡ p.looked_at → f.obtained ≡ 0 ∷ [] → f.handed_on ≡ [] → f.given_away ≡ [] → f.made ≡ [] → Contains w.store.called 0 → HasQuietReturn p
+quiet_of p w f run at end home obtained none own unmade called =
+    (w, f, record { run = run; is_returning = record { goroutine = 0; others = []; is_running = at; is_at_end = end }; is_of_package = home; owed = 0; owes = owes_first f (subst (λ l. Contains l 0) (sym obtained) (contains_here 0 [])) none own }, record { called = each; done = λ a b o h. called_done w.store a b (run_is_sound p w run) (each a o) h; ended = λ group m. absurd (no_group group m); groups_done = λ group a m is. absurd (no_group group m) })
   where
     no_group : (group : ℕ) → Contains f.made group → ⊥
     no_group group m = contains_nil group (subst (λ l. Contains l group) unmade m)
@@ -62,22 +66,7 @@ loud =
     let r5 = act _ _ _ _ _ _ r4 refl (moves_on (goes _ _ _ _ refl (first_moves first_is_done))) in
     let r6 = act _ _ _ _ _ _ r5 refl (moves_on (goes _ _ _ _ refl first_is_done)) in
     let r7 = act _ _ _ _ _ _ r6 refl (comes_to_return (next_at _ 93 (return_event []) _ _ refl happens refl)) in
-    (_, _, record { run = r7; is_returning = record { goroutine = 0; others = []; is_running = refl; is_at_end = record { stage = refl; saved = refl } }; is_of_package = refl; owed = 0; owes = owes_first _ (contains_here 0 []) refl }, λ q. contains_nil 0 (q.called 0 (owes_first _ (contains_here 0 []) refl)))
-
-quiet : HasQuietReturn (program_with (saving ∷ []))
-quiet =
-    let r1 = act _ _ _ _ _ _ (begins _ _ saving_is_of saving_is_outermost) refl (does_other (next_at _ 55 other _ _ (ap runs saving_is) (first_moves happens) refl)) in
-    let r2 = act _ _ _ _ _ _ r1 refl (moves_on (goes _ _ _ _ refl first_is_done)) in
-    let r3 = act _ _ _ _ _ _ r2 refl (obtains_one (next_at _ 58 obtains _ _ refl (first_moves (first_moves (first_moves happens))) refl) (new_one None tt)) in
-    let r4 = act _ _ _ _ _ _ r3 refl (moves_on (goes _ _ _ _ refl (first_moves (first_moves first_is_done)))) in
-    let r5 = act _ _ _ _ _ _ r4 refl (moves_on (goes _ _ _ _ refl (first_moves first_is_done))) in
-    let r6 = act _ _ _ _ _ _ r5 refl (saves_call (next_at _ 94 (defer_call 61) _ _ refl (first_moves (first_moves (first_moves happens))) refl)) in
-    let r7 = act _ _ _ _ _ _ r6 refl (moves_on (goes _ _ _ _ refl (first_moves (first_moves first_is_done)))) in
-    let r8 = act _ _ _ _ _ _ r7 refl (moves_on (goes _ _ _ _ refl (first_moves first_is_done))) in
-    let r9 = act _ _ _ _ _ _ r8 refl (moves_on (goes _ _ _ _ refl first_is_done)) in
-    let r10 = act _ _ _ _ _ _ r9 refl (comes_to_return (next_at _ 109 (return_event []) _ _ refl happens refl)) in
-    let r11 = act _ _ _ _ _ _ r10 refl (runs_call {value = cancel_function 0} record { stage = refl; saved = refl }) in
-    quiet_of _ _ _ r11 refl record { stage = refl; saved = refl } refl refl refl refl (contains_here 0 [])
+    (_, _, record { run = r7; is_returning = record { goroutine = 0; others = []; is_running = refl; is_at_end = record { stage = refl; saved = refl } }; is_of_package = refl; owed = 0; owes = owes_first _ (contains_here 0 []) refl refl }, λ q. contains_nil 0 (q.called 0 (owes_first _ (contains_here 0 []) refl refl)))
 
 -- what the call of `g` gives, and a parameter that fits it
 pub fits_g : (b : Body) (s : Store) (value : Value) (callee : Callee) (is_deferred : Bool) → 0 < s.context_count → value ≡ cancel_function 0 → Fits s b record { callee = callee; is_deferred = is_deferred; given = record { position = 0; value = value } ∷ []; lent = [] } (λ v. cancel_function 0) (λ v. None)
@@ -102,6 +91,8 @@ standing b c newest = record {
   saved = [];
   obtained = 0 ∷ [];
   made = [];
+  kept = [];
+  given_away = [];
   handed_on = [];
 }
 
@@ -129,6 +120,21 @@ obtained_one p b rest end of out is =
     let r5 = act _ _ _ _ _ _ r4 refl (moves_on (goes _ _ _ _ refl (first_moves first_is_done))) in
     record { world = _; newest = _; run = r5; is_running = refl; has_cell = refl; holds_it = refl; none_called = refl; has_context = omega arith; has_more = omega arith }
 
+quiet : HasQuietReturn (program_with (saving ∷ []))
+quiet = from_there (obtained_one _ _ _ _ saving_is_of saving_is_outermost saving_is)
+  where
+    from_there : Stands (program_with (saving ∷ [])) (body_in (saving ∷ []) (place_of saving)) (before 94 (defer_call 61) 109) → HasQuietReturn (program_with (saving ∷ []))
+    from_there h =
+        let value = cancel_function 0 in
+        let holds : held h.world.store (standing (body_in (saving ∷ []) (place_of saving)) (before 94 (defer_call 61) 109) h.newest) 61 ≡ value = ap (in_cell h.world.store 61) h.has_cell ∙ h.holds_it in
+        let r1 = act _ h.world _ _ _ _ h.run h.is_running (saves_call (next_at _ 94 (defer_call 61) _ _ refl (first_moves (first_moves (first_moves happens))) refl)) in
+        let r2 = act _ _ _ _ _ _ r1 refl (moves_on (goes _ _ _ _ refl (first_moves (first_moves first_is_done)))) in
+        let r3 = act _ _ _ _ _ _ r2 refl (moves_on (goes _ _ _ _ refl (first_moves first_is_done))) in
+        let r4 = act _ _ _ _ _ _ r3 refl (moves_on (goes _ _ _ _ refl first_is_done)) in
+        let r5 = act _ _ _ _ _ _ r4 refl (comes_to_return (next_at _ 109 (return_event []) _ _ refl happens refl)) in
+        let r6 = act _ _ _ _ _ _ r5 refl (runs_call record { stage = refl; saved = refl }) in
+        quiet_of _ _ _ r6 refl record { stage = refl; saved = refl } refl refl refl refl refl (called_now h.world.store _ 0 holds)
+
 quiet_by_call : HasQuietReturn (program_with both)
 quiet_by_call = from_there (obtained_one _ _ _ _ passing_is_of passing_is_outermost passing_is)
   where
@@ -148,7 +154,7 @@ quiet_by_call = from_there (obtained_one _ _ _ _ passing_is_of passing_is_outerm
         let r9 = act _ _ _ _ _ _ r8 refl (moves_on (goes _ _ _ _ refl (first_moves first_is_done))) in
         let r10 = act _ _ _ _ _ _ r9 refl (moves_on (goes _ _ _ _ refl first_is_done)) in
         let r11 = act _ _ _ _ _ _ r10 refl (comes_to_return (next_at _ 104 (return_event []) _ _ refl happens refl)) in
-        quiet_of _ _ _ r11 refl record { stage = refl; saved = refl } refl refl refl refl (called_now (with_cells h.world.store (λ v. cancel_function 0) (λ v. None)) _ 0 (holds_parameter h.world.store (with_cells h.world.store (λ v. cancel_function 0) (λ v. None)) (ap (λ (c : ℕ → Value). c 114) (put_at-same h.world.store.cells h.world.store.cell_count (λ v. cancel_function 0)))))
+        quiet_of _ _ _ r11 refl record { stage = refl; saved = refl } refl refl refl refl refl (called_now (with_cells h.world.store (λ v. cancel_function 0) (λ v. None)) _ 0 (holds_parameter h.world.store (with_cells h.world.store (λ v. cancel_function 0) (λ v. None)) (ap (λ (c : ℕ → Value). c 114) (put_at-same h.world.store.cells h.world.store.cell_count (λ v. cancel_function 0)))))
 
 -- what the literal's variable around it holds
 holds_around : (s : Store) (t : Store) (around : ℕ → Option ℕ) (k : ℕ) → around 61 ≡ Some k → t.cells k 61 ≡ cancel_function 0 → held t (new_frame s (body_in (deferring ∷ []) literal) around) 61 ≡ cancel_function 0
@@ -180,7 +186,7 @@ quiet_by_literal = from_there (obtained_one _ _ _ _ deferring_is_of deferring_is
         let g6 = act _ _ _ _ _ _ g5 refl (moves_on (goes _ _ _ _ refl first_is_done)) in
         let g7 = act _ _ _ _ _ _ g6 refl (comes_to_return (next_at _ 118 (return_event []) _ _ refl happens refl)) in
         let g8 = act _ _ _ _ _ _ g7 refl (returns_now record { stage = refl; saved = refl }) in
-        quiet_of _ _ _ g8 refl record { stage = refl; saved = refl } refl refl refl refl (called_now (with_cells h.world.store (λ v. nothing) (λ v. None)) _ 0 (holds_around h.world.store (with_cells h.world.store (λ v. nothing) (λ v. None)) h.newest 1 h.has_cell (still_there h)))
+        quiet_of _ _ _ g8 refl record { stage = refl; saved = refl } refl refl refl refl refl (called_now (with_cells h.world.store (λ v. nothing) (λ v. None)) _ 0 (holds_around h.world.store (with_cells h.world.store (λ v. nothing) (λ v. None)) h.newest 1 h.has_cell (still_there h)))
 
 -- a later function was called, and the first one not
 first_uncalled : (t : Store) (value : Value) (n : ℕ) → value ≡ cancel_function n → t.called ≡ [] → 0 < n → Contains (calling t value).called 0 → ⊥
@@ -211,7 +217,7 @@ loud_by_assignment = from_there (obtained_one _ _ assigning (event_at 138 (retur
         let r11 = act _ _ _ _ _ _ r10 refl (moves_on (goes _ _ _ _ refl (first_moves first_is_done))) in
         let r12 = act _ _ _ _ _ _ r11 refl (moves_on (goes _ _ _ _ refl first_is_done)) in
         let r13 = act _ _ _ _ _ _ r12 refl (comes_to_return (next_at _ 138 (return_event []) _ _ refl happens refl)) in
-        (_, _, record { run = r13; is_returning = record { goroutine = 0; others = []; is_running = refl; is_at_end = record { stage = refl; saved = refl } }; is_of_package = refl; owed = 0; owes = owes_first _ (contains_there h.world.store.context_count 0 (0 ∷ []) (contains_here 0 [])) refl }, λ q. first_uncalled _ _ h.world.store.context_count (ap (λ (c : ℕ → Value). c 61) (put_at-same s.cells k (put_at (s.cells k) 61 value))) h.none_called h.has_context (q.called 0 (owes_first _ (contains_there h.world.store.context_count 0 (0 ∷ []) (contains_here 0 [])) refl)))
+        (_, _, record { run = r13; is_returning = record { goroutine = 0; others = []; is_running = refl; is_at_end = record { stage = refl; saved = refl } }; is_of_package = refl; owed = 0; owes = owes_first _ (contains_there h.world.store.context_count 0 (0 ∷ []) (contains_here 0 [])) refl refl }, λ q. first_uncalled _ _ h.world.store.context_count (ap (λ (c : ℕ → Value). c 61) (put_at-same s.cells k (put_at (s.cells k) 61 value))) h.none_called h.has_context (q.called 0 (owes_first _ (contains_there h.world.store.context_count 0 (0 ∷ []) (contains_here 0 [])) refl refl)))
 
 pub returns_exist : ReturnsExist
 returns_exist = record {

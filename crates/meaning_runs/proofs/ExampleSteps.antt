@@ -1,15 +1,15 @@
 -- Steps of example runs: to an event past all that is silent before it. A branch is the first or the second one, as a
 -- truth value says; of a loop nothing is said.
 use Rattle.std.proofs.Common.{◌≡◌, ℕ, ◌⊎◌, inl, inr, Bool, true, false, cond, List, [], ◌∷◌, ◌++◌, length, Option, Some, None, refl, sym, ap, ◌∙◌, subst}
-use Rattle.std.specs.Prelude.{◌==◌}
+use Rattle.std.specs.Prelude.{◌==◌, map}
 use Rattle.std.proofs.lemmas.Bool.{cases_eq}
 use Rattle.meaning.specs.Code.{Occurrence, Way, Code, skip, does, leave, then_code, either, repeats, up_to}
 use Rattle.meaning.specs.Tracked.{idle, live}
-use Rattle.meaning.specs.Uses.{Callee, VariableAt, Event, other, obtain, call, defer_call, lend, try, wait, defer_wait, make, return_event}
+use Rattle.meaning.specs.Uses.{Callee, VariableAt, Handed, Event, other, obtain, obtain_kept, renew, keep, call_kept, defer_kept, give, give_field, call, defer_call, lend, try, wait, defer_wait, make, return_event}
 use Rattle.meaning_runs.specs.Bodies.{Program, Body, IsLiteralIn}
-use Rattle.meaning_runs.specs.World.{Value, nothing, cancel_function, frame_at, Store, put_at, with_new, calling, with_group, with_member, MayEndWait, waiting_for, Saved, saved_call, saved_wait, runs, exits, Frame, World, with_stack, held, held_group, with_cells, binding, binding_group, binds, new_frame}
+use Rattle.meaning_runs.specs.World.{Value, nothing, cancel_function, frame_at, Store, put_at, with_new, calling, with_group, with_member, MayEndWait, waiting_for, Saved, saved_call, saved_wait, runs, exits, Frame, World, with_stack, held, held_group, with_cells, binding, binding_group, binds, new_frame, own_cell, kept_value, without_kept, with_kept, giving_away, handed_by}
 use Rattle.meaning_runs.specs.Moves.{Moves, happens, first_moves, first_is_done, first_leaves, picks_first, picks_second}
-use Rattle.meaning_runs.specs.Steps.{DoesNext, at_code, MayJoin, is_first as is_first_argument, lending, new_one, zero_group, with_context, Acts, moves_on, does_other, obtains_one, calls_one, saves_call, makes_group, tries_nothing, ends_wait, saves_wait, lends, comes_to_return, runs_call, runs_wait, returns_now, IsFree, Starts, starts_member, starts_stranger, leaves_group, of_goroutine, of_members}
+use Rattle.meaning_runs.specs.Steps.{DoesNext, at_code, MayJoin, is_first as is_first_argument, lending, new_one, zero_group, with_context, Acts, moves_on, does_other, obtains_one, calls_one, saves_call, makes_group, tries_nothing, ends_wait, saves_wait, lends, comes_to_return, runs_call, runs_wait, returns_now, IsFree, Starts, starts_member, starts_stranger, leaves_group, of_goroutine, of_members, obtains_into, keeps_one, renews_object, calls_kept, saves_kept, gives_object, gives_in_field}
 use Rattle.meaning_runs.specs.Runs.{Run, step_more}
 use Rattle.meaning_runs.proofs.Contexts.{put_at-same, put_at-other}
 use Rattle.meaning_runs.proofs.FreeGoroutines.{none_given}
@@ -199,6 +199,36 @@ module _ {p : Program} {w : World} {f : Frame} {others : List Frame} {c d : Code
 
   pub past_return : front is_first c ≡ comes_to (on k order (return_event [])) d → Run p (with_stack w w.store g ((record f { stage = exits; handed_on = [] }) ∷ others))
   past_return is = past (return_event []) w.store ((record f { stage = exits; handed_on = [] }) ∷ []) is (λ b n. comes_to_return n)
+
+  -- Objects
+
+  pub past_maker_into : {u : VariableAt} {maker : Callee} {n x : ℕ} → front is_first c ≡ comes_to (on k order (obtain_kept u maker n x)) d → Run p (with_stack w (binding (with_new w.store None) f (own_cell u.number) (cancel_function w.store.context_count)) g (with_kept (record (binds (with_new w.store None) f (own_cell u.number)) { stage = runs d; obtained = w.store.context_count ∷ f.obtained }) u.number x (cancel_function w.store.context_count) ∷ others))
+  past_maker_into {u = u} {maker = maker} {n = n} {x = x} is =
+      past (obtain_kept u maker n x) (binding (with_new w.store None) f (own_cell u.number) (cancel_function w.store.context_count)) (with_kept (record (binds (with_new w.store None) f (own_cell u.number)) { stage = runs d; obtained = w.store.context_count ∷ f.obtained }) u.number x (cancel_function w.store.context_count) ∷ []) is (λ b y. obtains_into y (new_one None tt))
+
+  pub past_keep : {v x : ℕ} → front is_first c ≡ comes_to (on k order (keep v x)) d → Run p (with_stack w w.store g (with_kept (at_code f d) v x (held w.store f v) ∷ others))
+  past_keep {v = v} {x = x} is = past (keep v x) w.store (with_kept (at_code f d) v x (held w.store f v) ∷ []) is (λ b n. keeps_one n)
+
+  pub past_renewal : {v x : ℕ} → front is_first c ≡ comes_to (on k order (renew v x)) d → Run p (with_stack w w.store g ((record f { stage = runs d; kept = without_kept f.kept v x }) ∷ others))
+  past_renewal {v = v} {x = x} is =
+      past (renew v x) w.store ((record f { stage = runs d; kept = without_kept f.kept v x }) ∷ []) is (λ b n. renews_object n)
+
+  pub past_kept_call : {v x : ℕ} → front is_first c ≡ comes_to (on k order (call_kept v x)) d → Run p (with_stack w (calling w.store (kept_value f.kept v x)) g (at_code f d ∷ others))
+  past_kept_call {v = v} {x = x} is = past (call_kept v x) (calling w.store (kept_value f.kept v x)) (at_code f d ∷ []) is (λ b n. calls_kept n)
+
+  pub past_kept_deferral : {v x : ℕ} → front is_first c ≡ comes_to (on k order (defer_kept v x)) d → Run p (with_stack w w.store g ((record f { stage = runs d; saved = saved_call (kept_value f.kept v x) ∷ f.saved }) ∷ others))
+  past_kept_deferral {v = v} {x = x} is =
+      past (defer_kept v x) w.store ((record f { stage = runs d; saved = saved_call (kept_value f.kept v x) ∷ f.saved }) ∷ []) is (λ b n. saves_kept n)
+
+  pub past_gift : {v x : ℕ} → front is_first c ≡ comes_to (on k order (give v x)) d → Run p (with_stack w w.store g (giving_away (at_code f d) (kept_value f.kept v x) ∷ others))
+  past_gift {v = v} {x = x} is = past (give v x) w.store (giving_away (at_code f d) (kept_value f.kept v x) ∷ []) is (λ b n. gives_object n)
+
+  pub past_field_gift : {v : ℕ} → front is_first c ≡ comes_to (on k order (give_field v)) d → Run p (with_stack w w.store g (giving_away (at_code f d) (held w.store f v) ∷ others))
+  past_field_gift {v = v} is = past (give_field v) w.store (giving_away (at_code f d) (held w.store f v) ∷ []) is (λ b n. gives_in_field n)
+
+  pub past_handing : (handed : List Handed) → front is_first c ≡ comes_to (on k order (return_event handed)) d → Run p (with_stack w w.store g ((record f { stage = exits; handed_on = map (handed_by w.store f) handed }) ∷ others))
+  past_handing handed is =
+      past (return_event handed) w.store ((record f { stage = exits; handed_on = map (handed_by w.store f) handed }) ∷ []) is (λ b n. comes_to_return n)
 
   -- Work is started in another goroutine.
   module _ {v group : ℕ} (h : ℕ) (held_there : held_group w.store f v ≡ Some group) (free : IsFree w h) where

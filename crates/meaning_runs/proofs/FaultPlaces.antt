@@ -1,32 +1,37 @@
 -- Where the marks of a file have their names within the first bytes of a text, its use faults stand there, and so do the
 -- faults of paths and passes at a name.
-use Rattle.std.proofs.Common.{◌≡◌, ℕ, zero, suc, ◌+◌, ◌≤◌, Bool, true, false, cond, inl, inr, List, [], ◌∷◌, ◌++◌, map, Option, Some, None, Contains, refl, sym, subst, true≢false}
-use Rattle.std.specs.Prelude.{◌&&◌, if◌then◌else◌, not, nat_le, option_map, flat_map, codes}
+use Rattle.std.proofs.Common.{ap, ◌≡◌, ℕ, zero, suc, ◌+◌, ◌≤◌, Bool, true, false, cond, inl, inr, List, [], ◌∷◌, ◌++◌, map, Option, Some, None, Contains, refl, sym, subst, true≢false}
+use Rattle.std.specs.Prelude.{◌&&◌, if◌then◌else◌, not, nat_le, option_map, flat_map, codes, ◌==◌}
 use Rattle.std.specs.List.{filter}
 use Rattle.std.proofs.lemmas.List.Elements.{Contains-append_cases, Contains-append_right}
 use Rattle.tree.specs.Syntax.{Identifier, Parameters, no_parameter, named_and, unnamed_and, name_alone_and, Signature, signature_of}
 use Rattle.meaning.specs.Scopes.{is_blank}
 use Rattle.meaning.specs.Code.{Occurrence}
 use Rattle.meaning.specs.Lists.{Reaches, stopped}
-use Rattle.meaning.specs.FunctionFacts.{VariableKind, TrackedType, kind_of_type, Item, alone, items_of, item_type}
-use Rattle.meaning.specs.Mentions.{BodyPlace, Mention, Mark, mentions, defers_literal, returns, opens, closes}
-use Rattle.meaning.specs.Tracked.{Known, Placed, LocalRole, parameter, receiver, result, Local, item_local, parameter_role, parameter_locals, receiver_locals, only_cancel, result_locals, receiver_items, signature_locals, body_locals, declared_by, declared_local, locals_there, locals_of}
-use Rattle.meaning.specs.Uses.{Seen, VariableAt, Event, defer_literal, return_event, found, tracked_kind, is_outside, is_body, body_gives, too_many_variables, goto_used, bound_again, fault_at, is_result, is_cancel, result_faults}
+use Rattle.meaning.specs.FunctionFacts.{VariableKind, TrackedType, kind_of_type, Item, alone, items_of, item_type, CancelType, cancel_type, is_same_type}
+use Rattle.meaning.specs.Mentions.{BodyPlace, Mention, Mark, mentions, defers_literal, returns, opens, closes, of_fields, FieldMark, calls_field, writes_field, hands_over, hands_literal, renews, imports_all, Row}
+use Rattle.meaning.specs.Tracked.{Known, Placed, LocalRole, parameter, receiver, result, Local, item_local, parameter_role, parameter_locals, receiver_locals, only_cancel, result_locals, receiver_items, signature_locals, body_locals, declared_by, declared_local, locals_there, locals_of, has_field, in_block, row_giving}
+use Rattle.meaning.specs.Uses.{Seen, VariableAt, Event, defer_literal, return_event, found, tracked_kind, is_outside, is_body, too_many_variables, goto_used, bound_again, fault_at, is_result, is_cancel, result_faults, cancel_type_of, cancel_used_otherwise, field_faults, field_left_faults, field_variable, row_binds, type_from}
 use Rattle.meaning.specs.Jumps.{jumps_in}
 use Rattle.meaning.specs.BodyEvents.{has_variables, forbids_recover, mark_faults, outer_faults_of, faults_of, handed_on, mark_events, events_at, sites_of, occurs_in, is_variable_of, lesser, occurrence, least, first_occurrence, VariableRole, own_parameter, own_receiver, declared_in_body, captured, Variable, role_in, first_in, variable_there, variable_found, variables_of, distinct, fault_after, is_cancel_variable, too_many_faults, body_faults, outer_faults}
 use Rattle.meaning.specs.Classes.{Promises}
+use Rattle.meaning.specs.Objects.{ObjectKind, field_local, field_locals, first_place, local_named, object_in, object_row, object_rows, object_rows_there, type_at, ObjectRow, new_object, outer_object, unaddressed}
 use Rattle.meaning.proofs.Membership.{contains_nil, contains_here, contains_there, contains_cases}
-use Rattle.meaning_packages.specs.PathFaults.{PathFault, BindsCancel, obtains, clears, PassesOn, passes, defers, IsPathFault, loses_cancel, loses_group, returns_live, returns_open, returns_pending, IsPassFault, passes_on, block_of, paths_of, IsFaultOf, of_a_pass, of_a_path}
-use Rattle.meaning_runs.specs.NamePlaces.{ParametersStandWithin, ReceiverStandsWithin, SignatureStandsWithin, StandsWithin}
+use Rattle.meaning_packages.specs.PathFaults.{PathFault, BindsCancel, obtains, clears, PassesOn, passes, defers, IsPathFault, loses_cancel, loses_group, returns_live, returns_open, returns_pending, IsPassFault, passes_on, block_of, paths_of, IsFaultOf, of_a_pass, of_a_path, obtains_into, returns_kept}
+use Rattle.meaning_runs.specs.NamePlaces.{ParametersStandWithin, ReceiverStandsWithin, SignatureStandsWithin, StandsWithin, FieldStandsWithin}
 use Rattle.meaning_runs.proofs.EventSources.{list_has, of_body, marked}
 use Rattle.meaning_runs.proofs.OwnVariables.{order_from, among_from, found_is}
 use Rattle.meaning_runs.proofs.NameParts.{NameIn}
-use Rattle.meaning_runs.proofs.MentionPlaces.{EventStandsWithin, EventsStandWithin, FaultsStandWithin, no_event, one_event, no_fault, one_fault, both_faults, faults_if, variable_lies, mention_faults_lie, recover_faults_lie}
+use Rattle.meaning_runs.proofs.MentionPlaces.{EventStandsWithin, EventsStandWithin, FaultsStandWithin, no_event, one_event, no_fault, one_fault, both_faults, faults_if, variable_lies, mention_faults_lie, recover_faults_lie, not_if}
 use Rattle.meaning_runs.proofs.MentionEvents.{mention_events_fit}
+use Rattle.meaning_runs.proofs.KeptEvents.{IsOfObject, field_events_are, in_if, by_renew, by_call, by_deferred, by_give, by_keep, by_outer, by_obtaining, by_gift}
+use Rattle.meaning_runs.proofs.Places.{eqb_is}
+use Rattle.meaning_reports.proofs.ImportsOf.{given_by, only_one}
 
 -- what the mark names stands there, and so does the site of a mention
 abbrev pub MarkStandsWithin : ℕ → Mark → Type 0
 MarkStandsWithin n (mentions m) = (m.site ≤ n) × StandsWithin n (mentions m)
+MarkStandsWithin n (of_fields site m) = StandsWithin n (of_fields site m)
 MarkStandsWithin n (defers_literal site at) = Unit {0}
 MarkStandsWithin n (returns at es) = Unit {0}
 MarkStandsWithin n (opens b) = StandsWithin n (opens b) × ((at : ℕ) → Contains (jumps_in b.statements) at → at ≤ n)
@@ -123,6 +128,7 @@ module _ (n : ℕ) where
   there_lie : (known : Known) (bodies : List BodyPlace) (mark : Mark) → MarkStandsWithin n mark
       → LocalsStandWithin n (locals_there known bodies mark)
   there_lie known bodies (mentions m) h = declared_lies known m h.1.0 bodies (declared_by known m)
+  there_lie known bodies (of_fields site m) h = no_local
   there_lie known bodies (defers_literal site at) h = no_local
   there_lie known bodies (returns at es) h = no_local
   there_lie known bodies (opens b) h = body_locals_lie known b h.0
@@ -133,6 +139,73 @@ module _ (n : ℕ) where
   locals_lie known [] h = no_local
   locals_lie known (p ∷ ps) h =
       both_locals (there_lie known p.bodies p.mark (h.each p (contains_here p ps))) (locals_lie known ps (later_marks p ps h))
+
+-- a row that obtains into a field stands where the field does
+row_field : (bodies : List BodyPlace) (f : Identifier) (object : Option ℕ) (kind : Option ObjectKind)
+    (t : Option CancelType) (r : ObjectRow)
+    → Contains (object_row bodies f object kind t) r
+    → r.field ≡ f
+row_field [] f object kind t r h = absurd (contains_nil r h)
+row_field (b ∷ bs) f None kind t r h = absurd (contains_nil r h)
+row_field (b ∷ bs) f (Some x) None t r h = absurd (contains_nil r h)
+row_field (b ∷ bs) f (Some x) (Some kind) None r h = absurd (contains_nil r h)
+row_field (b ∷ bs) f (Some x) (Some kind) (Some t) r h =
+    ap (λ (q : ObjectRow). q.field) (sym (only_one record { object = x; kind = kind; field = f; type = t; body = b.at } r h))
+
+module _ (n : ℕ) (known : Known) where
+  row_lies : (marks : List Placed) (bodies : List BodyPlace) (mark : Mark) → MarkStandsWithin n mark → (r : ObjectRow)
+      → Contains (object_rows_there known marks bodies mark) r
+      → r.field.span.start ≤ n
+  row_lies marks bodies (of_fields site (writes_field l (Some a))) low r h =
+      let object = local_named known l.object in
+      let kind = object_in known marks bodies (unaddressed known marks object) in
+      let t = type_at a.left_side (row_giving known a.row) in
+      let same = row_field bodies l.field object kind t r
+      (in_if (not l.has_brackets && has_field known.fields l.field.text) (object_row bodies l.field object kind t) r h) in
+      subst (λ (f : Identifier). f.span.start ≤ n) (sym same) low
+  row_lies marks bodies (of_fields site (writes_field l None)) low r h = absurd (contains_nil r h)
+  row_lies marks bodies (of_fields site (calls_field f)) low r h = absurd (contains_nil r h)
+  row_lies marks bodies (of_fields site (hands_over taker e)) low r h = absurd (contains_nil r h)
+  row_lies marks bodies (of_fields site (hands_literal taker at)) low r h = absurd (contains_nil r h)
+  row_lies marks bodies (of_fields site (renews number)) low r h = absurd (contains_nil r h)
+  row_lies marks bodies (of_fields site imports_all) low r h = absurd (contains_nil r h)
+  row_lies marks bodies (mentions m) low r h = absurd (contains_nil r h)
+  row_lies marks bodies (defers_literal site at) low r h = absurd (contains_nil r h)
+  row_lies marks bodies (returns at es) low r h = absurd (contains_nil r h)
+  row_lies marks bodies (opens b) low r h = absurd (contains_nil r h)
+  row_lies marks bodies closes low r h = absurd (contains_nil r h)
+
+  field_lies : (kind : ObjectKind) (r : ObjectRow) (number : ℕ) → r.field.span.start ≤ n
+      → LocalsStandWithin n (field_local kind r number)
+  field_lies outer_object r number low = no_local
+  field_lies new_object r number low = by (r.field.span.start == number) refl
+    where
+      by : (b : Bool) → (r.field.span.start == number) ≡ b → LocalsStandWithin n (if b then record {
+        number = number;
+        name = r.field.text;
+        at = number;
+        role = in_block;
+        typed = Some (cancel_type r.type);
+        body = r.body;
+      } ∷ [] else [])
+      by true q = one_local _ (subst (λ k. k ≤ n) (eqb_is r.field.span.start number q) low)
+      by false q = no_local
+
+  fields_lie : (all rows : List ObjectRow) → ((r : ObjectRow) → Contains rows r → r.field.span.start ≤ n)
+      → LocalsStandWithin n (field_locals all rows)
+  fields_lie all [] low = no_local
+  fields_lie all (r ∷ rs) low =
+      both_locals (field_lies r.kind r (first_place r all) (low r (contains_here r rs)))
+      (fields_lie all rs (λ q among. low q (contains_there r q rs among)))
+
+  -- all locals of a file with these marks
+  pub all_locals_lie : (ps : List Placed) → MarksStandWithin n ps
+      → LocalsStandWithin n (locals_of known ps ++ field_locals (object_rows known ps) (object_rows known ps))
+  all_locals_lie ps h =
+      let rows = object_rows known ps in
+      both_locals (locals_lie n known ps h) (fields_lie rows rows (λ r among.
+      let w = given_by (λ (p : Placed). object_rows_there known ps p.bodies p.mark) ps r among in
+      row_lies ps w.0.bodies w.0.mark (h.each w.0 w.1) r w.2))
 
 -- what the marks of a file name stands there, and so do its locals
 pub record FileStandsWithin (n : ℕ) (seen : Seen) : Type 0 where
@@ -176,10 +249,30 @@ module _ (n : ℕ) (seen : Seen) (lies : FileStandsWithin n seen) where
       both_faults (one_fault j goto_used (codes "-") (h j (contains_here j js)))
       (jumps_lie js λ at among. h at (contains_there j at js among))
 
+  field_obtained_lies : (v : Option Local) (f : Identifier) (row : Row) (k : ℕ) → f.span.start ≤ n
+      → FaultsStandWithin n (field_left_faults seen v f row k)
+  field_obtained_lies None f row k low = no_fault
+  field_obtained_lies (Some v) f row k low =
+      let one = one_fault f.span.start cancel_used_otherwise f.text low in
+      faults_if (row_binds seen row)
+      (both_faults (faults_if _ one no_fault)
+      (not_if (is_same_type (cancel_type_of seen v) (type_from k (row_giving seen.known row))) one)) no_fault
+
+  field_faults_lie : (m : FieldMark) → FieldStandsWithin n m → FaultsStandWithin n (field_faults seen m)
+  field_faults_lie (writes_field l (Some a)) low =
+      field_obtained_lies (field_variable seen l.field) l.field a.row a.left_side low
+  field_faults_lie (writes_field l None) low = no_fault
+  field_faults_lie (calls_field f) low = no_fault
+  field_faults_lie (hands_over taker e) low = no_fault
+  field_faults_lie (hands_literal taker at) low = no_fault
+  field_faults_lie (renews number) low = no_fault
+  field_faults_lie imports_all low = no_fault
+
   mark_lies : (bodies : List BodyPlace) (mark : Mark) → MarkStandsWithin n mark → FaultsStandWithin n (mark_faults seen bodies mark)
   mark_lies bodies (mentions m) h =
       both_faults (mention_faults_lie n seen bodies m h.1.0 h.0 h.1.1)
       (faults_if (forbids_recover seen.known.edition seen bodies) (recover_faults_lie n seen bodies m h.1.0) no_fault)
+  mark_lies bodies (of_fields site m) h = field_faults_lie m h
   mark_lies bodies (defers_literal site at) h = no_fault
   mark_lies bodies (returns at es) h = no_fault
   mark_lies bodies (opens b) h =
@@ -216,6 +309,7 @@ module _ (n : ℕ) (seen : Seen) (lies : FileStandsWithin n seen) where
       → occurs_in seen.known body l bodies mark ≡ true
       → occurrence mark ≤ n
   occurs_low body l bodies (mentions m) h e = h.1.0
+  occurs_low body l bodies (of_fields site m) h e = absurd (true≢false (sym e))
   occurs_low body l bodies (defers_literal site at) h e = absurd (true≢false (sym e))
   occurs_low body l bodies (returns at es) h e = absurd (true≢false (sym e))
   occurs_low body l bodies (opens b) h e = absurd (true≢false (sym e))
@@ -298,12 +392,28 @@ module _ (n : ℕ) (seen : Seen) (lies : FileStandsWithin n seen) where
 
   -- events
 
+  object_lies : (bodies : List BodyPlace) (mark : Mark) → MarkStandsWithin n mark → (e : Event)
+      → IsOfObject seen bodies mark e
+      → EventStandsWithin n e
+  object_lies bodies mark low e (by_renew k h) = tt
+  object_lies bodies mark low e (by_call k h) = tt
+  object_lies bodies mark low e (by_deferred k h) = tt
+  object_lies bodies mark low e (by_give k h) = tt
+  object_lies bodies mark low e (by_keep k h fits) = tt
+  object_lies bodies mark low e (by_outer k h fits) = tt
+  object_lies bodies mark low e (by_obtaining k site l a is h told) = subst (MarkStandsWithin n) is low
+  object_lies bodies mark low e (by_gift x v c q) = tt
+
   given_lies : (bodies : List BodyPlace) (mark : Mark) → MarkStandsWithin n mark → EventsStandWithin n (mark_events seen bodies mark)
   given_lies bodies (mentions m) h = record {
-    each = mention_events_fit (EventStandsWithin n) seen bodies m (λ v. tt) (variable_lies n seen bodies m h.1.0).events.each;
+    each = mention_events_fit (EventStandsWithin n) seen bodies m (λ v. tt)
+        (λ e is. object_lies bodies (mentions m) h e is) (variable_lies n seen bodies m h.1.0).events.each;
+  }
+  given_lies bodies (of_fields site m) h = record {
+    each = λ e among. object_lies bodies (of_fields site m) h e (field_events_are seen bodies site m e among);
   }
   given_lies bodies (defers_literal site at) h = one_event (defer_literal at) tt
-  given_lies bodies (returns at es) h = one_event (return_event (handed_on seen (body_gives seen.known bodies) 0 es)) tt
+  given_lies bodies (returns at es) h = one_event (return_event (handed_on seen bodies 0 es)) tt
   given_lies bodies (opens b) h = no_event
   given_lies bodies closes h = no_event
 
@@ -325,6 +435,7 @@ module _ (n : ℕ) (seen : Seen) (lies : FileStandsWithin n seen) where
 
     binds_low : (e : Event) (u : VariableAt) → BindsCancel e u → EventStandsWithin n e → u.at ≤ n
     binds_low e u obtains h = h
+    binds_low e u obtains_into h = h
     binds_low e u clears h = h
 
     passes_low : (e : Event) (u : VariableAt) → PassesOn promises e u → EventStandsWithin n e → u.at ≤ n
@@ -336,6 +447,7 @@ module _ (n : ℕ) (seen : Seen) (lies : FileStandsWithin n seen) where
     path_lies f (loses_group g u state t o reached makes same live) = subst (EventStandsWithin n) makes (reached_lies t o reached)
     path_lies f (returns_live g handed t o comes declared live) = stand t o comes.reaches
     path_lies f (returns_open v handed t o comes owes opened) = stand t o comes.reaches
+    path_lies f (returns_kept v handed t o comes owes is_kept none) = stand t o comes.reaches
     path_lies f (returns_pending v handed t o comes owes left) = stand t o comes.reaches
 
     pass_lies : (f : PathFault) → IsPassFault (paths_of seen promises b) f → f.at ≤ n

@@ -6,7 +6,7 @@ use Rattle.meaning.specs.Uses.{Callee, Event}
 use Rattle.meaning.proofs.Membership.{contains_here}
 use Rattle.meaning_runs.specs.Bodies.{Program}
 use Rattle.meaning_runs.specs.World.{put_at, itself, held_group, new_frame, nothing_around, Value, nothing, cancel_function, any_nothing, outside_none, AreForeign, Place, Store, calling, ending, waiting_for, with_member, Frame, World, with_stack}
-use Rattle.meaning_runs.specs.Steps.{DoesNext, at_code, Starts, Obtains, new_one, earlier_one, none_at_all, Makes, zero_group, with_context, of_function, of_none, Acts, moves_on, does_other, obtains_one, clears_one, calls_one, saves_call, makes_group, tries_nothing, ends_wait, saves_wait, evaluates, evaluates_deferred, lends, makes_call, calls_outside, saves_pass, saves_literal, comes_to_return, runs_call, runs_pass, runs_literal, runs_wait, returns_now, IsFree, ChangesMembers, starts_member, starts_stranger, starts_outside, starts_beside, leaves_group, Surrounds, starts, evaluates_literal, starts_literal, makes_cells, makes_one, ends_one, calls_any, makes_outside, joins_outside, of_goroutine, of_members, of_environment}
+use Rattle.meaning_runs.specs.Steps.{DoesNext, at_code, Starts, Obtains, new_one, earlier_one, none_at_all, Makes, zero_group, with_context, of_function, of_none, Acts, moves_on, does_other, obtains_one, clears_one, calls_one, saves_call, makes_group, tries_nothing, ends_wait, saves_wait, evaluates, evaluates_deferred, lends, makes_call, calls_outside, saves_pass, saves_literal, comes_to_return, runs_call, runs_pass, runs_literal, runs_wait, returns_now, IsFree, ChangesMembers, starts_member, starts_stranger, starts_outside, starts_beside, leaves_group, Surrounds, starts, evaluates_literal, starts_literal, makes_cells, makes_one, ends_one, calls_any, makes_outside, joins_outside, of_goroutine, of_members, of_environment, obtains_into, keeps_one, renews_object, calls_kept, saves_kept, gives_object, gives_in_field}
 use Rattle.meaning_runs.specs.Runs.{Run, no_step, step_more}
 use Rattle.meaning_runs.specs.Laws.{HasFreeGoroutine, IsThere, Joins, RunsLiteral, GoroutinesAreFree, GroupsGetMembers, MembersMayLeave, TheEnvironmentMay}
 use Rattle.meaning_runs.proofs.Contexts.{put_at-same, put_at-other}
@@ -39,6 +39,13 @@ acting_members p s place f after frames (moves_on d) = refl
 acting_members p s place f after frames (does_other d) = refl
 acting_members p s place f after frames (obtains_one {c = c} {value = value} {made = made} d o) = obtaining_members s made c value o
 acting_members p s place f after frames (clears_one d) = refl
+acting_members p s place f after frames (obtains_into {c = c} {value = value} {made = made} d o) = obtaining_members s made c value o
+acting_members p s place f after frames (keeps_one d) = refl
+acting_members p s place f after frames (renews_object d) = refl
+acting_members p s place f after frames (calls_kept d) = calling_members s _
+acting_members p s place f after frames (saves_kept d) = refl
+acting_members p s place f after frames (gives_object d) = refl
+acting_members p s place f after frames (gives_in_field d) = refl
 acting_members p s place f after frames (calls_one d) = calling_members s _
 acting_members p s place f after frames (saves_call d) = refl
 acting_members p s place f after frames (makes_group {state = state} {context = context} {made = made} d m) = making_members s made state context m

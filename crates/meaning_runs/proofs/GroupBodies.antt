@@ -9,6 +9,7 @@ use Rattle.meaning.specs.Tracked.{idle, live}
 use Rattle.meaning.specs.Uses.{Seen, Event, Callee, other, obtain, call, defer_call, lend, start, try, wait, defer_wait, make, return_event}
 use Rattle.meaning.specs.BodyEvents.{seen_file, bodies_of}
 use Rattle.meaning.proofs.Membership.{contains_here}
+use Rattle.meaning.specs.Kept.{gifts}
 use Rattle.meaning_reports.specs.Loaded.{known_in}
 use Rattle.meaning_runs.specs.Bodies.{Body, IsOf, IsOutermost, IsLiteralIn, Escapes, IsFunction, is_parameter_of, is_captured_by, code_of}
 use Rattle.meaning_runs.specs.Examples.{from_to}
@@ -56,7 +57,7 @@ is_in : (f : Function) (literal : BodyPlace) → Contains (file_of (f ∷ [])).m
 is_in f literal among = record { mark = _; is_of_file = among; opens_it = refl; stands_in_it = eq-eqb f.span.start f.span.start refl; same_file = refl; same_home = refl }
 
 -- two events of a site
-abbrev two : ℕ → Event → Event → Code Event
+abbrev pub two : ℕ → Event → Event → Code Event
 two at e f =
     then_code (does record { at = at; order = 0; event = e })
     (then_code (does record { at = at; order = 1; event = f }) skip)
@@ -93,18 +94,18 @@ unfolding seeing
 awaiting_is_outermost = is_outer awaiting (0, omega arith, refl)
 
 pub awaiting_is : code_of (whole awaiting) ≡ in_braces 96 (then_code (makes_at 99 103) (then_code (obtains_at 121) (then_code (starts_at 157 103 (Some 162)) (then_code (waits_at 212 103) skip)))) 228
-unfolding seeing
+unfolding seeing gifts
 awaiting_is = refl
 
 abbrev pub awaited_literal : BodyPlace
 awaited_literal = started_literal (codes "g") (codes "Go") 157 162 209 (calling_block 162)
 
 pub awaited_literal_is_in : IsLiteralIn (whole awaiting) (body_of awaiting awaited_literal)
-unfolding seeing
-awaited_literal_is_in = is_in awaiting awaited_literal (10, omega arith, refl)
+unfolding seeing gifts
+awaited_literal_is_in = is_in awaiting awaited_literal (9, omega arith, refl)
 
 pub awaited_literal_is : code_of (body_of awaiting awaited_literal) ≡ in_braces 175 (then_code (one (event_at 179 (defer_call 124))) (then_code (returns_at 196) skip)) 208
-unfolding seeing
+unfolding seeing gifts
 awaited_literal_is = refl
 
 pub awaited_literal_has_no_parameter : is_parameter_of (body_of awaiting awaited_literal) 124 ≡ false
@@ -124,18 +125,18 @@ unfolding seeing
 trying_is_outermost = is_outer trying (0, omega arith, refl)
 
 pub trying_is : code_of (whole trying) ≡ in_braces 96 (then_code (makes_at 99 103) (then_code (obtains_at 121) (then_code (one (event_at 157 (try 103 (Some 165)))) (then_code (waits_at 215 103) skip)))) 231
-unfolding seeing
+unfolding seeing gifts
 trying_is = refl
 
 abbrev pub tried_literal : BodyPlace
 tried_literal = started_literal (codes "g") (codes "TryGo") 157 165 212 (calling_block 165)
 
 pub tried_literal_is_in : IsLiteralIn (whole trying) (body_of trying tried_literal)
-unfolding seeing
-tried_literal_is_in = is_in trying tried_literal (10, omega arith, refl)
+unfolding seeing gifts
+tried_literal_is_in = is_in trying tried_literal (9, omega arith, refl)
 
 pub tried_literal_is : code_of (body_of trying tried_literal) ≡ in_braces 178 (then_code (one (event_at 182 (defer_call 124))) (then_code (returns_at 199) skip)) 211
-unfolding seeing
+unfolding seeing gifts
 tried_literal_is = refl
 
 pub tried_literal_has_no_parameter : is_parameter_of (body_of trying tried_literal) 124 ≡ false
@@ -155,18 +156,18 @@ unfolding seeing
 joining_is_outermost = is_outer joining (0, omega arith, refl)
 
 pub joining_is : code_of (whole joining) ≡ in_braces 96 (then_code (makes_at 99 103) (then_code (obtains_at 121) (then_code (starts_at 157 103 (Some 162)) (then_code (starts_at 212 103 (Some 217)) (then_code (waits_at 264 103) skip))))) 280
-unfolding seeing
+unfolding seeing gifts
 joining_is = refl
 
 abbrev pub first_literal : BodyPlace
 first_literal = started_literal (codes "g") (codes "Go") 157 162 209 (calling_block 162)
 
 pub first_literal_is_in : IsLiteralIn (whole joining) (body_of joining first_literal)
-unfolding seeing
-first_literal_is_in = is_in joining first_literal (10, omega arith, refl)
+unfolding seeing gifts
+first_literal_is_in = is_in joining first_literal (9, omega arith, refl)
 
 pub first_literal_is : code_of (body_of joining first_literal) ≡ in_braces 175 (then_code (one (event_at 179 (defer_call 124))) (then_code (returns_at 196) skip)) 208
-unfolding seeing
+unfolding seeing gifts
 first_literal_is = refl
 
 pub first_literal_has_no_parameter : is_parameter_of (body_of joining first_literal) 124 ≡ false
@@ -181,11 +182,11 @@ abbrev pub second_literal : BodyPlace
 second_literal = started_literal (codes "g") (codes "Go") 212 217 261 (starting_block 217)
 
 pub second_literal_is_in : IsLiteralIn (whole joining) (body_of joining second_literal)
-unfolding seeing
-second_literal_is_in = is_in joining second_literal (16, omega arith, refl)
+unfolding seeing gifts
+second_literal_is_in = is_in joining second_literal (15, omega arith, refl)
 
 pub second_literal_is : code_of (body_of joining second_literal) ≡ in_braces 230 (then_code (starts_at 234 103 None) (then_code (returns_at 248) skip)) 260
-unfolding seeing
+unfolding seeing gifts
 second_literal_is = refl
 
 pub second_literal_has_no_parameter : is_parameter_of (body_of joining second_literal) 103 ≡ false
@@ -205,18 +206,18 @@ unfolding seeing
 crossing_is_outermost = is_outer crossing (0, omega arith, refl)
 
 pub crossing_is : code_of (whole crossing) ≡ in_braces 96 (then_code (makes_at 99 103) (then_code (makes_at 121 125) (then_code (starts_at 143 125 (Some 148)) (then_code (then_code (one (event_at 198 (wait 125))) (then_code (one (event_at 195 other)) (either (then_code (returns_at 230) skip) skip))) (then_code (waits_at 245 103) skip))))) 261
-unfolding seeing
+unfolding seeing gifts
 crossing_is = refl
 
 abbrev pub crossing_literal : BodyPlace
 crossing_literal = started_literal (codes "h") (codes "Go") 143 148 192 (starting_block 148)
 
 pub crossing_literal_is_in : IsLiteralIn (whole crossing) (body_of crossing crossing_literal)
-unfolding seeing
-crossing_literal_is_in = is_in crossing crossing_literal (8, omega arith, refl)
+unfolding seeing gifts
+crossing_literal_is_in = is_in crossing crossing_literal (7, omega arith, refl)
 
 pub crossing_literal_is : code_of (body_of crossing crossing_literal) ≡ in_braces 161 (then_code (one (event_at 165 other)) (then_code (returns_at 179) skip)) 191
-unfolding seeing
+unfolding seeing gifts
 crossing_literal_is = refl
 
 pub leaving_early_is_of : IsOf (program_with leaving_early) (whole leaving_early)
@@ -228,7 +229,7 @@ unfolding seeing
 leaving_early_is_outermost = is_outer leaving_early (0, omega arith, refl)
 
 pub leaving_early_is : code_of (whole leaving_early) ≡ in_braces 96 (then_code (one (event_at 99 (make record { number = 99; at = 99 } live))) (then_code (then_code skip (then_code (one (event_at 132 other)) (either (then_code (returns_at 148) skip) skip))) (then_code (starts_at 163 99 None) (then_code (waits_at 176 99) skip)))) 192
-unfolding seeing
+unfolding seeing gifts
 leaving_early_is = refl
 
 pub leaving_to_parameter_is_of : IsOf (program_with leaving_to_parameter) (whole leaving_to_parameter)
@@ -247,11 +248,11 @@ abbrev pub left_literal : BodyPlace
 left_literal = started_literal (codes "g") (codes "Go") 148 153 194 calling_at_once
 
 pub left_literal_is_in : IsLiteralIn (whole leaving_to_parameter) (body_of leaving_to_parameter left_literal)
-unfolding seeing
-left_literal_is_in = is_in leaving_to_parameter left_literal (8, omega arith, refl)
+unfolding seeing gifts
+left_literal_is_in = is_in leaving_to_parameter left_literal (7, omega arith, refl)
 
 pub left_literal_is : code_of (body_of leaving_to_parameter left_literal) ≡ in_braces 166 (then_code (one (event_at 170 (call 115))) (then_code (returns_at 181) skip)) 193
-unfolding seeing
+unfolding seeing gifts
 left_literal_is = refl
 
 pub left_literal_has_no_parameter : is_parameter_of (body_of leaving_to_parameter left_literal) 115 ≡ false
@@ -287,18 +288,18 @@ unfolding seeing
 leaving_to_another_is_outermost = is_outer leaving_to_another (0, omega arith, refl)
 
 pub leaving_to_another_is : code_of (whole leaving_to_another) ≡ in_braces 96 (then_code (makes_at 99 103) (then_code (makes_at 121 125) (then_code (obtains_at 143) (then_code (starts_at 179 125 (Some 184)) (then_code (waits_at 234 103) skip))))) 250
-unfolding seeing
+unfolding seeing gifts
 leaving_to_another_is = refl
 
 abbrev pub other_literal : BodyPlace
 other_literal = started_literal (codes "h") (codes "Go") 179 184 231 (calling_block 184)
 
 pub other_literal_is_in : IsLiteralIn (whole leaving_to_another) (body_of leaving_to_another other_literal)
-unfolding seeing
-other_literal_is_in = is_in leaving_to_another other_literal (12, omega arith, refl)
+unfolding seeing gifts
+other_literal_is_in = is_in leaving_to_another other_literal (11, omega arith, refl)
 
 pub other_literal_is : code_of (body_of leaving_to_another other_literal) ≡ in_braces 197 (then_code (one (event_at 201 (defer_call 146))) (then_code (returns_at 218) skip)) 230
-unfolding seeing
+unfolding seeing gifts
 other_literal_is = refl
 
 pub deferring_wait_is_of : IsOf (program_with deferring_wait) (whole deferring_wait)
@@ -329,15 +330,15 @@ abbrev pub handed_literal : BodyPlace
 handed_literal = started_literal (codes "w") (codes "Go") 93 98 165 forgetting_block
 
 pub handed_literal_escapes : Escapes (whole handing_over) (body_of handing_over handed_literal)
-unfolding seeing
+unfolding seeing gifts
 handed_literal_escapes = record {
-  is_literal = is_in handing_over handed_literal (3, omega arith, refl);
+  is_literal = is_in handing_over handed_literal (2, omega arith, refl);
   is_not_deferred = refl;
   is_not_started = refl;
 }
 
 pub handed_literal_is : code_of (body_of handing_over handed_literal) ≡ in_braces 111 (then_code (obtains_at 115) (then_code (returns_at 152) skip)) 164
-unfolding seeing
+unfolding seeing gifts
 handed_literal_is = refl
 
 -- the function that lends its group, and the one that gets it

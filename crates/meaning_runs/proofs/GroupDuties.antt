@@ -10,7 +10,7 @@ use Rattle.meaning.specs.Lists.{Reaches}
 use Rattle.meaning.specs.Tracked.{Local, live}
 use Rattle.meaning.specs.Uses.{Callee, Seen, found, is_in_literal, VariableAt, Handed, Event}
 use Rattle.meaning.specs.BodyEvents.{Variable, captured, bodies_of, variables_of}
-use Rattle.meaning.specs.Classes.{CancelClass, unset, opened, safe, pending, GroupClass, in_state}
+use Rattle.meaning.specs.Classes.{CancelClass, unset, opened, kept, safe, pending, GroupClass, in_state}
 use Rattle.meaning_packages.specs.PathFaults.{PathFault, IsPathFault, ComesToReturn, paths_of}
 use Rattle.meaning_packages.specs.Credits.{Credits, AreFairCredits, is_safe, is_live, is_settled, no_calls, promises_in}
 use Rattle.report.specs.Entries.{Entry}
@@ -32,6 +32,7 @@ use Rattle.meaning_runs.proofs.GroupPaths.{group_class_of}
 use Rattle.meaning_runs.proofs.KnownFlags.{credited_fairly}
 use Rattle.meaning_runs.proofs.LeftSides.{left_sides_fit}
 use Rattle.meaning_runs.proofs.MarksBeside.{AreInForm, in_form}
+use Rattle.meaning_runs.proofs.NamedOutermost.{keeps_in}
 use Rattle.meaning_runs.proofs.Places.{class_of}
 use Rattle.meaning_runs.proofs.TrackedBindings.{of_number}
 
@@ -84,6 +85,7 @@ never_live literal g c handed t o back =
 safe_class : (k : CancelClass) → is_safe k ≡ true → k ≡ safe
 safe_class unset e = absurd (false≢true e)
 safe_class opened e = absurd (false≢true e)
+safe_class kept e = absurd (false≢true e)
 safe_class safe e = refl
 safe_class (pending g) e = absurd (false≢true e)
 
@@ -129,9 +131,9 @@ module _ (p : Program) (none_found : HaveNoFindings p (IsRun p)) where
       let w = of_number (known_in p.packages p.tables of.loaded) 0 (trees_of of.loaded) b.file of.is_file in
       let text = texts b.home of.loaded of.is_run of.is_package w.1 w.3 in
       record {
-        apart = subst (λ (s : Seen). AreApart s.marks) w.2 (bodies_are_apart of.loaded.edition text.0 w.1 text.1);
-        form = subst (λ (s : Seen). AreInForm s.marks) w.2 (in_form of.loaded.edition w.1);
-        fits = λ mark h. left_sides_fit of.loaded.edition w.1 mark (subst (λ (s : Seen). Contains s.marks mark) (sym w.2) h);
+        apart = subst (λ (s : Seen). AreApart s.marks) w.2 (bodies_are_apart of.loaded.edition (keeps_in p of.loaded w.0) text.0 w.1 text.1);
+        form = subst (λ (s : Seen). AreInForm s.marks) w.2 (in_form of.loaded.edition (keeps_in p of.loaded w.0) w.1);
+        fits = λ mark h. left_sides_fit of.loaded.edition (keeps_in p of.loaded w.0) w.1 mark (subst (λ (s : Seen). Contains s.marks mark) (sym w.2) h);
         outside = λ x h. said.none _ (outside_bodies x h);
         inside = λ c among x h. said.none _ (of_use c x among h);
       }
@@ -148,7 +150,7 @@ module _ (p : Program) (none_found : HaveNoFindings p (IsRun p)) where
   no_fault_there b of =
       let said = nothing_said b of in
       let w = of_number (known_in p.packages p.tables of.loaded) 0 (trees_of of.loaded) b.file of.is_file in
-      let form = subst (λ (s : Seen). AreInForm s.marks) w.2 (in_form of.loaded.edition w.1) in
+      let form = subst (λ (s : Seen). AreInForm s.marks) w.2 (in_form of.loaded.edition (keeps_in p of.loaded w.0) w.1) in
       record {
         credits = said.credits;
         are_fair = said.are_fair;

@@ -2,8 +2,8 @@
 use Rattle.std.proofs.Common.{◌≡◌, ℕ, ◌⊎◌, inl, inr, List, Option, refl, sym, ap, ◌∙◌}
 use Rattle.std.proofs.lemmas.Bool.{cases_eq}
 use Rattle.meaning_runs.specs.Bodies.{Program}
-use Rattle.meaning_runs.specs.World.{Maker, outside, frame_at, Place, Store, put_at, calling, with_group, waiting_for, Passing, Frame, held, held_group}
-use Rattle.meaning_runs.specs.Steps.{Begins, of_function, of_none, Acts, moves_on, does_other, obtains_one, clears_one, calls_one, saves_call, makes_group, tries_nothing, ends_wait, saves_wait, evaluates, evaluates_deferred, lends, makes_call, calls_outside, saves_pass, saves_literal, comes_to_return, runs_call, runs_pass, runs_literal, runs_wait, returns_now}
+use Rattle.meaning_runs.specs.World.{Maker, outside, frame_at, Place, Store, put_at, calling, with_group, waiting_for, Passing, Frame, held, held_group, kept_value}
+use Rattle.meaning_runs.specs.Steps.{Begins, of_function, of_none, Acts, moves_on, does_other, obtains_one, clears_one, calls_one, saves_call, makes_group, tries_nothing, ends_wait, saves_wait, evaluates, evaluates_deferred, lends, makes_call, calls_outside, saves_pass, saves_literal, comes_to_return, runs_call, runs_pass, runs_literal, runs_wait, returns_now, obtains_into, keeps_one, renews_object, calls_kept, saves_kept, gives_object, gives_in_field}
 use Rattle.meaning_runs.proofs.Contexts.{put_at-same, put_at-other}
 use Rattle.meaning_runs.proofs.StoreGrowth.{outside-frame, same_frame, ChangesContexts, calling_changes, waiting_changes}
 use Rattle.meaning_runs.proofs.HolderSteps.{obtaining_changes, making_changes}
@@ -44,6 +44,16 @@ module _ (p : Program) (s : Store) (place : Place) (f : Frame) where
   is_maker_back after frames (obtains_one {c = c} {value = value} {made = made} d gives) a r e elsewhere =
       same_makers made (obtaining_changes s made c value gives) a r e
   is_maker_back after frames (clears_one d) a r e elsewhere = e
+  is_maker_back after frames (obtains_into {c = c} {value = value} {made = made} d gives) a r e elsewhere =
+      same_makers made (obtaining_changes s made c value gives) a r e
+  is_maker_back after frames (keeps_one d) a r e elsewhere = e
+  is_maker_back after frames (renews_object d) a r e elsewhere = e
+  is_maker_back after frames (calls_kept {v = v} {x = x} d) a r e elsewhere =
+      let value = kept_value f.kept v x in
+      same_makers (calling s value) (calling_changes s value) a r e
+  is_maker_back after frames (saves_kept d) a r e elsewhere = e
+  is_maker_back after frames (gives_object d) a r e elsewhere = e
+  is_maker_back after frames (gives_in_field d) a r e elsewhere = e
   is_maker_back after frames (calls_one {v = v} d) a r e elsewhere =
       same_makers (calling s (held s f v)) (calling_changes s (held s f v)) a r e
   is_maker_back after frames (saves_call d) a r e elsewhere = e

@@ -9,7 +9,7 @@ use Rattle.meaning.specs.Code.{Occurrence}
 use Rattle.meaning.specs.Lists.{Reaches}
 use Rattle.meaning.specs.FunctionFacts.{VariableKind, cancel, group}
 use Rattle.meaning.specs.Tracked.{GroupState, idle, live}
-use Rattle.meaning.specs.Uses.{VariableAt, Handed, Event, other, obtain, clear, call, defer_call, pass, defer_pass, lend, start, try, wait, defer_wait, make, defer_literal, return_event, is_group}
+use Rattle.meaning.specs.Uses.{VariableAt, Handed, Event, other, obtain, clear, call, defer_call, pass, defer_pass, lend, start, try, wait, defer_wait, make, defer_literal, return_event, is_group, obtain_kept, renew, keep, call_kept, defer_kept, give, give_field}
 use Rattle.meaning.specs.BodyEvents.{Variable, VariableRole, own_parameter, own_receiver, declared_in_body, captured}
 use Rattle.meaning.specs.Classes.{Promises, opened, pending, entry_cancel, GroupClass, unmade, in_state, awaited, entry_group, at_work, at_rest, change_group, group_after}
 use Rattle.meaning_packages.specs.PathFaults.{PathFault, IsPathFault, loses_cancel, returns_pending, BindsCancel, ComesToReturn, OwesCall, IsLeft, KeepsCall, paths_of, is_declared, is_lost, makes_it}
@@ -90,6 +90,13 @@ module _ (relies : Promises) where
   stays_made v other k h = h
   stays_made v (obtain u f n is_declared) k h = h
   stays_made v (clear u) k h = h
+  stays_made v (obtain_kept u f n x) k h = h
+  stays_made v (renew w x) k h = h
+  stays_made v (keep w x) k h = h
+  stays_made v (call_kept w x) k h = h
+  stays_made v (defer_kept w x) k h = h
+  stays_made v (give w x) k h = h
+  stays_made v (give_field w) k h = h
   stays_made v (call u) k h = h
   stays_made v (defer_call u) k h = h
   stays_made v (pass u f n) k h = h

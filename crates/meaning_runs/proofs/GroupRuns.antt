@@ -201,7 +201,7 @@ trying_is_loud =
     let r4 = past_try 0 r3 refl refl refl true refl in
     let r5 = past_wait 0 r4 refl refl refl true refl (none_left _ 0 (none_at_first 0)) in
     let r6 = past_return 0 r5 refl refl refl true refl in
-    loud_of _ _ _ r6 refl record { stage = refl; saved = refl } refl refl refl refl
+    loud_of _ _ _ r6 refl record { stage = refl; saved = refl } refl refl refl refl refl
 
 -- the second member starts a third one
 joining_is_quiet : HasQuietMaker (program_with joining)
@@ -320,7 +320,7 @@ leaving_to_parameter_is_quiet =
     let r3 = past_start 0 r2 refl refl refl true 1 (has_group (whole leaving_to_parameter) 90 (world_of r2).store (with_group empty_world.store outside None) (newest_of ((world_of r2).stacks 0)) (Some 0) has_group_parameter refl refl) (free_now 1 refl refl) (body_of leaving_to_parameter left_literal) by_start refl left_literal_is_in refl in
     let r4 = member_calls_at_once _ _ 1 0 (world_of r2).store (body_of leaving_to_parameter left_literal) (newest_of ((world_of r2).stacks 0)) r3 refl 0 refl 166 170 115 181 193 left_literal_is left_literal_has_no_parameter left_literal_captures_it refl in
     let r5 = past_return 0 r4 refl refl refl true refl in
-    quiet_of _ _ _ r5 refl record { stage = refl; saved = refl } refl refl refl refl (contains_here 0 [])
+    quiet_of _ _ _ r5 refl record { stage = refl; saved = refl } refl refl refl refl refl (contains_here 0 [])
 
 leaving_to_parameter_is_loud : HasLoudReturn (program_with leaving_to_parameter)
 leaving_to_parameter_is_loud =
@@ -328,7 +328,7 @@ leaving_to_parameter_is_loud =
     let r2 = past_maker 0 r1 refl refl refl true refl in
     let r3 = past_start 0 r2 refl refl refl true 1 (has_group (whole leaving_to_parameter) 90 (world_of r2).store (with_group empty_world.store outside None) (newest_of ((world_of r2).stacks 0)) (Some 0) has_group_parameter refl refl) (free_now 1 refl refl) (body_of leaving_to_parameter left_literal) by_start refl left_literal_is_in refl in
     let r4 = past_return 0 r3 refl refl refl true refl in
-    loud_of _ _ _ r4 refl record { stage = refl; saved = refl } refl refl refl refl
+    loud_of _ _ _ r4 refl record { stage = refl; saved = refl } refl refl refl refl refl
 
 -- the member leaves, and then the saved Wait ends
 deferring_wait_is_quiet : HasQuietMaker (program_with deferring_wait)
@@ -356,7 +356,7 @@ handing_over_is_loud =
     let l1 = past_other 0 r6 refl (ap runs handed_literal_is) refl true refl in
     let l2 = past_maker 0 l1 refl refl refl true refl in
     let l3 = past_return 0 l2 refl refl refl true refl in
-    loud_of _ _ _ l3 refl record { stage = refl; saved = refl } refl refl refl refl
+    loud_of _ _ _ l3 refl record { stage = refl; saved = refl } refl refl refl refl refl
 
 -- the member that the other function started stays
 lending_on_is_loud : HasLoudMaker (program_of lending)

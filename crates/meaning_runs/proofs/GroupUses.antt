@@ -3,14 +3,14 @@
 -- literal between it and the body that declares the group is started by the group too. Where it waits, each of these is
 -- called under `defer`; and a group is lent in the body that declares it.
 use Rattle.std.proofs.Common.{◌≡◌, ℕ, Bool, true, false, inl, inr, List, [], ◌∷◌, Option, Some, None, Contains, refl, sym, ap, ◌∙◌, subst}
-use Rattle.std.specs.Prelude.{◌==◌, ◌&&◌, ◌||◌, if◌then◌else◌, codes, is_none}
+use Rattle.std.specs.Prelude.{◌==◌, ◌&&◌, ◌||◌, if◌then◌else◌, codes}
 use Rattle.std.specs.List.{list_all, list_any}
 use Rattle.std.specs.Str.{bytes_eq}
 use Rattle.std.proofs.lemmas.Bool.{and_parts, and_from, or_left, or_right, false≢true}
 use Rattle.meaning.specs.FunctionFacts.{CancelType, cancel_type, group_type, VariableKind, cancel, group}
-use Rattle.meaning.specs.Mentions.{starts_by, is_start, BodyPlace, Row, Call, Role, elsewhere, called, called_in_brackets, argument, returned, left, names_type, new_literal, parameter_pointer, Mention, Mark, mentions, defers_literal, returns, opens, closes, exposed, found_nil, found_error}
+use Rattle.meaning.specs.Mentions.{starts_by, is_start, BodyPlace, Row, Call, Role, elsewhere, as_key, called, called_in_brackets, argument, returned, left, names_type, new_literal, parameter_pointer, Mention, Mark, mentions, defers_literal, returns, opens, closes, exposed, found_nil, found_error, pointed_to, of_fields}
 use Rattle.meaning.specs.Tracked.{Known, variable_of, LocalRole, parameter, receiver, variadic, result, in_block, Local, Placed, is_universe}
-use Rattle.meaning.specs.Uses.{Seen, found, kind_of, tracked_kind, VariableAt, Callee, Event, other, obtain, clear, call, defer_call, pass, defer_pass, lend, start, try, wait, defer_wait, make, defer_literal, return_event, Binding, obtained, cleared, made, binding_at, binding_event, allowed_if, either_use, variable_at, cancel_called, cancel_passed, cancel_use, group_started, group_tried, group_awaited, group_limited, group_called, group_lent, group_use, kind_use, use_outcome, mention_outcome, binding_outcome, row_outcome, role_outcome, local_outcome, is_own, is_body, has_no_argument, has_its_arguments, is_statement_place, is_deferred_place, takes, is_given_as, cancel_type_of, is_call_place, callee_of, body_gives, is_free, only_argument, is_member_of, are_members, literals_between, is_statement_or_value, is_item_place, is_deferred, cancel_use_by, is_read}
+use Rattle.meaning.specs.Uses.{Seen, found, kind_of, tracked_kind, VariableAt, Callee, Event, other, obtain, clear, call, defer_call, pass, defer_pass, lend, start, try, wait, defer_wait, make, defer_literal, return_event, Binding, obtained, cleared, made, binding_at, binding_event, allowed_if, either_use, variable_at, cancel_called, cancel_passed, cancel_use, group_started, group_tried, group_awaited, group_limited, group_called, group_lent, group_use, kind_use, use_outcome, mention_outcome, binding_outcome, row_outcome, role_outcome, local_outcome, is_own, is_body, has_no_argument, has_its_arguments, is_statement_place, is_deferred_place, takes, is_given_as, cancel_type_of, is_call_place, callee_of, body_gives, is_free, only_argument, is_member_of, are_members, literals_between, is_statement_or_value, is_item_place, is_deferred, cancel_use_by, is_read, obtain_kept, renew, keep, call_kept, defer_kept, give, give_field}
 use Rattle.meaning.specs.BodyEvents.{handed_on, mark_events}
 use Rattle.meaning.proofs.Membership.{contains_cases, contains_nil}
 use Rattle.meaning_runs.specs.Bodies.{Body}
@@ -18,6 +18,7 @@ use Rattle.meaning_runs.specs.EventSources.{HasSource, says_nothing, falls_off, 
 use Rattle.meaning_runs.proofs.MarkForms.{literal_of}
 use Rattle.tree.specs.declared.edition.Edition.{Edition}
 use Rattle.tree.specs.declared.edition.Edition.TheVariants.{First, Second}
+use Rattle.meaning_runs.proofs.KeptEvents.{IsOfObject, by_renew, by_call, by_deferred, by_give, by_keep, by_outer, by_obtaining, by_gift, field_events_are}
 use Rattle.meaning_runs.proofs.MentionEvents.{of_its_variable}
 
 -- the event is about a group: it starts work there, waits for it, or lends it
@@ -25,6 +26,13 @@ abbrev pub is_about_group : Event → Bool
 is_about_group other = false
 is_about_group (obtain u f k is_declared) = false
 is_about_group (clear u) = false
+is_about_group (obtain_kept u f n x) = false
+is_about_group (renew v x) = false
+is_about_group (keep v x) = false
+is_about_group (call_kept v x) = false
+is_about_group (defer_kept v x) = false
+is_about_group (give v x) = false
+is_about_group (give_field v) = false
 is_about_group (call v) = false
 is_about_group (defer_call v) = false
 is_about_group (pass u f k) = false
@@ -159,7 +167,9 @@ module _ (P : Event → Type 0) where
   cancel_use_so : (known : Known) (t : CancelType) (l : Local) (bodies : List BodyPlace) (m : Mention) (r : Role)
       → AllUseIf (cancel_use known t l bodies m r)
   cancel_use_so known t l bodies m elsewhere = tt
+  cancel_use_so known t l bodies m as_key = tt
   cancel_use_so known t l bodies m exposed = tt
+  cancel_use_so known t l bodies m pointed_to = tt
   cancel_use_so known t l bodies m (found_nil nil) = by (is_universe (known.means nil))
     where
       by : (b : Bool) → AllUse (if b then call l.number ∷ [] else [])
@@ -250,7 +260,9 @@ module _ (P : Event → Type 0) where
     group_use_so : tracked_kind seen (Some l) ≡ Some group → (r : Role) → m.role ≡ r
         → AllUseIf (group_use seen l bodies m r)
     group_use_so is elsewhere q = tt
+    group_use_so is as_key q = tt
     group_use_so is exposed q = tt
+    group_use_so is pointed_to q = tt
     group_use_so is (found_nil nil) q = no_event
     group_use_so is (found_error nil row) q = no_event
     group_use_so is (called c) q = group_called_use is m.named.selected refl c q
@@ -304,7 +316,9 @@ module _ (P : Event → Type 0) where
     role_so : (r : Role) → AllUse (role_outcome seen l bodies m r).events
     role_so (left k row) = row_so (kind_of seen (Some l)) row (binding_at seen row k)
     role_so elsewhere = mention_so
+    role_so as_key = mention_so
     role_so exposed = mention_so
+    role_so pointed_to = mention_so
     role_so (found_nil nil) = mention_so
     role_so (found_error nil row) = mention_so
     role_so (called c) = mention_so
@@ -338,6 +352,18 @@ pub record HasGroupUse (b : Body) (e : Event) : Type 0 where
 about_no_call : (e : Event) (v : ℕ) → call v ≡ e → is_about_group e ≡ true → ⊥
 about_no_call e v same about = false≢true (ap is_about_group same ∙ about)
 
+object_is_about_none : {seen : Seen} {bodies : List BodyPlace} {mark : Mark} (e : Event)
+    → IsOfObject seen bodies mark e
+    → is_about_group e ≡ false
+object_is_about_none e (by_renew k h) = refl
+object_is_about_none e (by_call k h) = refl
+object_is_about_none e (by_deferred k h) = refl
+object_is_about_none e (by_give k h) = refl
+object_is_about_none e (by_keep k h fits) = refl
+object_is_about_none e (by_outer k h fits) = refl
+object_is_about_none e (by_obtaining k site l a is h told) = refl
+object_is_about_none e (by_gift x v c q) = refl
+
 by_mark : (b : Body) (p : Placed)
     → Contains b.file.marks p
     → is_body b.place.at p.bodies ≡ true
@@ -353,13 +379,17 @@ by_mark b p among here (mentions m) is e h about = record {
   is_of_file = among;
   stands_here = here;
   is_mention = is;
-  use_of = group_use_of b.file p.bodies m (found b.file (variable_of b.file.known m)) refl e
-      (of_its_variable b.file p.bodies m e (λ v same. about_no_call e v same about) h) about;
+  use_of = elim (of_its_variable b.file p.bodies m e (λ v same. about_no_call e v same about) h) [
+    | inl own ↦ group_use_of b.file p.bodies m (found b.file (variable_of b.file.known m)) refl e own about
+    | inr object ↦ absurd (false≢true (sym (object_is_about_none e object) ∙ about))
+  ];
 }
+by_mark b p among here (of_fields site m) is e h about =
+    absurd (false≢true (sym (object_is_about_none e (field_events_are b.file p.bodies site m e h)) ∙ about))
 by_mark b p among here (defers_literal site at) is e h about =
     absurd (foreign (λ x. ⊥) (defer_literal at) refl e h about)
 by_mark b p among here (returns at es) is e h about =
-    absurd (foreign (λ x. ⊥) (return_event (handed_on b.file (body_gives b.file.known p.bodies) 0 es)) refl e h about)
+    absurd (foreign (λ x. ⊥) (return_event (handed_on b.file p.bodies 0 es)) refl e h about)
 by_mark b p among here (opens x) is e h about = absurd (contains_nil e h)
 by_mark b p among here closes is e h about = absurd (contains_nil e h)
 

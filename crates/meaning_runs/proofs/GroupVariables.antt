@@ -2,7 +2,7 @@
 -- Work is started in groups that the body declares, or in its home; a wait is for one that it declares, or the body is
 -- called under `defer`; a group that is lent or made is the body's own. A literal that is started has the group as its
 -- home, and each literal with a home is started so.
-use Rattle.std.proofs.Common.{◌≡◌, ℕ, Bool, true, false, ◌⊎◌, inl, inr, List, [], ◌∷◌, Option, Some, None, Contains, refl, sym, ap, ◌∙◌, subst}
+use Rattle.std.proofs.Common.{◌≡◌, ℕ, Bool, true, false, ◌⊎◌, inl, inr, List, [], ◌∷◌, ◌++◌, Option, Some, None, Contains, refl, sym, ap, ◌∙◌, subst}
 use Rattle.std.specs.Prelude.{◌==◌, ◌&&◌, ◌||◌, not, if◌then◌else◌, is_none}
 use Rattle.std.specs.List.{list_any, list_all}
 use Rattle.std.proofs.lemmas.Bool.{and_parts, and_from, or_left, eq-eqb, false≢true}
@@ -14,6 +14,7 @@ use Rattle.meaning.specs.FunctionFacts.{group}
 use Rattle.meaning.specs.Mentions.{Named, is_start, is_one, CallPlace, Call, LiteralUse, other_use, deferred_call, started_by, argument_use, called, Mention, BodyPlace, mentions, opens}
 use Rattle.meaning.specs.Tracked.{local_meant_or, variable_of, Placed, outer, Local}
 use Rattle.meaning.specs.Uses.{Seen, found, VariableAt, Callee, Event, lend, defer_literal, is_body, is_own as is_own_of, is_of_local, is_deferred, is_deferred_use, is_member_of, literals_between, variable_outcome, error_events}
+use Rattle.meaning.specs.Kept.{object_events}
 use Rattle.meaning.specs.BodyEvents.{Variable, captured, role_in, role_in_own, bodies_of, opened_in, is_declared_around, is_captured_there, is_variable_of, mark_events}
 use Rattle.meaning_packages.specs.CallsFlags.{has_name, is_function}
 use Rattle.meaning_packages.proofs.BodyPlaces.{placed_only}
@@ -334,7 +335,8 @@ module _ (b : Body) (well : IsWellUsed b.file) (its : Contains (bodies_of b.file
         event = e;
         is_of_file = w.is_there;
         stands_here = is.stands_in_it;
-        is_given = Contains-append_left (variable_outcome b.file around m).events (error_events b.file m m.role) e there;
+        is_given = Contains-append_left (variable_outcome b.file around m).events
+            (error_events b.file m m.role ++ object_events b.file around m) e there;
         starts_it = same e h;
       } in
       elim w.allowed.gives_it [ inl there ↦ started _ there by_start | inr there ↦ started _ there by_try ]

@@ -5,7 +5,7 @@ use Rattle.std.proofs.lemmas.Bool.{eq-eqb, false≢true}
 use Rattle.std.proofs.lemmas.List.Elements.{Contains-append_left, Contains-append_right}
 use Rattle.meaning.specs.Code.{Occurrence}
 use Rattle.meaning.specs.Lists.{Reaches}
-use Rattle.meaning.specs.Mentions.{Mark, mentions, defers_literal, returns, opens, closes}
+use Rattle.meaning.specs.Mentions.{Mark, mentions, defers_literal, returns, opens, closes, of_fields}
 use Rattle.meaning.specs.Tracked.{Placed}
 use Rattle.meaning.specs.Uses.{Callee, Event, other, return_event, Seen, is_body}
 use Rattle.meaning.specs.BodyEvents.{bodies_of, mark_events, is_site, events_at}
@@ -28,6 +28,7 @@ return_hands_nothing f e same lends = cc
 -- where a mark gives its events
 abbrev site_of : Mark → ℕ
 site_of (mentions m) = m.site
+site_of (of_fields site m) = site
 site_of (defers_literal site at) = site
 site_of (returns site es) = site
 site_of (opens b) = 0
@@ -39,6 +40,7 @@ is_its_site seen p e h = by p.mark h
   where
     by : (m : Mark) → Contains (mark_events seen p.bodies m) e → is_site m (site_of m) ≡ true
     by (mentions m) k = eq-eqb m.site m.site refl
+    by (of_fields site x) k = eq-eqb site site refl
     by (defers_literal site at) k = eq-eqb site site refl
     by (returns site es) k = eq-eqb site site refl
     by (opens b) k = absurd (contains_nil e k)

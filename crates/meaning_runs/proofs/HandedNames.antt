@@ -1,7 +1,7 @@
 -- An event that passes a cancel variable or lends a group does so to the function that a name of its file means, which is
 -- selected from an import of the file where it is of another package. So no body hands anything to a function of a package
 -- that its own does not import, and each given package that a trusted one hands something to is trusted.
-use Rattle.std.proofs.Common.{◌≡◌, ℕ, ◌+◌, zero, suc, Bool, true, false, inl, inr, List, [], ◌∷◌, map, Option, Some, None, Contains, refl, sym, ap, subst, ◌∙◌, arith}
+use Rattle.std.proofs.Common.{◌≡◌, ℕ, ◌+◌, zero, suc, Bool, true, false, inl, inr, List, [], ◌∷◌, ◌++◌, map, Option, Some, None, Contains, refl, sym, ap, subst, ◌∙◌, arith}
 use Rattle.std.specs.Prelude.{◌&&◌, ◌||◌, if◌then◌else◌, codes, option_map, slice_get}
 use Rattle.std.specs.List.{list_all}
 use Rattle.std.specs.Str.{bytes_eq}
@@ -15,7 +15,7 @@ use Rattle.meaning.specs.OuterBlocks.{PackageNames, PackageLevel, import_name_of
 use Rattle.meaning.specs.Scopes.{LocalName, file_names}
 use Rattle.meaning.specs.Declarations.{Meaning, local_name, import_name, function_name, package_name, universe_name, locals_of, local_meant, Use, uses_of, use_at, package_or_universe, import_or_around, local_or_around, meaning_of, meaning_at}
 use Rattle.meaning.specs.FunctionFacts.{CancelType, cancel_type, group_type, VariableKind, cancel, group}
-use Rattle.meaning.specs.Mentions.{Named, BodyPlace, Row, Call, Role, elsewhere, exposed, found_nil, found_error, called, called_in_brackets, argument, returned, left, names_type, new_literal, parameter_pointer, Mention, Mark, mentions, defers_literal, returns, opens, closes}
+use Rattle.meaning.specs.Mentions.{Named, BodyPlace, Row, Call, Role, elsewhere, as_key, exposed, found_nil, found_error, called, called_in_brackets, argument, returned, left, names_type, new_literal, parameter_pointer, Mention, Mark, mentions, defers_literal, returns, opens, closes, pointed_to, of_fields}
 use Rattle.meaning.specs.Tracked.{Known, is_universe, variable_of, LocalRole, parameter, receiver, variadic, result, in_block, Local}
 use Rattle.meaning.specs.Uses.{Callee, path_meant, callee_of, VariableAt, Seen, found, kind_of, tracked_kind, Event, call, defer_call, pass, defer_pass, lend, start, try, wait, defer_wait, return_event, defer_literal, Binding, obtained, cleared, made, binding_at, binding_event, variable_at, cancel_called, cancel_passed, cancel_use, cancel_use_by, is_read, allowed_if, either_use, group_started, group_tried, group_awaited, group_limited, group_called, group_lent, group_use, kind_use, mention_outcome, binding_outcome, row_outcome, role_outcome, local_outcome, variable_outcome, lost_to, error_events, is_own, has_no_argument, has_its_arguments, is_statement_place, is_deferred_place, takes, is_given_as, cancel_type_of, is_call_place, body_gives, is_free, only_argument, started_literal, are_members, literals_between, is_statement_or_value, is_item_place, is_deferred}
 use Rattle.meaning.specs.BodyEvents.{mark_events, handed_on, seen_file}
@@ -29,6 +29,8 @@ use Rattle.meaning_runs.specs.Promise.{AreClosed}
 use Rattle.meaning_runs.specs.CallSteps.{HandsStayTrusted}
 use Rattle.meaning_runs.proofs.EventSources.{marked}
 use Rattle.meaning_runs.proofs.HandedEvents.{hands_there}
+use Rattle.meaning.specs.Kept.{object_events}
+use Rattle.meaning_runs.proofs.KeptEvents.{IsOfObject, by_renew, by_call, by_deferred, by_give, by_keep, by_outer, by_obtaining, by_gift, object_events_are, field_events_are}
 use Rattle.meaning_runs.proofs.MentionEvents.{AllFit, AllFitIf, none_given, one_fits, allowed, one_allowed, if_so, use_outcome_fits}
 
 -- Events
@@ -84,7 +86,9 @@ module _ (known : Known) where
     cancel_use_named : (t : CancelType) (m : Mention) (r : Role)
         → AllFitIf HandsToNamed (cancel_use known t l bodies m r)
     cancel_use_named t m elsewhere = tt
+    cancel_use_named t m as_key = tt
     cancel_use_named t m exposed = tt
+    cancel_use_named t m pointed_to = tt
     cancel_use_named t m (found_nil nil) = if_universe (is_universe (known.means nil))
       where
         if_universe : (b : Bool) → AllFit HandsToNamed (if b then call l.number ∷ [] else [])
@@ -161,7 +165,9 @@ module _ (seen : Seen) (bodies : List BodyPlace) (l : Local) where
 
   group_use_named : (m : Mention) (r : Role) → AllFitIf Fits (group_use seen l bodies m r)
   group_use_named m elsewhere = tt
+  group_use_named m as_key = tt
   group_use_named m exposed = tt
+  group_use_named m pointed_to = tt
   group_use_named m (found_nil nil) = none_given Fits
   group_use_named m (found_error nil row) = none_given Fits
   group_use_named m (called c) = group_called_named m.named.selected c
@@ -202,7 +208,9 @@ module _ (seen : Seen) (bodies : List BodyPlace) (l : Local) where
   role_named : (m : Mention) (r : Role) → AllFit Fits (role_outcome seen l bodies m r).events
   role_named m (left k row) = row_named (kind_of seen (Some l)) m row (binding_at seen row k)
   role_named m elsewhere = mention_named (tracked_kind seen (Some l)) m
+  role_named m as_key = mention_named (tracked_kind seen (Some l)) m
   role_named m exposed = mention_named (tracked_kind seen (Some l)) m
+  role_named m pointed_to = mention_named (tracked_kind seen (Some l)) m
   role_named m (found_nil nil) = mention_named (tracked_kind seen (Some l)) m
   role_named m (found_error nil row) = mention_named (tracked_kind seen (Some l)) m
   role_named m (called c) = mention_named (tracked_kind seen (Some l)) m
@@ -228,7 +236,9 @@ calls_named known (v ∷ vs) e h =
 
 error_named : (seen : Seen) (m : Mention) (r : Role) → AllFit (HandsToNamed seen.known) (error_events seen m r)
 error_named seen m elsewhere = none_given (HandsToNamed seen.known)
+error_named seen m as_key = none_given (HandsToNamed seen.known)
 error_named seen m exposed = none_given (HandsToNamed seen.known)
+error_named seen m pointed_to = none_given (HandsToNamed seen.known)
 error_named seen m (found_nil nil) = none_given (HandsToNamed seen.known)
 error_named seen m (found_error nil row) = if_universe (is_universe (seen.known.means nil))
   where
@@ -247,17 +257,37 @@ error_named seen m (names_type row) = none_given (HandsToNamed seen.known)
 error_named seen m (new_literal row) = none_given (HandsToNamed seen.known)
 error_named seen m parameter_pointer = none_given (HandsToNamed seen.known)
 
+-- what is of an object hands nothing to a function that is named
+object_hands_nothing : {seen : Seen} {bodies : List BodyPlace} {mark : Mark} (e : Event)
+    → IsOfObject seen bodies mark e
+    → is_handing e ≡ false
+object_hands_nothing e (by_renew k h) = refl
+object_hands_nothing e (by_call k h) = refl
+object_hands_nothing e (by_deferred k h) = refl
+object_hands_nothing e (by_give k h) = refl
+object_hands_nothing e (by_keep k h fits) = refl
+object_hands_nothing e (by_outer k h fits) = refl
+object_hands_nothing e (by_obtaining k site l a is h told) = refl
+object_hands_nothing e (by_gift x v c q) = refl
+
 mark_named : (seen : Seen) (bodies : List BodyPlace) (m : Mark)
     → AllFit (HandsToNamed seen.known) (mark_events seen bodies m)
 mark_named seen bodies (mentions m) = λ e h.
-    elim (Contains-append_cases (variable_outcome seen bodies m).events (error_events seen m m.role) e h) [
+    let lost = error_events seen m m.role in
+    let of_objects = object_events seen bodies m in
+    elim (Contains-append_cases (variable_outcome seen bodies m).events (lost ++ of_objects) e h) [
       | inl of_use ↦ local_named seen bodies m (found seen (variable_of seen.known m)) e of_use
-      | inr of_error ↦ error_named seen m m.role e of_error
+      | inr more ↦ elim (Contains-append_cases lost of_objects e more) [
+        | inl of_error ↦ error_named seen m m.role e of_error
+        | inr of_object ↦ quiet seen.known e (object_hands_nothing e (object_events_are seen bodies m e of_object))
+      ]
     ]
+mark_named seen bodies (of_fields site m) = λ e h.
+    quiet seen.known e (object_hands_nothing e (field_events_are seen bodies site m e h))
 mark_named seen bodies (defers_literal site at) =
     one_fits (HandsToNamed seen.known) (defer_literal at) (quiet seen.known (defer_literal at) refl)
 mark_named seen bodies (returns at es) =
-    let e = return_event (handed_on seen (body_gives seen.known bodies) 0 es) in
+    let e = return_event (handed_on seen bodies 0 es) in
     one_fits (HandsToNamed seen.known) e (quiet seen.known e refl)
 mark_named seen bodies (opens b) = none_given (HandsToNamed seen.known)
 mark_named seen bodies closes = none_given (HandsToNamed seen.known)
@@ -368,11 +398,11 @@ imported_there ps q number at path e = by_file (slice_get (trees_of q) number) r
 -- Packages
 
 known_there : (known : ℕ → Known) (n : ℕ) (trees : List SourceFile) (seen : Seen) → Contains (seen_from known n trees) seen
-    → (m : ℕ) × (seen.known ≡ known m)
+    → (m : ℕ) × ((at : ℕ) → seen.known.means at ≡ (known m).means at)
 known_there known n [] seen h = absurd (contains_nil seen h)
 known_there known n (tree ∷ trees) seen h =
     elim (contains_cases (seen_file (known n) tree) seen (seen_from known (n + 1) trees) h) [
-      | inl same ↦ (n, sym (ap (λ (s : Seen). s.known) same))
+      | inl same ↦ (n, λ at. sym (ap (λ (s : Seen). s.known.means at) same))
       | inr later ↦ known_there known (n + 1) trees seen later
     ]
 
@@ -389,7 +419,7 @@ handed_is_imported ps tables q file f path among hands is =
     let known = known_there (known_in ps tables q) 0 (trees_of q) file among in
     let meant : path_meant (file.known.means name.0.at) ≡ Some path = ap (λ (g : Callee). g.path) (sym name.1) ∙ is in
     imported_there ps q known.0 name.0.at path
-    (ap (λ (k : Known). k.means name.0.at) (sym known.1)
+    (sym (known.1 name.0.at)
     ∙ meant_import (file.known.means name.0.at) path meant)
 
 module _ (p : Program) (distinct : HaveDistinctPaths p.packages) (closed : AreClosed p) where

@@ -4,21 +4,21 @@ use Rattle.std.specs.Prelude.{if◌then◌else◌}
 use Rattle.std.proofs.lemmas.Option.{none-some}
 use Rattle.meaning.specs.Code.{Occurrence, Code}
 use Rattle.meaning.specs.Tracked.{GroupState}
-use Rattle.meaning.specs.Uses.{Callee, VariableAt, Handed, Event}
+use Rattle.meaning.specs.Uses.{Callee, VariableAt, Event}
 use Rattle.meaning.proofs.Membership.{contains_cases, contains_nil}
 use Rattle.meaning_reports.specs.Loaded.{HaveDistinctPaths}
 use Rattle.meaning_reports.specs.UsedImports.{passes, defers, lends as lends_it}
 use Rattle.meaning_runs.specs.Bodies.{Program}
 use Rattle.meaning_runs.specs.Promise.{AreClosed, all_run}
-use Rattle.meaning_runs.specs.World.{Value, nothing, cancel_function, outside, frame_at, Place, Store, put_at, IsAny, any_nothing, any_function, IsOutside, outside_none, outside_group, IsEarlier, calling, ending, waiting_for, with_group, with_cells, AreForeign, binding, binding_group, binds, held, held_group, Given, Lent, Passing, Closure, saved_call, saved_pass, saved_literal, saved_wait, runs, exits, Frame, World, new_frame, nothing_around}
-use Rattle.meaning_runs.specs.Steps.{GoesOn, at_code, Obtains, new_one, earlier_one, none_at_all, with_function, Makes, zero_group, with_context, evaluating, lending, IsLentTo, ComesToCall, at_once, saved_before, Begins, of_function, of_none, Acts, moves_on, does_other, obtains_one, clears_one, calls_one, saves_call, makes_group, tries_nothing, ends_wait, saves_wait, evaluates, evaluates_deferred, lends, makes_call, calls_outside, saves_pass, saves_literal, comes_to_return, runs_call, runs_pass, runs_literal, runs_wait, returns_now, Surrounds, starts, makes_cells, makes_one, ends_one, calls_any, makes_outside, of_environment}
+use Rattle.meaning_runs.specs.World.{Value, nothing, cancel_function, outside, frame_at, Place, Store, put_at, IsAny, any_nothing, any_function, IsOutside, outside_none, outside_group, IsEarlier, calling, ending, waiting_for, with_group, with_cells, AreForeign, binding, binding_group, binds, held, held_group, kept_value, without_kept, handed_by as handed_value, own_cell, Given, Lent, Passing, Closure, saved_call, saved_pass, saved_literal, saved_wait, runs, exits, InObject, Frame, World, new_frame, nothing_around}
+use Rattle.meaning_runs.specs.Steps.{GoesOn, at_code, Obtains, new_one, earlier_one, none_at_all, with_function, Makes, zero_group, with_context, evaluating, lending, IsLentTo, ComesToCall, at_once, saved_before, Begins, of_function, of_none, Acts, moves_on, does_other, obtains_one, obtains_into, keeps_one, renews_object, calls_kept, saves_kept, gives_object, gives_in_field, clears_one, calls_one, saves_call, makes_group, tries_nothing, ends_wait, saves_wait, evaluates, evaluates_deferred, lends, makes_call, calls_outside, saves_pass, saves_literal, comes_to_return, runs_call, runs_pass, runs_literal, runs_wait, returns_now, Surrounds, starts, makes_cells, makes_one, ends_one, calls_any, makes_outside, of_environment}
 use Rattle.meaning_runs.specs.Runs.{Run, step_more}
-use Rattle.meaning_runs.proofs.CallSteps.{AreAny, any_held}
+use Rattle.meaning_runs.proofs.CallSteps.{AreAny, any_held, obtaining}
 use Rattle.meaning_runs.proofs.Contexts.{put_at-same}
 use Rattle.meaning_runs.proofs.NamedOutermost.{named_is_outermost}
-use Rattle.meaning_runs.proofs.Shown.{Shadow, shadow_store, IsOut, IsShadow, Grown, FinePass, FineCells, T, FineFrame, tops, FineStack, cells_grow, frame_grows, new_is_fine, group_out, with_new_cells, cells_grown, cells_shown}
+use Rattle.meaning_runs.proofs.Shown.{Shadow, shadow_store, IsOut, IsShadow, Grown, FinePass, FineCells, T, FineFrame, FineKept, kept_any, kept_more, kept_less, any_grows, tops, FineStack, cells_grow, frame_grows, new_is_fine, group_out, with_new_cells, cells_grown, cells_shown}
 use Rattle.meaning_runs.proofs.ShownCells.{newest_behind, with_empty, value_hidden, group_hidden}
-use Rattle.meaning_runs.proofs.ShownActs.{earlier_shown, any_shown, outside_shown, no_context, calling_contextual, waiting_contextual, obtains_contextual, makes_contextual, group_made, grown_then, goes_on, saves_more, pops, popped, waits_no_more, saves_its_pass, returns, joins}
+use Rattle.meaning_runs.proofs.ShownActs.{earlier_shown, any_shown, outside_shown, no_context, calling_contextual, waiting_contextual, obtains_contextual, makes_contextual, group_made, grown_then, keeps_now, goes_on, saves_more, pops, popped, waits_no_more, saves_its_pass, returns, joins}
 use Rattle.meaning_runs.proofs.ShownSteps.{chosen_true, chosen_false, W, put_none, of_run, foreign_shown, out_of, literal_fine, handed_by}
 
 abbrev no_values : ℕ → Value
@@ -113,11 +113,13 @@ module _ (p : Program) (closed : AreClosed p) (distinct : HaveDistinctPaths p.pa
   same_store h fine off = one s x h still is fine off (λ st e run. run)
 
   binds_one : (made : Store) (c_is : IsShadow made x) (grown : Grown s x made x) (u : VariableAt) (value : Value)
-      (rest : Code Event) (obtained : List ℕ) {o : Option (Occurrence Event)}
+      (rest : Code Event) (obtained : List ℕ) (keeping : List InObject) {o : Option (Occurrence Event)}
       → GoesOn f o rest
+      → FineKept made keeping
       → Goes made x
-      → HiddenAct (binding made f u value) ((record (binds made f u) { stage = runs rest; obtained = obtained }) ∷ [])
-  binds_one made c_is grown u value rest obtained d goes =
+      → HiddenAct (binding made f u value)
+      ((record (binds made f u) { stage = runs rest; obtained = obtained; kept = keeping }) ∷ [])
+  binds_one made c_is grown u value rest obtained keeping d fine goes =
       let t = T p f.body.home in
       let its = cells_grow p grown t f.newest it.newest in
       let y = with_empty made x c_is f u t its hidden in
@@ -131,12 +133,13 @@ module _ (p : Program) (closed : AreClosed p) (distinct : HaveDistinctPaths p.pa
       } in
       let whole = grown_then grown last in
       let now = frame_grows p whole f it in
-      one after y (record (binds made f u) { stage = runs rest; obtained = obtained }) whole
+      one after y (record (binds made f u) { stage = runs rest; obtained = obtained; kept = keeping }) whole
       (value_hidden made x c_is f u t its hidden value) record {
         is_of = it.is_of;
         newest = newest_behind made x c_is f u t its after y refl (ap (put_at x.is_shown made.cell_count) (sym hidden));
         waits = now.waits;
         saves = now.saves;
+        keeps = λ k c. any_grows p last k.value (fine k c);
         code = (goes_on p it whole d).code;
       } hidden
       (λ st e run. by_environment p (goes st e run) (makes_cells no_values no_groups (none_foreign (shadow_store made x))))
@@ -231,10 +234,43 @@ module _ (p : Program) (closed : AreClosed p) (distinct : HaveDistinctPaths p.pa
       same_store (at_code f rest) (goes_on p it still d.comes_to.goes_on) hidden
   hidden_acts old after frames (obtains_one {u = u} {c = c} {rest = rest} {value = value} {made = made} d gives) =
       let k = obtains_contextual s x is c value made gives in
-      binds_one made k.is k.grown u value rest (with_function value f.obtained) d.comes_to.goes_on
+      binds_one made k.is k.grown u value rest (with_function value f.obtained) f.kept d.comes_to.goes_on
+      (frame_grows p k.grown f it).keeps (λ st e run. obtains_so p st e s x c value made gives run)
+  hidden_acts old after frames (obtains_into {u = u} {c = c} {x = object} {rest = rest} {value = value} {made = made} d
+      gives) =
+      let k = obtains_contextual s x is c value made gives in
+      let one_more : InObject = record { variable = u.number; object = object; value = value } in
+      binds_one made k.is k.grown (own_cell u.number) value rest (with_function value f.obtained) (one_more ∷ f.kept)
+      d.comes_to.goes_on
+      (kept_more made f.kept one_more (obtaining s made c value gives kept).2 (frame_grows p k.grown f it).keeps)
       (λ st e run. obtains_so p st e s x c value made gives run)
+  hidden_acts old after frames (keeps_one {v = v} {x = object} {rest = rest} d) =
+      let one_more : InObject = record { variable = v; object = object; value = held s f v } in
+      same_store (record (at_code f rest) { kept = one_more ∷ f.kept })
+      (keeps_now p (goes_on p it still d.comes_to.goes_on) (one_more ∷ f.kept) f.given_away
+      (kept_more s f.kept one_more (any_held s kept f v) it.keeps)) hidden
+  hidden_acts old after frames (renews_object {v = v} {x = object} {rest = rest} d) =
+      same_store (record f { stage = runs rest; kept = without_kept f.kept v object })
+      (keeps_now p (goes_on p it still d.comes_to.goes_on) (without_kept f.kept v object) f.given_away
+      (kept_less s f.kept v object it.keeps)) hidden
+  hidden_acts old after frames (calls_kept {v = v} {x = object} {rest = rest} d) =
+      let value = kept_value f.kept v object in
+      let k = calling_contextual s x is value in
+      one (calling s value) x (at_code f rest) k.grown k.is (goes_on p it k.grown d.comes_to.goes_on) hidden
+      (λ st e run. calls_so p st e s x value (kept_any s f.kept it.keeps v object) run)
+  hidden_acts old after frames (saves_kept {v = v} {x = object} {rest = rest} d) =
+      let call = saved_call (kept_value f.kept v object) in
+      same_store (record f { stage = runs rest; saved = call ∷ f.saved })
+      (saves_more p it still d.comes_to.goes_on call (kept_any s f.kept it.keeps v object)) hidden
+  hidden_acts old after frames (gives_object {v = v} {x = object} {rest = rest} d) =
+      let given = kept_value f.kept v object ∷ f.given_away in
+      same_store (record (at_code f rest) { given_away = given })
+      (keeps_now p (goes_on p it still d.comes_to.goes_on) f.kept given it.keeps) hidden
+  hidden_acts old after frames (gives_in_field {v = v} {rest = rest} d) =
+      same_store (record (at_code f rest) { given_away = held s f v ∷ f.given_away })
+      (keeps_now p (goes_on p it still d.comes_to.goes_on) f.kept (held s f v ∷ f.given_away) it.keeps) hidden
   hidden_acts old after frames (clears_one {u = u} {rest = rest} d) =
-      binds_one s is still u nothing rest f.obtained d.comes_to.goes_on (λ st e run. run)
+      binds_one s is still u nothing rest f.obtained f.kept d.comes_to.goes_on it.keeps (λ st e run. run)
   hidden_acts old after frames (calls_one {v = v} {rest = rest} d) =
       let k = calling_contextual s x is (held s f v) in
       one (calling s (held s f v)) x (at_code f rest) k.grown k.is (goes_on p it k.grown d.comes_to.goes_on) hidden
@@ -267,6 +303,7 @@ module _ (p : Program) (closed : AreClosed p) (distinct : HaveDistinctPaths p.pa
         newest = newest_behind s1 x1 m.is f u t its last_store y refl (ap (put_at x.is_shown made.cell_count) (sym hidden));
         waits = now.waits;
         saves = now.saves;
+        keeps = now.keeps;
         code = (goes_on p it whole d.comes_to.goes_on).code;
       } hidden
       (λ st e run. by_environment p
@@ -312,8 +349,8 @@ module _ (p : Program) (closed : AreClosed p) (distinct : HaveDistinctPaths p.pa
       (saves_more p it still d.comes_to.goes_on (saved_literal record { literal = b; newest = f.newest })
       (literal_fine p closed distinct s x is kept f it b is_in)) hidden
   hidden_acts old after frames (comes_to_return {handed = handed} {rest = rest} d) =
-      same_store (record f { stage = exits; handed_on = map (λ (h : Handed). held s f h.number) handed })
-      (returns p it still (map (λ (h : Handed). held s f h.number) handed)) hidden
+      same_store (record f { stage = exits; handed_on = map (handed_value s f) handed })
+      (returns p it still (map (handed_value s f) handed)) hidden
   hidden_acts old after frames (runs_call {value = value} {left = left} r) =
       let k = calling_contextual s x is value in
       one (calling s value) x (record f { saved = left }) k.grown k.is (pops p it k.grown r) hidden

@@ -12,7 +12,7 @@ use Rattle.meaning.specs.BodyEvents.{Variable, VariableRole, own_parameter, own_
 use Rattle.meaning.proofs.Membership.{contains_cases, contains_there}
 use Rattle.meaning_packages.specs.PathFaults.{is_declared}
 use Rattle.meaning_runs.specs.Bodies.{Program, Body, code_of, variables_in, is_parameter_of, is_captured_by, is_captured}
-use Rattle.meaning_runs.specs.World.{Value, Maker, frame_at, Place, Store, Lent, Passing, Closure, Saved, saved_pass, saved_literal, Stage, runs, exits, Frame, held_group}
+use Rattle.meaning_runs.specs.World.{Value, Maker, frame_at, Place, Store, Lent, Passing, Closure, Saved, saved_pass, saved_literal, Stage, runs, exits, InObject, Frame, held_group}
 use Rattle.meaning_runs.specs.Steps.{GoesOn, ComesTo, RunsSaved, at_code}
 use Rattle.meaning_runs.proofs.GivenValues.{same_role}
 use Rattle.meaning_runs.proofs.Captured.{any_there}
@@ -143,6 +143,27 @@ module _ (at : Maker) (o after_o : Origins) (s after : Store) (grows : Grows at 
 
 module _ (p : Program) (o : Origins) (s : Store) (place : Place) (q : Past) (f : Frame)
     (it : IsHolder p o s place q f) where
+  -- what it keeps in objects, and what others got
+  pub holder_with : (kept : List InObject) (given : List Value)
+      → IsHolder p o s place q (record f { kept = kept; given_away = given })
+  holder_with kept given = record {
+    is_of = it.is_of;
+    is_at = it.is_at;
+    none_waits = it.none_waits;
+    cells_in = it.cells_in;
+    own_cells = it.own_cells;
+    other_cells = it.other_cells;
+    saved_literals = it.saved_literals;
+    saved_lend_none = it.saved_lend_none;
+    deferred_lend_none = it.deferred_lend_none;
+    lent_from = it.lent_from;
+    made = it.made;
+    own = it.own;
+    lent = it.lent;
+    from = it.from;
+    home = it.home;
+  }
+
   pub at_rest : (t : List (Occurrence Event)) (rest : Code Event) → IsAt f.body t rest
       → (c : Code Event)
       → runs rest ≡ runs c

@@ -6,14 +6,14 @@ use Rattle.std.proofs.lemmas.Option.{none-some, same_Some}
 use Rattle.std.proofs.lemmas.List.Elements.{Contains-append_cases}
 use Rattle.meaning.specs.Code.{Code}
 use Rattle.meaning.specs.Tracked.{GroupState}
-use Rattle.meaning.specs.Uses.{Callee, VariableAt, Handed, Event, other, obtain, clear, call, defer_call, pass, defer_pass, lend, try, wait, defer_wait, make, defer_literal, return_event, Seen}
+use Rattle.meaning.specs.Uses.{Callee, VariableAt, Event, other, obtain, obtain_kept, renew, keep, call_kept, defer_kept, give, give_field, clear, call, defer_call, pass, defer_pass, lend, try, wait, defer_wait, make, defer_literal, return_event, Seen}
 use Rattle.meaning.specs.BodyEvents.{Variable, bodies_of, opened_in}
 use Rattle.meaning.proofs.Membership.{contains_here, contains_there, contains_cases, contains_nil}
 use Rattle.meaning_packages.specs.PathFaults.{is_declared}
 use Rattle.meaning_runs.specs.Bodies.{Program, Body, IsLiteralIn, variables_in, is_parameter_of, is_captured_by, IsRun, IsOf}
-use Rattle.meaning_runs.specs.World.{Value, nothing, nobody, outside, frame_at, Place, Store, put_at, calling, with_group, IsOutside, outside_none, outside_group, waiting_for, with_cells, Given, Lent, Passing, Closure, Saved, saved_call, saved_pass, saved_literal, saved_wait, runs, exits, Frame, group_in_cell, held, held_group, is_declaration, cell_or, bound_cell, binding, binding_group, binds, new_frame, nothing_around}
-use Rattle.meaning_runs.specs.Steps.{ComesTo, DoesNext, at_code, Obtains, new_one, earlier_one, none_at_all, with_function, Makes, zero_group, with_context, MayJoin, is_first, is_next, joining, Fits, Begins, of_function, of_none, Acts, moves_on, does_other, obtains_one, clears_one, calls_one, saves_call, makes_group, tries_nothing, ends_wait, saves_wait, evaluates, evaluates_deferred, lends, makes_call, calls_outside, saves_pass, saves_literal, comes_to_return, runs_call, runs_pass, runs_literal, runs_wait, returns_now}
-use Rattle.meaning_runs.proofs.Bindings.{obtains, clears, makes}
+use Rattle.meaning_runs.specs.World.{Value, nothing, nobody, outside, frame_at, Place, Store, put_at, calling, with_group, IsOutside, outside_none, outside_group, waiting_for, with_cells, Given, Lent, Passing, Closure, Saved, saved_call, saved_pass, saved_literal, saved_wait, InObject, runs, exits, Frame, group_in_cell, held, held_group, kept_value, without_kept, handed_by, own_cell, is_declaration, cell_or, bound_cell, binding, binding_group, binds, new_frame, nothing_around}
+use Rattle.meaning_runs.specs.Steps.{ComesTo, DoesNext, at_code, Obtains, new_one, earlier_one, none_at_all, with_function, Makes, zero_group, with_context, MayJoin, is_first, is_next, joining, Fits, Begins, of_function, of_none, Acts, moves_on, does_other, obtains_one, obtains_into, keeps_one, renews_object, calls_kept, saves_kept, gives_object, gives_in_field, clears_one, calls_one, saves_call, makes_group, tries_nothing, ends_wait, saves_wait, evaluates, evaluates_deferred, lends, makes_call, calls_outside, saves_pass, saves_literal, comes_to_return, runs_call, runs_pass, runs_literal, runs_wait, returns_now}
+use Rattle.meaning_runs.proofs.Bindings.{obtains, obtains_into as binds_into, clears, makes}
 use Rattle.meaning_runs.proofs.Captured.{any_true}
 use Rattle.meaning_runs.proofs.Contexts.{put_at-same, put_at-other}
 use Rattle.meaning_runs.proofs.GroupDuties.{is_mentioned}
@@ -22,7 +22,7 @@ use Rattle.meaning_runs.proofs.WhoStarts.{is_declared_in, IsOwnGroup, IsGroupPar
 use Rattle.meaning_runs.proofs.Remembered.{Origins, Past, written, with_block, occurrence_of, behind, no_past, origins_begun, pasts_begun, origins_after, pasts_after}
 use Rattle.meaning_runs.proofs.Holders.{Grows, IsKnown, IsFrom, from_outside, from_below, IsSource, is_outside, is_made, was_lent, IsApart, IsHolder, AreHolders}
 use Rattle.meaning_runs.proofs.StoreGrowth.{frame-nobody, same_frame, ChangesContexts, no_change, new_changes, calling_changes, waiting_changes, contexts_grow, block_grows, group_grows, grows_then, contexts_known, block_known, group_known, writing_known, maker_grows, outside_grows, put_in, put_here}
-use Rattle.meaning_runs.proofs.HolderFrames.{holder_stands, holders_stand, reached, holder_silent, holder_saving, holder_waiting, holder_behind, holder_returning, holder_called, holder_saved, holder_popping}
+use Rattle.meaning_runs.proofs.HolderFrames.{holder_with, holder_stands, holders_stand, reached, holder_silent, holder_saving, holder_waiting, holder_behind, holder_returning, holder_called, holder_saved, holder_popping}
 use Rattle.meaning_runs.proofs.HolderBindings.{bound_is_writable, binding_grows, holder_binding, holder_new}
 use Rattle.meaning_runs.proofs.OwnNumbers.{parameter_number}
 use Rattle.meaning_runs.proofs.MarksBeside.{opened_there}
@@ -369,6 +369,18 @@ module _ (p : Program) (used : BodiesAreWellUsed p) where
 
       -- Events
 
+      -- of what the frame keeps in objects, and of what others got, nothing is told here
+      keeps_more : (after_o : Origins) (after : Store) (frame : Frame) (r : Past) (kept : List InObject)
+          (given : List Value)
+          → ActsWell place o after_o s after (frame ∷ others) (r ∷ qs)
+          → ActsWell place o after_o s after ((record frame { kept = kept; given_away = given }) ∷ others) (r ∷ qs)
+      keeps_more after_o after frame r kept given h = record {
+        grows = h.grows;
+        known = h.known;
+        same_member = h.same_member;
+        holders = (holder_with p after_o after place r frame h.holders.0 kept given, h.holders.1);
+      }
+
       -- past an event at which nothing is written
       passes : (e : Event) (rest : Code Event) (d : DoesNext f e rest) (after : Store) → ChangesContexts s after
           → ActsWell place o o s after (at_code f rest ∷ others) (behind q d.comes_to ∷ qs)
@@ -426,6 +438,34 @@ module _ (p : Program) (used : BodiesAreWellUsed p) where
           binds_value e rest u value (with_function value f.obtained) made (obtaining_changes s made c value gives) d
           (used.binds_own f.body q.events (occurrence_of d.comes_to) u it.is_of
           (reached p o s place q f it e rest d.comes_to) obtains)
+      acts_held after frames (obtains_into {u = u} {c = c} {n = n} {x = x} {rest = rest} {value = value} {made = made} d
+          gives) =
+          let e = obtain_kept u c n x in
+          let cell = own_cell u.number in
+          keeps_more (written o place f.body (bound_cell made f cell) u.number) (binding made f cell value)
+          (record (binds made f cell) { stage = runs rest; obtained = with_function value f.obtained })
+          (behind q d.comes_to) (record { variable = u.number; object = x; value = value } ∷ f.kept) f.given_away
+          (binds_value e rest cell value (with_function value f.obtained) made (obtaining_changes s made c value gives) d
+          (used.binds_own f.body q.events (occurrence_of d.comes_to) cell it.is_of
+          (reached p o s place q f it e rest d.comes_to) binds_into))
+      acts_held after frames (keeps_one {v = v} {x = x} {rest = rest} d) =
+          keeps_more o s (at_code f rest) (behind q d.comes_to)
+          (record { variable = v; object = x; value = held s f v } ∷ f.kept) f.given_away
+          (passes (keep v x) rest d s (no_change s))
+      acts_held after frames (renews_object {v = v} {x = x} {rest = rest} d) =
+          keeps_more o s (at_code f rest) (behind q d.comes_to) (without_kept f.kept v x) f.given_away
+          (passes (renew v x) rest d s (no_change s))
+      acts_held after frames (calls_kept {v = v} {x = x} {rest = rest} d) =
+          let value = kept_value f.kept v x in
+          passes (call_kept v x) rest d (calling s value) (calling_changes s value)
+      acts_held after frames (saves_kept {v = v} {x = x} {rest = rest} d) =
+          saves (defer_kept v x) rest (saved_call (kept_value f.kept v x)) d (λ c e. cc) (λ passing e. cc)
+      acts_held after frames (gives_object {v = v} {x = x} {rest = rest} d) =
+          keeps_more o s (at_code f rest) (behind q d.comes_to) f.kept (kept_value f.kept v x ∷ f.given_away)
+          (passes (give v x) rest d s (no_change s))
+      acts_held after frames (gives_in_field {v = v} {rest = rest} d) =
+          keeps_more o s (at_code f rest) (behind q d.comes_to) f.kept (held s f v ∷ f.given_away)
+          (passes (give_field v) rest d s (no_change s))
       acts_held after frames (clears_one {u = u} {rest = rest} d) =
           binds_value (clear u) rest u nothing f.obtained s (no_change s) d
           (used.binds_own f.body q.events (occurrence_of d.comes_to) u it.is_of
@@ -479,7 +519,7 @@ module _ (p : Program) (used : BodiesAreWellUsed p) where
           (λ c e. subst (IsApart p o s) (same_closure closure c e)
           (evaluated_is_apart o s place q f it b is_in no_home)) (λ passing e. cc)
       acts_held after frames (comes_to_return {handed = handed} {rest = rest} d) =
-          let values = map (λ (h : Handed). held s f h.number) handed in
+          let values = map (handed_by s f) handed in
           goes_on s (no_change s) (behind q d.comes_to) (record f { stage = exits; handed_on = values })
           (holder_returning p o s place q f it (return_event handed) rest d.comes_to values d.none_waits)
       acts_held after frames (runs_call {value = value} {left = left} r) =

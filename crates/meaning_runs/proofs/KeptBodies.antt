@@ -1,6 +1,8 @@
 -- Where nothing is to be said of any package that runs go through, all is there that the invariant asks of bodies.
-use Rattle.std.proofs.Common.{subst}
-use Rattle.meaning_runs.specs.Bodies.{Program, IsRun}
+use Rattle.std.proofs.Common.{◌≡◌, sym, ◌∙◌, subst}
+use Rattle.meaning.specs.FunctionFacts.{VariableKind}
+use Rattle.meaning.specs.Uses.{VariableAt}
+use Rattle.meaning_runs.specs.Bodies.{Program, Body, IsRun}
 use Rattle.meaning_runs.specs.Promise.{AreWellKnown, HaveNoFindings}
 use Rattle.meaning_runs.proofs.Bindings.{binds_so}
 use Rattle.meaning_runs.proofs.CaredActs.{BodiesAreKept}
@@ -11,12 +13,25 @@ use Rattle.meaning_runs.proofs.KeptPromises.{no_fault_under, called_under, waite
 use Rattle.meaning_runs.proofs.OwnBindings.{BindsVariable, BindsItsOwn}
 use Rattle.meaning_runs.proofs.TrackedBindings.{cancel_bound}
 
+-- by its number alone
+bound_by_number : {kind : VariableKind} {b : Body} (w u : VariableAt) → w.number ≡ u.number → BindsVariable kind b w
+    → BindsVariable kind b u
+bound_by_number w u same h = record {
+  variable = h.variable;
+  is_of_body = h.is_of_body;
+  is_it = h.is_it ∙ same;
+  is_of_kind = h.is_of_kind;
+  is_declared_here = h.is_declared_here;
+  is_no_parameter = λ v k among its role. h.is_no_parameter v k among (its ∙ sym same) role;
+}
+
 -- what is bound as a cancel variable is one that the body declares
 pub binds_its_own : (p : Program) → BindsItsOwn p
 binds_its_own p = record {
   each = λ b t o u of reached binds.
+      let w = binds_so o.event u binds in
       subst (λ k. BindsVariable k b u) (cancel_bound o.event u binds)
-      (bindings_are_own p b t o u of reached (binds_so o.event u binds));
+      (bound_by_number w.0 u w.2 (bindings_are_own p b t o w.0 of reached w.1));
 }
 
 pub bodies_are_kept : (p : Program) → AreWellKnown p → HaveNoFindings p (IsRun p) → BodiesAreKept p

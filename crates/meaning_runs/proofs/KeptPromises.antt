@@ -4,7 +4,7 @@
 use Rattle.std.proofs.Common.{◌≡◌, ℕ, Some, sym, ◌∙◌}
 use Rattle.std.specs.Prelude.{slice_get}
 use Rattle.std.proofs.lemmas.Bool.{false≢true}
-use Rattle.meaning.specs.Classes.{Promises, CancelClass, opened, safe, pending}
+use Rattle.meaning.specs.Classes.{Promises, CancelClass, opened, kept, safe, pending}
 use Rattle.meaning.specs.BodyEvents.{Variable}
 use Rattle.meaning_packages.specs.PathFaults.{KeepsCall, paths_of}
 use Rattle.meaning_packages.specs.Credits.{Credits, AreFairCredits, no_calls, promises_in}
@@ -23,6 +23,9 @@ use Rattle.meaning_runs.proofs.WhoStarts.{BodiesAreWellUsed}
 safe≢opened : (k : CancelClass) → k ≡ safe → k ≡ opened → ⊥
 safe≢opened k e q = let bad : safe ≡ opened = sym e ∙ q in cc
 
+safe≢kept : (k : CancelClass) → k ≡ safe → k ≡ kept → ⊥
+safe≢kept k e q = let bad : safe ≡ kept = sym e ∙ q in cc
+
 safe≢pending : (k : CancelClass) (n : ℕ) → k ≡ safe → k ≡ pending n → ⊥
 safe≢pending k n e q = let bad : safe ≡ pending n = sym e ∙ q in cc
 
@@ -31,6 +34,7 @@ credit_keeps : (b : Body) (v : Variable) (c : IsCreditedWith b v)
     → KeepsCall (paths_of b.file (promises_in no_calls c.credits b.place.at) b.place) v
 credit_keeps b v c = record {
   never_open = λ handed t o back. safe≢opened _ (is_safe_at_return b v c handed t o back);
+  never_kept = λ handed t o back. safe≢kept _ (is_safe_at_return b v c handed t o back);
   never_left = λ handed t o back left.
       safe≢pending _ left.left_to.number (is_safe_at_return b v c handed t o back) left.is_pending;
 }

@@ -3,8 +3,8 @@ use Rattle.std.proofs.Common.{◌≡◌, ℕ, Bool, true, false, inl, inr, List,
 use Rattle.std.specs.Prelude.{◌&&◌, if◌then◌else◌}
 use Rattle.std.proofs.lemmas.List.Elements.{Contains-append_cases}
 use Rattle.tree.specs.Syntax.{Expressions}
-use Rattle.meaning.specs.Mentions.{BodyPlace, Mark, mentions, defers_literal, returns, opens, closes, file_marks, marks_by}
-use Rattle.meaning.specs.Tracked.{Placed, placed, outer}
+use Rattle.meaning.specs.Mentions.{BodyPlace, Mark, mentions, defers_literal, returns, opens, closes, file_marks, marks_by, of_fields}
+use Rattle.meaning.specs.Tracked.{Placed, placed, outer, some_keep}
 use Rattle.meaning.specs.Uses.{Seen, Event, defer_literal, is_body}
 use Rattle.meaning.specs.BodyEvents.{mark_events, is_site, events_at, sites_of}
 use Rattle.meaning_packages.proofs.BodyPlaces.{placed_only}
@@ -14,7 +14,8 @@ use Rattle.meaning.specs.BodyEvents.{opened_in}
 use Rattle.meaning_runs.specs.RunLists.{is_return, ReturnsAreLast}
 use Rattle.meaning_runs.proofs.Places.{eqb_is}
 use Rattle.meaning_runs.proofs.LeftSides.{is_placed}
-use Rattle.meaning_runs.proofs.MentionEvents.{AreQuiet, none_given, one_fits, mentions_are_quiet}
+use Rattle.meaning_runs.proofs.MentionEvents.{AreQuiet, none_given, one_fits, object_is_no_return, mentions_are_quiet}
+use Rattle.meaning_runs.proofs.KeptEvents.{field_events_are}
 use Rattle.meaning_runs.proofs.AskedSites.{asked_at, asked_statements}
 use Rattle.meaning_runs.proofs.SitesWithin.{MayFollow, ReturnsEnd}
 use Rattle.meaning_runs.proofs.BodyOffsets.{opens_one, are_sited}
@@ -30,6 +31,7 @@ placed_end : (bodies : List BodyPlace) (ms : List Mark) → ReturnsEnd ms → Pl
 unfolding placed
 placed_end bodies [] h = tt
 placed_end bodies (mentions m ∷ ms) h = (λ q among. tt, placed_end bodies ms h.1)
+placed_end bodies (of_fields site m ∷ ms) h = (λ q among. tt, placed_end bodies ms h.1)
 placed_end bodies (defers_literal site at ∷ ms) h = (λ q among. tt, placed_end bodies ms h.1)
 placed_end bodies (returns at es ∷ ms) h =
     (λ q among. h.0 q.mark (is_placed bodies ms q among), placed_end bodies ms h.1)
@@ -44,6 +46,8 @@ IsNoReturn mark = Unit {0}
 module _ (seen : Seen) (body : ℕ) where
   quiet_mark : (bodies : List BodyPlace) (m : Mark) → IsNoReturn m → AreQuiet (mark_events seen bodies m)
   quiet_mark bodies (mentions m) h = mentions_are_quiet seen bodies m
+  quiet_mark bodies (of_fields site m) h =
+      λ e k. object_is_no_return e (field_events_are seen bodies site m e k)
   quiet_mark bodies (defers_literal site at) h = one_fits (λ e. is_return e ≡ false) (defer_literal at) refl
   quiet_mark bodies (returns site es) h = absurd h
   quiet_mark bodies (opens b) h = none_given (λ e. is_return e ≡ false)
@@ -99,6 +103,9 @@ module _ (seen : Seen) (body : ℕ) where
       by bodies (mentions m) here behind =
           quiet_before (mark_events seen bodies (mentions m)) (events_at seen body ps at)
           (quiet_mark bodies (mentions m) tt) rest
+      by bodies (of_fields site x) here behind =
+          quiet_before (mark_events seen bodies (of_fields site x)) (events_at seen body ps at)
+          (quiet_mark bodies (of_fields site x) tt) rest
       by bodies (defers_literal site l) here behind =
           quiet_before (mark_events seen bodies (defers_literal site l)) (events_at seen body ps at)
           (quiet_mark bodies (defers_literal site l) tt) rest
@@ -129,6 +136,7 @@ no_return_there : (marks : List Mark) (s : ℕ)
     → is_site m s ≡ true
     → IsNoReturn m
 no_return_there marks s none (mentions m) among e = tt
+no_return_there marks s none (of_fields site m) among e = tt
 no_return_there marks s none (defers_literal site at) among e = tt
 no_return_there marks s none (returns site es) among e =
     none es (subst (λ (n : ℕ). Contains marks (returns n es)) (eqb_is site s e) among)
@@ -140,16 +148,17 @@ returns_are_last b t x text among lists =
     let file = are_sited text.known.edition text.text text.tree text.is_tree in
     let edition = text.known.edition in
     let all = file_marks text.tree in
-    let marks = marks_by edition all in
+    let keeps = some_keep text.known.fields in
+    let marks = marks_by edition keeps all in
     let same : b.file.marks ≡ placed [] marks = ap (λ (s : Seen). s.marks) text.is_file in
-    let opened = among_all edition all (opens b.place) (opens_one marks b.place
+    let opened = among_all edition keeps all (opens b.place) (opens_one marks b.place
     (subst (λ (ps : List Placed). Contains (opened_in ps) b.place) same
     (placed_only (opened_in b.file.marks) b.place among))) in
-    let ends = subst PlacedEnd (sym same) (placed_end [] marks (returns_end edition all file.sited.last)) in
+    let ends = subst PlacedEnd (sym same) (placed_end [] marks (returns_end edition keeps all file.sited.last)) in
     let quiet = λ (s : ℕ) (asked : Contains
     (asked_statements b.place.statements) (asked_at s)). quiet_at b.file b.place.at s b.file.marks λ p there is.
     no_return_there marks s (λ es returned. file.sited.differ s es
-    (inr record { body = b.place; opened = opened; among = asked }) (among_all edition all (returns s es) returned))
+    (inr record { body = b.place; opened = opened; among = asked }) (among_all edition keeps all (returns s es) returned))
     p.mark (is_placed [] marks p (subst (λ (ps : List Placed). Contains ps p) same there)) is in
     body_lists_end (sites_of b.file b.place.at) refl (λ at. last_at b.file b.place.at at b.file.marks ends)
     (block_of b.place) t x quiet lists

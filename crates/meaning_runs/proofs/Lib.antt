@@ -22,6 +22,9 @@ mod ExampleRuns
 mod EditionExamples
 mod Writes
 mod EditionRuns
+mod FieldRuns
+mod FieldWrites
+mod FieldsTold
 pub mod EventSources
 pub mod HandedEvents
 pub mod HandedNames
@@ -50,6 +53,9 @@ mod LastReturns
 pub mod OccurrencePlaces
 pub mod PartSites
 mod DeferredLiterals
+mod FieldMarks
+pub mod KeptEvents
+mod ObjectEvents
 pub mod MarkForms
 mod EditionMarks
 mod MarksBeside
@@ -81,7 +87,9 @@ mod CaredGoesOn
 mod CaredEvents
 mod HeldWorlds
 mod GroupMakers
+mod KeptValues
 mod CaredBindings
+mod CaredObjects
 mod CaredCalls
 mod CaredActs
 mod CaredWorlds

@@ -16,16 +16,17 @@ use Rattle.meaning_runs.proofs.ExampleRuns.{act, goes, comes_at, next_at, begins
 use Rattle.meaning_runs.proofs.FreeGoroutines.{none_given}
 use Rattle.meaning_runs.proofs.LoudBodies.{both, branch_at, calling_at, passing_is_of, passing_is_outermost, passing_is, ignoring_is_function, ignoring_is, using_is_of, using_is_outermost, using_is, branching_is_of, branching_is_outermost, branching_is, returning_early_is_of, returning_early_is_outermost, returning_early_is, deferring_nothing_is_of, deferring_nothing_is_outermost, deferring_nothing_is, deferring_branch_is_of, deferring_branch_is_outermost, deferring_branch_is, empty_literal, empty_literal_is_in, empty_literal_is, branching_literal, branching_literal_is_in, branching_literal_is, both_deferred, passed_later, deferring_pass_is_of, deferring_pass_is_outermost, deferring_pass_is, ignoring_later_is_function, ignoring_later_is}
 
-owes_first : (f : Frame) → f.obtained ≡ 0 ∷ [] → f.handed_on ≡ [] → Owes f 0
-owes_first f e none = record {
+owes_first : (f : Frame) → f.obtained ≡ 0 ∷ [] → f.handed_on ≡ [] → f.given_away ≡ [] → Owes f 0
+owes_first f e none own = record {
   was_obtained = subst (λ l. Contains l 0) (sym e) (contains_here 0 []);
   is_kept = λ x. contains_nil (cancel_function 0) (subst (λ l. Contains l (cancel_function 0)) none x);
+  is_its_own = λ x. contains_nil (cancel_function 0) (subst (λ l. Contains l (cancel_function 0)) own x);
 }
 
 -- The frame owes one function, and none was called.
-pub loud_of : (p : Program) (w : World) (f : Frame) → Run p w → w.stacks 0 ≡ f ∷ [] → IsAtEnd f → f.body.home ≡ p.looked_at → f.obtained ≡ 0 ∷ [] → f.handed_on ≡ [] → w.store.called ≡ [] → HasLoudReturn p
-loud_of p w f run at end home obtained none uncalled =
-    (w, f, record { run = run; is_returning = record { goroutine = 0; others = []; is_running = at; is_at_end = end }; is_of_package = home; owed = 0; owes = owes_first f obtained none }, λ q. contains_nil 0 (subst (λ l. Contains l 0) uncalled (q.called 0 (owes_first f obtained none))))
+pub loud_of : (p : Program) (w : World) (f : Frame) → Run p w → w.stacks 0 ≡ f ∷ [] → IsAtEnd f → f.body.home ≡ p.looked_at → f.obtained ≡ 0 ∷ [] → f.handed_on ≡ [] → f.given_away ≡ [] → w.store.called ≡ [] → HasLoudReturn p
+loud_of p w f run at end home obtained none own uncalled =
+    (w, f, record { run = run; is_returning = record { goroutine = 0; others = []; is_running = at; is_at_end = end }; is_of_package = home; owed = 0; owes = owes_first f obtained none own }, λ q. contains_nil 0 (subst (λ l. Contains l 0) uncalled (q.called 0 (owes_first f obtained none own))))
 
 -- The frame has obtained its function, and stands before what comes then.
 abbrev pub standing : Body → Code Event → (ℕ → Option ℕ) → Frame
@@ -37,6 +38,8 @@ standing b c newest = record {
   saved = [];
   obtained = 0 ∷ [];
   made = [];
+  kept = [];
+  given_away = [];
   handed_on = [];
 }
 
@@ -69,7 +72,7 @@ loud_by_use = from_there (obtained_one _ _ _ _ using_is_of using_is_outermost us
         let r3 = act _ _ _ _ _ _ r2 refl (moves_on (goes _ _ _ _ refl (first_moves first_is_done))) in
         let r4 = act _ _ _ _ _ _ r3 refl (moves_on (goes _ _ _ _ refl first_is_done)) in
         let r5 = act _ _ _ _ _ _ r4 refl (comes_to_return (next_at _ 105 (return_event []) _ _ refl happens refl)) in
-        loud_of _ _ _ r5 refl record { stage = refl; saved = refl } refl refl refl h.none_called
+        loud_of _ _ _ r5 refl record { stage = refl; saved = refl } refl refl refl refl h.none_called
 
 loud_by_branch : HasLoudReturn (program_with (branching ∷ []))
 loud_by_branch = from_there (obtained_one _ _ _ _ branching_is_of branching_is_outermost branching_is)
@@ -84,7 +87,7 @@ loud_by_branch = from_there (obtained_one _ _ _ _ branching_is_of branching_is_o
         let r6 = act _ _ _ _ _ _ r5 refl (moves_on (goes _ _ _ _ refl (first_moves first_is_done))) in
         let r7 = act _ _ _ _ _ _ r6 refl (moves_on (goes _ _ _ _ refl first_is_done)) in
         let r8 = act _ _ _ _ _ _ r7 refl (comes_to_return (next_at _ 122 (return_event []) _ _ refl happens refl)) in
-        loud_of _ _ _ r8 refl record { stage = refl; saved = refl } refl refl refl h.none_called
+        loud_of _ _ _ r8 refl record { stage = refl; saved = refl } refl refl refl refl h.none_called
 
 loud_by_early_return : HasLoudReturn (program_with (returning_early ∷ []))
 loud_by_early_return = from_there (obtained_one _ _ _ _ returning_early_is_of returning_early_is_outermost returning_early_is)
@@ -97,7 +100,7 @@ loud_by_early_return = from_there (obtained_one _ _ _ _ returning_early_is_of re
         let r4 = act _ _ _ _ _ _ r3 refl (moves_on (goes _ _ _ _ refl (first_moves (first_moves first_is_done)))) in
         let r5 = act _ _ _ _ _ _ r4 refl (moves_on (goes _ _ _ _ refl (first_moves (first_moves picks_first)))) in
         let r6 = act _ _ _ _ _ _ r5 refl (comes_to_return (next_at _ 110 (return_event []) _ _ refl (first_moves (first_moves (first_moves (first_moves (first_moves happens))))) refl)) in
-        loud_of _ _ _ r6 refl record { stage = refl; saved = refl } refl refl refl h.none_called
+        loud_of _ _ _ r6 refl record { stage = refl; saved = refl } refl refl refl refl h.none_called
 
 loud_by_call : HasLoudReturn (program_with both)
 loud_by_call = from_there (obtained_one _ _ _ _ passing_is_of passing_is_outermost passing_is)
@@ -115,7 +118,7 @@ loud_by_call = from_there (obtained_one _ _ _ _ passing_is_of passing_is_outermo
         let r4 = act _ _ _ _ _ _ r3 refl (moves_on (goes _ _ _ _ refl (first_moves first_is_done))) in
         let r5 = act _ _ _ _ _ _ r4 refl (moves_on (goes _ _ _ _ refl first_is_done)) in
         let r6 = act _ _ _ _ _ _ r5 refl (comes_to_return (next_at _ 104 (return_event []) _ _ refl happens refl)) in
-        loud_of _ _ _ r6 refl record { stage = refl; saved = refl } refl refl refl h.none_called
+        loud_of _ _ _ r6 refl record { stage = refl; saved = refl } refl refl refl refl h.none_called
 
 loud_by_saved_call : HasLoudReturn (program_with both_deferred)
 loud_by_saved_call = from_there (obtained_one _ _ _ _ deferring_pass_is_of deferring_pass_is_outermost deferring_pass_is)
@@ -134,7 +137,7 @@ loud_by_saved_call = from_there (obtained_one _ _ _ _ deferring_pass_is_of defer
         let g3 = act _ _ _ _ _ _ g2 refl (moves_on (goes _ _ _ _ refl first_is_done)) in
         let g4 = act _ _ _ _ _ _ g3 refl (comes_to_return (next_at _ 144 (return_event []) _ _ refl happens refl)) in
         let g5 = act _ _ _ _ _ _ g4 refl (returns_now record { stage = refl; saved = refl }) in
-        loud_of _ _ _ g5 refl record { stage = refl; saved = refl } refl refl refl h.none_called
+        loud_of _ _ _ g5 refl record { stage = refl; saved = refl } refl refl refl refl h.none_called
 
 loud_by_empty_literal : HasLoudReturn (program_with (deferring_nothing ∷ []))
 loud_by_empty_literal = from_there (obtained_one _ _ _ _ deferring_nothing_is_of deferring_nothing_is_outermost deferring_nothing_is)
@@ -152,7 +155,7 @@ loud_by_empty_literal = from_there (obtained_one _ _ _ _ deferring_nothing_is_of
         let g3 = act _ _ _ _ _ _ g2 refl (moves_on (goes _ _ _ _ refl first_is_done)) in
         let g4 = act _ _ _ _ _ _ g3 refl (comes_to_return (next_at _ 108 (return_event []) _ _ refl happens refl)) in
         let g5 = act _ _ _ _ _ _ g4 refl (returns_now record { stage = refl; saved = refl }) in
-        loud_of _ _ _ g5 refl record { stage = refl; saved = refl } refl refl refl h.none_called
+        loud_of _ _ _ g5 refl record { stage = refl; saved = refl } refl refl refl refl h.none_called
 
 loud_by_branching_literal : HasLoudReturn (program_with (deferring_branch ∷ []))
 loud_by_branching_literal = from_there (obtained_one _ _ _ _ deferring_branch_is_of deferring_branch_is_outermost deferring_branch_is)
@@ -176,7 +179,7 @@ loud_by_branching_literal = from_there (obtained_one _ _ _ _ deferring_branch_is
         let g9 = act _ _ _ _ _ _ g8 refl (moves_on (goes _ _ _ _ refl first_is_done)) in
         let g10 = act _ _ _ _ _ _ g9 refl (comes_to_return (next_at _ 134 (return_event []) _ _ refl happens refl)) in
         let g11 = act _ _ _ _ _ _ g10 refl (returns_now record { stage = refl; saved = refl }) in
-        loud_of _ _ _ g11 refl record { stage = refl; saved = refl } refl refl refl h.none_called
+        loud_of _ _ _ g11 refl record { stage = refl; saved = refl } refl refl refl refl h.none_called
 
 pub lost_functions_are_seen : LostFunctionsAreSeen
 lost_functions_are_seen = record {

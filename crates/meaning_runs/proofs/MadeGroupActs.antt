@@ -1,14 +1,13 @@
 -- What the running frame of a goroutine does keeps what is said of the groups that the frames of the goroutine made.
 use Rattle.std.proofs.Common.{◌≡◌, ℕ, suc, ◌<◌, ◌⊎◌, inl, inr, false, true, List, [], ◌∷◌, ◌++◌, length, map, Option, Some, Contains, refl, sym, ap, ◌∙◌, subst, arith}
 use Rattle.std.proofs.lemmas.Option.{none-some}
-use Rattle.meaning.specs.Uses.{Handed}
 use Rattle.meaning.specs.BodyEvents.{Variable}
 use Rattle.meaning.specs.Classes.{Promises}
 use Rattle.meaning.proofs.Membership.{contains_here, contains_there, contains_nil}
-use Rattle.meaning_packages.specs.PathFaults.{obtains, clears}
+use Rattle.meaning_packages.specs.PathFaults.{obtains, obtains_into as binds_into, clears}
 use Rattle.meaning_runs.specs.Bodies.{Program, Body, IsOf}
-use Rattle.meaning_runs.specs.World.{Value, nothing, nobody, outside, frame_at, Place, Store, with_cells, IsOutside, Lent, Passing, Closure, Saved, saved_call, saved_pass, saved_literal, saved_wait, Frame, group_in_cell, held, new_frame, nothing_around}
-use Rattle.meaning_runs.specs.Steps.{with_function, Fits, of_function, of_none, IsAtEnd, Acts, moves_on, does_other, obtains_one, clears_one, calls_one, saves_call, makes_group, tries_nothing, ends_wait, saves_wait, evaluates, evaluates_deferred, lends, makes_call, calls_outside, saves_pass, saves_literal, comes_to_return, runs_call, runs_pass, runs_literal, runs_wait, returns_now}
+use Rattle.meaning_runs.specs.World.{Value, nothing, nobody, outside, frame_at, Place, Store, with_cells, IsOutside, Lent, Passing, Closure, Saved, saved_call, saved_pass, saved_literal, saved_wait, InObject, Frame, group_in_cell, held, kept_value, without_kept, handed_by, own_cell, new_frame, nothing_around}
+use Rattle.meaning_runs.specs.Steps.{with_function, Fits, of_function, of_none, IsAtEnd, Acts, moves_on, does_other, obtains_one, obtains_into, keeps_one, renews_object, calls_kept, saves_kept, gives_object, gives_in_field, clears_one, calls_one, saves_call, makes_group, tries_nothing, ends_wait, saves_wait, evaluates, evaluates_deferred, lends, makes_call, calls_outside, saves_pass, saves_literal, comes_to_return, runs_call, runs_pass, runs_literal, runs_wait, returns_now}
 use Rattle.meaning_runs.specs.Duties.{IsWaitingFor}
 use Rattle.meaning_runs.proofs.OwnBindings.{BindsItsOwn}
 use Rattle.meaning_runs.proofs.Places.{exits≢runs}
@@ -17,7 +16,7 @@ use Rattle.meaning_runs.proofs.Remembered.{Origins, Past, with_block, no_past, o
 use Rattle.meaning_runs.proofs.Holders.{IsKnown, IsSource, is_outside, is_made, was_lent, WasLent, IsHolder, AreHolders}
 use Rattle.meaning_runs.proofs.HolderSteps.{outside_is, obtaining_changes, ActsWell, acts_held}
 use Rattle.meaning_runs.proofs.GroupMakers.{is_maker_back}
-use Rattle.meaning_runs.proofs.MadeGroups.{IsWaitedForUnder, SavesWait, by_wait, by_literal, IsOver, MustWait, IsSettled, is_over, is_saved, is_above, is_live, IsSeenOver, MayAlso, AreSeenOver, Nothing}
+use Rattle.meaning_runs.proofs.MadeGroups.{IsWaitedForUnder, SavesWait, by_wait, by_literal, IsOver, MustWait, IsSettled, is_over, is_saved, is_above, is_live, IsSeenOver, MayAlso, AreSeenOver, Nothing, IsLive, IsActive, active_saved, active_live}
 use Rattle.meaning_runs.proofs.StoreGrowth.{frame-nobody, outside-frame, no_change, calling_changes, waiting_changes, contexts_grow, block_grows}
 use Rattle.meaning_runs.proofs.MadeGroupsStand.{all_stand}
 use Rattle.meaning_runs.proofs.MadeGroupFrames.{not_lower}
@@ -49,6 +48,48 @@ module _ (o : Origins) (s : Store) (a : ℕ) where
   literal_waits x c e (by_literal d v k w n l frozen h) =
       let same : d ≡ c = cc in
       subst WaitsWithin same (v, w, ap (group_in_cell s v.number) n ∙ h)
+
+-- Of what a frame keeps in objects, and of what others got, nothing is told here.
+abbrev Keeping : Frame → List InObject → List Value → Frame
+Keeping f kept given = record f { kept = kept; given_away = given }
+
+live_keeping : {s : Store} {past : Past} {f : Frame} (kept : List InObject) (given : List Value) (relies : Promises)
+    (v : Variable) (a : ℕ)
+    → IsLive relies s past f v a
+    → IsLive relies s past (Keeping f kept given) v a
+live_keeping kept given relies v a l =
+    record { code = l.code; stage = l.stage; is_live = l.is_live; is_held = l.is_held }
+
+settled_keeping : {o : Origins} {s : Store} {may must : ℕ → Type 0} {past : Past} {f : Frame} (kept : List InObject)
+    (given : List Value) (relies : Promises) (v : Variable) (a : ℕ)
+    → IsSettled relies o s may must past f v a
+    → IsSettled relies o s may must past (Keeping f kept given) v a
+settled_keeping kept given relies v a (is_over h) = is_over h
+settled_keeping kept given relies v a (is_saved x c w) = is_saved x c w
+settled_keeping kept given relies v a (is_above h) = is_above h
+settled_keeping kept given relies v a (is_live l) = is_live (live_keeping kept given relies v a l)
+
+active_keeping : {o : Origins} {s : Store} {past : Past} {f : Frame} (kept : List InObject) (given : List Value)
+    (relies : Promises) (v : Variable) (a : ℕ)
+    → IsActive relies o s past f v a
+    → IsActive relies o s past (Keeping f kept given) v a
+active_keeping kept given relies v a (active_saved x c w) = active_saved x c w
+active_keeping kept given relies v a (active_live l) = active_live (live_keeping kept given relies v a l)
+
+seen_keeping : {p : Program} {o : Origins} {s : Store} {place : Place} {may must : ℕ → Type 0} {past : Past} {f : Frame}
+    (kept : List InObject) (given : List Value)
+    → IsSeenOver p o s place may must past f
+    → IsSeenOver p o s place may must past (Keeping f kept given)
+seen_keeping kept given h = record {
+  made = λ relies a none c. let r = h.made relies a none c in (r.0, r.1, settled_keeping kept given relies r.0 a r.2);
+  waits = λ relies v a m w l e below. settled_keeping kept given relies v a (h.waits relies v a m w l e below);
+  apart = h.apart;
+  awaits = h.awaits;
+  lent_active = λ relies passing y a none w c e made.
+      let r = h.lent_active relies passing y a none w c e made in
+      (r.0, r.1, active_keeping kept given relies r.0 a r.2);
+  unmade_yet = h.unmade_yet;
+}
 
 -- what bodies are known to wait for, they wait for on some promises
 pub record WaitsAreKept (p : Program) : Type 0 where
@@ -144,9 +185,40 @@ module _ (p : Program) (used : BodiesAreWellUsed p) (binds_own : BindsItsOwn p) 
   acts_seen after frames (does_other d) =
       (seen_plain it seen (no_change s) d f.saved (λ x c. c) (λ relies v k. refl), rest (does_other d))
   acts_seen after frames (obtains_one {u = u} {c = c} {value = value} {made = made} d gives) =
-      (seen_binding_cancel it seen binds_own d u value made obtains (obtaining_changes s made c value gives) (well (obtains_one d gives)).grows (with_function value f.obtained), rest (obtains_one d gives))
+      (seen_binding_cancel it seen binds_own d u u value made obtains refl (obtaining_changes s made c value gives) (well (obtains_one d gives)).grows (with_function value f.obtained), rest (obtains_one d gives))
+  acts_seen after frames (obtains_into {u = u} {c = c} {x = x} {value = value} {made = made} d gives) = (
+    seen_keeping (record { variable = u.number; object = x; value = value } ∷ f.kept) f.given_away
+        (seen_binding_cancel it seen binds_own d (own_cell u.number) u value made binds_into refl (obtaining_changes s made c value gives)
+        (well (obtains_into d gives)).grows (with_function value f.obtained)),
+    rest (obtains_into d gives),
+  )
+  acts_seen after frames (keeps_one {v = v} {x = x} d) = (
+    seen_keeping (record { variable = v; object = x; value = held s f v } ∷ f.kept) f.given_away
+        (seen_plain it seen (no_change s) d f.saved (λ y c. c) (λ relies w k. refl)),
+    rest (keeps_one d),
+  )
+  acts_seen after frames (renews_object {v = v} {x = x} d) = (
+    seen_keeping (without_kept f.kept v x) f.given_away
+        (seen_plain it seen (no_change s) d f.saved (λ y c. c) (λ relies w k. refl)),
+    rest (renews_object d),
+  )
+  acts_seen after frames (calls_kept {v = v} {x = x} d) =
+      (seen_plain it seen (calling_changes s (kept_value f.kept v x)) d f.saved (λ y c. c) (λ relies w k. refl), rest (calls_kept d))
+  acts_seen after frames (saves_kept {v = v} {x = x} d) =
+      let call = saved_call (kept_value f.kept v x) in
+      (seen_plain it seen (no_change s) d (call ∷ f.saved) (λ y c. contains_there call y f.saved c) (λ relies w k. refl), rest (saves_kept d))
+  acts_seen after frames (gives_object {v = v} {x = x} d) = (
+    seen_keeping f.kept (kept_value f.kept v x ∷ f.given_away)
+        (seen_plain it seen (no_change s) d f.saved (λ y c. c) (λ relies w k. refl)),
+    rest (gives_object d),
+  )
+  acts_seen after frames (gives_in_field {v = v} d) = (
+    seen_keeping f.kept (held s f v ∷ f.given_away)
+        (seen_plain it seen (no_change s) d f.saved (λ y c. c) (λ relies w k. refl)),
+    rest (gives_in_field d),
+  )
   acts_seen after frames (clears_one {u = u} d) =
-      (seen_binding_cancel it seen binds_own d u nothing s clears (no_change s) (well (clears_one d)).grows f.obtained, rest (clears_one d))
+      (seen_binding_cancel it seen binds_own d u u nothing s clears refl (no_change s) (well (clears_one d)).grows f.obtained, rest (clears_one d))
   acts_seen after frames (calls_one {v = v} d) =
       (seen_plain it seen (calling_changes s (held s f v)) d f.saved (λ x c. c) (λ relies w k. refl), rest (calls_one d))
   acts_seen after frames (saves_call {v = v} d) =
@@ -182,7 +254,7 @@ module _ (p : Program) (used : BodiesAreWellUsed p) (binds_own : BindsItsOwn p) 
   acts_seen after frames (saves_literal b d is_in is_at) =
       (seen_saving_literal it seen used b d is_in is_at, rest (saves_literal b d is_in is_at))
   acts_seen after frames (comes_to_return {handed = handed} d) =
-      (seen_returning it seen d (map (λ (h : Handed). held s f h.number) handed), rest (comes_to_return d))
+      (seen_returning it seen d (map (handed_by s f) handed), rest (comes_to_return d))
   acts_seen after frames (runs_call {value = value} r) =
       let changes = calling_changes s value in (
         seen_popping it seen (grown it seen changes) Nothing Nothing r (none_joins it seen changes) (made_as_before it seen changes) (λ a m e x. x)

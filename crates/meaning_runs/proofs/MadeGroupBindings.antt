@@ -10,7 +10,7 @@ use Rattle.meaning.specs.Uses.{VariableAt, Event, make, found, tracked_kind}
 use Rattle.meaning.specs.BodyEvents.{Variable, captured}
 use Rattle.meaning.specs.Classes.{Promises, GroupClass, unmade, in_state, awaited, change_group}
 use Rattle.meaning.proofs.Membership.{contains_cases}
-use Rattle.meaning_packages.specs.PathFaults.{BindsCancel, obtains, clears, is_declared, loses_group}
+use Rattle.meaning_packages.specs.PathFaults.{BindsCancel, obtains, obtains_into, clears, is_declared, loses_group}
 use Rattle.meaning_runs.specs.Bodies.{Program, Body, variables_in}
 use Rattle.meaning_runs.specs.World.{Value, frame_at, Place, Store, put_at, with_group, runs, Frame, group_in_cell, held_group, bound_cell, binding, binding_group, binds}
 use Rattle.meaning_runs.specs.Steps.{DoesNext, Makes, zero_group, with_context}
@@ -136,22 +136,24 @@ module _ {p : Program} {o after_o : Origins} {s after : Store} {place : Place} {
 
 cancel_plain : (relies : Promises) (v : ℕ) (c : GroupClass) (e : Event) (u : VariableAt) → BindsCancel e u → change_group relies v e c ≡ c
 cancel_plain relies v c e u obtains = refl
+cancel_plain relies v c e u obtains_into = refl
 cancel_plain relies v c e u clears = refl
 
 module _ {p : Program} {o : Origins} {s : Store} {place : Place} {q : Past} {f : Frame}
     (it : IsHolder p o s place q f) (seen : IsSeenOver p o s place Nothing Nothing q f) where
-  pub seen_binding_cancel : BindsItsOwn p → {after_o : Origins} {e : Event} {rest : Code Event} (d : DoesNext f e rest) (u : VariableAt) (value : Value) (t : Store)
-      → BindsCancel e u
+  pub seen_binding_cancel : BindsItsOwn p → {after_o : Origins} {e : Event} {rest : Code Event} (d : DoesNext f e rest) (u b : VariableAt) (value : Value) (t : Store)
+      → BindsCancel e b
+      → b.number ≡ u.number
       → ChangesContexts s t
       → Grows (frame_at place) o after_o s (binding t f u value)
       → (obtained : List ℕ)
       → IsSeenOver p after_o (binding t f u value) place Nothing Nothing (behind q d.comes_to) (record (binds t f u) { stage = runs rest; obtained = obtained })
-  seen_binding_cancel binds_own {after_o} {e} {rest} d u value t is_binding changes grows obtained =
+  seen_binding_cancel binds_own {after_o} {e} {rest} d u b value t is_binding its_number changes grows obtained =
       seen_binding it seen grows d u (bound_cell t f u) obtained f.made record {
         same_member = λ g. ap (λ (m : ℕ → Option ℕ). m g) changes.same_member;
         made_before = λ a m x l. sym (ap (λ (m : ℕ → _). m a) changes.same_maker) ∙ x;
         others_hold = λ v ne. held_else s (binding t f u value) f u.number (bound_cell t f u) v (λ j. ap (λ (c : ℕ → ℕ → Option ℕ). c j v) changes.same_holds) ne;
-        others_stay = λ relies v c ne. cancel_plain relies v c e u is_binding;
+        others_stay = λ relies v c ne. cancel_plain relies v c e b is_binding;
         not_live = λ relies v owed same class. let there = owed_there owed in no_group v there.0 there.1 same;
         not_awaited = λ relies v among kind same class. no_group v among kind same;
         not_unmade = λ relies v own same class. no_group v own.is_of_body own.is_group_variable same;
@@ -160,8 +162,8 @@ module _ {p : Program} {o : Origins} {s : Store} {place : Place} {q : Past} {f :
     where
       no_group : (v : Variable) → Contains (variables_in f.body) v → v.kind ≡ group → v.number ≡ u.number → ⊥
       no_group v among kind same =
-          let own = binds_own.each f.body q.events (occurrence_of d.comes_to) u it.is_of (reached p o s place q f it e rest d.comes_to) is_binding in
-          cancel≢group (sym own.is_of_kind ∙ one_kind f.body own.variable v own.is_of_body among (own.is_it ∙ sym same) ∙ kind)
+          let own = binds_own.each f.body q.events (occurrence_of d.comes_to) b it.is_of (reached p o s place q f it e rest d.comes_to) is_binding in
+          cancel≢group (sym own.is_of_kind ∙ one_kind f.body own.variable v own.is_of_body among (own.is_it ∙ its_number ∙ sym same) ∙ kind)
 
   -- A making
 

@@ -1,13 +1,15 @@
 -- The marks of each part of a tree are made of few forms: mentions, calls with and without a literal as their only
 -- argument, returns, and bodies, of which one that is called under `defer` is marked so behind it. Outside all bodies no
 -- call stands as a whole, and no literal is called under `defer`. So what holds of these forms holds of all marks.
-use Rattle.std.proofs.Common.{◌≡◌, ℕ, ◌+◌, Bool, true, false, List, [], ◌∷◌, ◌++◌, Option, Some, None, refl, sym, ap, ◌∙◌, subst, append-nil}
-use Rattle.std.specs.Prelude.{◌&&◌, ◌||◌, not, if◌then◌else◌, is_some, option_map, ◌-◌}
+use Rattle.std.proofs.Common.{◌≡◌, ℕ, ◌+◌, Bool, true, false, List, [], ◌∷◌, ◌++◌, Option, Some, None, refl, sym, ap, ◌∙◌, subst, append_assoc}
+use Rattle.std.specs.Prelude.{◌&&◌, not, if◌then◌else◌, is_some, option_map, ◌-◌, ◌||◌}
 use Rattle.tree.specs.declared.operator.DeclKeyword.{DeclKeyword}
 use Rattle.tree.specs.declared.span.Span.{Span}
-use Rattle.tree.specs.Syntax.{Identifier, Expression, expression_node, ExpressionForm, name_expression, basic_literal, function_literal, composite_literal, literal_value, key_value, parenthesized, selector_expression, index_expression, instance_expression, slice_expression, type_assertion, call_expression, star_expression, unary_expression, binary_expression, array_type, ellipsis_array_type, slice_type, map_type, channel_type, function_type, struct_type, interface_type, Expressions, no_expression, expression_and, OptionalExpression, missing_expression, present_expression, Signature, signature_of, Parameters, no_parameter, named_and, unnamed_and, name_alone_and, Fields, no_field, fields_and, embedded_and, element_and, method_and, Statement, statement_node, StatementForm, empty_statement, declaration_statement, labeled_statement, expression_statement, send_statement, increment_statement, decrement_statement, assignment, operator_assignment, define_statement, go_statement, defer_statement, return_statement, break_statement, continue_statement, goto_statement, fallthrough_statement, block_statement, if_statement, for_statement, range_assignment, range_definition, switch_statement, type_switch_statement, select_statement, Statements, no_statement, statement_and, OptionalStatement, missing_statement, present_statement, CaseClauses, no_case, case_and, CommunicationClauses, no_communication, communication_and, Declaration, declaration_of, Specs, no_spec, value_and, type_and, Block, Function, TopLevelDeclaration, function_declaration, general_declaration, SourceFile}
+use Rattle.tree.specs.Syntax.{Identifier, Expression, expression_node, ExpressionForm, name_expression, basic_literal, function_literal, composite_literal, literal_value, key_value, parenthesized, selector_expression, index_expression, instance_expression, slice_expression, type_assertion, call_expression, star_expression, unary_expression, binary_expression, array_type, ellipsis_array_type, slice_type, map_type, channel_type, function_type, struct_type, interface_type, Expressions, no_expression, expression_and, OptionalExpression, missing_expression, present_expression, Signature, signature_of, Parameters, no_parameter, named_and, unnamed_and, name_alone_and, Fields, no_field, fields_and, embedded_and, element_and, method_and, Statement, statement_node, StatementForm, empty_statement, declaration_statement, labeled_statement, expression_statement, send_statement, increment_statement, decrement_statement, assignment, operator_assignment, define_statement, go_statement, defer_statement, return_statement, break_statement, continue_statement, goto_statement, fallthrough_statement, block_statement, if_statement, for_statement, range_assignment, range_definition, switch_statement, type_switch_statement, select_statement, Statements, no_statement, statement_and, OptionalStatement, missing_statement, present_statement, CaseClauses, no_case, case_and, CommunicationClauses, no_communication, communication_and, Declaration, declaration_of, Specs, no_spec, value_and, type_and, Block, Function, TopLevelDeclaration, function_declaration, general_declaration, ImportSpec, SourceFile}
+use Rattle.meaning.specs.OuterBlocks.{specs_of}
 use Rattle.meaning.specs.Scopes.{is_blank, parameters_named, named_in_types}
-use Rattle.meaning.specs.Mentions.{Named, as_bare, as_named, as_bracketed, as_pointer, as_new_literal, select_from, defines, assigns, declares, Standing, ordinary, first_of_for, communication, Row, CallPlace, nowhere, as_statement, only_value, return_item, deferred, place_in, Call, is_one, is_none_left, is_start, LiteralUse, other_use, deferred_call, started_by, argument_use, callee_use, Role, elsewhere, called, called_in_brackets, argument, left, names_type, new_literal, parameter_pointer, Mention, BodyPlace, Mark, mentions, defers_literal, returns, Spot, part_of, whole, mention, name_role, named_or, callee_or, addressed, argument_or, argument_at, new_literal_or, deferral, literal_body, in_body, parameter_type_or, value_spot, left_names, declared_elsewhere, guard_in_clause, row_of, expression_marks, form_marks, expressions_marks, optional_marks, arguments_marks, items_marks, lefts_marks, names_type_marks, signature_marks, parameters_marks, fields_marks, statement_marks, statement_form_marks, statements_marks, optional_statement_marks, cases_marks, communications_marks, declaration_marks, specs_marks, type_parameters_marks, receiver_marks, function_body, function_types_marks, function_marks, outer_specs_marks, top_level_marks, top_levels_marks, file_marks, exposed, addressed_within, bare_within, ranged_marks, NilTest, nil_marks, nil_where, error_where, error_marks, row_in, first_row, guard_marks, behind_row}
+use Rattle.meaning.specs.Mentions.{Named, as_bare, as_named, as_bracketed, as_pointer, as_new_literal, select_from, defines, assigns, declares, Standing, ordinary, first_of_for, communication, Row, CallPlace, nowhere, as_statement, only_value, return_item, deferred, place_in, Call, is_one, is_none_left, is_start, LiteralUse, other_use, deferred_call, started_by, argument_use, callee_use, Role, elsewhere, called, called_in_brackets, argument, left, names_type, new_literal, parameter_pointer, Mention, BodyPlace, Mark, mentions, defers_literal, returns, Spot, part_of, whole, mention, name_role, named_or, callee_or, addressed, argument_or, argument_at, new_literal_or, deferral, literal_body, in_body, parameter_type_or, value_spot, left_names, declared_elsewhere, guard_in_clause, row_of, expression_marks, form_marks, expressions_marks, optional_marks, arguments_marks, items_marks, lefts_marks, names_type_marks, signature_marks, parameters_marks, fields_marks, statement_marks, statement_form_marks, statements_marks, optional_statement_marks, cases_marks, communications_marks, declaration_marks, specs_marks, type_parameters_marks, receiver_marks, function_body, function_types_marks, function_marks, outer_specs_marks, top_level_marks, top_levels_marks, file_marks, exposed, addressed_within, bare_within, ranged_marks, NilTest, nil_marks, nil_where, error_where, error_marks, row_in, first_row, guard_marks, behind_row, under_go, pointed_to, of_fields, Assigned, FieldMark, callee_spot, argument_spot, argument_taker, literal_taker, receiver_given, field_called, field_written, given_to, literal_given_to, sent, rights_given, guard_renewed, communication_given, call_of, as_key, arguments_place, imports_all, is_dot, import_marks}
+use Rattle.meaning_runs.proofs.FieldMarks.{FieldsOnly, no_more, and_one, fields_both, Any, any, called_only, given_only, literal_only, receiver_only, rights_only, sent_only, communication_only, guard_only, written_only}
 use Rattle.meaning.specs.Uses.{literal_at, only_argument, started_literal, is_deferred_use}
 
 -- The forms
@@ -38,14 +40,16 @@ pub data AreMade : Bool → List Mark → Type 0 where
       → literal_of c ≡ None
       → IsPlaced i c
       → AreMade i (mention site (called c) c.callee ∷ [])
-  -- the literal follows the callee
-  a_call_with : {i : Bool} {ms : List Mark} (site : ℕ) (c : Call) (b : BodyPlace)
+  a_field : {i : Bool} (site : ℕ) (m : FieldMark) → AreMade i (of_fields site m ∷ [])
+  -- the literal stands before the callee, and between them what is given
+  a_call_with : {i : Bool} {ms fs : List Mark} (site : ℕ) (c : Call) (b : BodyPlace)
       → literal_of c ≡ Some b.at
       → b.literal ≡ argument_use (Some c)
       → b.name ≡ None
       → IsPlaced i c
       → AreMade true ms
-      → AreMade i (mention site (called c) c.callee ∷ in_body b ms)
+      → FieldsOnly Any site fs
+      → AreMade i (in_body b ms ++ (fs ++ mention site (called c) c.callee ∷ []))
   a_return : (at : ℕ) (es : Expressions) → AreMade true (returns at es ∷ [])
   a_body : {i : Bool} {ms : List Mark} (b : BodyPlace)
       → is_started b.literal ≡ false
@@ -61,6 +65,13 @@ pub data AreMade : Bool → List Mark → Type 0 where
 
 both : {i : Bool} {xs ys : List Mark} → AreMade i xs → AreMade i ys → AreMade i (xs ++ ys)
 both h k = both_parts h k refl
+
+fields : {i : Bool} {site : ℕ} (ms : List Mark) → FieldsOnly Any site ms → AreMade i ms
+fields ms no_more = no_mark
+fields ms (and_one {ms = rest} m p h) = both_parts (a_field _ m) (fields rest h) refl
+
+writes : {i : Bool} (site : ℕ) (by : Option Assigned) (e : Expression) → AreMade i (field_written site by e)
+writes site by e = fields (field_written site by e) (written_only Any any site by e (λ l q. tt))
 
 chosen : {i : Bool} (b : Bool) {xs ys : List Mark} → AreMade i xs → AreMade i ys → AreMade i (if b then xs else ys)
 chosen true h k = h
@@ -79,6 +90,7 @@ name_is_no_call as_statement = refl
 name_is_no_call (only_value row) = refl
 name_is_no_call (return_item k) = refl
 name_is_no_call deferred = refl
+name_is_no_call under_go = refl
 
 argued : {i : Bool} (c : Call) (site k : ℕ) (e : Expression) {ms : List Mark}
     → AreMade i ms
@@ -101,6 +113,7 @@ newly as_statement site n h = h
 newly (only_value row) site n h = named n site (new_literal row) refl h
 newly (return_item k) site n h = h
 newly deferred site n h = h
+newly under_go site n h = h
 
 typed : {i : Bool} (is_plain : Bool) (t : Expression) (site : ℕ) {ms : List Mark}
     → AreMade i ms
@@ -194,13 +207,13 @@ rest_of {spot = spot} b c h = record {
 }
 
 -- the callee of a call is no argument
-callee_fits : (i : Bool) (place : CallPlace) (site : ℕ) (b : Bool)
-    → (i ≡ false → place ≡ nowhere)
-    → Fits i record { place = nowhere; literal = callee_use place; site = site } b
-callee_fits i place site b none = record {
+callee_fits : (i : Bool) (spot : Spot) (b : Bool)
+    → (i ≡ false → spot.place ≡ nowhere)
+    → Fits i (callee_spot spot) b
+callee_fits i spot b none = record {
   place = λ o. refl;
   no_deferral = λ o. ap (λ p. is_deferred_use (callee_use p)) (none o);
-  alone = by place;
+  alone = by spot.place;
 }
   where
     by : (p : CallPlace) → (is_started (callee_use p) && b) ≡ false
@@ -209,6 +222,7 @@ callee_fits i place site b none = record {
     by (only_value row) = refl
     by (return_item k) = refl
     by deferred = refl
+    by under_go = refl
 
 used_so : (b : Bool) (n : Named) (use_of : LiteralUse → Bool)
     → use_of (started_by n) ≡ false
@@ -223,10 +237,10 @@ argument_is_not_deferred None = refl
 argument_is_not_deferred (Some c) =
     used_so (is_start c.callee && (is_one c.arguments && not c.has_ellipsis)) c.callee is_deferred_use refl refl
 
-argument_fits : (i : Bool) (o : Option Call) (site : ℕ) (b : Bool)
+argument_fits : (i : Bool) (place : CallPlace) (o : Option Call) (site : ℕ) (b : Bool)
     → (is_started (argument_use o) && b) ≡ false
-    → Fits i record { place = nowhere; literal = argument_use o; site = site } b
-argument_fits i o site b alone = record {
+    → Fits i (argument_spot place o site) b
+argument_fits i place o site b alone = record {
   place = λ p. refl;
   no_deferral = λ p. argument_is_not_deferred o;
   alone = alone;
@@ -253,17 +267,20 @@ no_deferral_behind (Some c) site at =
     by false = refl
 
 -- a literal, with what stands behind it
-literal_made : (i : Bool) (used : LiteralUse) (site : ℕ) (b : BodyPlace) {ms : List Mark}
+literal_made : (i : Bool) (used : LiteralUse) (site : ℕ) (b : BodyPlace) {ms : List Mark} (given : List Mark)
     → b.literal ≡ used
     → (i ≡ false → is_deferred_use used ≡ false)
     → (is_started used && true) ≡ false
     → AreMade true ms
-    → AreMade i (in_body b ms ++ deferral used site b.at)
-literal_made i other_use site b {ms} is none alone h =
-    subst (AreMade i) (sym (append-nil (in_body b ms))) (a_body b (ap is_started is) (λ o. ap is_deferred_use is) h)
-literal_made true deferred_call site b is none alone h = a_deferred_body b site is h
-literal_made false deferred_call site b is none alone h = let bad : true ≡ false = none refl in absurd (cc)
-literal_made i (started_by n) site b is none alone h = let bad : true ≡ false = alone in absurd (cc)
+    → FieldsOnly Any site given
+    → AreMade i (in_body b ms ++ (deferral used site b.at ++ given))
+literal_made i other_use site b given is none alone h g =
+    both (a_body b (ap is_started is) (λ o. ap is_deferred_use is) h) (fields given g)
+literal_made true deferred_call site b {ms} given is none alone h g =
+    both_parts (a_deferred_body b site is h) (fields given g)
+    (sym (append_assoc (in_body b ms) (defers_literal site b.at ∷ []) given))
+literal_made false deferred_call site b given is none alone h g = let bad : true ≡ false = none refl in absurd (cc)
+literal_made i (started_by n) site b given is none alone h g = let bad : true ≡ false = alone in absurd (cc)
 
 abbrev call_by : CallPlace → Expressions → Bool → Option Named → Option Call
 call_by place es ellipsis o =
@@ -281,42 +298,62 @@ IsOnlyMade no_expression = Unit {0}
 IsOnlyMade (expression_and e no_expression) = IsLiteralMade e
 IsOnlyMade (expression_and e (expression_and f es)) = Unit {0}
 
--- a call, by what its callee names
-call_made : (i : Bool) (place : CallPlace) (site : ℕ)
+-- marks of an only literal, of what is given, and of the callee
+literal_first : (a b c d : List Mark) → ((a ++ b) ++ c) ++ d ≡ a ++ ((b ++ c) ++ d)
+literal_first a b c d =
+    append_assoc (a ++ b) c d ∙ append_assoc a b (c ++ d) ∙ ap (λ (l : List Mark). a ++ l) (sym (append_assoc b c d))
+
+-- a call, by what its callee names: its arguments, as they stand there, and then the callee
+call_made : (i : Bool) (place to : CallPlace) (site : ℕ)
     → (i ≡ false → place ≡ nowhere)
     → (o : Option Named) (e : Expression) (es : Expressions) (ellipsis : Bool) {ms : List Mark}
     → AreMade i ms
-    → ((c : Option Call) → (is_started (argument_use c) && has_literal es) ≡ false → AreMade i (arguments_marks c site 0 es))
+    → ((c : Option Call) → (is_started (argument_use c) && has_literal es) ≡ false → AreMade i (arguments_marks to c site 0 es))
     → IsOnlyMade es
-    → AreMade i (callee_or (call_by place es ellipsis o) site e ms
-    ++ arguments_marks (call_by place es ellipsis o) site 0 es)
+    → AreMade i (arguments_marks to (call_by place es ellipsis o) site 0 es
+    ++ callee_or (call_by place es ellipsis o) site e ms)
 unfolding expression_marks form_marks arguments_marks
-call_made i place site none None e es ellipsis h arguments only =
-    both (named (as_bracketed e) site called_in_brackets refl h) (arguments None refl)
-call_made i place site none (Some n) e no_expression ellipsis h arguments only =
+call_made i place to site none None e es ellipsis h arguments only =
+    both (arguments None refl) (named (as_bracketed e) site called_in_brackets refl h)
+call_made i place to site none (Some n) e no_expression ellipsis h arguments only =
     a_call site record { callee = n; arguments = no_expression; has_ellipsis = ellipsis; place = place } refl none
-call_made i place site none (Some n) e (expression_and (expression_node (function_literal signature ss braces) span) no_expression) false h arguments only =
-    let a = expression_and (expression_node (function_literal signature ss braces) span) no_expression in
+call_made i place to site none (Some n) e (expression_and (expression_node (function_literal signature ss braces) span) no_expression) false h arguments only =
+    let literal = expression_node (function_literal signature ss braces) span in
+    let a = expression_and literal no_expression in
     let c : Call = record { callee = n; arguments = a; has_ellipsis = false; place = place } in
     let b = literal_body (argument_use (Some c)) span.start signature ss braces in
     let ms = signature_marks span.start signature ++ statements_marks ss in
-    subst (AreMade i) (ap (λ (l : List Mark). mention site (called c) n ∷ l)
-    (sym (append-nil (in_body b ms ++ deferral (argument_use (Some c)) site span.start)
-    ∙ ap (λ (l : List Mark). in_body b ms ++ l) (no_deferral_behind (Some c) site span.start)
-    ∙ append-nil (in_body b ms))))
-    (a_call_with site c b refl refl refl none only)
-call_made i place site none (Some n) e (expression_and (expression_node form span) no_expression) false h arguments only =
+    let saved = deferral (argument_use (Some c)) site span.start in
+    let taken = literal_given_to site (literal_taker to (Some c)) span.start in
+    let given = given_to site (argument_taker to (Some c)) literal ++ [] in
+    let callee = mention site (called c) n ∷ [] in
+    subst (AreMade i) (sym (literal_first (in_body b ms) (saved ++ taken) given callee))
+    (a_call_with site c b refl refl refl none only
+    (fields_both (saved ++ taken)
+    (fields_both saved (subst (FieldsOnly Any site) (sym (no_deferral_behind (Some c) site span.start)) no_more)
+    (literal_only Any any site (literal_taker to (Some c)) span.start))
+    (fields_both (given_to site (argument_taker to (Some c)) literal)
+    (given_only Any any site (argument_taker to (Some c)) literal) no_more)))
+call_made i place to site none (Some n) e (expression_and (expression_node form span) no_expression) false h arguments only =
     let a = expression_and (expression_node form span) no_expression in
     let c : Call = record { callee = n; arguments = a; has_ellipsis = false; place = place } in
-    both_parts (a_call site c refl none) (arguments (Some c) (no_second (is_started (argument_use (Some c))))) refl
-call_made i place site none (Some n) e (expression_and a no_expression) true h arguments only =
+    both_parts (arguments (Some c) (no_second (is_started (argument_use (Some c))))) (a_call site c refl none) refl
+call_made i place to site none (Some n) e (expression_and a no_expression) true h arguments only =
     let all = expression_and a no_expression in
     let c : Call = record { callee = n; arguments = all; has_ellipsis = true; place = place } in
-    both_parts (a_call site c refl none) (arguments (Some c) (several c (has_literal all) refl)) refl
-call_made i place site none (Some n) e (expression_and a (expression_and b es)) ellipsis h arguments only =
+    both_parts (arguments (Some c) (several c (has_literal all) refl)) (a_call site c refl none) refl
+call_made i place to site none (Some n) e (expression_and a (expression_and b es)) ellipsis h arguments only =
     let all = expression_and a (expression_and b es) in
     let c : Call = record { callee = n; arguments = all; has_ellipsis = ellipsis; place = place } in
-    both_parts (a_call site c refl none) (arguments (Some c) (several c (has_literal all) refl)) refl
+    both_parts (arguments (Some c) (several c (has_literal all) refl)) (a_call site c refl none) refl
+
+-- with what is marked of fields before and behind them
+call_with_fields : {i : Bool} (before arguments callee after : List Mark) → AreMade i before
+    → AreMade i (arguments ++ callee)
+    → AreMade i after
+    → AreMade i (before ++ (arguments ++ (callee ++ after)))
+call_with_fields before arguments callee after h k l =
+    both h (both_parts k l (sym (append_assoc arguments callee after)))
 
 mutual
   unfolding expression_marks form_marks expressions_marks optional_marks arguments_marks items_marks lefts_marks ranged_marks names_type_marks signature_marks parameters_marks fields_marks statement_marks statement_form_marks statements_marks optional_statement_marks cases_marks communications_marks declaration_marks specs_marks
@@ -332,15 +369,18 @@ mutual
   of_form i spot span (name_expression text) fits = a_mention _ (name_is_no_call spot.place)
   of_form i spot span (basic_literal kind) fits = no_mark
   of_form i spot span (function_literal signature ss braces) fits =
-      literal_made i spot.literal spot.site (literal_body spot.literal span.start signature ss braces) refl
-      fits.no_deferral fits.alone (both (of_signature true span.start signature) (of_statements ss))
+      literal_made i spot.literal spot.site (literal_body spot.literal span.start signature ss braces)
+      (literal_given_to spot.site spot.taker span.start) refl fits.no_deferral fits.alone
+      (both (of_signature true span.start signature) (of_statements ss))
+      (literal_only Any any spot.site spot.taker span.start)
   of_form i spot span (composite_literal t es) fits =
       both (of_expression i (part_of spot.site) t (free i spot.site (is_literal t)))
       (of_expressions i (part_of spot.site) es (free i spot.site (has_literal es)))
   of_form i spot span (literal_value es) fits =
       of_expressions i (part_of spot.site) es (free i spot.site (has_literal es))
   of_form i spot span (key_value k v) fits =
-      both (of_expression i (part_of spot.site) k (free i spot.site (is_literal k)))
+      both (named (as_bare k) spot.site as_key refl
+      (of_expression i (part_of spot.site) k (free i spot.site (is_literal k))))
       (of_expression i (part_of spot.site) v (free i spot.site (is_literal v)))
   of_form i spot span (parenthesized e) fits =
       of_expression i (part_of spot.site) e (free i spot.site (is_literal e))
@@ -360,15 +400,20 @@ mutual
       both (of_expression i (part_of spot.site) e (free i spot.site (is_literal e)))
       (of_expression i (part_of spot.site) t (free i spot.site (is_literal t)))
   of_form i spot span (call_expression e es ellipsis) fits =
-      call_made i spot.place spot.site fits.place (as_named e) e es ellipsis
-      (of_expression i record { place = nowhere; literal = callee_use spot.place; site = spot.site } e
-      (callee_fits i spot.place spot.site (is_literal e) fits.place))
-      (λ c alone. of_arguments i c spot.site 0 es alone) (of_only es)
+      call_with_fields (receiver_given spot.place spot.site e)
+      (arguments_marks (arguments_place spot.place e) (call_of spot.place e es ellipsis) spot.site 0 es)
+      (callee_or (call_of spot.place e es ellipsis) spot.site e (expression_marks (callee_spot spot) e))
+      (field_called spot.site e)
+      (fields (receiver_given spot.place spot.site e) (receiver_only Any any spot.place spot.site e))
+      (call_made i spot.place (arguments_place spot.place e) spot.site fits.place (as_named e) e es ellipsis
+      (of_expression i (callee_spot spot) e (callee_fits i spot (is_literal e) fits.place))
+      (λ c alone. of_arguments i (arguments_place spot.place e) c spot.site 0 es alone) (of_only es))
+      (fields (field_called spot.site e) (called_only Any any spot.site e))
   of_form i spot span (star_expression e) fits =
       of_expression i (part_of spot.site) e (free i spot.site (is_literal e))
   of_form i spot span (unary_expression op e) fits =
       newly spot.place spot.site (as_new_literal op e)
-      (named (addressed_within op e) spot.site exposed refl
+      (named (addressed_within op e) spot.site pointed_to refl
       (of_expression i (part_of spot.site) e (free i spot.site (is_literal e))))
   of_form i spot span (binary_expression op l r) fits =
       both (of_expression i (part_of spot.site) l (free i spot.site (is_literal l)))
@@ -385,8 +430,8 @@ mutual
   of_form i spot span (channel_type direction t) fits =
       of_expression i (part_of spot.site) t (free i spot.site (is_literal t))
   of_form i spot span (function_type signature) fits = of_signature i spot.site signature
-  of_form i spot span (struct_type fs) fits = of_fields i spot.site fs
-  of_form i spot span (interface_type fs) fits = of_fields i spot.site fs
+  of_form i spot span (struct_type fs) fits = of_members i spot.site fs
+  of_form i spot span (interface_type fs) fits = of_members i spot.site fs
 
   of_literal : (e : Expression) → IsLiteralMade e
   of_literal (expression_node form span) = of_literal_form span form
@@ -411,15 +456,16 @@ mutual
   of_optional i site missing_expression = no_mark
   of_optional i site (present_expression e) = of_expression i (part_of site) e (free i site (is_literal e))
 
-  of_arguments : (i : Bool) (c : Option Call) (site k : ℕ) (es : Expressions)
+  of_arguments : (i : Bool) (place : CallPlace) (c : Option Call) (site k : ℕ) (es : Expressions)
       → (is_started (argument_use c) && has_literal es) ≡ false
-      → AreMade i (arguments_marks c site k es)
-  of_arguments i c site k no_expression alone = no_mark
-  of_arguments i c site k (expression_and e es) alone =
+      → AreMade i (arguments_marks place c site k es)
+  of_arguments i place c site k no_expression alone = no_mark
+  of_arguments i place c site k (expression_and e es) alone =
       both (argued_at c site k (is_none_left es) e
-      (of_expression i record { place = nowhere; literal = argument_use c; site = site } e
-      (argument_fits i c site (is_literal e) (first_false (is_started (argument_use c)) (is_literal e) (has_literal es) alone))))
-      (of_arguments i c site (k + 1) es (second_false (is_started (argument_use c)) (is_literal e) (has_literal es) alone))
+      (of_expression i (argument_spot place c site) e
+      (argument_fits i place c site (is_literal e) (first_false (is_started (argument_use c)) (is_literal e) (has_literal es) alone))))
+      (both (fields (given_to site (argument_taker place c) e) (given_only Any any site (argument_taker place c) e))
+      (of_arguments i place c site (k + 1) es (second_false (is_started (argument_use c)) (is_literal e) (has_literal es) alone)))
 
   of_items : (site k : ℕ) (es : Expressions) → AreMade true (items_marks site k es)
   of_items site k no_expression = no_mark
@@ -432,13 +478,13 @@ mutual
   of_lefts row site k (expression_and e es) =
       both (named (as_bare e) site (left k row) refl (named (bare_within e) site exposed refl
       (of_expression true (part_of site) e (free true site (is_literal e)))))
-      (of_lefts row site (k + 1) es)
+      (both (writes site (Some record { left_side = k; row = row }) e) (of_lefts row site (k + 1) es))
 
   of_ranged : (site : ℕ) (es : Expressions) → AreMade true (ranged_marks site es)
   of_ranged site no_expression = no_mark
   of_ranged site (expression_and e es) =
       both (named (bare_within e) site exposed refl (of_expression true (part_of site) e (free true site (is_literal e))))
-      (of_ranged site es)
+      (both (writes site None e) (of_ranged site es))
 
   of_names_type : (row : Row) (site : ℕ) (t : OptionalExpression) → AreMade true (names_type_marks row site t)
   of_names_type row site missing_expression = no_mark
@@ -459,14 +505,14 @@ mutual
       (of_parameters i are_parameters site ps)
   of_parameters i are_parameters site (name_alone_and n ps) = of_parameters i are_parameters site ps
 
-  of_fields : (i : Bool) (site : ℕ) (fs : Fields) → AreMade i (fields_marks site fs)
-  of_fields i site no_field = no_mark
-  of_fields i site (fields_and ns t tag span fs) =
-      both (of_expression i (part_of site) t (free i site (is_literal t))) (of_fields i site fs)
-  of_fields i site (embedded_and star n tag span fs) = both_parts (a_mention _ refl) (of_fields i site fs) refl
-  of_fields i site (element_and star t tag span fs) =
-      both (of_expression i (part_of site) t (free i site (is_literal t))) (of_fields i site fs)
-  of_fields i site (method_and n signature span fs) = both (of_signature i site signature) (of_fields i site fs)
+  of_members : (i : Bool) (site : ℕ) (fs : Fields) → AreMade i (fields_marks site fs)
+  of_members i site no_field = no_mark
+  of_members i site (fields_and ns t tag span fs) =
+      both (of_expression i (part_of site) t (free i site (is_literal t))) (of_members i site fs)
+  of_members i site (embedded_and star n tag span fs) = both_parts (a_mention _ refl) (of_members i site fs) refl
+  of_members i site (element_and star t tag span fs) =
+      both (of_expression i (part_of site) t (free i site (is_literal t))) (of_members i site fs)
+  of_members i site (method_and n signature span fs) = both (of_signature i site signature) (of_members i site fs)
 
   of_statement : (standing : Standing) (s : Statement) → AreMade true (statement_marks standing s)
   of_statement standing (statement_node form span) = of_statement_form standing span.start form
@@ -481,19 +527,25 @@ mutual
       (inside (place_in standing as_statement) at (is_literal e))
   of_statement_form standing at (send_statement c v) =
       both (of_expression true (part_of at) c (free true at (is_literal c)))
-      (of_expression true (part_of at) v (free true at (is_literal v)))
+      (both (of_expression true (part_of at) v (free true at (is_literal v)))
+      (fields (sent standing at v) (sent_only Any any standing at v)))
   of_statement_form standing at (increment_statement e) =
-      named (bare_within e) at exposed refl (of_expression true (part_of at) e (free true at (is_literal e)))
+      both (named (bare_within e) at exposed refl (of_expression true (part_of at) e (free true at (is_literal e))))
+      (writes at None e)
   of_statement_form standing at (decrement_statement e) =
-      named (bare_within e) at exposed refl (of_expression true (part_of at) e (free true at (is_literal e)))
+      both (named (bare_within e) at exposed refl (of_expression true (part_of at) e (free true at (is_literal e))))
+      (writes at None e)
   of_statement_form standing at (assignment ls rs) =
-      both (of_values (row_of standing at (assigns ls) rs) at rs) (of_lefts (row_of standing at (assigns ls) rs) at 0 ls)
+      both (of_values (row_of standing at (assigns ls) rs) at rs)
+      (both (fields (rights_given at (is_one rs) ls rs) (rights_only Any any at (is_one rs) ls rs))
+      (of_lefts (row_of standing at (assigns ls) rs) at 0 ls))
   of_statement_form standing at (operator_assignment op l r) =
       both (named (bare_within l) at exposed refl (of_expression true (part_of at) l (free true at (is_literal l))))
-      (of_expression true (part_of at) r (free true at (is_literal r)))
+      (both (of_expression true (part_of at) r (free true at (is_literal r))) (writes at None l))
   of_statement_form standing at (define_statement ns rs) =
       both (of_values (row_of standing at (defines ns) rs) at rs) (names (row_of standing at (defines ns) rs) at 0 ns)
-  of_statement_form standing at (go_statement e) = of_expression true (part_of at) e (free true at (is_literal e))
+  of_statement_form standing at (go_statement e) =
+      of_expression true (whole under_go at) e (inside under_go at (is_literal e))
   of_statement_form standing at (defer_statement e) =
       of_expression true (whole deferred at) e (inside deferred at (is_literal e))
   of_statement_form standing at (return_statement es) = both (of_items at 0 es) (a_return at es)
@@ -541,13 +593,16 @@ mutual
   of_cases : (at : ℕ) (guard : Option Identifier) (cs : CaseClauses) → AreMade true (cases_marks at guard cs)
   of_cases at guard no_case = no_mark
   of_cases at guard (case_and es ss span cs) =
-      both (guarded at guard span) (both (of_expressions true (part_of span.start) es (free true span.start (has_literal es)))
-      (both (of_statements ss) (of_cases at guard cs)))
+      both (guarded at guard span) (both (fields (guard_renewed guard span) (guard_only Any any guard span))
+      (both (of_expressions true (part_of span.start) es (free true span.start (has_literal es)))
+      (both (of_statements ss) (of_cases at guard cs))))
 
   of_communications : (cs : CommunicationClauses) → AreMade true (communications_marks cs)
   of_communications no_communication = no_mark
   of_communications (communication_and c ss span cs) =
-      both (of_optional_statement communication c) (both (of_statements ss) (of_communications cs))
+      both (of_optional_statement communication c)
+      (both (fields (communication_given span.start c) (communication_only Any any span.start c))
+      (both (of_statements ss) (of_communications cs)))
 
   of_declaration : (d : Declaration) → AreMade true (declaration_marks d)
   of_declaration (declaration_of keyword specs is_grouped span) = of_specs keyword span.start specs
@@ -600,5 +655,9 @@ of_top_levels : (ds : List TopLevelDeclaration) → AreMade false (top_levels_ma
 of_top_levels [] = no_mark
 of_top_levels (d ∷ ds) = both (of_top_level d) (of_top_levels ds)
 
+pub of_imports : (specs : List ImportSpec) → AreMade false (import_marks specs)
+of_imports [] = no_mark
+of_imports (s ∷ ss) = both (chosen (is_dot s.name) (a_field s.span.start imports_all) no_mark) (of_imports ss)
+
 pub of_file : (file : SourceFile) → AreMade false (file_marks file)
-of_file file = of_top_levels file.declarations
+of_file file = both (of_imports (specs_of file.imports)) (of_top_levels file.declarations)

@@ -6,14 +6,15 @@ use Rattle.std.proofs.lemmas.Bool.{false≢true}
 use Rattle.std.proofs.lemmas.List.Elements.{Contains-append_cases, Contains-append_left, Contains-append_right}
 use Rattle.std.proofs.lemmas.Option.{none-some, same_Some}
 use Rattle.tree.specs.Syntax.{Expressions, SourceFile}
-use Rattle.meaning.specs.Mentions.{nowhere, Call, LiteralUse, deferred_call, argument_use, called, Mention, BodyPlace, Mark, mentions, defers_literal, returns, opens, closes, mention, in_body, file_marks, marks_by}
+use Rattle.meaning.specs.Mentions.{nowhere, Call, LiteralUse, deferred_call, argument_use, called, Mention, BodyPlace, Mark, mentions, defers_literal, returns, opens, closes, mention, in_body, file_marks, marks_by, of_fields, FieldMark}
 use Rattle.meaning.specs.Tracked.{Placed, placed, outer}
 use Rattle.meaning.specs.Uses.{is_deferred_use}
 use Rattle.meaning.specs.BodyEvents.{opened_by, opened_in}
 use Rattle.meaning.proofs.Membership.{contains_nil, contains_here, contains_there, contains_cases}
 use Rattle.meaning_runs.proofs.BodyOffsetsWithin.{Splits, placed_nil, split_both, split_body, body_placed}
-use Rattle.meaning_runs.proofs.MarkForms.{is_call, is_started, literal_of, argument_is_not_deferred, AreMade, no_mark, both_parts, a_mention, a_call, a_call_with, a_return, a_body, a_deferred_body}
+use Rattle.meaning_runs.proofs.MarkForms.{is_call, is_started, literal_of, argument_is_not_deferred, AreMade, no_mark, both_parts, a_mention, a_call, a_call_with, a_return, a_body, a_deferred_body, a_field}
 use Rattle.tree.specs.declared.edition.Edition.{Edition}
+use Rattle.meaning_runs.proofs.FieldMarks.{FieldsOnly, no_more, and_one, Any}
 use Rattle.meaning_runs.proofs.EditionMarks.{file_made}
 
 -- among these marks one opens a literal at the offset, straight in these bodies, and it is used so
@@ -47,6 +48,7 @@ pub record IsOpened (marks : List Placed) (bodies : List BodyPlace) (b : BodyPla
 
 abbrev pub IsBeside : List Placed → List BodyPlace → Mark → Type 0
 IsBeside marks bodies (mentions m) = (c : Call) → m.role ≡ called c → IsCallee marks bodies m c
+IsBeside marks bodies (of_fields site m) = Unit {0}
 IsBeside marks bodies (defers_literal site at) = OpensLiteral marks bodies at deferred_call
 IsBeside marks bodies (returns at es) = Unit {0}
 IsBeside marks bodies (opens b) = IsOpened marks bodies b
@@ -83,6 +85,7 @@ beside_among ps qs bodies (mentions m) among h = λ c e. let r = h c e in record
   is_placed = r.is_placed;
   literal = λ at q. opens_among ps qs bodies at (argument_use (Some c)) among (r.literal at q);
 }
+beside_among ps qs bodies (of_fields site m) among h = tt
 beside_among ps qs bodies (defers_literal site at) among h = opens_among ps qs bodies at deferred_call among h
 beside_among ps qs bodies (returns at es) among h = tt
 beside_among ps qs bodies (opens b) among h = record {
@@ -105,6 +108,11 @@ mention_placed : (bodies : List BodyPlace) (m : Mention) (ms : List Mark)
     → placed bodies (mentions m ∷ ms) ≡ record { mark = mentions m; bodies = bodies } ∷ placed bodies ms
 unfolding placed
 mention_placed bodies m ms = refl
+
+field_placed : (bodies : List BodyPlace) (site : ℕ) (m : FieldMark) (ms : List Mark)
+    → placed bodies (of_fields site m ∷ ms) ≡ record { mark = of_fields site m; bodies = bodies } ∷ placed bodies ms
+unfolding placed
+field_placed bodies site m ms = refl
 
 return_placed : (bodies : List BodyPlace) (n : ℕ) (es : Expressions) (ms : List Mark)
     → placed bodies (returns n es ∷ ms) ≡ record { mark = returns n es; bodies = bodies } ∷ placed bodies ms
@@ -132,14 +140,27 @@ mention_splits : (bodies : List BodyPlace) (m : Mention) (ms : List Mark)
 mention_splits bodies m ms h =
     first_splits bodies (mentions m) record { mark = mentions m; bodies = bodies } ms (mention_placed bodies m) h
 
+-- marks of fields, and then a mention
+fields_split : (bodies : List BodyPlace) {site : ℕ} (fs ms : List Mark) → FieldsOnly Any site fs → Splits bodies ms
+    → Splits bodies (fs ++ ms)
+fields_split bodies fs ms no_more h = h
+fields_split bodies {site} fs ms (and_one {ms = rest} m p k) h =
+    first_splits bodies (of_fields site m) record { mark = of_fields site m; bodies = bodies } (rest ++ ms)
+    (field_placed bodies site m) (fields_split bodies rest ms k h)
+
 pub splits : {i : Bool} (ms : List Mark) → AreMade i ms → (bodies : List BodyPlace) → Splits bodies ms
 splits ms no_mark bodies = none_splits bodies
 splits ms (both_parts {xs = xs} {ys = ys} h k e) bodies =
     subst (Splits bodies) (sym e) (split_both bodies xs ys (splits xs h bodies) (splits ys k bodies))
 splits ms (a_mention m none) bodies = mention_splits bodies m [] (none_splits bodies)
 splits ms (a_call site c none at) bodies = mention_splits bodies _ [] (none_splits bodies)
-splits ms (a_call_with {ms = ns} site c b is used unnamed at h) bodies =
-    mention_splits bodies _ (in_body b ns) (split_body b bodies ns (splits ns h (b ∷ bodies)))
+splits ms (a_field site m) bodies =
+    first_splits bodies (of_fields site m) record { mark = of_fields site m; bodies = bodies } []
+    (field_placed bodies site m) (none_splits bodies)
+splits ms (a_call_with {ms = ns} {fs = fs} site c b is used unnamed at h k) bodies =
+    let callee = mention site (called c) c.callee ∷ [] in
+    split_both bodies (in_body b ns) (fs ++ callee) (split_body b bodies ns (splits ns h (b ∷ bodies)))
+    (fields_split bodies fs callee k (mention_splits bodies _ [] (none_splits bodies)))
 splits ms (a_return at es) bodies =
     first_splits bodies (returns at es) record { mark = returns at es; bodies = bodies } [] (return_placed bodies at es)
     (none_splits bodies)
@@ -161,6 +182,36 @@ is_first p all rest e = subst (λ (l : List Placed). Contains l p) (sym e) (cont
 
 are_rest : (p : Placed) (all rest : List Placed) → all ≡ p ∷ rest → AreAmong rest all
 are_rest p all rest e q h = subst (λ (l : List Placed). Contains l q) (sym e) (contains_there p q rest h)
+
+-- of marks of fields, and then a mention
+in_tail : (bodies : List BodyPlace) {site : ℕ} (m : Mention) (fs : List Mark) → FieldsOnly Any site fs
+    → (p : Placed)
+    → Contains (placed bodies (fs ++ mentions m ∷ [])) p
+    → ((x : FieldMark) × (record { mark = of_fields site x; bodies = bodies } ≡ p))
+    ⊎ (record { mark = mentions m; bodies = bodies } ≡ p)
+in_tail bodies m fs no_more p h =
+    let only : Placed = record { mark = mentions m; bodies = bodies } in
+    elim (one_first only p (placed bodies (mentions m ∷ [])) (placed bodies []) (mention_placed bodies m []) h) [
+      | inl e ↦ inr e
+      | inr r ↦ absurd (contains_nil p (subst (λ (l : List Placed). Contains l p) (placed_nil bodies) r))
+    ]
+in_tail bodies {site} m fs (and_one {ms = rest} x q k) p h =
+    let first : Placed = record { mark = of_fields site x; bodies = bodies } in
+    let others = rest ++ mentions m ∷ [] in
+    elim (one_first first p (placed bodies (of_fields site x ∷ others)) (placed bodies others) (field_placed bodies site x others) h) [
+      | inl e ↦ inl (x, e)
+      | inr r ↦ in_tail bodies m rest k p r
+    ]
+
+last_there : (bodies : List BodyPlace) {site : ℕ} (m : Mention) (fs : List Mark) → FieldsOnly Any site fs
+    → Contains (placed bodies (fs ++ mentions m ∷ [])) record { mark = mentions m; bodies = bodies }
+last_there bodies m fs no_more =
+    is_first record { mark = mentions m; bodies = bodies } (placed bodies (mentions m ∷ [])) (placed bodies [])
+    (mention_placed bodies m [])
+last_there bodies {site} m fs (and_one {ms = rest} x q k) =
+    let others = rest ++ mentions m ∷ [] in
+    are_rest record { mark = of_fields site x; bodies = bodies } (placed bodies (of_fields site x ∷ others))
+    (placed bodies others) (field_placed bodies site x others) _ (last_there bodies m rest k)
 
 -- What is beside each mark
 
@@ -243,33 +294,45 @@ beside ms (a_call site c none at) bodies tie p there =
           (callee_beside all bodies site c (λ q. at (tie q)) (λ n q. absurd (none-some n (sym none ∙ q))))
       | inr r ↦ absurd (contains_nil p (subst (λ (l : List Placed). Contains l p) (placed_nil bodies) r))
     ]
-beside ms (a_call_with {ms = ns} site c b is used unnamed at h) bodies tie p there =
-    let all = placed bodies (mention site (called c) c.callee ∷ in_body b ns) in
+beside ms (a_field site m) bodies tie p there =
+    let only : Placed = record { mark = of_fields site m; bodies = bodies } in
+    elim (one_first only p (placed bodies (of_fields site m ∷ [])) (placed bodies []) (field_placed bodies site m []) there) [
+      | inl e ↦ subst (λ (q : Placed). IsBeside (placed bodies (of_fields site m ∷ [])) q.bodies q.mark) e tt
+      | inr r ↦ absurd (contains_nil p (subst (λ (l : List Placed). Contains l p) (placed_nil bodies) r))
+    ]
+beside ms (a_call_with {ms = ns} {fs = fs} site c b is used unnamed at h k) bodies tie p there =
+    let callee : Mention = record { named = c.callee; role = called c; site = site; declares = None } in
     let body = placed bodies (in_body b ns) in
-    let first : Placed = record { mark = mention site (called c) c.callee; bodies = bodies } in
+    let tail = placed bodies (fs ++ mentions callee ∷ []) in
     let split = splits ns h (b ∷ bodies) in
-    let same : all ≡ first ∷ body = mention_placed bodies _ (in_body b ns) in
-    elim (one_first first p all body same there) [
-      | inl e ↦ subst (λ (q : Placed). IsBeside all q.bodies q.mark) e
-          (callee_beside all bodies site c (λ q. at (tie q)) (λ n q. record {
-            body = b;
-            is_there = are_rest first all body same (opening b bodies ns split) (is_opening b bodies ns split);
-            begins_there = same_Some b.at n (sym is ∙ q);
-            is_used_so = used;
-          }))
-      | inr r ↦ body_beside b bodies ns split all (are_rest first all body same) record {
+    let whole : placed bodies (in_body b ns ++ (fs ++ mentions callee ∷ [])) ≡ body ++ tail =
+    split_body b bodies ns split (fs ++ mentions callee ∷ []) in
+    subst (λ (l : List Placed). IsBeside l p.bodies p.mark) (sym whole)
+    (elim (Contains-append_cases body tail p (subst (λ (l : List Placed). Contains l p) whole there)) [
+      | inl l ↦ body_beside b bodies ns split (body ++ tail) (λ q m. Contains-append_left body tail q m) record {
         stands_first = refl;
         not_deferred = λ q. ap is_deferred_use used ∙ argument_is_not_deferred (Some c);
         led = λ q. record {
           site = site;
           call = c;
-          is_there = is_first first all body same;
+          is_there = Contains-append_right body tail record { mark = mentions callee; bodies = bodies }
+              (last_there bodies callee fs k);
           is_argument = is;
           is_used_so = used;
           has_no_name = unnamed;
         };
-      } (beside ns h (b ∷ bodies) (λ q. absurd (not_empty b bodies q))) p r
-    ]
+      } (beside ns h (b ∷ bodies) (λ q. absurd (not_empty b bodies q))) p l
+      | inr r ↦ elim (in_tail bodies callee fs k p r) [
+        | inl f ↦ subst (λ (q : Placed). IsBeside (body ++ tail) q.bodies q.mark) f.1 tt
+        | inr e ↦ subst (λ (q : Placed). IsBeside (body ++ tail) q.bodies q.mark) e
+            (callee_beside (body ++ tail) bodies site c (λ q. at (tie q)) (λ n q. record {
+              body = b;
+              is_there = Contains-append_left body tail (opening b bodies ns split) (is_opening b bodies ns split);
+              begins_there = same_Some b.at n (sym is ∙ q);
+              is_used_so = used;
+            }))
+      ]
+    ])
 beside ms (a_return at es) bodies tie p there =
     let only : Placed = record { mark = returns at es; bodies = bodies } in
     elim (one_first only p (placed bodies (returns at es ∷ [])) (placed bodies []) (return_placed bodies at es []) there) [
@@ -386,12 +449,16 @@ begun ms (both_parts {xs = xs} {ys = ys} h k e) bodies =
     (ap (placed bodies) e ∙ splits xs h bodies ys) (begun xs h bodies) (begun ys k bodies)
 begun ms (a_mention m none) bodies = one_begun bodies (mentions m) _ (mention_placed bodies m [])
 begun ms (a_call site c none at) bodies = one_begun bodies _ _ (mention_placed bodies _ [])
-begun ms (a_call_with {ms = ns} site c b is used unnamed at h) bodies =
-    let first : Placed = record { mark = mention site (called c) c.callee; bodies = bodies } in
-    both_begun bodies (first ∷ []) (placed bodies (in_body b ns)) _ (mention_placed bodies _ (in_body b ns))
-    (one_begun bodies (mention site (called c) c.callee) (first ∷ [])
-    (ap (λ (l : List Placed). first ∷ l) (sym (placed_nil bodies))))
-    (body_begun b bodies ns (splits ns h (b ∷ bodies)) (begun ns h (b ∷ bodies)))
+begun ms (a_field site m) bodies = one_begun bodies (of_fields site m) _ (field_placed bodies site m [])
+begun ms (a_call_with {ms = ns} {fs = fs} site c b is used unnamed at h k) bodies =
+    let callee : Mention = record { named = c.callee; role = called c; site = site; declares = None } in
+    let split = splits ns h (b ∷ bodies) in
+    both_begun bodies (placed bodies (in_body b ns)) (placed bodies (fs ++ mentions callee ∷ [])) _
+    (split_body b bodies ns split (fs ++ mentions callee ∷ [])) (body_begun b bodies ns split (begun ns h (b ∷ bodies)))
+    (λ p d around there ends. inl (elim (in_tail bodies callee fs k p there) [
+      | inl f ↦ subst (λ (q : Placed). EndsWith d around q.bodies) (sym f.1) ends
+      | inr e ↦ subst (λ (q : Placed). EndsWith d around q.bodies) (sym e) ends
+    ]))
 begun ms (a_return at es) bodies = one_begun bodies (returns at es) _ (return_placed bodies at es [])
 begun ms (a_body {ms = ns} b none later h) bodies =
     body_begun b bodies ns (splits ns h (b ∷ bodies)) (begun ns h (b ∷ bodies))
@@ -427,10 +494,11 @@ ends_not : (b : BodyPlace) (around bs : List BodyPlace) → bs ≡ [] → EndsWi
 ends_not b around bs e all_of_them = not_empty b around e
 ends_not b around bs e (one_more {c = c} {bs = rest} h) = not_empty c rest e
 
-pub in_form : (edition : Edition) (file : SourceFile) → AreInForm (placed [] (marks_by edition (file_marks file)))
-in_form edition file =
-    let marks = marks_by edition (file_marks file) in
-    let made = file_made edition file in
+pub in_form : (edition : Edition) (some_keep : Bool) (file : SourceFile)
+    → AreInForm (placed [] (marks_by edition some_keep (file_marks file)))
+in_form edition some_keep file =
+    let marks = marks_by edition some_keep (file_marks file) in
+    let made = file_made edition some_keep file in
     record {
       beside = beside marks made [] (λ q. refl);
       begun = λ p b around there ends. elim (begun marks made [] p b around there ends) [

@@ -1,16 +1,18 @@
 -- The events of a mention: what holds of each call, pass, loan, start, try and wait holds of all that a mention gives
 -- which binds nothing. A local is passed on in the body that declares it alone. No mention gives a return or a literal
 -- under `defer`.
-use Rattle.std.proofs.Common.{◌≡◌, ℕ, Bool, true, false, inl, inr, List, [], ◌∷◌, Option, Some, None, Contains, refl, sym, subst, ◌∙◌, ◌++◌}
-use Rattle.std.specs.Prelude.{◌&&◌, ◌||◌, if◌then◌else◌, codes, is_none, map}
+use Rattle.std.proofs.Common.{◌≡◌, ℕ, ◌⊎◌, Bool, true, false, inl, inr, List, [], ◌∷◌, Option, Some, None, Contains, refl, sym, subst, ◌∙◌, ◌++◌}
+use Rattle.std.specs.Prelude.{◌&&◌, ◌||◌, if◌then◌else◌, codes, map}
 use Rattle.std.specs.List.{list_all}
 use Rattle.std.specs.Str.{bytes_eq}
 use Rattle.meaning.specs.FunctionFacts.{CancelType, cancel_type, group_type, VariableKind, cancel, group}
-use Rattle.meaning.specs.Mentions.{BodyPlace, Row, Call, Role, elsewhere, called, called_in_brackets, argument, returned, left, names_type, new_literal, parameter_pointer, Mention, exposed, found_nil, found_error, mentions}
+use Rattle.meaning.specs.Mentions.{BodyPlace, Row, Call, Role, elsewhere, as_key, called, called_in_brackets, argument, returned, left, names_type, new_literal, parameter_pointer, Mention, exposed, found_nil, found_error, mentions, pointed_to, Mark}
 use Rattle.meaning.specs.Tracked.{Known, variable_of, LocalRole, parameter, receiver, variadic, result, in_block, Local, is_universe}
-use Rattle.meaning.specs.Uses.{Seen, found, kind_of, tracked_kind, Event, other, obtain, clear, call, defer_call, pass, defer_pass, lend, start, try, wait, defer_wait, make, defer_literal, return_event, Binding, obtained, cleared, made, binding_at, binding_event, allowed_if, either_use, variable_at, cancel_called, cancel_passed, cancel_use, group_started, group_tried, group_awaited, group_limited, group_called, group_lent, group_use, kind_use, use_outcome, mention_outcome, binding_outcome, row_outcome, role_outcome, local_outcome, variable_outcome, is_own, has_no_argument, has_its_arguments, is_statement_place, is_deferred_place, takes, is_given_as, cancel_type_of, is_call_place, callee_of, body_gives, is_free, only_argument, started_literal, are_members, literals_between, is_statement_or_value, is_item_place, is_deferred, cancel_use_by, is_read, error_events, lost_to}
+use Rattle.meaning.specs.Uses.{Seen, found, kind_of, tracked_kind, Event, other, obtain, clear, call, defer_call, pass, defer_pass, lend, start, try, wait, defer_wait, make, defer_literal, return_event, Binding, obtained, cleared, made, binding_at, binding_event, allowed_if, either_use, variable_at, cancel_called, cancel_passed, cancel_use, group_started, group_tried, group_awaited, group_limited, group_called, group_lent, group_use, kind_use, use_outcome, mention_outcome, binding_outcome, row_outcome, role_outcome, local_outcome, variable_outcome, is_own, has_no_argument, has_its_arguments, is_statement_place, is_deferred_place, takes, is_given_as, cancel_type_of, is_call_place, callee_of, body_gives, is_free, only_argument, started_literal, are_members, literals_between, is_statement_or_value, is_item_place, is_deferred, cancel_use_by, is_read, error_events, lost_to, obtain_kept, renew, keep, call_kept, defer_kept, give, give_field}
 use Rattle.meaning.proofs.Membership.{contains_cases, contains_nil}
+use Rattle.meaning.specs.Kept.{object_events}
 use Rattle.meaning_runs.specs.RunLists.{is_return}
+use Rattle.meaning_runs.proofs.KeptEvents.{IsOfObject, by_renew, by_call, by_deferred, by_give, by_keep, by_outer, by_obtaining, by_gift, object_events_are}
 use Rattle.tree.specs.declared.edition.Edition.{Edition}
 use Rattle.tree.specs.declared.edition.Edition.TheVariants.{First, Second}
 use Rattle.meaning.specs.BodyEvents.{mark_events}
@@ -45,6 +47,13 @@ cancel_use_is_use (defer_pass u c n) h = refl
 cancel_use_is_use other h = h
 cancel_use_is_use (obtain u c n is_new) h = h
 cancel_use_is_use (clear u) h = h
+cancel_use_is_use (obtain_kept u f n x) h = h
+cancel_use_is_use (renew v x) h = h
+cancel_use_is_use (keep v x) h = h
+cancel_use_is_use (call_kept v x) h = h
+cancel_use_is_use (defer_kept v x) h = h
+cancel_use_is_use (give v x) h = h
+cancel_use_is_use (give_field v) h = h
 cancel_use_is_use (lend g c n) h = refl
 cancel_use_is_use (start g literal) h = refl
 cancel_use_is_use (try g literal) h = refl
@@ -57,6 +66,13 @@ cancel_use_is_use (return_event handed) h = h
 -- what a mention gives
 abbrev pub is_told_of_mention : Event → Bool
 is_told_of_mention other = false
+is_told_of_mention (obtain_kept u f n x) = false
+is_told_of_mention (renew v x) = false
+is_told_of_mention (keep v x) = false
+is_told_of_mention (call_kept v x) = false
+is_told_of_mention (defer_kept v x) = false
+is_told_of_mention (give v x) = false
+is_told_of_mention (give_field v) = false
 is_told_of_mention (defer_literal at) = false
 is_told_of_mention (return_event handed) = false
 is_told_of_mention e = true
@@ -65,6 +81,13 @@ use_is_told : (e : Event) → is_use e ≡ true → is_told_of_mention e ≡ tru
 use_is_told other h = h
 use_is_told (obtain u c n is_new) h = refl
 use_is_told (clear u) h = refl
+use_is_told (obtain_kept u f n x) h = h
+use_is_told (renew v x) h = h
+use_is_told (keep v x) h = h
+use_is_told (call_kept v x) h = h
+use_is_told (defer_kept v x) h = h
+use_is_told (give v x) h = h
+use_is_told (give_field v) h = h
 use_is_told (call v) h = refl
 use_is_told (defer_call v) h = refl
 use_is_told (pass u c n) h = refl
@@ -163,7 +186,9 @@ module _ (P : Event → Type 0) where
     cancel_use_fits : (known : Known) (t : CancelType) (m : Mention) (r : Role)
         → AllFitIf (cancel_use known t l bodies m r)
     cancel_use_fits known t m elsewhere = tt
+    cancel_use_fits known t m as_key = tt
     cancel_use_fits known t m exposed = tt
+    cancel_use_fits known t m pointed_to = tt
     cancel_use_fits known t m (found_nil nil) = by (is_universe (known.means nil))
       where
         by : (b : Bool) → AllFit (if b then call l.number ∷ [] else [])
@@ -233,7 +258,9 @@ module _ (P : Event → Type 0) where
 
     group_use_fits : (seen : Seen) (m : Mention) (r : Role) → AllFitIf (group_use seen l bodies m r)
     group_use_fits seen m elsewhere = tt
+    group_use_fits seen m as_key = tt
     group_use_fits seen m exposed = tt
+    group_use_fits seen m pointed_to = tt
     group_use_fits seen m (found_nil nil) = none_given
     group_use_fits seen m (found_error nil row) = none_given
     group_use_fits seen m (called c) = group_called_fits seen m.named.selected c
@@ -299,7 +326,9 @@ module _ (P : Event → Type 0) where
     role_fits : (seen : Seen) (m : Mention) (r : Role) → AllFit (role_outcome seen l bodies m r).events
     role_fits seen m (left k row) = row_fits seen (kind_of seen (Some l)) m row (binding_at seen row k)
     role_fits seen m elsewhere = unbound_fits seen m
+    role_fits seen m as_key = unbound_fits seen m
     role_fits seen m exposed = unbound_fits seen m
+    role_fits seen m pointed_to = unbound_fits seen m
     role_fits seen m (found_nil nil) = unbound_fits seen m
     role_fits seen m (found_error nil row) = unbound_fits seen m
     role_fits seen m (called c) = unbound_fits seen m
@@ -338,7 +367,9 @@ module _ (P : Event → Type 0) where
       by true = calls_fit fits (lost_to seen row (variable_of seen.known m))
       by false = none_given
   error_fits seen m elsewhere fits = none_given
+  error_fits seen m as_key fits = none_given
   error_fits seen m exposed fits = none_given
+  error_fits seen m pointed_to fits = none_given
   error_fits seen m (found_nil nil) fits = none_given
   error_fits seen m (called c) fits = none_given
   error_fits seen m called_in_brackets fits = none_given
@@ -352,23 +383,34 @@ module _ (P : Event → Type 0) where
   -- all that a mention gives
   pub mention_events_fit : (seen : Seen) (bodies : List BodyPlace) (m : Mention)
       → ((v : ℕ) → P (call v))
+      → ((e : Event) → IsOfObject seen bodies (mentions m) e → P e)
       → AllFit (variable_outcome seen bodies m).events
       → AllFit (mark_events seen bodies (mentions m))
-  mention_events_fit seen bodies m calls fits e h =
-      elim (Contains-append_cases (variable_outcome seen bodies m).events (error_events seen m m.role) e h) [
+  mention_events_fit seen bodies m calls objects fits e h =
+      let lost = error_events seen m m.role in
+      let of_objects = object_events seen bodies m in
+      elim (Contains-append_cases (variable_outcome seen bodies m).events (lost ++ of_objects) e h) [
         | inl own ↦ fits e own
-        | inr lost ↦ error_fits seen m m.role calls e lost
+        | inr more ↦ elim (Contains-append_cases lost of_objects e more) [
+          | inl x ↦ error_fits seen m m.role calls e x
+          | inr x ↦ objects e (object_events_are seen bodies m e x)
+        ]
       ]
 
--- what is no call is given by the mention's own variable
+-- what is no call is given by the mention's own variable, or is of an object
 pub of_its_variable : (seen : Seen) (bodies : List BodyPlace) (m : Mention) (e : Event)
     → ((v : ℕ) → call v ≡ e → ⊥)
     → Contains (mark_events seen bodies (mentions m)) e
-    → Contains (variable_outcome seen bodies m).events e
+    → Contains (variable_outcome seen bodies m).events e ⊎ IsOfObject seen bodies (mentions m) e
 of_its_variable seen bodies m e none h =
-    elim (Contains-append_cases (variable_outcome seen bodies m).events (error_events seen m m.role) e h) [
-      | inl own ↦ own
-      | inr lost ↦ absurd (error_fits (λ x. x ≡ e → ⊥) seen m m.role none e lost refl)
+    let lost = error_events seen m m.role in
+    let of_objects = object_events seen bodies m in
+    elim (Contains-append_cases (variable_outcome seen bodies m).events (lost ++ of_objects) e h) [
+      | inl own ↦ inl own
+      | inr more ↦ elim (Contains-append_cases lost of_objects e more) [
+        | inl x ↦ absurd (error_fits (λ y. y ≡ e → ⊥) seen m m.role none e x refl)
+        | inr x ↦ inr (object_events_are seen bodies m e x)
+      ]
     ]
 
 -- No returns, and no literals under `defer`
@@ -381,6 +423,13 @@ told_is_no_return : (e : Event) → is_told_of_mention e ≡ true → is_return 
 told_is_no_return other h = refl
 told_is_no_return (obtain u c n is_new) h = refl
 told_is_no_return (clear u) h = refl
+told_is_no_return (obtain_kept u f n x) h = refl
+told_is_no_return (renew v x) h = refl
+told_is_no_return (keep v x) h = refl
+told_is_no_return (call_kept v x) h = refl
+told_is_no_return (defer_kept v x) h = refl
+told_is_no_return (give v x) h = refl
+told_is_no_return (give_field v) h = refl
 told_is_no_return (call v) h = refl
 told_is_no_return (defer_call v) h = refl
 told_is_no_return (pass u c n) h = refl
@@ -394,10 +443,22 @@ told_is_no_return (make u state) h = refl
 told_is_no_return (defer_literal at) h = refl
 told_is_no_return (return_event handed) h = let bad : false ≡ true = h in cc
 
+pub object_is_no_return : {seen : Seen} {bodies : List BodyPlace} {mark : Mark} (e : Event)
+    → IsOfObject seen bodies mark e
+    → is_return e ≡ false
+object_is_no_return e (by_renew k h) = refl
+object_is_no_return e (by_call k h) = refl
+object_is_no_return e (by_deferred k h) = refl
+object_is_no_return e (by_give k h) = refl
+object_is_no_return e (by_keep k h fits) = refl
+object_is_no_return e (by_outer k h fits) = refl
+object_is_no_return e (by_obtaining k site l a is h told) = refl
+object_is_no_return e (by_gift x v c q) = refl
+
 pub mentions_are_quiet : (seen : Seen) (bodies : List BodyPlace) (m : Mention)
     → AreQuiet (mark_events seen bodies (mentions m))
 mentions_are_quiet seen bodies m =
-    mention_events_fit (λ e. is_return e ≡ false) seen bodies m (λ v. refl)
+    mention_events_fit (λ e. is_return e ≡ false) seen bodies m (λ v. refl) (λ e is. object_is_no_return e is)
     (variable_fits (λ e. is_return e ≡ false) seen bodies m λ l is e told own. told_is_no_return e told)
 
 -- it saves the call of a literal
@@ -409,6 +470,13 @@ told_is_no_deferral : (e : Event) → is_told_of_mention e ≡ true → is_defer
 told_is_no_deferral other h = refl
 told_is_no_deferral (obtain u c n is_new) h = refl
 told_is_no_deferral (clear u) h = refl
+told_is_no_deferral (obtain_kept u f n x) h = refl
+told_is_no_deferral (renew v x) h = refl
+told_is_no_deferral (keep v x) h = refl
+told_is_no_deferral (call_kept v x) h = refl
+told_is_no_deferral (defer_kept v x) h = refl
+told_is_no_deferral (give v x) h = refl
+told_is_no_deferral (give_field v) h = refl
 told_is_no_deferral (call v) h = refl
 told_is_no_deferral (defer_call v) h = refl
 told_is_no_deferral (pass u c n) h = refl
@@ -422,12 +490,29 @@ told_is_no_deferral (make u state) h = refl
 told_is_no_deferral (defer_literal at) h = let bad : false ≡ true = h in cc
 told_is_no_deferral (return_event handed) h = refl
 
+pub object_is_no_deferral : {seen : Seen} {bodies : List BodyPlace} {mark : Mark} (e : Event)
+    → IsOfObject seen bodies mark e
+    → is_deferral e ≡ false
+object_is_no_deferral e (by_renew k h) = refl
+object_is_no_deferral e (by_call k h) = refl
+object_is_no_deferral e (by_deferred k h) = refl
+object_is_no_deferral e (by_give k h) = refl
+object_is_no_deferral e (by_keep k h fits) = refl
+object_is_no_deferral e (by_outer k h fits) = refl
+object_is_no_deferral e (by_obtaining k site l a is h told) = refl
+object_is_no_deferral e (by_gift x v c q) = refl
+
+pub objects_defer_no_literal : {seen : Seen} {bodies : List BodyPlace} {mark : Mark} (at : ℕ)
+    → IsOfObject seen bodies mark (defer_literal at)
+    → ⊥
+objects_defer_no_literal at is = let bad : true ≡ false = object_is_no_deferral (defer_literal at) is in cc
+
 pub mentions_defer_no_literal : (seen : Seen) (bodies : List BodyPlace) (m : Mention) (at : ℕ)
     → Contains (mark_events seen bodies (mentions m)) (defer_literal at)
     → ⊥
 mentions_defer_no_literal seen bodies m at h =
     let bad : true ≡ false =
-    mention_events_fit (λ e. is_deferral e ≡ false) seen bodies m (λ v. refl)
+    mention_events_fit (λ e. is_deferral e ≡ false) seen bodies m (λ v. refl) (λ e is. object_is_no_deferral e is)
     (variable_fits (λ e. is_deferral e ≡ false) seen bodies m (λ l is e told own. told_is_no_deferral e told))
     (defer_literal at) h in
     cc

@@ -1,14 +1,14 @@
 -- What a mention gives stands where its name stands, at its site, or at the statement of its row: its faults, and the
 -- events with an offset.
 use Rattle.std.proofs.Common.{ℕ, ◌≤◌, Bool, true, false, inl, inr, List, [], ◌∷◌, ◌++◌, Option, Some, None, Contains, subst}
-use Rattle.std.specs.Prelude.{◌&&◌, ◌||◌, if◌then◌else◌, not, is_some, codes, is_none}
+use Rattle.std.specs.Prelude.{◌&&◌, ◌||◌, if◌then◌else◌, not, is_some, codes}
 use Rattle.std.specs.List.{list_all}
 use Rattle.std.specs.Str.{bytes_eq}
 use Rattle.std.proofs.lemmas.List.Elements.{Contains-append_cases}
 use Rattle.meaning.specs.FunctionFacts.{CancelType, is_same_type, cancel_type, group_type, VariableKind, cancel, group, errgroup_path, is_import}
-use Rattle.meaning.specs.Mentions.{BodyPlace, Standing, ordinary, first_of_for, communication, Row, Call, CallPlace, nowhere, as_statement, only_value, return_item, deferred, Role, elsewhere, called, called_in_brackets, argument, returned, left, names_type, new_literal, parameter_pointer, Mention, exposed, found_nil, found_error}
+use Rattle.meaning.specs.Mentions.{BodyPlace, Standing, ordinary, first_of_for, communication, Row, Call, CallPlace, nowhere, as_statement, only_value, return_item, deferred, Role, elsewhere, as_key, called, called_in_brackets, argument, returned, left, names_type, new_literal, parameter_pointer, Mention, exposed, found_nil, found_error, pointed_to, under_go}
 use Rattle.meaning.specs.Tracked.{is_universe, variable_of, declared_by, Giving, giving_of, row_giving, are_locals, LocalRole, parameter, receiver, variadic, result, in_block, Local}
-use Rattle.meaning.specs.Uses.{Seen, found, kind_of, tracked_kind, last_name, Event, other, obtain, clear, call, defer_call, pass, defer_pass, lend, start, try, wait, defer_wait, make, defer_literal, return_event, Binding, obtained, cleared, made, binding_at, binding_event, row_binds, allowed_if, either_use, variable_at, cancel_called, cancel_passed, cancel_use, only_argument, group_started, group_tried, group_awaited, group_limited, group_called, group_lent, group_use, is_own, body_gives, has_no_argument, has_its_arguments, is_statement_place, is_deferred_place, is_item_place, is_statement_or_value, is_call_place, takes, is_given_as, cancel_type_of, type_from, callee_of, is_free, started_literal, are_members, literals_between, is_deferred, UseCode, recover_used, cancel_discarded, cancel_used_otherwise, group_used_otherwise, bound_again, UseFault, fault_at, otherwise, Outcome, if_not, again_faults, type_faults, first_faults, binding_outcome, use_outcome, kind_use, mention_outcome, row_outcome, role_outcome, local_outcome, variable_outcome, last_fault, has_blank, row_call_faults, hands_on, call_faults, is_only_called, giving_role_faults, giving_faults, is_made_or_parameter, recover_faults, mention_faults, is_in_literal, cancel_use_by, is_read}
+use Rattle.meaning.specs.Uses.{Seen, found, kind_of, tracked_kind, last_name, Event, other, obtain, clear, call, defer_call, pass, defer_pass, lend, start, try, wait, defer_wait, make, defer_literal, return_event, Binding, obtained, cleared, made, binding_at, binding_event, row_binds, allowed_if, either_use, variable_at, cancel_called, cancel_passed, cancel_use, only_argument, group_started, group_tried, group_awaited, group_limited, group_called, group_lent, group_use, is_own, body_gives, has_no_argument, has_its_arguments, is_statement_place, is_deferred_place, is_item_place, is_statement_or_value, is_call_place, takes, is_given_as, cancel_type_of, type_from, callee_of, is_free, started_literal, are_members, literals_between, is_deferred, UseCode, recover_used, cancel_discarded, cancel_used_otherwise, group_used_otherwise, bound_again, UseFault, fault_at, otherwise, Outcome, if_not, again_faults, type_faults, first_faults, binding_outcome, use_outcome, kind_use, mention_outcome, row_outcome, role_outcome, local_outcome, variable_outcome, last_fault, has_blank, row_call_faults, hands_on, call_faults, is_only_called, giving_role_faults, giving_faults, is_made_or_parameter, recover_faults, mention_faults, is_in_literal, cancel_use_by, is_read, obtain_kept, renew, keep, call_kept, defer_kept, give, give_field}
 use Rattle.meaning.proofs.Membership.{contains_nil, contains_cases}
 use Rattle.meaning_runs.specs.NamePlaces.{PlaceStandsWithin, RoleStandsWithin, PlaceStandsWithin, RoleStandsWithin}
 use Rattle.tree.specs.declared.edition.Edition.{Edition}
@@ -19,6 +19,13 @@ abbrev pub EventStandsWithin : ℕ → Event → Type 0
 EventStandsWithin n other = Unit {0}
 EventStandsWithin n (obtain u f k is_new) = u.at ≤ n
 EventStandsWithin n (clear u) = u.at ≤ n
+EventStandsWithin n (obtain_kept u f k x) = u.at ≤ n
+EventStandsWithin n (renew v x) = Unit {0}
+EventStandsWithin n (keep v x) = Unit {0}
+EventStandsWithin n (call_kept v x) = Unit {0}
+EventStandsWithin n (defer_kept v x) = Unit {0}
+EventStandsWithin n (give v x) = Unit {0}
+EventStandsWithin n (give_field v) = Unit {0}
 EventStandsWithin n (call v) = Unit {0}
 EventStandsWithin n (defer_call v) = Unit {0}
 EventStandsWithin n (pass u f k) = u.at ≤ n
@@ -69,7 +76,7 @@ pub faults_if : {n : ℕ} (b : Bool) {xs ys : List UseFault} → FaultsStandWith
 faults_if true h k = h
 faults_if false h k = k
 
-not_if : {n : ℕ} (b : Bool) {xs : List UseFault} → FaultsStandWithin n xs → FaultsStandWithin n (if_not b xs)
+pub not_if : {n : ℕ} (b : Bool) {xs : List UseFault} → FaultsStandWithin n xs → FaultsStandWithin n (if_not b xs)
 not_if b h = faults_if b no_fault h
 
 -- what an allowed mention gives
@@ -130,7 +137,9 @@ module _ (n : ℕ) where
 
     cancel_lies : (r : Role) → EventsLieIf n (cancel_use seen.known its_type l bodies m r)
     cancel_lies elsewhere = tt
+    cancel_lies as_key = tt
     cancel_lies exposed = tt
+    cancel_lies pointed_to = tt
     cancel_lies (found_nil nil) = called_if (is_universe (seen.known.means nil))
     cancel_lies (found_error nil row) = no_event
     cancel_lies (called c) = called_lies m.named.selected c
@@ -177,7 +186,9 @@ module _ (n : ℕ) where
 
     group_lies : (r : Role) → EventsLieIf n (group_use seen l bodies m r)
     group_lies elsewhere = tt
+    group_lies as_key = tt
     group_lies exposed = tt
+    group_lies pointed_to = tt
     group_lies (found_nil nil) = no_event
     group_lies (found_error nil row) = no_event
     group_lies (called c) = group_called_lies m.named.selected c
@@ -260,7 +271,9 @@ module _ (n : ℕ) where
     role_lies : (r : Role) → OutcomeStandsWithin n (role_outcome seen l bodies m r)
     role_lies (left k row) = row_lies (kind_of seen (Some l)) row (binding_at seen row k)
     role_lies elsewhere = unbound_lies (tracked_kind seen (Some l))
+    role_lies as_key = unbound_lies (tracked_kind seen (Some l))
     role_lies exposed = unbound_lies (tracked_kind seen (Some l))
+    role_lies pointed_to = unbound_lies (tracked_kind seen (Some l))
     role_lies (found_nil nil) = unbound_lies (tracked_kind seen (Some l))
     role_lies (found_error nil row) = unbound_lies (tracked_kind seen (Some l))
     role_lies (called c) = unbound_lies (tracked_kind seen (Some l))
@@ -297,6 +310,7 @@ module _ (n : ℕ) where
     call_lies g (return_item k) site h =
         not_if (hands_on (body_gives seen.known bodies) k g) (last_lies cancel_used_otherwise)
     call_lies g deferred site h = last_lies cancel_used_otherwise
+    call_lies g under_go site h = last_lies cancel_used_otherwise
 
     maker_lies : FaultsStandWithin n (if is_only_called seen.known.edition seen.known m.named then last_fault cancel_used_otherwise m.named else [])
     maker_lies = faults_if (is_only_called seen.known.edition seen.known m.named) (last_lies cancel_used_otherwise) no_fault
@@ -305,7 +319,9 @@ module _ (n : ℕ) where
     giving_role_lies g (called c) site h = call_lies g c.place site h
     giving_role_lies g called_in_brackets site h = last_lies cancel_used_otherwise
     giving_role_lies g elsewhere site h = maker_lies
+    giving_role_lies g as_key site h = maker_lies
     giving_role_lies g exposed site h = maker_lies
+    giving_role_lies g pointed_to site h = maker_lies
     giving_role_lies g (found_nil nil) site h = maker_lies
     giving_role_lies g (found_error nil row) site h = maker_lies
     giving_role_lies g (argument k x c) site h = maker_lies

@@ -1,27 +1,29 @@
 -- Names that stand for a part: where the marks of an expression have their names in the text, so does the mention that
 -- is told in their place. And the small rules of the grammar.
-use Rattle.std.proofs.Common.{◌≡◌, ℕ, ◌+◌, ◌≤◌, Bool, true, false, List, [], ◌∷◌, ◌++◌, Option, Some, None, refl, sym, subst, Contains, inl, inr}
+use Rattle.std.proofs.Common.{◌≡◌, ℕ, ◌+◌, ◌≤◌, Bool, true, false, List, [], ◌∷◌, ◌++◌, Option, Some, None, refl, sym, subst, Contains, inl, inr, ◌∙◌}
 use Rattle.std.proofs.lemmas.List.Elements.{Contains-append_left, Contains-append_right, Contains-append_cases}
 use Rattle.std.specs.Prelude.{◌&&◌, not, if◌then◌else◌, option_map, codes, ◌-◌}
 use Rattle.tree.specs.declared.edition.Edition.{Edition}
 use Rattle.tree.specs.declared.edition.Edition.TheVariants.{First, Second}
 use Rattle.tree.specs.declared.span.Span.{Span}
 use Rattle.tree.specs.declared.operator.BinaryOperator.{BinaryOperator}
-use Rattle.tree.specs.declared.operator.BinaryOperator.TheVariants.{Add, Subtract, Or, Xor, Multiply, Divide, Remainder, ShiftLeft, ShiftRight, And, AndNot, Equal, NotEqual, LogicalAnd, LogicalOr}
+use Rattle.tree.specs.declared.operator.BinaryOperator.TheVariants.{Add, Subtract, Or, Xor, Multiply, Divide, Remainder, ShiftLeft, ShiftRight, And, AndNot}
 use Rattle.tree.specs.declared.operator.ChanDirection.{ChanDirection}
 use Rattle.tree.specs.declared.operator.ChanDirection.TheVariants.{Both, Send, Receive}
 use Rattle.tree.specs.declared.operator.UnaryOperator.{UnaryOperator}
 use Rattle.tree.specs.declared.operator.UnaryOperator.TheVariants.{Address}
 use Rattle.tree.specs.Syntax.{Identifier, TypeName, Expression, expression_node, ExpressionForm, name_expression, composite_literal, parenthesized, selector_expression, index_expression, instance_expression, star_expression, unary_expression, array_type, Expressions, no_expression, expression_and, OptionalExpression, missing_expression, present_expression, OptionalStatement, missing_statement, present_statement, Parameters, no_parameter, named_and, unnamed_and, name_alone_and, binary_expression, statement_node, if_statement, Statements, statement_and}
 use Rattle.meaning.specs.Scopes.{is_blank, first_of, bare_names, named_in_type, named_in_types}
-use Rattle.meaning.specs.Mentions.{Named, as_bare, as_named, without_brackets, as_bracketed, as_pointer, as_new_literal, select_from, embedded, Standing, ordinary, first_of_for, communication, Row, CallPlace, nowhere, as_statement, only_value, return_item, deferred, place_in, Call, call_of, is_one, is_none_left, argument_use, LiteralUse, other_use, deferred_call, started_by, Role, elsewhere, called_in_brackets, argument, left, new_literal, parameter_pointer, BodyPlace, Mark, defers_literal, opens, closes, in_body, Spot, part_of, whole, mention, name_role, named_or, callee_or, addressed, argument_or, argument_at, new_literal_or, deferral, parameter_type_or, left_names, declared_elsewhere, guard_in_clause, expression_marks, form_marks, expressions_marks, arguments_marks, items_marks, lefts_marks, parameters_marks, exposed, addressed_within, bare_within, ranged_marks, NilTest, nil_test, nil_marks, nil_where, has_both, compares, exposed_or, error_where, error_marks, guard_marks, behind_row, statement_form_marks, statement_marks, statements_marks, optional_statement_marks}
+use Rattle.meaning.specs.Mentions.{Named, as_bare, as_named, without_brackets, as_bracketed, as_pointer, as_new_literal, select_from, embedded, Standing, ordinary, first_of_for, communication, Row, CallPlace, nowhere, as_statement, only_value, return_item, deferred, place_in, Call, call_of, is_one, is_none_left, LiteralUse, other_use, deferred_call, started_by, Role, elsewhere, called_in_brackets, argument, left, new_literal, parameter_pointer, BodyPlace, Mark, defers_literal, opens, closes, in_body, Spot, part_of, whole, mention, name_role, named_or, callee_or, addressed, argument_or, argument_at, new_literal_or, deferral, parameter_type_or, left_names, declared_elsewhere, guard_in_clause, expression_marks, form_marks, expressions_marks, arguments_marks, items_marks, lefts_marks, parameters_marks, exposed, addressed_within, bare_within, ranged_marks, NilTest, nil_test, nil_marks, nil_where, has_both, compares, exposed_or, error_where, error_marks, guard_marks, behind_row, statement_form_marks, statement_marks, statements_marks, optional_statement_marks, pointed_to, under_go, FieldLeft, Assigned, Taker, FieldMark, calls_field, writes_field, hands_over, hands_literal, renews, imports_all, of_fields, field_left, object_of, is_in_brackets, in_more_brackets, field_written, given_to, argument_taker, argument_spot, as_key}
 use Rattle.meaning.specs.Cursor.{GoText, Rule, ◌⨾◌, identifier}
 use Rattle.meaning.specs.OperatorTokens.{assign_operator}
 use Rattle.meaning.specs.Grammar.{Position, as_type, as_expression, as_value, as_element, as_constraint, end_of_selector, end_of_name, end_of_type, channel, arguments, perhaps, elements, third_bound, guard_name, initial, range_left, case_head, communication_head, optional_tag, before_item, after_items, after_instance, type_parameters, parameters_stand, length_stands, no_type_parameters, after_type_name, qualifier, type_name, import_name, SpellsExpression, SpellsExpressions, SpellsMore}
 use Rattle.meaning.proofs.Membership.{contains_here, contains_nil, contains_cases, contains_there}
-use Rattle.meaning_runs.specs.NamePlaces.{PlaceStandsWithin, RoleStandsWithin, StandsWithin, PlaceStandsWithin, RoleStandsWithin}
-use Rattle.meaning_runs.proofs.NameRules.{Says, Keeps, AllStandWithin, none_lie, lie_and, one_lies, both_lie, EachIn, says_nothing, keeps_nothing, says_never, keeps_not_before, keeps_token, behind, ending, says_one, so, keeps, given, spanned, enclosed, keeps_optional, keeps_only_if, keeps_string, keeps_semicolon, says_identifier, both, moved, no_marks, AllStandWithin}
+use Rattle.meaning_runs.specs.NamePlaces.{PlaceStandsWithin, RoleStandsWithin, StandsWithin, PlaceStandsWithin, RoleStandsWithin, FieldStandsWithin}
+use Rattle.meaning_runs.proofs.NameRules.{Says, Keeps, AllStandWithin, none_lie, lie_and, one_lies, both_lie, EachIn, says_nothing, keeps_nothing, says_never, keeps_not_before, keeps_token, behind, ending, says_one, so, keeps, given, spanned, enclosed, keeps_optional, keeps_only_if, keeps_string, keeps_semicolon, says_identifier, both, moved, no_marks, AllStandWithin, says_too, says_both}
 use Rattle.std.specs.Str.{bytes_eq}
+use Rattle.meaning_runs.proofs.FieldMarks.{FieldsOnly, no_more, and_one, IsNoWrite, given_only, written_only}
+use Rattle.std.proofs.lemmas.Option.{none-some, same_Some}
 
 -- what is named stands there
 abbrev pub IsThere : ℕ → Option Named → Type 0
@@ -53,6 +55,7 @@ role_of_name n as_statement = tt
 role_of_name n (only_value row) = tt
 role_of_name n (return_item k) = tt
 role_of_name n deferred = tt
+role_of_name n under_go = tt
 
 pub statement_place : (n : ℕ) (standing : Standing) → PlaceStandsWithin n (place_in standing as_statement)
 statement_place n ordinary = tt
@@ -70,7 +73,55 @@ pointer_has_none (expression_node (star_expression (expression_node (selector_ex
 pointer_has_none (expression_node (star_expression (expression_node _ s)) span) x e = let bad : None ≡ Some x = e in cc
 pointer_has_none (expression_node _ span) x e = let bad : None ≡ Some x = e in cc
 
+-- the field of a left side stands there
+abbrev pub FieldIn : ℕ → Expression → Type 0
+FieldIn n e = (l : FieldLeft) → field_left e ≡ Some l → l.field.span.start ≤ n
+
+pub no_write_there : (n : ℕ) (m : FieldMark) → IsNoWrite m → FieldStandsWithin n m
+no_write_there n (calls_field f) h = tt
+no_write_there n (writes_field l by) h = absurd h
+no_write_there n (hands_over taker e) h = tt
+no_write_there n (hands_literal taker at) h = tt
+no_write_there n (renews number) h = tt
+no_write_there n imports_all h = tt
+
+pub selected_field : (n : ℕ) (e : Expression) (m : Identifier) (span : Span) → m.span.start ≤ n
+    → FieldIn n (expression_node (selector_expression e m) span)
+selected_field n e m span low l q =
+    subst (λ (x : FieldLeft). x.field.span.start ≤ n)
+    (same_Some record { field = m; object = object_of e; has_brackets = is_in_brackets e } l q) low
+
+pub bracketed_field : (n : ℕ) (e : Expression) (span : Span) → FieldIn n e
+    → FieldIn n (expression_node (parenthesized e) span)
+bracketed_field n e span h l q = by (field_left e) refl q
+  where
+    by : (o : Option FieldLeft) → field_left e ≡ o → option_map in_more_brackets o ≡ Some l → l.field.span.start ≤ n
+    by None is k = absurd (none-some l k)
+    by (Some x) is k =
+        subst (λ (y : FieldLeft). y.field.span.start ≤ n) (same_Some (in_more_brackets x) l k) (h x is)
+
+-- what is said of a form that selects no field
+pub no_field_in : {n : ℕ} {fact : Type 0} {rule : Rule} (span : Span) (form : ExpressionForm)
+    → field_left (expression_node form span) ≡ None
+    → Says n fact rule
+    → Says n (fact × FieldIn n (expression_node form span)) rule
+no_field_in span form none h = so (λ w. (w, λ l q. absurd (none-some l (sym none ∙ q)))) h
+
 module _ {n : ℕ} where
+  -- marks of fields
+  pub fields_lie : {site : ℕ} (ms : List Mark) → FieldsOnly (FieldStandsWithin n) site ms → AllStandWithin n ms
+  fields_lie ms no_more = none_lie
+  fields_lie ms (and_one {ms = rest} m p h) = lie_and (of_fields _ m) rest p (fields_lie rest h)
+
+  pub given_lie : (site : ℕ) (taker : Taker) (e : Expression) → AllStandWithin n (given_to site taker e)
+  given_lie site taker e =
+      fields_lie (given_to site taker e) (given_only (FieldStandsWithin n) (no_write_there n) site taker e)
+
+  pub written_lie : (site : ℕ) (by : Option Assigned) (e : Expression) → FieldIn n e
+      → AllStandWithin n (field_written site by e)
+  written_lie site by e h =
+      fields_lie (field_written site by e) (written_only (FieldStandsWithin n) (no_write_there n) site by e h)
+
   first_mention : (m : Mark) (ms : List Mark) → AllStandWithin n (m ∷ ms) → StandsWithin n m
   first_mention m ms h = h.each m (contains_here m ms)
 
@@ -136,7 +187,7 @@ module _ {n : ℕ} where
   addressed_within_there spot _ e h = tt
 
   addressed_there : (site : ℕ) (op : UnaryOperator) (e : Expression) (ms : List Mark)
-      → AllStandWithin n (named_or (addressed_within op e) site exposed ms)
+      → AllStandWithin n (named_or (addressed_within op e) site pointed_to ms)
       → IsThere n (addressed op e)
   addressed_there site Address (expression_node (name_expression text) span) ms h = (first_mention _ [] h).0
   addressed_there site Address _ ms h = tt
@@ -152,6 +203,11 @@ module _ {n : ℕ} where
   pub exposed_in : (spot : Spot) (e : Expression) → AllStandWithin n (expression_marks spot e)
       → AllStandWithin n (exposed_or spot.site e (expression_marks spot e))
   exposed_in spot e h = in_place (bare_within e) spot.site exposed (within_there spot e h) tt h
+
+  -- a key
+  pub keyed : (spot : Spot) (e : Expression) → AllStandWithin n (expression_marks spot e)
+      → AllStandWithin n (named_or (as_bare e) spot.site as_key (expression_marks spot e))
+  keyed spot e h = in_place (as_bare e) spot.site as_key (bare_there spot e h) tt h
 
   pub selected : (spot : Spot) (e : Expression) (m : Identifier) → AllStandWithin n (expression_marks (part_of spot.site) e)
       → AllStandWithin n (named_or (select_from (as_bare e) m) spot.site elsewhere (expression_marks (part_of spot.site) e))
@@ -178,7 +234,7 @@ module _ {n : ℕ} where
       → AllStandWithin n (argument_or c site k e (expression_marks spot e))
   unfolding expression_marks form_marks
   argued c site k spot (expression_node (unary_expression op e) span) is h =
-      let operand = named_or (addressed_within op e) spot.site exposed (expression_marks (part_of spot.site) e) in
+      let operand = named_or (addressed_within op e) spot.site pointed_to (expression_marks (part_of spot.site) e) in
       let own = subst (λ (p : CallPlace). AllStandWithin n (new_literal_or p spot.site (as_new_literal op e) operand)) is h in
       in_place (addressed op e) site (argument k true c)
       (addressed_there spot.site op e (expression_marks (part_of spot.site) e) own) tt h
@@ -197,6 +253,7 @@ module _ {n : ℕ} where
   newly (only_value row) site o low h = in_place o site (new_literal row) low tt h
   newly (return_item k) site o low h = h
   newly deferred site o low h = h
+  newly under_go site o low h = h
 
   pub typed : (is_plain : Bool) (spot : Spot) (t : Expression) (site : ℕ) → AllStandWithin n (expression_marks spot t)
       → AllStandWithin n (parameter_type_or is_plain t site (expression_marks spot t))
@@ -572,6 +629,7 @@ module _ (n : ℕ) (text : GoText) (place : Position) where
   EachSays no_expression = Unit {0}
   EachSays (expression_and e es) =
       ((spot : Spot) → PlaceStandsWithin n spot.place → Says n (AllStandWithin n (expression_marks spot e)) (SpellsExpression text place e))
+      × Says n (FieldIn n e) (SpellsExpression text place e)
       × EachSays es
 
   more_expressions : (spot : Spot) (es : Expressions) → PlaceStandsWithin n spot.place → EachSays es
@@ -579,43 +637,50 @@ module _ (n : ℕ) (text : GoText) (place : Position) where
   unfolding SpellsMore expressions_marks
   more_expressions spot no_expression low h = says_nothing none_lie
   more_expressions spot (expression_and e es) low h =
-      behind (keeps_token _) (both (h.0 spot low) (more_expressions spot es low h.1))
+      behind (keeps_token _) (both (h.0 spot low) (more_expressions spot es low h.2))
 
   pub says_expressions : (spot : Spot) (es : Expressions) → PlaceStandsWithin n spot.place → EachSays es
       → Says n (AllStandWithin n (expressions_marks spot es)) (SpellsExpressions text place es)
   unfolding SpellsExpressions expressions_marks
   says_expressions spot no_expression low h = says_never
-  says_expressions spot (expression_and e es) low h = both (h.0 spot low) (more_expressions spot es low h.1)
+  says_expressions spot (expression_and e es) low h = both (h.0 spot low) (more_expressions spot es low h.2)
 
-  more_arguments : (c : Option Call) (site k : ℕ) (es : Expressions) → EachSays es
-      → Says n (AllStandWithin n (arguments_marks c site k es)) (SpellsMore text place es)
+  argument_said : (stands : CallPlace) (c : Option Call) (site k : ℕ) (e : Expression) (es : Expressions) → EachSays (expression_and e es)
+      → Says n (AllStandWithin n (argument_at c site k (is_none_left es) e (expression_marks (argument_spot stands c site) e)))
+      (SpellsExpression text place e)
+  argument_said stands c site k e es h =
+      let spot = argument_spot stands c site in
+      so (argued_at c site k (is_none_left es) spot e refl) (h.0 spot tt)
+
+  more_arguments : (stands : CallPlace) (c : Option Call) (site k : ℕ) (es : Expressions) → EachSays es
+      → Says n (AllStandWithin n (arguments_marks stands c site k es)) (SpellsMore text place es)
   unfolding SpellsMore arguments_marks
-  more_arguments c site k no_expression h = says_nothing none_lie
-  more_arguments c site k (expression_and e es) h =
-      let spot : Spot = record { place = nowhere; literal = argument_use c; site = site } in
+  more_arguments stands c site k no_expression h = says_nothing none_lie
+  more_arguments stands c site k (expression_and e es) h =
       behind (keeps_token _)
-      (both (so (argued_at c site k (is_none_left es) spot e refl) (h.0 spot tt)) (more_arguments c site (k + 1) es h.1))
+      (both (argument_said stands c site k e es h)
+      (so (λ w. both_lie (given_lie site (argument_taker stands c) e) w) (more_arguments stands c site (k + 1) es h.2)))
 
-  pub says_argument_list : (c : Option Call) (site k : ℕ) (es : Expressions) → EachSays es
-      → Says n (AllStandWithin n (arguments_marks c site k es)) (SpellsExpressions text place es)
+  pub says_argument_list : (stands : CallPlace) (c : Option Call) (site k : ℕ) (es : Expressions) → EachSays es
+      → Says n (AllStandWithin n (arguments_marks stands c site k es)) (SpellsExpressions text place es)
   unfolding SpellsExpressions arguments_marks
-  says_argument_list c site k no_expression h = says_never
-  says_argument_list c site k (expression_and e es) h =
-      let spot : Spot = record { place = nowhere; literal = argument_use c; site = site } in
-      both (so (argued_at c site k (is_none_left es) spot e refl) (h.0 spot tt)) (more_arguments c site (k + 1) es h.1)
+  says_argument_list stands c site k no_expression h = says_never
+  says_argument_list stands c site k (expression_and e es) h =
+      both (argument_said stands c site k e es h)
+      (so (λ w. both_lie (given_lie site (argument_taker stands c) e) w) (more_arguments stands c site (k + 1) es h.2))
 
   more_items : (site k : ℕ) (es : Expressions) → EachSays es
       → Says n (AllStandWithin n (items_marks site k es)) (SpellsMore text place es)
   unfolding SpellsMore items_marks
   more_items site k no_expression h = says_nothing none_lie
   more_items site k (expression_and e es) h =
-      behind (keeps_token _) (both (h.0 (whole (return_item k) site) tt) (more_items site (k + 1) es h.1))
+      behind (keeps_token _) (both (h.0 (whole (return_item k) site) tt) (more_items site (k + 1) es h.2))
 
   pub says_items : (site k : ℕ) (es : Expressions) → EachSays es
       → Says n (AllStandWithin n (items_marks site k es)) (SpellsExpressions text place es)
   unfolding SpellsExpressions items_marks
   says_items site k no_expression h = says_never
-  says_items site k (expression_and e es) h = both (h.0 (whole (return_item k) site) tt) (more_items site (k + 1) es h.1)
+  says_items site k (expression_and e es) h = both (h.0 (whole (return_item k) site) tt) (more_items site (k + 1) es h.2)
 
   on_left : (row : Row) (site k : ℕ) (e : Expression) → AllStandWithin n (expression_marks (part_of site) e)
       → AllStandWithin n (named_or (as_bare e) site (left k row) (named_or (bare_within e) site exposed (expression_marks (part_of site) e)))
@@ -627,30 +692,45 @@ module _ (n : ℕ) (text : GoText) (place : Position) where
       → AllStandWithin n (named_or (bare_within e) site exposed (expression_marks (part_of site) e))
   on_ranged site e h = in_place (bare_within e) site exposed (within_there (part_of site) e h) tt h
 
+  -- what is written there gets a value
+  written_said : (site : ℕ) (by : Option Assigned) (e : Expression) (es : Expressions) {ms : List Mark} → EachSays (expression_and e es)
+      → (AllStandWithin n (expression_marks (part_of site) e) → AllStandWithin n ms)
+      → Says n (AllStandWithin n ms × AllStandWithin n (field_written site by e)) (SpellsExpression text place e)
+  written_said site by e es h f =
+      so (λ w. (f w.0, written_lie site by e w.1)) (says_too (h.0 (part_of site) tt) h.1)
+
   more_ranged : (site : ℕ) (es : Expressions) → EachSays es
       → Says n (AllStandWithin n (ranged_marks site es)) (SpellsMore text place es)
   unfolding SpellsMore ranged_marks
   more_ranged site no_expression h = says_nothing none_lie
   more_ranged site (expression_and e es) h =
-      behind (keeps_token _) (both (so (on_ranged site e) (h.0 (part_of site) tt)) (more_ranged site es h.1))
+      behind (keeps_token _)
+      (so (λ w. both_lie w.0.0 (both_lie w.0.1 w.1))
+      (says_both (written_said site None e es h (on_ranged site e)) (more_ranged site es h.2)))
 
   pub says_ranged : (site : ℕ) (es : Expressions) → EachSays es
       → Says n (AllStandWithin n (ranged_marks site es)) (SpellsExpressions text place es)
   unfolding SpellsExpressions ranged_marks
   says_ranged site no_expression h = says_never
   says_ranged site (expression_and e es) h =
-      both (so (on_ranged site e) (h.0 (part_of site) tt)) (more_ranged site es h.1)
+      so (λ w. both_lie w.0.0 (both_lie w.0.1 w.1))
+      (says_both (written_said site None e es h (on_ranged site e)) (more_ranged site es h.2))
 
   more_lefts : (row : Row) (site k : ℕ) (es : Expressions) → EachSays es
       → Says n (AllStandWithin n (lefts_marks row site k es)) (SpellsMore text place es)
   unfolding SpellsMore lefts_marks
   more_lefts row site k no_expression h = says_nothing none_lie
   more_lefts row site k (expression_and e es) h =
-      behind (keeps_token _) (both (so (on_left row site k e) (h.0 (part_of site) tt)) (more_lefts row site (k + 1) es h.1))
+      behind (keeps_token _)
+      (so (λ w. both_lie w.0.0 (both_lie w.0.1 w.1))
+      (says_both (written_said site (Some record { left_side = k; row = row }) e es h (on_left row site k e))
+      (more_lefts row site (k + 1) es h.2)))
 
   pub says_lefts : (row : Row) (site k : ℕ) (es : Expressions) → EachSays es
       → Says n (AllStandWithin n (lefts_marks row site k es)) (SpellsExpressions text place es)
   unfolding SpellsExpressions lefts_marks
   says_lefts row site k no_expression h = says_never
   says_lefts row site k (expression_and e es) h =
-      both (so (on_left row site k e) (h.0 (part_of site) tt)) (more_lefts row site (k + 1) es h.1)
+      so (λ w. both_lie w.0.0 (both_lie w.0.1 w.1))
+      (says_both (written_said site (Some record { left_side = k; row = row }) e es h (on_left row site k e))
+      (more_lefts row site (k + 1) es h.2))

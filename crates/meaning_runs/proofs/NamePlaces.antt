@@ -1,12 +1,14 @@
 -- In the tree of a text the names of its marks stand in the text.
 use Rattle.std.proofs.Common.{ℕ, ◌≤◌, Bool, true, false, List, [], ◌∷◌, length, Option, Some, None, Contains, subst, inl, inr, arith}
+use Rattle.std.specs.Prelude.{if◌then◌else◌}
 use Rattle.lexer.specs.declared.token.Token.{Token}
 use Rattle.tree.specs.declared.operator.DeclKeyword.{DeclKeyword}
 use Rattle.tree.specs.Syntax.{Parameters, Specs, no_spec, value_and, type_and, declaration_of, Block, Function, TopLevelDeclaration, function_declaration, general_declaration, ImportSpec, ImportDeclaration, SourceFile}
 use Rattle.tree.specs.declared.edition.Edition.{Edition}
 use Rattle.meaning.specs.Cursor.{GoText, read_in}
+use Rattle.meaning.specs.OuterBlocks.{specs_of}
 use Rattle.meaning.specs.Scopes.{parameters_named, named_in_types}
-use Rattle.meaning.specs.Mentions.{part_of, expressions_marks, type_parameters_marks, receiver_marks, function_body, function_marks, outer_specs_marks, top_level_marks, top_levels_marks, file_marks}
+use Rattle.meaning.specs.Mentions.{part_of, expressions_marks, type_parameters_marks, receiver_marks, function_body, function_marks, outer_specs_marks, top_level_marks, top_levels_marks, file_marks, of_fields, imports_all, is_dot, import_marks}
 use Rattle.meaning.specs.TreeOfText.{first_place, IsTreeOf}
 use Rattle.meaning.specs.Grammar.{as_type, as_expression, type_parameters, SpellsTypeParameters, SpellsSpecs, SpellsDeclaration, SpellsImportSpec, SpellsImportSpecs, SpellsOneImport, SpellsImports, SpellsReceiver, SpellsFunction, SpellsTopLevel, SpellsTopLevels, SpellsFile}
 use Rattle.meaning.proofs.Membership.{contains_nil, contains_cases}
@@ -14,9 +16,18 @@ use Rattle.meaning_runs.specs.NamePlaces.{ReceiverStandsWithin, NamesLieInTexts}
 use Rattle.meaning_runs.proofs.BodyOffsetsTokens.{Ordered, first_ordered, tokens_ordered, tokens_under}
 use Rattle.meaning_runs.proofs.BodyOffsetsSpelled.{no_expressions}
 use Rattle.meaning_runs.proofs.BodyOffsets.{no_outer_specs}
-use Rattle.meaning_runs.proofs.NameRules.{IsInside, Says, Keeps, AllStandWithin, none_lie, both_lie, says_nothing, keeps_nothing, says_never, keeps_token, says_both, behind, ending, says_chosen, so, given, spanned, keeps_only_if, enclosed, keeps_string, keeps_semicolon, says_identifier, says_identifiers, both}
+use Rattle.meaning_runs.proofs.NameRules.{IsInside, Says, Keeps, AllStandWithin, none_lie, both_lie, says_nothing, keeps_nothing, says_never, keeps_token, says_both, behind, ending, says_chosen, so, given, spanned, keeps_only_if, enclosed, keeps_string, keeps_semicolon, says_identifier, says_identifiers, both, one_lies}
 use Rattle.meaning_runs.proofs.NameParts.{elsewhere_lie, receiver_names_lie, body_lies, keeps_import_name, says_type_parameters, says_after_name, says_perhaps, says_expressions}
 use Rattle.meaning_runs.proofs.NamesSpelled.{says_last, no_parameters_lie, of_expression, of_each, of_optional, of_signature, of_items, of_type_parameters, of_statements}
+
+-- the marks of imports name nothing
+import_lies : (n : ℕ) (b : Bool) (site : ℕ) → AllStandWithin n (if b then of_fields site imports_all ∷ [] else [])
+import_lies n true site = one_lies (of_fields site imports_all) tt
+import_lies n false site = none_lie
+
+imports_lie : (n : ℕ) (specs : List ImportSpec) → AllStandWithin n (import_marks specs)
+imports_lie n [] = none_lie
+imports_lie n (s ∷ ss) = both_lie (import_lies n (is_dot s.name) s.span.start) (imports_lie n ss)
 
 module _ (text : GoText) (n : ℕ) where
   receiver : (site : ℕ) (ps : Option Parameters)
@@ -106,8 +117,9 @@ module _ (text : GoText) (n : ℕ) where
 
   whole_file : (file : SourceFile) → Says n (AllStandWithin n (file_marks file)) (SpellsFile text file)
   whole_file file =
-      spanned (behind (keeps_token _) (behind (says_identifier text file.package_name) (behind keeps_semicolon
-      (behind (imports file.imports) (top_levels file.declarations)))))
+      so (λ w. both_lie (imports_lie n (specs_of file.imports)) w)
+      (spanned (behind (keeps_token _) (behind (says_identifier text file.package_name) (behind keeps_semicolon
+      (behind (imports file.imports) (top_levels file.declarations))))))
 
 -- a token begins before it ends
 begins_first : (lo : ℕ) (ts : List Token) → Ordered lo ts → (t : Token) → Contains ts t → t.start ≤ t.end

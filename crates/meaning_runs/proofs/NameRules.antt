@@ -114,6 +114,12 @@ module _ {n : ℕ} where
         let a = h from s.0 k s.1 in
         l a.holds s.0 to a.inside s.2
 
+  -- what is said twice of one part
+  pub says_too : {fact more : Type 0} {rule : Rule} → Says n fact rule → Says n more rule → Says n (fact × more) rule
+  says_too h l from to k s =
+      let a = h from to k s in
+      record { inside = a.inside; holds = (a.holds, (l from to k s).holds) }
+
   module _ {fact : Type 0} {first second : Rule} where
     pub says_one : Says n fact first → Says n fact second → Says n fact (one_of first second)
     says_one h l from to k (inl s) = h from to k s

@@ -8,10 +8,10 @@ use Rattle.std.proofs.lemmas.Slice.Eq.{bytes_eq-Decides}
 use Rattle.std.proofs.lemmas.List.Elements.{Contains-append_left, Contains-append_right, Contains-append_cases}
 use Rattle.tree.specs.Syntax.{Block, Function, TopLevelDeclaration, function_declaration, general_declaration, declaration_of, SourceFile}
 use Rattle.meaning.specs.Scopes.{is_blank}
-use Rattle.meaning.specs.OuterBlocks.{is_init, can_be_meant}
+use Rattle.meaning.specs.OuterBlocks.{is_init, can_be_meant, specs_of}
 use Rattle.meaning.specs.TwoFunctions.{FunctionName, function_names_in, function_names_from, is_called_before, second_after}
-use Rattle.meaning.specs.Mentions.{BodyPlace, opens, closes, function_body, function_types_marks, function_marks, statements_marks, top_level_marks, top_levels_marks, file_marks, marks_by}
-use Rattle.meaning.specs.Tracked.{Known, placed}
+use Rattle.meaning.specs.Mentions.{BodyPlace, opens, closes, function_body, function_types_marks, function_marks, statements_marks, top_level_marks, top_levels_marks, file_marks, marks_by, import_marks}
+use Rattle.meaning.specs.Tracked.{Known, placed, some_keep}
 use Rattle.meaning.specs.Uses.{Seen}
 use Rattle.meaning.specs.BodyEvents.{seen_file}
 use Rattle.meaning_packages.proofs.BodyPlaces.{placed_only}
@@ -20,7 +20,7 @@ use Rattle.meaning.specs.BodyEvents.{opened_in, bodies_of}
 use Rattle.meaning_packages.specs.CallsFlags.{has_name, is_function}
 use Rattle.meaning_reports.specs.Loaded.{seen_from}
 use Rattle.meaning_runs.proofs.BodyOffsets.{opened_there}
-use Rattle.meaning_runs.proofs.LeftSides.{of_types, of_block, of_outer_specs, is_placed}
+use Rattle.meaning_runs.proofs.LeftSides.{of_types, of_block, of_outer_specs, is_placed, of_imports}
 use Rattle.meaning_runs.proofs.EditionMarks.{among_all}
 
 -- Bodies and the functions that they are of
@@ -72,6 +72,14 @@ module _ (b : BodyPlace) (named : b.name ≡ None → ⊥) where
         | inr r ↦ later (general_declaration (declaration_of keyword specs is_grouped span)) ds b (of_some_function ds r)
       ]
 
+  -- imports begin no body
+  of_declared : (file : SourceFile) → Contains (file_marks file) (opens b) → OfFunction file.declarations b
+  of_declared file h =
+      elim (Contains-append_cases (import_marks (specs_of file.imports)) (top_levels_marks file.declarations) (opens b) h) [
+        | inl r ↦ absurd (named ((of_imports (specs_of file.imports)).each (opens b) r))
+        | inr r ↦ of_some_function file.declarations r
+      ]
+
 -- the function of a body of that name
 record OfName (ds : List TopLevelDeclaration) (name : List ℕ) (b : BodyPlace) : Type 0 where
   of : OfFunction ds b
@@ -86,11 +94,11 @@ named_so name b e none =
 
 of_name : (known : Known) (file : SourceFile) (name : List ℕ) (b : BodyPlace) → Contains (bodies_of (seen_file known file)) b → is_function name b ≡ true → OfName file.declarations name b
 of_name known file name b h e =
-    let marks = marks_by known.edition (file_marks file) in
+    let marks = marks_by known.edition (some_keep known.fields) (file_marks file) in
     let w = opened_there (placed [] marks) b (placed_only (opened_in (placed [] marks)) b h) in
     let there = subst (λ m. Contains marks m) w.2 (is_placed [] marks w.0 w.1) in
-    let among = among_all known.edition (file_marks file) (opens b) there in
-    let of = of_some_function b (named_so name b e) file.declarations among in
+    let among = among_all known.edition (some_keep known.fields) (file_marks file) (opens b) there in
+    let of = of_declared b (named_so name b e) file among in
     let its : is_function name (function_body of.function of.block) ≡ true = ap (is_function name) of.is_it ∙ e in
     let parts = and_parts (is_none of.function.receiver) (has_name name (Some of.function.name)) its in
     let rest = and_parts (bytes_eq of.function.name.text name) (not (is_blank of.function.name.text) && not (is_init of.function.name.text)) parts.1 in

@@ -1,22 +1,23 @@
 -- A body of a function's name stands in no other body: in a file, what stands in a body and begins one is a literal, which
 -- has no name.
-use Rattle.std.proofs.Common.{◌≡◌, ℕ, true, inl, inr, List, [], ◌∷◌, ◌++◌, Option, Some, None, Contains, sym, ap, ◌∙◌, subst}
+use Rattle.std.proofs.Common.{◌≡◌, ℕ, Bool, true, inl, inr, List, [], ◌∷◌, ◌++◌, Option, Some, None, Contains, sym, ap, ◌∙◌, subst}
 use Rattle.std.proofs.lemmas.List.Elements.{Contains-append_cases}
-use Rattle.tree.specs.Syntax.{Block, Function, TopLevelDeclaration, function_declaration, general_declaration, declaration_of}
-use Rattle.meaning.specs.Mentions.{BodyPlace, Mark, opens, closes, function_body, function_types_marks, function_marks, statements_marks, outer_specs_marks, top_level_marks, top_levels_marks, marks_by, file_marks}
-use Rattle.meaning.specs.Tracked.{Placed, placed, outer}
+use Rattle.tree.specs.Syntax.{Block, Function, TopLevelDeclaration, function_declaration, general_declaration, declaration_of, SourceFile}
+use Rattle.meaning.specs.OuterBlocks.{specs_of}
+use Rattle.meaning.specs.Mentions.{BodyPlace, Mark, opens, closes, function_body, function_types_marks, function_marks, statements_marks, outer_specs_marks, top_level_marks, top_levels_marks, marks_by, file_marks, import_marks}
+use Rattle.meaning.specs.Tracked.{Placed, placed, outer, some_keep}
 use Rattle.meaning.specs.Uses.{Seen}
 use Rattle.meaning.specs.BodyEvents.{opened_in}
 use Rattle.meaning.proofs.Membership.{contains_cases, contains_nil}
 use Rattle.meaning_packages.specs.CallsFlags.{is_function}
 use Rattle.meaning_packages.proofs.BodyPlaces.{placed_only}
-use Rattle.meaning_reports.specs.Loaded.{known_in, trees_of}
+use Rattle.meaning_reports.specs.Loaded.{LoadedPackage, known_in, trees_of}
 use Rattle.meaning_runs.specs.Bodies.{Program, Body, IsOf, IsOutermost}
 use Rattle.meaning_runs.proofs.BodyOffsets.{opened_there}
 use Rattle.meaning_runs.proofs.BodyOffsetsWithin.{placed_nil, opened_placed}
 use Rattle.meaning_runs.proofs.EditionMarks.{placed_among}
-use Rattle.meaning_runs.proofs.LeftSides.{of_types, of_block, of_outer_specs, is_placed}
-use Rattle.meaning_runs.proofs.MarkForms.{of_top_level}
+use Rattle.meaning_runs.proofs.LeftSides.{of_types, of_block, of_outer_specs, is_placed, of_imports}
+use Rattle.meaning_runs.proofs.MarkForms.{of_top_level, of_imports as imports_made}
 use Rattle.meaning_runs.proofs.MarksBeside.{splits}
 use Rattle.meaning_runs.proofs.NamedBodies.{named_so, opens_one}
 use Rattle.meaning_runs.proofs.TrackedBindings.{of_number}
@@ -60,13 +61,29 @@ module _ (b : BodyPlace) (named : b.name ≡ None → ⊥) where
         | inr r ↦ of_top_levels ds p r e
       ]
 
+  -- imports begin no body
+  of_file : (file : SourceFile) → StandsAlone (file_marks file)
+  of_file file p h e =
+      let imports = import_marks (specs_of file.imports) in
+      let first = placed [] imports in
+      let second = placed [] (top_levels_marks file.declarations) in
+      let whole = splits imports (imports_made (specs_of file.imports)) [] (top_levels_marks file.declarations) in
+      elim (Contains-append_cases first second p (subst (λ (l : List Placed). Contains l p) whole h)) [
+        | inl l ↦ absurd (named ((of_imports (specs_of file.imports)).each (opens b) (opens_it [] imports p l e)))
+        | inr r ↦ of_top_levels file.declarations p r e
+      ]
+
+-- some field keeps, by what is known where the file of that number is seen
+abbrev pub keeps_in : Program → LoadedPackage → ℕ → Bool
+keeps_in p loaded n = some_keep (known_in p.packages p.tables loaded n).fields
+
 pub named_is_outermost : (p : Program) (b : Body) (of : IsOf p b) (name : List ℕ) → is_function name b.place ≡ true
     → IsOutermost b
 named_is_outermost p b of name is =
     let w = of_number (known_in p.packages p.tables of.loaded) 0 (trees_of of.loaded) b.file of.is_file in
     let m = opened_there b.file.marks b.place (placed_only (opened_in b.file.marks) b.place of.is_body) in
-    let here : Contains (placed [] (marks_by of.loaded.edition (file_marks w.1))) m.0 =
+    let here : Contains (placed [] (marks_by of.loaded.edition (keeps_in p of.loaded w.0) (file_marks w.1))) m.0 =
     subst (λ (s : Seen). Contains s.marks m.0) (sym w.2) m.1 in
-    let alone = of_top_levels b.place (named_so name b.place is) w.1.declarations m.0
-    (placed_among of.loaded.edition (file_marks w.1) m.0 here) m.2 in
+    let alone = of_file b.place (named_so name b.place is) w.1 m.0
+    (placed_among of.loaded.edition (keeps_in p of.loaded w.0) (file_marks w.1) m.0 here) m.2 in
     record { mark = m.0; is_of_file = m.1; opens_it = m.2; stands_in_none = ap outer alone }

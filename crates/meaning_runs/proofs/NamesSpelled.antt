@@ -1,17 +1,18 @@
 -- What is spelled within a text has its names there: of expressions, signatures and statements.
-use Rattle.std.proofs.Common.{◌≡◌, ℕ, ◌≤◌, Bool, true, false, List, [], ◌++◌, Option, None, sym, subst, arith, append_assoc, append-nil}
+use Rattle.std.proofs.Common.{◌≡◌, ℕ, ◌≤◌, Bool, true, false, List, [], ◌++◌, Option, None, sym, subst, arith, append_assoc, append-nil, refl}
 use Rattle.std.specs.Prelude.{◌&&◌, not, ◌-◌}
 use Rattle.tree.specs.declared.span.Span.{Span}
 use Rattle.tree.specs.declared.operator.DeclKeyword.{DeclKeyword}
 use Rattle.tree.specs.Syntax.{Identifier, Expression, expression_node, ExpressionForm, name_expression, basic_literal, function_literal, composite_literal, literal_value, key_value, parenthesized, selector_expression, index_expression, instance_expression, slice_expression, type_assertion, call_expression, star_expression, unary_expression, binary_expression, array_type, ellipsis_array_type, slice_type, map_type, channel_type, function_type, struct_type, interface_type, Expressions, no_expression, expression_and, OptionalExpression, missing_expression, present_expression, Signature, signature_of, Parameters, no_parameter, named_and, unnamed_and, name_alone_and, Fields, no_field, fields_and, embedded_and, element_and, method_and, Statement, statement_node, StatementForm, empty_statement, declaration_statement, labeled_statement, expression_statement, send_statement, increment_statement, decrement_statement, assignment, operator_assignment, define_statement, go_statement, defer_statement, return_statement, break_statement, continue_statement, goto_statement, fallthrough_statement, block_statement, if_statement, for_statement, range_assignment, range_definition, switch_statement, type_switch_statement, select_statement, Statements, no_statement, statement_and, OptionalStatement, missing_statement, present_statement, CaseClauses, no_case, case_and, CommunicationClauses, no_communication, communication_and, Declaration, declaration_of, Specs, no_spec, value_and, type_and}
-use Rattle.meaning.specs.Mentions.{as_named, as_new_literal, embedded, defines, assigns, declares, Standing, ordinary, first_of_for, communication, Row, nowhere, as_statement, deferred, place_in, call_of, callee_use, elsewhere, names_type, Mark, returns, Spot, part_of, whole, mention, literal_body, value_spot, row_of, expression_marks, form_marks, expressions_marks, optional_marks, arguments_marks, items_marks, names_type_marks, signature_marks, parameters_marks, fields_marks, statement_marks, statement_form_marks, statements_marks, optional_statement_marks, cases_marks, communications_marks, declaration_marks, specs_marks, exposed, addressed_within, ranged_marks, row_in, first_row}
+use Rattle.meaning.specs.Mentions.{as_named, as_new_literal, embedded, defines, assigns, declares, Standing, ordinary, first_of_for, communication, Row, as_statement, deferred, place_in, call_of, elsewhere, names_type, Mark, returns, Spot, part_of, whole, mention, literal_body, value_spot, row_of, expression_marks, form_marks, expressions_marks, optional_marks, arguments_marks, items_marks, names_type_marks, signature_marks, parameters_marks, fields_marks, statement_marks, statement_form_marks, statements_marks, optional_statement_marks, cases_marks, communications_marks, declaration_marks, specs_marks, addressed_within, ranged_marks, row_in, first_row, pointed_to, under_go, callee_spot, literal_given_to, receiver_given, field_called, sent, rights_given, is_one, guard_renewed, communication_given, arguments_place}
 use Rattle.meaning.specs.Scopes.{parameters_named}
 use Rattle.meaning.specs.Cursor.{GoText, Cursor, Rule, ◌⇒◌, nothing, spanning}
 use Rattle.meaning.specs.Grammar.{Position, as_type, as_expression, as_value, as_element, as_constraint, inside, operand, element_place, statement_start, of_struct, of_interface, Owner, IsMissing, IsLast, SpellsExpression, SpellsForm, SpellsExpressions, SpellsMore, SpellsOptional, SpellsSignature, SpellsResult, SpellsItems, SpellsTypeParameters, SpellsFields, SpellsStatement, SpellsStatementForm, SpellsOptionalStatement, SpellsElse, SpellsStatements, SpellsCases, SpellsCommunications, SpellsDeclaration, SpellsSpecs}
-use Rattle.meaning_runs.specs.NamePlaces.{PlaceStandsWithin, ParametersStandWithin, SignatureStandsWithin}
-use Rattle.meaning_runs.proofs.NameRules.{IsInside, Says, AllStandWithin, EachIn, none_lie, lie_and, one_lies, both_lie, start_in, says_nothing, keeps_nothing, says_never, keeps_not_before, keeps_token, says_both, behind, ending, knowing, says_chosen, so, given, spanned, spanned_at, keeps_only_if, enclosed, keeps_semicolon, keeps_semicolons, keeps_word, says_identifier, keeps_optional_identifier, says_identifiers, both, turned, moved, no_marks, keeps}
-use Rattle.meaning_runs.proofs.NameParts.{name_there, new_there, in_place, selected, callee_by, newly, typed, role_of_name, value_place, statement_place, names_lie, elsewhere_lie, NameIn, guard_lies, deferral_lies, body_lies, keeps_end_of_name, keeps_end_of_selector, keeps_end_of_type, keeps_channel, keeps_assign_operator, keeps_tag, keeps_before_item, keeps_after_items, says_type_name, keeps_after_instance, says_after_name, says_guard_name, says_arguments, says_perhaps, says_elements, says_range_left, says_case_head, says_third_bound, says_initial, says_communication, EachSays, says_expressions, says_argument_list, says_items, says_lefts, addressed_within_there, says_ranged, nil_lie, exposed_in, row_guard_lies, behind_lies}
+use Rattle.meaning_runs.specs.NamePlaces.{PlaceStandsWithin, ParametersStandWithin, SignatureStandsWithin, FieldStandsWithin}
+use Rattle.meaning_runs.proofs.NameRules.{IsInside, Says, AllStandWithin, EachIn, none_lie, lie_and, one_lies, both_lie, start_in, says_nothing, keeps_nothing, says_never, keeps_not_before, keeps_token, says_both, behind, ending, knowing, says_chosen, so, given, spanned, spanned_at, keeps_only_if, enclosed, keeps_semicolon, keeps_semicolons, keeps_word, says_identifier, keeps_optional_identifier, says_identifiers, both, turned, moved, no_marks, keeps, says_too}
+use Rattle.meaning_runs.proofs.NameParts.{name_there, new_there, in_place, selected, callee_by, newly, typed, role_of_name, value_place, statement_place, names_lie, elsewhere_lie, NameIn, guard_lies, deferral_lies, body_lies, keeps_end_of_name, keeps_end_of_selector, keeps_end_of_type, keeps_channel, keeps_assign_operator, keeps_tag, keeps_before_item, keeps_after_items, says_type_name, keeps_after_instance, says_after_name, says_guard_name, says_arguments, says_perhaps, says_elements, says_range_left, says_case_head, says_third_bound, says_initial, says_communication, EachSays, says_expressions, says_argument_list, says_items, says_lefts, addressed_within_there, says_ranged, nil_lie, exposed_in, row_guard_lies, behind_lies, FieldIn, no_write_there, selected_field, bracketed_field, fields_lie, written_lie, no_field_in, keyed}
 use Rattle.meaning_runs.proofs.BodyOffsetsSpelled.{missing_gives_none, missing_statement_gives_none, no_expressions, no_arguments, no_items, three_and_one, no_specs_left, no_ranged}
+use Rattle.meaning_runs.proofs.FieldMarks.{literal_only, receiver_only, called_only, sent_only, rights_only, guard_only, communication_only}
 
 -- a statement begins there
 statement_in : (n : ℕ) (form : StatementForm) (from : Cursor) → IsInside n from → statement_start form from ≤ n
@@ -60,95 +61,131 @@ module _ (text : GoText) (n : ℕ) where
 
     pub of_expression : (place : Position) (spot : Spot) (e : Expression) → PlaceStandsWithin n spot.place
         → Says n (AllStandWithin n (expression_marks spot e)) (SpellsExpression text place e)
-    of_expression place spot (expression_node form span) low = of_form place spot span form low
+    of_expression place spot (expression_node form span) low = so (λ w. w.0) (of_form place spot span form low)
+
+    -- the field that an expression selects
+    of_left : (place : Position) (e : Expression) → Says n (FieldIn n e) (SpellsExpression text place e)
+    of_left place (expression_node form span) = so (λ w. w.1) (of_form place (part_of 0) span form tt)
 
     of_form : (place : Position) (spot : Spot) (span : Span) (form : ExpressionForm) → PlaceStandsWithin n spot.place
-        → Says n (AllStandWithin n (form_marks spot span form)) (spanning span (SpellsForm text place form))
+        → Says n (AllStandWithin n (form_marks spot span form) × FieldIn n (expression_node form span))
+        (spanning span (SpellsForm text place form))
     of_form place spot span (name_expression name) low =
+        no_field_in span (name_expression name) refl (
         spanned_at λ here. so (λ w. one_lies _ (here, role_of_name n spot.place))
-        (behind (keeps_word text name) (keeps_end_of_name text.edition place))
-    of_form place spot span (basic_literal kind) low = spanned (given (no_marks (keeps_token _)))
+        (behind (keeps_word text name) (keeps_end_of_name text.edition place)))
+    of_form place spot span (basic_literal kind) low =
+        no_field_in span (basic_literal kind) refl (
+        spanned (given (no_marks (keeps_token _))))
     of_form place spot span (function_literal signature ss braces) low =
+        no_field_in span (function_literal signature ss braces) refl (
         spanned (given (behind (keeps_token _)
         (so (λ w. both_lie (body_lies (literal_body spot.literal span.start signature ss braces) (tt, w.0.1)
-        (both_lie w.0.0 w.1)) (deferral_lies spot.literal spot.site span.start))
-        (says_both (of_signature span.start signature) (spanned (enclosed _ _ (of_statements ss)))))))
+        (both_lie w.0.0 w.1)) (both_lie (deferral_lies spot.literal spot.site span.start)
+        (fields_lie (literal_given_to spot.site spot.taker span.start)
+        (literal_only (FieldStandsWithin n) (no_write_there n) spot.site spot.taker span.start))))
+        (says_both (of_signature span.start signature) (spanned (enclosed _ _ (of_statements ss))))))))
     of_form place spot span (composite_literal t es) low =
+        no_field_in span (composite_literal t es) refl (
         spanned (given (given (both (of_expression as_type (part_of spot.site) t tt)
         (enclosed _ _ (says_elements es (expressions_marks (part_of spot.site)) (no_expressions (part_of spot.site))
-        (says_expressions n text as_element (part_of spot.site) es tt (of_each as_element es)))))))
+        (says_expressions n text as_element (part_of spot.site) es tt (of_each as_element es))))))))
     of_form place spot span (literal_value es) low =
+        no_field_in span (literal_value es) refl (
         spanned (given (enclosed _ _ (says_elements es (expressions_marks (part_of spot.site))
         (no_expressions (part_of spot.site))
-        (says_expressions n text as_element (part_of spot.site) es tt (of_each as_element es)))))
+        (says_expressions n text as_element (part_of spot.site) es tt (of_each as_element es))))))
     of_form place spot span (key_value k v) low =
-        spanned (given (both (of_expression as_value (part_of spot.site) k tt)
-        (behind (keeps_token _) (of_expression as_value (part_of spot.site) v tt))))
+        no_field_in span (key_value k v) refl (
+        spanned (given (both (so (keyed (part_of spot.site) k) (of_expression as_value (part_of spot.site) k tt))
+        (behind (keeps_token _) (of_expression as_value (part_of spot.site) v tt)))))
     of_form place spot span (parenthesized e) low =
-        spanned (enclosed _ _ (of_expression (inside place) (part_of spot.site) e tt))
+        spanned (enclosed _ _ (so (λ w. (w.0, bracketed_field n e span w.1))
+        (says_too (of_expression (inside place) (part_of spot.site) e tt) (of_left (inside place) e))))
     of_form place spot span (selector_expression e m) low =
-        spanned (given (so (selected spot e m)
-        (ending (of_expression as_expression (part_of spot.site) e tt) (behind (keeps_token _) (behind (says_identifier text m) (keeps_end_of_selector text.edition place))))))
+        spanned (given (so (λ w. (selected spot e m w.0, selected_field n e m span w.1))
+        (says_both (of_expression as_expression (part_of spot.site) e tt)
+        (behind (keeps_token _) (ending (says_identifier text m) (keeps_end_of_selector text.edition place))))))
     of_form place spot span (index_expression e i) low =
+        no_field_in span (index_expression e i) refl (
         spanned (given (given (both (of_expression as_expression (part_of spot.site) e tt)
-        (enclosed _ _ (of_expression as_expression (part_of spot.site) i tt)))))
+        (enclosed _ _ (of_expression as_expression (part_of spot.site) i tt))))))
     of_form place spot span (instance_expression e es) low =
+        no_field_in span (instance_expression e es) refl (
         spanned (given (given (given (both (of_expression as_expression (part_of spot.site) e tt)
         (enclosed _ _ (ending (says_expressions n text as_expression (part_of spot.site) es tt (of_each as_expression es))
-        (keeps_after_instance es)))))))
+        (keeps_after_instance es))))))))
     of_form place spot span (slice_expression e first last most) low =
+        no_field_in span (slice_expression e first last most) refl (
         spanned (given (given (both (of_expression as_expression (part_of spot.site) e tt)
         (enclosed _ _ (both (of_optional as_expression spot.site first)
         (behind (keeps_token _) (both (of_optional as_expression spot.site last)
-        (says_third_bound most (missing_gives_none spot.site most) (of_optional as_expression spot.site most)))))))))
+        (says_third_bound most (missing_gives_none spot.site most) (of_optional as_expression spot.site most))))))))))
     of_form place spot span (type_assertion e t) low =
+        no_field_in span (type_assertion e t) refl (
         spanned (given (given (both (of_expression as_expression (part_of spot.site) e tt)
-        (behind (keeps_token _) (enclosed _ _ (of_expression as_type (part_of spot.site) t tt))))))
+        (behind (keeps_token _) (enclosed _ _ (of_expression as_type (part_of spot.site) t tt)))))))
     of_form place spot span (call_expression e es ellipsis) low =
-        let inner : Spot = record { place = nowhere; literal = callee_use spot.place; site = spot.site } in
-        spanned (given (given (both
+        no_field_in span (call_expression e es ellipsis) refl (
+        let inner = callee_spot spot in
+        spanned (given (given (so (λ w. both_lie (fields_lie (receiver_given spot.place spot.site e)
+        (receiver_only (FieldStandsWithin n) (no_write_there n) spot.place spot.site e))
+        (both_lie w.1 (both_lie w.0 (fields_lie (field_called spot.site e)
+        (called_only (FieldStandsWithin n) (no_write_there n) spot.site e)))))
+        (says_both
         (so (callee_by spot.site spot.place inner e es ellipsis low) (of_expression as_expression inner e tt))
-        (enclosed _ _ (says_arguments es (arguments_marks (call_of spot.place e es ellipsis) spot.site 0) ellipsis
-        (no_arguments (call_of spot.place e es ellipsis) spot.site 0)
-        (says_argument_list n text as_expression (call_of spot.place e es ellipsis) spot.site 0 es
-        (of_each as_expression es)))))))
+        (enclosed _ _ (says_arguments es (arguments_marks (arguments_place spot.place e) (call_of spot.place e es ellipsis) spot.site 0) ellipsis
+        (no_arguments (arguments_place spot.place e) (call_of spot.place e es ellipsis) spot.site 0)
+        (says_argument_list n text as_expression (arguments_place spot.place e) (call_of spot.place e es ellipsis) spot.site 0 es
+        (of_each as_expression es)))))))))
     of_form place spot span (star_expression e) low =
-        spanned (given (behind (keeps_token _) (of_expression (inside place) (part_of spot.site) e tt)))
+        no_field_in span (star_expression e) refl (
+        spanned (given (behind (keeps_token _) (of_expression (inside place) (part_of spot.site) e tt))))
     of_form place spot span (unary_expression op e) low =
+        no_field_in span (unary_expression op e) refl (
         spanned (given (given (so (λ w. newly spot.place spot.site (as_new_literal op e) (new_there (part_of spot.site) op e w)
-        (in_place (addressed_within op e) spot.site exposed (addressed_within_there (part_of spot.site) op e w) tt w))
-        (behind (keeps_token _) (of_expression as_expression (part_of spot.site) e tt)))))
+        (in_place (addressed_within op e) spot.site pointed_to (addressed_within_there (part_of spot.site) op e w) tt w))
+        (behind (keeps_token _) (of_expression as_expression (part_of spot.site) e tt))))))
     of_form place spot span (binary_expression op l r) low =
+        no_field_in span (binary_expression op l r) refl (
         spanned (given (given (both (of_expression (operand place) (part_of spot.site) l tt)
-        (behind (keeps_token _) (of_expression (operand place) (part_of spot.site) r tt)))))
+        (behind (keeps_token _) (of_expression (operand place) (part_of spot.site) r tt))))))
     of_form place spot span (array_type size t) low =
+        no_field_in span (array_type size t) refl (
         spanned (both (enclosed _ _ (of_expression as_expression (part_of spot.site) size tt))
-        (ending (of_expression as_type (part_of spot.site) t tt) (keeps_end_of_type place)))
-    of_form place spot span (ellipsis_array_type t) low =
-        spanned (behind (enclosed _ _ (keeps_token _))
-        (ending (of_expression as_type (part_of spot.site) t tt) (keeps_end_of_type place)))
-    of_form place spot span (slice_type t) low =
-        spanned (behind (enclosed _ _ keeps_nothing)
-        (ending (of_expression as_type (part_of spot.site) t tt) (keeps_end_of_type place)))
-    of_form place spot span (map_type k t) low =
-        spanned (behind (keeps_token _) (both (enclosed _ _ (of_expression as_type (part_of spot.site) k tt))
         (ending (of_expression as_type (part_of spot.site) t tt) (keeps_end_of_type place))))
+    of_form place spot span (ellipsis_array_type t) low =
+        no_field_in span (ellipsis_array_type t) refl (
+        spanned (behind (enclosed _ _ (keeps_token _))
+        (ending (of_expression as_type (part_of spot.site) t tt) (keeps_end_of_type place))))
+    of_form place spot span (slice_type t) low =
+        no_field_in span (slice_type t) refl (
+        spanned (behind (enclosed _ _ keeps_nothing)
+        (ending (of_expression as_type (part_of spot.site) t tt) (keeps_end_of_type place))))
+    of_form place spot span (map_type k t) low =
+        no_field_in span (map_type k t) refl (
+        spanned (behind (keeps_token _) (both (enclosed _ _ (of_expression as_type (part_of spot.site) k tt))
+        (ending (of_expression as_type (part_of spot.site) t tt) (keeps_end_of_type place)))))
     of_form place spot span (channel_type direction t) low =
+        no_field_in span (channel_type direction t) refl (
         spanned (behind (keeps_channel place direction)
-        (ending (of_expression as_type (part_of spot.site) t tt) (keeps_end_of_type place)))
+        (ending (of_expression as_type (part_of spot.site) t tt) (keeps_end_of_type place))))
     of_form place spot span (function_type signature) low =
+        no_field_in span (function_type signature) refl (
         spanned (behind (keeps_token _)
-        (ending (so (λ w. w.0) (of_signature spot.site signature)) (keeps_end_of_type place)))
+        (ending (so (λ w. w.0) (of_signature spot.site signature)) (keeps_end_of_type place))))
     of_form place spot span (struct_type fs) low =
+        no_field_in span (struct_type fs) refl (
         spanned (behind (keeps_token _)
-        (ending (enclosed _ _ (of_fields of_struct spot.site fs)) (keeps_end_of_type place)))
+        (ending (enclosed _ _ (of_fields of_struct spot.site fs)) (keeps_end_of_type place))))
     of_form place spot span (interface_type fs) low =
+        no_field_in span (interface_type fs) refl (
         spanned (behind (keeps_token _)
-        (ending (enclosed _ _ (of_fields of_interface spot.site fs)) (keeps_end_of_type place)))
+        (ending (enclosed _ _ (of_fields of_interface spot.site fs)) (keeps_end_of_type place))))
 
     pub of_each : (place : Position) (es : Expressions) → EachSays n text place es
     of_each place no_expression = tt
-    of_each place (expression_and e es) = (λ spot low. of_expression place spot e low, of_each place es)
+    of_each place (expression_and e es) = (λ spot low. of_expression place spot e low, of_left place e, of_each place es)
 
     pub of_optional : (place : Position) (site : ℕ) (e : OptionalExpression)
         → Says n (AllStandWithin n (optional_marks site e)) (SpellsOptional text place e)
@@ -243,26 +280,34 @@ module _ (text : GoText) (n : ℕ) where
         of_expression as_expression (whole (place_in standing as_statement) at) e (statement_place n standing)
     of_statement_form standing at (send_statement c v) low =
         both (of_expression as_expression (part_of at) c tt)
-        (behind (keeps_token _) (of_expression as_expression (part_of at) v tt))
+        (behind (keeps_token _) (so (λ w. both_lie w (fields_lie (sent standing at v)
+        (sent_only (FieldStandsWithin n) (no_write_there n) standing at v)))
+        (of_expression as_expression (part_of at) v tt)))
     of_statement_form standing at (increment_statement e) low =
-        ending (so (exposed_in (part_of at) e) (of_expression as_expression (part_of at) e tt)) (keeps_token _)
+        ending (so (λ w. both_lie (exposed_in (part_of at) e w.0) (written_lie at None e w.1))
+        (says_too (of_expression as_expression (part_of at) e tt) (of_left as_expression e))) (keeps_token _)
     of_statement_form standing at (decrement_statement e) low =
-        ending (so (exposed_in (part_of at) e) (of_expression as_expression (part_of at) e tt)) (keeps_token _)
+        ending (so (λ w. both_lie (exposed_in (part_of at) e w.0) (written_lie at None e w.1))
+        (says_too (of_expression as_expression (part_of at) e tt) (of_left as_expression e))) (keeps_token _)
     of_statement_form standing at (assignment ls rs) low =
-        turned (says_lefts n text as_expression (row_of standing at (assigns ls) rs) at 0 ls (of_each as_expression ls))
+        so (λ w. both_lie w.1 (both_lie (fields_lie (rights_given at (is_one rs) ls rs)
+        (rights_only (FieldStandsWithin n) (no_write_there n) at (is_one rs) ls rs)) w.0))
+        (says_both
+        (says_lefts n text as_expression (row_of standing at (assigns ls) rs) at 0 ls (of_each as_expression ls))
         (behind (keeps_token _)
         (says_expressions n text as_expression (value_spot (row_of standing at (assigns ls) rs) at) rs
-        (value_place (row_of standing at (assigns ls) rs) low) (of_each as_expression rs)))
+        (value_place (row_of standing at (assigns ls) rs) low) (of_each as_expression rs))))
     of_statement_form standing at (operator_assignment op l r) low =
-        both (so (exposed_in (part_of at) l) (of_expression as_expression (part_of at) l tt))
-        (behind (keeps_assign_operator op) (of_expression as_expression (part_of at) r tt))
+        so (λ w. both_lie (exposed_in (part_of at) l w.0.0) (both_lie w.1 (written_lie at None l w.0.1)))
+        (says_both (says_too (of_expression as_expression (part_of at) l tt) (of_left as_expression l))
+        (behind (keeps_assign_operator op) (of_expression as_expression (part_of at) r tt)))
     of_statement_form standing at (define_statement names rs) low =
         turned (so (names_lie (row_of standing at (defines names) rs) at 0 names) (says_identifiers text names))
         (behind (keeps_token _)
         (says_expressions n text as_expression (value_spot (row_of standing at (defines names) rs) at) rs
         (value_place (row_of standing at (defines names) rs) low) (of_each as_expression rs)))
     of_statement_form standing at (go_statement e) low =
-        given (behind (keeps_token _) (of_expression as_expression (part_of at) e tt))
+        given (behind (keeps_token _) (of_expression as_expression (whole under_go at) e tt))
     of_statement_form standing at (defer_statement e) low =
         given (behind (keeps_token _) (of_expression as_expression (whole deferred at) e tt))
     of_statement_form standing at (return_statement es) low =
@@ -336,7 +381,8 @@ module _ (text : GoText) (n : ℕ) where
         → Says n (AllStandWithin n (cases_marks at guard cs)) (SpellsCases text cs)
     of_cases at guard h no_case = says_nothing none_lie
     of_cases at guard h (case_and es ss span cs) =
-        so (λ w. both_lie (guard_lies at guard span h) w)
+        so (λ w. both_lie (guard_lies at guard span h) (both_lie (fields_lie (guard_renewed guard span)
+        (guard_only (FieldStandsWithin n) (no_write_there n) guard span)) w))
         (moved (append_assoc (expressions_marks (part_of span.start) es) (statements_marks ss) (cases_marks at guard cs))
         (both (spanned
         (both (says_case_head es (expressions_marks (part_of span.start)) (no_expressions (part_of span.start))
@@ -347,9 +393,10 @@ module _ (text : GoText) (n : ℕ) where
         → Says n (AllStandWithin n (communications_marks cs)) (SpellsCommunications text cs)
     of_communications no_communication = says_nothing none_lie
     of_communications (communication_and c ss span cs) =
-        moved (append_assoc (optional_statement_marks communication c) (statements_marks ss) (communications_marks cs))
-        (given (both (spanned
-        (both (says_communication c (missing_statement_gives_none communication c) (of_optional_statement communication c))
+        given (so (λ w. both_lie w.0.0 (both_lie (fields_lie (communication_given span.start c)
+        (communication_only (FieldStandsWithin n) (no_write_there n) span.start c)) (both_lie w.0.1 w.1)))
+        (says_both (spanned
+        (says_both (says_communication c (missing_statement_gives_none communication c) (of_optional_statement communication c))
         (behind (keeps_token _) (of_statements ss)))) (of_communications cs)))
 
     of_declaration : (d : Declaration) → Says n (AllStandWithin n (declaration_marks d)) (SpellsDeclaration text d)

@@ -9,7 +9,7 @@ use Rattle.meaning.specs.Code.{Occurrence, Way, breaking, continuing, Code, skip
 use Rattle.meaning.specs.Jumps.{Part, plain_part, statement_parts, form_parts, parts_of, optional_parts, cases_parts, communications_parts, jumps_in}
 use Rattle.meaning.specs.StatementCode.{Sites, is_present, part_code, one_of, jumping_or, jumping_code, block_code, clauses_fall, up_to_falls, switch_code, up_to_labels, breaks_end, turns_end, loop, has_default, or_case, or_communication, or_past, stuck, or_other, in_order, site, spec_events, declaration_code, statement_code, form_code, optional_code, statements_code, cases_code, communications_code, entry, last_return, body_code, branch, behind_events}
 use Rattle.meaning.specs.Mentions.{BodyPlace, file_marks, marks_by, opens}
-use Rattle.meaning.specs.Tracked.{placed}
+use Rattle.meaning.specs.Tracked.{placed, some_keep}
 use Rattle.meaning.specs.BodyEvents.{opened_in}
 use Rattle.meaning_packages.proofs.BodyPlaces.{placed_only}
 use Rattle.meaning.proofs.Membership.{contains_nil, contains_here, contains_there, contains_cases}
@@ -680,16 +680,16 @@ one_number (x ∷ os) h (suc i) (suc j) o p is that at order = ap suc (one_numbe
 
 pub occurrences_have_places : (E : Type 0) → OccurrencesHavePlaces E
 occurrences_have_places E text tree known b sites is_tree among =
-    let marks = marks_by known.edition (file_marks tree) in
-    let opened = among_all known.edition (file_marks tree) (opens b)
+    let marks = marks_by known.edition (some_keep known.fields) (file_marks tree) in
+    let opened = among_all known.edition (some_keep known.fields) (file_marks tree) (opens b)
     (opens_one marks b (placed_only (opened_in (placed [] marks)) b among)) in
     let distinct = ((are_sited known.edition text tree is_tree).sited.bodies b opened).0 in
     record { one_each = one_number (occurrences (body_code sites (block_of b))) (of_body sites b distinct).apart }
 
 pub occurrences_lie_in_texts : (E : Type 0) → OccurrencesLieInTexts E
 occurrences_lie_in_texts E text tree known b sites o is_tree among there =
-    let marks = marks_by known.edition (file_marks tree) in
-    let opened = among_all known.edition (file_marks tree) (opens b)
+    let marks = marks_by known.edition (some_keep known.fields) (file_marks tree) in
+    let opened = among_all known.edition (some_keep known.fields) (file_marks tree) (opens b)
     (opens_one marks b (placed_only (opened_in (placed [] marks)) b among)) in
     let file = are_sited known.edition text tree is_tree in
     let of = file.sited.bodies b opened in

@@ -7,7 +7,7 @@ use Rattle.std.proofs.lemmas.Bool.{eq-eqb, cases_eq}
 use Rattle.std.proofs.lemmas.List.Elements.{Contains-append_cases, Contains-append_left, Contains-append_right}
 use Rattle.std.proofs.lemmas.Option.{same_Some}
 use Rattle.meaning.specs.FunctionFacts.{VariableKind}
-use Rattle.meaning.specs.Tracked.{variable_of, Local, find_local}
+use Rattle.meaning.specs.Tracked.{Local, find_local}
 use Rattle.meaning.specs.Uses.{Seen, found, tracked_kind, VariableAt}
 use Rattle.meaning.specs.BodyEvents.{Variable, own_parameter, declared_in_body, captured, role_in, role_in_own, first_in, first_occurrence, is_captured_there, is_variable_of, variable_there, variable_found, variables_among, distinct, comes_before, put_in, in_their_order}
 use Rattle.meaning.proofs.Membership.{contains_here, contains_there, contains_cases, contains_nil, contains_map}
@@ -164,7 +164,7 @@ module _ (b : Body) (l : Local) (kind : VariableKind) (is : found b.file (Some l
 
 module _ (b : Body) (u : VariableAt) (h : IsBound b u) where
   is_found : found b.file (Some h.local.number) ≡ Some h.local
-  is_found = (found_is b.file (variable_of b.file.known h.mention) h.local h.is_found).0
+  is_found = (found_is b.file (Some u.number) h.local h.is_found).0
 
   role_is : role_in b.place.at h.local ≡ declared_in_body
   role_is =

@@ -85,7 +85,7 @@ module _ (rules : Rules) (each : AreKnownWell rules) where
   is_yes : (ps : List LoadedPackage) (report : List Said) (i : ℕ) (is_report : IsReportBy rules ps report) → IsYesIn ps report i → IsYesBy rules ps is_report.tables i
   is_yes ps report i is_report said_none x h =
       let w = is_report.of_package i said_none.loaded said_none.said said_none.is_package said_none.is_said in
-      contains_nil x (subst (λ xs. Contains xs x) said_none.is_yes ((w.1.each x).1 h))
+      contains_nil x (subst (λ xs. Contains xs x) said_none.is_yes ((w.are_findings.each x).1 h))
 
   module _ (ps : List LoadedPackage) (report : List Said) (is : IsReportBy rules ps report) (i : ℕ)
       (texts : AreOfTexts (program_beside ps report is.tables rules.declared i)) where
@@ -131,7 +131,7 @@ module _ (rules : Rules) (each : AreKnownWell rules) where
             let same : length report ≡ length ps = is.is_as_long in
             absurd (none_at report j at (omega (arith, within, same)))
         by (Some said) at =
-            none_in said.entries (λ x h. said_none x (((is.of_package j q said there at).1.each x).0 h))
+            none_in said.entries (λ x h. said_none x (((is.of_package j q said there at).are_findings.each x).0 h))
 
     are_well_known : AreWellKnown its_program
     are_well_known = record {

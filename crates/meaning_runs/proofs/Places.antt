@@ -1,14 +1,14 @@
 -- What a code that a frame has left goes on with, and what calls do to the store.
-use Rattle.std.proofs.Common.{◌≡◌, ℕ, inl, inr, Bool, true, false, List, [], ◌∷◌, ◌++◌, Some, None, Contains, refl, sym, ◌∙◌, subst, append_assoc}
-use Rattle.std.specs.Prelude.{◌==◌, ◌||◌}
-use Rattle.std.proofs.lemmas.Bool.{ne_eqb, cases_eq}
+use Rattle.std.proofs.Common.{◌≡◌, ℕ, inl, inr, Bool, true, false, List, [], ◌∷◌, ◌++◌, Option, Some, None, Contains, refl, sym, ◌∙◌, subst, append_assoc}
+use Rattle.std.specs.Prelude.{◌==◌, ◌&&◌, ◌||◌, is_none}
+use Rattle.std.proofs.lemmas.Bool.{and_parts, ne_eqb, cases_eq}
 use Rattle.meaning.specs.Code.{Occurrence, Code}
 use Rattle.meaning.specs.Lists.{Exit, stopped, Lists, not_begun, Reaches}
 use Rattle.meaning.specs.Uses.{Handed, Event}
 use Rattle.meaning.specs.BodyEvents.{Variable}
 use Rattle.meaning.specs.Classes.{Promises, CancelClass, entry_cancel, change_cancel, cancel_after}
 use Rattle.meaning.proofs.Membership.{contains_here, contains_there}
-use Rattle.meaning_packages.specs.PathFaults.{is_handed}
+use Rattle.meaning_packages.specs.PathFaults.{is_handed, is_handed_kept}
 use Rattle.meaning_runs.specs.Bodies.{Body, code_of}
 use Rattle.meaning_runs.specs.World.{Value, nothing, cancel_function, Store, calling, runs, exits}
 use Rattle.meaning_runs.specs.Steps.{WasCalled}
@@ -64,12 +64,44 @@ calling_count s (cancel_function x) = refl
 pub eqb_is : (m n : ℕ) → (m == n) ≡ true → m ≡ n
 eqb_is m n e = elim (cases_eq m n) [ inl q ↦ q | inr ne ↦ let bad : false ≡ true = sym (ne_eqb m n ne) ∙ e in cc ]
 
-pub handed_there : (hs : List Handed) (v : ℕ) → is_handed v hs ≡ true → (h : Handed) × Contains hs h × (h.number ≡ v)
+none_is : (o : Option ℕ) → is_none o ≡ true → o ≡ None
+none_is None e = refl
+none_is (Some x) e = let bad : false ≡ true = e in cc
+
+pub handed_there : (hs : List Handed) (v : ℕ) → is_handed v hs ≡ true
+    → (h : Handed) × Contains hs h × (h.number ≡ v) × (h.object ≡ None)
 handed_there [] v e = let bad : false ≡ true = e in cc
-handed_there (h ∷ hs) v e = by (h.number == v) refl (handed_there hs v) e
+handed_there (h ∷ hs) v e = by ((h.number == v) && is_none h.object) refl (handed_there hs v) e
   where
-    by : (b : Bool) → (h.number == v) ≡ b → (is_handed v hs ≡ true → (x : Handed) × Contains hs x × (x.number ≡ v))
+    by : (b : Bool) → ((h.number == v) && is_none h.object) ≡ b
+        → (is_handed v hs ≡ true → (x : Handed) × Contains hs x × (x.number ≡ v) × (x.object ≡ None))
         → (b || is_handed v hs) ≡ true
+        → (x : Handed) × Contains (h ∷ hs) x × (x.number ≡ v) × (x.object ≡ None)
+    by true q further all =
+        let parts = and_parts (h.number == v) (is_none h.object) q in
+        (h, contains_here h hs, eqb_is h.number v parts.0, none_is h.object parts.1)
+    by false q further all = let r = further all in (r.0, contains_there h r.0 hs r.1, r.2, r.3)
+
+-- by itself, or in a field
+pub handed_kept_there : (hs : List Handed) (v : ℕ) → is_handed_kept v hs ≡ true
+    → (h : Handed) × Contains hs h × (h.number ≡ v)
+handed_kept_there [] v e = let bad : false ≡ true = e in cc
+handed_kept_there (h ∷ hs) v e = by (h.number == v) refl (handed_kept_there hs v) e
+  where
+    by : (b : Bool) → (h.number == v) ≡ b
+        → (is_handed_kept v hs ≡ true → (x : Handed) × Contains hs x × (x.number ≡ v))
+        → (b || is_handed_kept v hs) ≡ true
         → (x : Handed) × Contains (h ∷ hs) x × (x.number ≡ v)
     by true q further all = (h, contains_here h hs, eqb_is h.number v q)
     by false q further all = let r = further all in (r.0, contains_there h r.0 hs r.1, r.2)
+
+-- what is handed on in no way is not handed on by itself
+pub handed_neither : (v : ℕ) (hs : List Handed) → is_handed_kept v hs ≡ false → is_handed v hs ≡ false
+handed_neither v [] e = refl
+handed_neither v (h ∷ hs) e = by (h.number == v) (is_none h.object) e (handed_neither v hs)
+  where
+    by : (b c : Bool) → (b || is_handed_kept v hs) ≡ false
+        → (is_handed_kept v hs ≡ false → is_handed v hs ≡ false)
+        → ((b && c) || is_handed v hs) ≡ false
+    by true c all further = let bad : true ≡ false = all in cc
+    by false c all further = further all

@@ -5,8 +5,8 @@ use Rattle.std.specs.Prelude.{ℕ, ◌++◌, Bool, true, false, if◌then◌else
 use Rattle.meaning.specs.Code.{Occurrence, Code}
 use Rattle.meaning.specs.Uses.{Event}
 use Rattle.meaning_runs.specs.Bodies.{Program, Body, is_parameter_of}
-use Rattle.meaning_runs.specs.World.{Value, nothing, Place, Maker, nobody, frame_at, Store, put_at, Passing, Frame, World, in_cell, group_in_cell, bound_cell, with_member, nothing_around, empty_world}
-use Rattle.meaning_runs.specs.Steps.{ComesTo, Begins, of_function, of_none, Acts, moves_on, does_other, obtains_one, clears_one, calls_one, saves_call, makes_group, tries_nothing, ends_wait, saves_wait, evaluates, evaluates_deferred, lends, makes_call, calls_outside, saves_pass, saves_literal, comes_to_return, runs_call, runs_pass, runs_literal, runs_wait, returns_now, ChangesMembers, starts_member, starts_stranger, starts_outside, starts_beside, leaves_group, Surrounds, starts, evaluates_literal, starts_literal, makes_cells, makes_one, ends_one, calls_any, makes_outside, joins_outside, Step, of_goroutine, of_members, of_environment}
+use Rattle.meaning_runs.specs.World.{Value, nothing, Place, Maker, nobody, frame_at, Store, put_at, Passing, Frame, World, in_cell, group_in_cell, bound_cell, with_member, nothing_around, empty_world, own_cell}
+use Rattle.meaning_runs.specs.Steps.{ComesTo, Begins, of_function, of_none, Acts, moves_on, does_other, obtains_one, clears_one, calls_one, saves_call, makes_group, tries_nothing, ends_wait, saves_wait, evaluates, evaluates_deferred, lends, makes_call, calls_outside, saves_pass, saves_literal, comes_to_return, runs_call, runs_pass, runs_literal, runs_wait, returns_now, ChangesMembers, starts_member, starts_stranger, starts_outside, starts_beside, leaves_group, Surrounds, starts, evaluates_literal, starts_literal, makes_cells, makes_one, ends_one, calls_any, makes_outside, joins_outside, Step, of_goroutine, of_members, of_environment, obtains_into, keeps_one, renews_object, calls_kept, saves_kept, gives_object, gives_in_field}
 use Rattle.meaning_runs.specs.Runs.{Run, no_step, step_more}
 use Rattle.meaning_runs.proofs.GroupDuties.{is_mentioned}
 
@@ -119,6 +119,14 @@ module _ {p : Program} {s : Store} {place : Place} {f : Frame} where
   origins_after (does_other d) o = o
   origins_after (obtains_one {u = u} {made = made} d gives) o = written o place f.body (bound_cell made f u) u.number
   origins_after (clears_one {u = u} d) o = written o place f.body (bound_cell s f u) u.number
+  origins_after (obtains_into {u = u} {made = made} d gives) o =
+      written o place f.body (bound_cell made f (own_cell u.number)) u.number
+  origins_after (keeps_one d) o = o
+  origins_after (renews_object d) o = o
+  origins_after (calls_kept d) o = o
+  origins_after (saves_kept d) o = o
+  origins_after (gives_object d) o = o
+  origins_after (gives_in_field d) o = o
   origins_after (calls_one d) o = o
   origins_after (saves_call d) o = o
   origins_after (makes_group {u = u} {made = made} d makes) o =
@@ -150,6 +158,13 @@ module _ {p : Program} {s : Store} {place : Place} {f : Frame} where
   pasts_after (does_other d) o q = behind q d.comes_to ∷ []
   pasts_after (obtains_one d gives) o q = behind q d.comes_to ∷ []
   pasts_after (clears_one d) o q = behind q d.comes_to ∷ []
+  pasts_after (obtains_into d gives) o q = behind q d.comes_to ∷ []
+  pasts_after (keeps_one d) o q = behind q d.comes_to ∷ []
+  pasts_after (renews_object d) o q = behind q d.comes_to ∷ []
+  pasts_after (calls_kept d) o q = behind q d.comes_to ∷ []
+  pasts_after (saves_kept d) o q = behind q d.comes_to ∷ []
+  pasts_after (gives_object d) o q = behind q d.comes_to ∷ []
+  pasts_after (gives_in_field d) o q = behind q d.comes_to ∷ []
   pasts_after (calls_one d) o q = behind q d.comes_to ∷ []
   pasts_after (saves_call d) o q = behind q d.comes_to ∷ []
   pasts_after (makes_group d makes) o q = behind q d.comes_to ∷ []

@@ -2,13 +2,13 @@
 use Rattle.std.proofs.Common.{◌≡◌, ℕ, ◌+◌, ◌<◌, Bool, true, false, cond, ◌⊎◌, inl, inr, List, [], ◌∷◌, ◌++◌, Option, Some, None, Contains, refl, sym, ap, ◌∙◌, subst, append_assoc, append-nil, true≢false, arith}
 use Rattle.meaning.specs.Code.{Occurrence, Code}
 use Rattle.meaning.specs.Lists.{Exit}
-use Rattle.meaning.specs.Uses.{Callee, VariableAt, Event, other, obtain, clear, call, defer_call, pass, defer_pass, lend, start, try, wait, defer_wait, make, defer_literal, return_event}
+use Rattle.meaning.specs.Uses.{Callee, VariableAt, Event, other, obtain, clear, call, defer_call, pass, defer_pass, lend, start, try, wait, defer_wait, make, defer_literal, return_event, obtain_kept, renew, keep, call_kept, defer_kept, give, give_field}
 use Rattle.meaning.proofs.Membership.{contains_here, contains_there, contains_cases, contains_nil}
 use Rattle.meaning_reports.specs.Loaded.{known_in, trees_of}
 use Rattle.meaning_runs.specs.Bodies.{Program, Body, IsOf, IsOutermost, is_parameter_of, is_captured_by, code_of}
-use Rattle.meaning_runs.specs.World.{Value, nothing, cancel_function, any_nothing, outside, outside_group, Store, put_at, with_new, calling, ending, waiting_for, MayEndWait, Given, Saved, runs, exits, Frame, World, empty_world, with_stack, frame_at as frame_at_place, with_group, with_cells, with_member, is_declaration, cell_or, group_in_cell, held, held_group, binding, binds, bound_cell, binding_group}
+use Rattle.meaning_runs.specs.World.{Value, nothing, cancel_function, any_nothing, outside, outside_group, Store, put_at, with_new, calling, ending, waiting_for, MayEndWait, Given, Saved, runs, exits, InObject, Frame, World, empty_world, with_stack, frame_at as frame_at_place, with_group, with_cells, with_member, own_cell, kept_value, is_declaration, cell_or, group_in_cell, held, held_group, binding, binds, bound_cell, binding_group}
 use Rattle.meaning_runs.specs.Moves.{Moves}
-use Rattle.meaning_runs.specs.Steps.{ComesTo, DoesNext, Starts, new_one, zero_group, with_context, is_first, WasCalled, HasNoBody, at_once, of_none, Acts, moves_on, does_other, obtains_one, clears_one, calls_one, saves_call, makes_group, tries_nothing, ends_wait, saves_wait, evaluates, evaluates_deferred, lends, makes_call, calls_outside, saves_pass, saves_literal, comes_to_return, Makes, IsFree, by_start, starts_member, starts_stranger, leaves_group, starts, makes_outside, of_goroutine, of_members, of_environment}
+use Rattle.meaning_runs.specs.Steps.{ComesTo, DoesNext, Starts, new_one, zero_group, with_context, is_first, WasCalled, HasNoBody, at_once, of_none, Acts, moves_on, does_other, obtains_one, obtains_into, keeps_one, renews_object, calls_kept, saves_kept, gives_object, gives_in_field, clears_one, calls_one, saves_call, makes_group, tries_nothing, ends_wait, saves_wait, evaluates, evaluates_deferred, lends, makes_call, calls_outside, saves_pass, saves_literal, comes_to_return, Makes, IsFree, by_start, starts_member, starts_stranger, leaves_group, starts, makes_outside, of_goroutine, of_members, of_environment}
 use Rattle.meaning_runs.specs.Runs.{Run, no_step, step_more}
 use Rattle.meaning_runs.specs.Doings.{Does, stays, silently, by_event, CanDo}
 use Rattle.meaning_runs.specs.Laws.{HoldsGroup, IsThere, HasFreeGoroutine}
@@ -30,8 +30,8 @@ is_or_not false = inr refl
 
 module _ (p : Program) (b : Body) where
   -- the one frame
-  abbrev frame_at : Code Event → (ℕ → Option ℕ) → List Saved → List ℕ → List ℕ → Frame
-  frame_at c newest saved obtained made = record {
+  abbrev frame_at : Code Event → (ℕ → Option ℕ) → List Saved → List ℕ → List ℕ → List InObject → List Value → Frame
+  frame_at c newest saved obtained made kept given = record {
     body = b;
     stage = runs c;
     newest = newest;
@@ -39,6 +39,8 @@ module _ (p : Program) (b : Body) where
     saved = saved;
     obtained = obtained;
     made = made;
+    kept = kept;
+    given_away = given;
     handed_on = [];
   }
 
@@ -51,10 +53,12 @@ module _ (p : Program) (b : Body) where
     saved : List Saved
     obtained : List ℕ
     made : List ℕ
-    is_only : world.stacks 0 ≡ frame_at c newest saved obtained made ∷ []
+    kept : List InObject
+    given : List Value
+    is_only : world.stacks 0 ≡ frame_at c newest saved obtained made kept given ∷ []
     has_events : events_of run ≡ done
     cells_in : (v k : ℕ) → newest v ≡ Some k → k < world.store.cell_count
-    hold_groups : (v : ℕ) → hold v ≡ true → HoldsGroup world.store (frame_at c newest saved obtained made) v
+    hold_groups : (v : ℕ) → hold v ≡ true → HoldsGroup world.store (frame_at c newest saved obtained made kept given) v
     no_members : is_idle ≡ true → (g : ℕ) → world.store.member g ≡ None
 
   -- a run with these events has come to its end
@@ -78,25 +82,27 @@ module _ (p : Program) (b : Body) where
   next c d f at order e s n m = record { comes_to = comes c d f at order e s m; none_waits = n }
 
   -- one act, by these events
-  acted : (hold after_hold : ℕ → Bool) (is_idle : Bool) (done new : List (Occurrence Event)) (c d : Code Event) (h : ComesSoFar hold is_idle done c) (after : Store) (newest : ℕ → Option ℕ) (saved : List Saved) (obtained made : List ℕ) (a : Acts p h.world.store (0, 0) (frame_at c h.newest h.saved h.obtained h.made) after (frame_at d newest saved obtained made ∷ [])) → events_of_act a ≡ new → ((v k : ℕ) → newest v ≡ Some k → k < after.cell_count) → ((v : ℕ) → after_hold v ≡ true → HoldsGroup after (frame_at d newest saved obtained made) v) → ComesSoFar after_hold is_idle (done ++ new) d
-  acted hold after_hold is_idle done new c d h after newest saved obtained made a e within holds = record {
+  acted : (hold after_hold : ℕ → Bool) (is_idle : Bool) (done new : List (Occurrence Event)) (c d : Code Event) (h : ComesSoFar hold is_idle done c) (after : Store) (newest : ℕ → Option ℕ) (saved : List Saved) (obtained made : List ℕ) (kept : List InObject) (given : List Value) (a : Acts p h.world.store (0, 0) (frame_at c h.newest h.saved h.obtained h.made h.kept h.given) after (frame_at d newest saved obtained made kept given ∷ [])) → events_of_act a ≡ new → ((v k : ℕ) → newest v ≡ Some k → k < after.cell_count) → ((v : ℕ) → after_hold v ≡ true → HoldsGroup after (frame_at d newest saved obtained made kept given) v) → ComesSoFar after_hold is_idle (done ++ new) d
+  acted hold after_hold is_idle done new c d h after newest saved obtained made kept given a e within holds = record {
     world = _;
     run = act h.world _ _ _ h.run h.is_only a;
     newest = newest;
     saved = saved;
     obtained = obtained;
     made = made;
+    kept = kept;
+    given = given;
     is_only = refl;
     has_events = ap (λ l. l ++ events_of_act a) h.has_events ∙ ap (λ l. done ++ l) e;
     cells_in = within;
     hold_groups = holds;
-    no_members = λ i g. ap (λ (f : ℕ → Option ℕ). f g) (acting_members p h.world.store (0, 0) (frame_at c h.newest h.saved h.obtained h.made) after (frame_at d newest saved obtained made ∷ []) a) ∙ h.no_members i g;
+    no_members = λ i g. ap (λ (f : ℕ → Option ℕ). f g) (acting_members p h.world.store (0, 0) (frame_at c h.newest h.saved h.obtained h.made h.kept h.given) after (frame_at d newest saved obtained made kept given ∷ []) a) ∙ h.no_members i g;
   }
 
   moved : (hold : ℕ → Bool) (is_idle : Bool) (done : List (Occurrence Event)) (c d : Code Event) → Moves c None d → ComesSoFar hold is_idle done c → ComesSoFar hold is_idle done d
   moved hold is_idle done c d m h =
       subst (λ l. ComesSoFar hold is_idle l d) (append-nil done)
-      (acted hold hold is_idle done [] c d h _ h.newest h.saved h.obtained h.made (moves_on record { code = c; stage = refl; moves = m }) refl h.cells_in h.hold_groups)
+      (acted hold hold is_idle done [] c d h _ h.newest h.saved h.obtained h.made h.kept h.given (moves_on record { code = c; stage = refl; moves = m }) refl h.cells_in h.hold_groups)
 
   -- one more event
   abbrev with_event : List (Occurrence Event) → ℕ → ℕ → Event → List (Occurrence Event)
@@ -185,7 +191,7 @@ module _ (p : Program) (b : Body) where
   -- a function without a body is called and returns, once it has called its argument
   module _ (hold : ℕ → Bool) (is_idle : Bool) (done : List (Occurrence Event)) (c d : Code Event) (at order : ℕ) (h : ComesSoFar hold is_idle done c) where
     abbrev f : Frame
-    f = frame_at c h.newest h.saved h.obtained h.made
+    f = frame_at c h.newest h.saved h.obtained h.made h.kept h.given
 
     passed : (u : VariableAt) (g : Callee) (k : ℕ) → Moves c (Some record { at = at; order = order; event = pass u g k }) d → HasNoBody p b g → ComesSoFar hold is_idle (with_event done at order (pass u g k)) d
     passed u g k m none =
@@ -200,6 +206,8 @@ module _ (p : Program) (b : Body) where
           saved = h.saved;
           obtained = h.obtained;
           made = h.made;
+          kept = h.kept;
+          given = h.given;
           is_only = refl;
           has_events = append-nil _ ∙ append-nil _ ∙ ap (λ l. with_event l at order (pass u g k)) h.has_events;
           cells_in = λ v k e. subst (λ n. k < n) (sym (calling_count h.world.store x)) (h.cells_in v k e);
@@ -221,6 +229,8 @@ module _ (p : Program) (b : Body) where
           saved = h.saved;
           obtained = h.obtained;
           made = h.made;
+          kept = h.kept;
+          given = h.given;
           is_only = refl;
           has_events = append-nil _ ∙ ap (λ l. with_event l at order (lend v g k)) h.has_events;
           cells_in = h.cells_in;
@@ -236,6 +246,8 @@ module _ (p : Program) (b : Body) where
       saved = _;
       obtained = h.obtained;
       made = h.made;
+      kept = h.kept;
+      given = h.given;
       is_only = refl;
       has_events = append-nil _ ∙ ap (λ l. with_event l at order (defer_pass u g k)) h.has_events;
       cells_in = h.cells_in;
@@ -262,6 +274,8 @@ module _ (p : Program) (b : Body) where
           saved = h.saved;
           obtained = h.obtained;
           made = h.made;
+          kept = h.kept;
+          given = h.given;
           is_only = refl;
           has_events = append-nil _ ∙ ap (λ l. with_event l at order (start v None)) h.has_events;
           cells_in = h.cells_in;
@@ -290,6 +304,8 @@ module _ (p : Program) (b : Body) where
           saved = h.saved;
           obtained = h.obtained;
           made = h.made;
+          kept = h.kept;
+          given = h.given;
           is_only = put_at-other (put_at h.world.stacks 0 _) free.0 _ 0 (not_it free.0 free.1);
           has_events = ap (λ l. with_event l at order (start v (Some offset))) h.has_events;
           cells_in = λ n i e. let l = h.cells_in n i e in omega (arith, l);
@@ -319,25 +335,25 @@ module _ (p : Program) (b : Body) where
 
   module _ (hold : ℕ → Bool) (is_idle : Bool) (done : List (Occurrence Event)) (c d : Code Event) (at order : ℕ) (h : ComesSoFar hold is_idle done c) where
     abbrev its : Frame
-    its = frame_at c h.newest h.saved h.obtained h.made
+    its = frame_at c h.newest h.saved h.obtained h.made h.kept h.given
 
     -- the store stays, or its cells do
-    with_same : (e : Event) (after : Store) (saved : List Saved) (a : Acts p h.world.store (0, 0) its after (frame_at d h.newest saved h.obtained h.made ∷ [])) → events_of_act a ≡ record { at = at; order = order; event = e } ∷ [] → after.holds ≡ h.world.store.holds → after.cell_count ≡ h.world.store.cell_count → ComesSoFar hold is_idle (with_event done at order e) d
-    with_same e after saved a es holds count =
-        acted hold hold is_idle done _ c d h after h.newest saved h.obtained h.made a es (λ v k n. subst (λ m. k < m) (sym count) (h.cells_in v k n)) (λ v g. same_group h.world.store after holds v (h.newest v) (h.hold_groups v g))
+    with_same : (e : Event) (after : Store) (saved : List Saved) (kept : List InObject) (given : List Value) (a : Acts p h.world.store (0, 0) its after (frame_at d h.newest saved h.obtained h.made kept given ∷ [])) → events_of_act a ≡ record { at = at; order = order; event = e } ∷ [] → after.holds ≡ h.world.store.holds → after.cell_count ≡ h.world.store.cell_count → ComesSoFar hold is_idle (with_event done at order e) d
+    with_same e after saved kept given a es holds count =
+        acted hold hold is_idle done _ c d h after h.newest saved h.obtained h.made kept given a es (λ v k n. subst (λ m. k < m) (sym count) (h.cells_in v k n)) (λ v g. same_group h.world.store after holds v (h.newest v) (h.hold_groups v g))
 
     -- a variable is bound, and to no group
-    with_binding : (e : Event) (s : Store) (u : VariableAt) (value : Value) (obtained : List ℕ) → s.holds ≡ h.world.store.holds → s.cell_count ≡ h.world.store.cell_count → (a : Acts p h.world.store (0, 0) its (binding s its u value) (frame_at d (binds s its u).newest h.saved obtained h.made ∷ [])) → events_of_act a ≡ record { at = at; order = order; event = e } ∷ [] → ComesSoFar (put_at hold u.number false) is_idle (with_event done at order e) d
-    with_binding e s u value obtained holds count a es =
+    with_binding : (e : Event) (s : Store) (u : VariableAt) (value : Value) (obtained : List ℕ) (kept : List InObject) → s.holds ≡ h.world.store.holds → s.cell_count ≡ h.world.store.cell_count → (a : Acts p h.world.store (0, 0) its (binding s its u value) (frame_at d (binds s its u).newest h.saved obtained h.made kept h.given ∷ [])) → events_of_act a ≡ record { at = at; order = order; event = e } ∷ [] → ComesSoFar (put_at hold u.number false) is_idle (with_event done at order e) d
+    with_binding e s u value obtained kept holds count a es =
         let within = λ (v k : ℕ) (n : h.newest v ≡ Some k). subst (λ m. k < m) (sym count) (h.cells_in v k n) in
-        acted hold (put_at hold u.number false) is_idle done _ c d h (binding s its u value) (binds s its u).newest h.saved obtained h.made a es (newest_in s its u within) (λ v g. let w = unbound hold u.number v g in other_group s its u within (binding s its u value) (λ k n ne. refl) v w.0 (same_group h.world.store s holds v (h.newest v) (h.hold_groups v w.1)))
+        acted hold (put_at hold u.number false) is_idle done _ c d h (binding s its u value) (binds s its u).newest h.saved obtained h.made kept h.given a es (newest_in s its u within) (λ v g. let w = unbound hold u.number v g in other_group s its u within (binding s its u value) (λ k n ne. refl) v w.0 (same_group h.world.store s holds v (h.newest v) (h.hold_groups v w.1)))
 
     -- a group is made
     with_made : (u : VariableAt) (state : GroupState) (context : Option ℕ) (s : Store) → s.holds ≡ h.world.store.holds → s.cell_count ≡ h.world.store.cell_count → Makes h.world.store state context s → Moves c (Some record { at = at; order = order; event = make u state }) d → ComesSoFar (put_at hold u.number true) is_idle (with_event done at order (make u state)) d
     with_made u state context s holds count makes m =
         let within = λ (v k : ℕ) (n : h.newest v ≡ Some k). subst (λ m. k < m) (sym count) (h.cells_in v k n) in
         let t = with_group s (frame_at_place (0, 0)) context in
-        acted hold (put_at hold u.number true) is_idle done _ c d h _ _ h.saved h.obtained _ (makes_group (next c d _ at order (make u state) refl refl m) makes) refl (newest_in t its u within) (λ v g. by t holds within v g (cases_eq v u.number))
+        acted hold (put_at hold u.number true) is_idle done _ c d h _ _ h.saved h.obtained _ h.kept h.given (makes_group (next c d _ at order (make u state) refl refl m) makes) refl (newest_in t its u within) (λ v g. by t holds within v g (cases_eq v u.number))
       where
         by : (t : Store) → t.holds ≡ h.world.store.holds → (within : (v k : ℕ) → h.newest v ≡ Some k → k < t.cell_count) → (v : ℕ) → put_at hold u.number true v ≡ true → (v ≡ u.number) ⊎ (v ≡ u.number → ⊥) → (a : ℕ) × (group_in_cell (binding_group t its u s.group_count) v (put_at h.newest u.number (Some (bound_cell t its u)) v) ≡ Some a)
         by t holds within v g (inl q) =
@@ -347,13 +363,24 @@ module _ (p : Program) (b : Body) where
             other_group t its u within (binding_group t its u s.group_count) (made_others t its u within s.group_count) v q (same_group h.world.store t holds v (h.newest v) held_before)
 
     past : (e : Event) → Moves c (Some record { at = at; order = order; event = e }) d → IsRunnable p b e → HasItsGroup hold e → (is_wait e ≡ true → is_idle ≡ true) → is_return e ≡ false → ComesSoFar (hold_after hold e) (idle_after is_idle e) (with_event done at order e) d
-    past other m k i w n = with_same other _ _ (does_other (next c d _ at order other refl refl m)) refl refl refl
+    past other m k i w n = with_same other _ _ _ _ (does_other (next c d _ at order other refl refl m)) refl refl refl
     past (obtain u g j is_new) m k i w n =
-        with_binding (obtain u g j is_new) (with_new h.world.store None) u (cancel_function h.world.store.context_count) (h.world.store.context_count ∷ h.obtained) refl refl (obtains_one (next c d _ at order (obtain u g j is_new) refl refl m) (new_one None tt)) refl
-    past (clear u) m k i w n = with_binding (clear u) h.world.store u nothing h.obtained refl refl (clears_one (next c d _ at order (clear u) refl refl m)) refl
+        with_binding (obtain u g j is_new) (with_new h.world.store None) u (cancel_function h.world.store.context_count) (h.world.store.context_count ∷ h.obtained) h.kept refl refl (obtains_one (next c d _ at order (obtain u g j is_new) refl refl m) (new_one None tt)) refl
+    past (obtain_kept u g j x) m k i w n =
+        with_binding (obtain_kept u g j x) (with_new h.world.store None) (own_cell u.number)
+        (cancel_function h.world.store.context_count) (h.world.store.context_count ∷ h.obtained) _ refl refl
+        (obtains_into (next c d _ at order (obtain_kept u g j x) refl refl m) (new_one None tt)) refl
+    past (renew v x) m k i w n = with_same (renew v x) _ _ _ _ (renews_object (next c d _ at order (renew v x) refl refl m)) refl refl refl
+    past (keep v x) m k i w n = with_same (keep v x) _ _ _ _ (keeps_one (next c d _ at order (keep v x) refl refl m)) refl refl refl
+    past (call_kept v x) m k i w n =
+        with_same (call_kept v x) _ _ _ _ (calls_kept (next c d _ at order (call_kept v x) refl refl m)) refl (calling_holds h.world.store (kept_value h.kept v x)) (calling_count h.world.store (kept_value h.kept v x))
+    past (defer_kept v x) m k i w n = with_same (defer_kept v x) _ _ _ _ (saves_kept (next c d _ at order (defer_kept v x) refl refl m)) refl refl refl
+    past (give v x) m k i w n = with_same (give v x) _ _ _ _ (gives_object (next c d _ at order (give v x) refl refl m)) refl refl refl
+    past (give_field v) m k i w n = with_same (give_field v) _ _ _ _ (gives_in_field (next c d _ at order (give_field v) refl refl m)) refl refl refl
+    past (clear u) m k i w n = with_binding (clear u) h.world.store u nothing h.obtained h.kept refl refl (clears_one (next c d _ at order (clear u) refl refl m)) refl
     past (call v) m k i w n =
-        with_same (call v) _ _ (calls_one (next c d _ at order (call v) refl refl m)) refl (calling_holds h.world.store (held h.world.store its v)) (calling_count h.world.store (held h.world.store its v))
-    past (defer_call v) m k i w n = with_same (defer_call v) _ _ (saves_call (next c d _ at order (defer_call v) refl refl m)) refl refl refl
+        with_same (call v) _ _ _ _ (calls_one (next c d _ at order (call v) refl refl m)) refl (calling_holds h.world.store (held h.world.store its v)) (calling_count h.world.store (held h.world.store its v))
+    past (defer_call v) m k i w n = with_same (defer_call v) _ _ _ _ (saves_call (next c d _ at order (defer_call v) refl refl m)) refl refl refl
     past (pass u g j) m k i w n = passed hold is_idle done c d at order h u g j m k
     past (defer_pass u g j) m k i w n = saved_pass_of hold is_idle done c d at order h u g j m
     past (lend v g j) m k i w n = lent hold is_idle done c d at order h v g j m k
@@ -363,17 +390,17 @@ module _ (p : Program) (b : Body) where
     past (start v (Some offset)) m k i w n =
         let holds = h.hold_groups v i in
         started_literal_of hold is_idle done c d at order h v holds.0 offset holds.1 m (goroutines_are_free p h.world h.run) k
-    past (try v None) m k i w n = with_same (try v None) _ _ (tries_nothing (next c d _ at order (try v None) refl refl m)) refl refl refl
-    past (try v (Some offset)) m k i w n = with_same (try v (Some offset)) _ _ (tries_nothing (next c d _ at order (try v (Some offset)) refl refl m)) refl refl refl
+    past (try v None) m k i w n = with_same (try v None) _ _ _ _ (tries_nothing (next c d _ at order (try v None) refl refl m)) refl refl refl
+    past (try v (Some offset)) m k i w n = with_same (try v (Some offset)) _ _ _ _ (tries_nothing (next c d _ at order (try v (Some offset)) refl refl m)) refl refl refl
     past (wait v) m k i w n =
         let group = held_group h.world.store its v in
         let same = waiting_same h.world.store group in
-        with_same (wait v) _ _ (ends_wait (next c d _ at order (wait v) refl refl m) (may_end h.world.store group (h.no_members (w refl)))) refl same.0 same.1
-    past (defer_wait v) m k i w n = with_same (defer_wait v) _ _ (saves_wait (next c d _ at order (defer_wait v) refl refl m)) refl refl refl
+        with_same (wait v) _ _ _ _ (ends_wait (next c d _ at order (wait v) refl refl m) (may_end h.world.store group (h.no_members (w refl)))) refl same.0 same.1
+    past (defer_wait v) m k i w n = with_same (defer_wait v) _ _ _ _ (saves_wait (next c d _ at order (defer_wait v) refl refl m)) refl refl refl
     past (make u idle) m k i w n = with_made u idle None h.world.store refl refl zero_group m
     past (make u live) m k i w n = with_made u live _ _ refl refl (with_context None tt) m
     past (defer_literal offset) m k i w n =
-        with_same (defer_literal offset) _ _ (saves_literal k.0 (next c d _ at order (defer_literal offset) refl refl m) k.1 k.2) refl refl refl
+        with_same (defer_literal offset) _ _ _ _ (saves_literal k.0 (next c d _ at order (defer_literal offset) refl refl m) k.1 k.2) refl refl refl
     past (return_event handed) m k i w n = absurd (true≢false n)
 
   -- a return is taken, whatever is left
@@ -391,6 +418,13 @@ module _ (p : Program) (b : Body) where
   returned hold is_idle done c d rest at order other m n h = absurd (true≢false (sym n))
   returned hold is_idle done c d rest at order (obtain u f j is_new) m n h = absurd (true≢false (sym n))
   returned hold is_idle done c d rest at order (clear u) m n h = absurd (true≢false (sym n))
+  returned hold is_idle done c d rest at order (obtain_kept u f j x) m n h = absurd (true≢false (sym n))
+  returned hold is_idle done c d rest at order (renew v x) m n h = absurd (true≢false (sym n))
+  returned hold is_idle done c d rest at order (keep v x) m n h = absurd (true≢false (sym n))
+  returned hold is_idle done c d rest at order (call_kept v x) m n h = absurd (true≢false (sym n))
+  returned hold is_idle done c d rest at order (defer_kept v x) m n h = absurd (true≢false (sym n))
+  returned hold is_idle done c d rest at order (give v x) m n h = absurd (true≢false (sym n))
+  returned hold is_idle done c d rest at order (give_field v) m n h = absurd (true≢false (sym n))
   returned hold is_idle done c d rest at order (call v) m n h = absurd (true≢false (sym n))
   returned hold is_idle done c d rest at order (defer_call v) m n h = absurd (true≢false (sym n))
   returned hold is_idle done c d rest at order (pass u f j) m n h = absurd (true≢false (sym n))
@@ -460,6 +494,8 @@ module _ (p : Program) (b : Body) where
     saved = [];
     obtained = [];
     made = [];
+    kept = [];
+    given = [];
     is_only = refl;
     has_events = refl;
     cells_in = λ v k e. in_first v k (is_parameter_of b v) (is_captured_by b v) e;
@@ -514,6 +550,13 @@ runnable_of_text p b (defer_literal at) there started h = there at refl
 runnable_of_text p b other there started h = h
 runnable_of_text p b (obtain u c n is_new) there started h = h
 runnable_of_text p b (clear u) there started h = h
+runnable_of_text p b (obtain_kept u c n x) there started h = h
+runnable_of_text p b (renew v x) there started h = h
+runnable_of_text p b (keep v x) there started h = h
+runnable_of_text p b (call_kept v x) there started h = h
+runnable_of_text p b (defer_kept v x) there started h = h
+runnable_of_text p b (give v x) there started h = h
+runnable_of_text p b (give_field v) there started h = h
 runnable_of_text p b (call v) there started h = h
 runnable_of_text p b (defer_call v) there started h = h
 runnable_of_text p b (pass u c n) there started h = h

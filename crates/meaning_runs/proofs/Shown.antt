@@ -2,22 +2,23 @@
 -- others: what these do, the environment does. This says what is shown of a store and of its frames, and that it stays so
 -- where the store grows.
 use Rattle.std.proofs.Common.{◌≡◌, ℕ, ◌≤◌, ◌<◌, inl, inr, Bool, true, false, List, [], ◌∷◌, Option, Some, None, Contains, refl, sym, ap, subst, ◌∙◌, arith}
-use Rattle.std.specs.Prelude.{if◌then◌else◌}
+use Rattle.std.specs.Prelude.{if◌then◌else◌, not}
 use Rattle.std.proofs.lemmas.Bool.{cases_eq}
 use Rattle.std.proofs.lemmas.Option.{none-some, same_Some}
 use Rattle.meaning.specs.Code.{Occurrence, Code}
 use Rattle.meaning.specs.Uses.{Event}
-use Rattle.meaning.proofs.Membership.{contains_nil}
+use Rattle.meaning.proofs.Membership.{contains_nil, contains_here, contains_there, contains_cases}
 use Rattle.meaning_reports.specs.UsedImports.{HandsThere}
 use Rattle.meaning_runs.specs.Bodies.{Program, Body, IsOf, code_of, is_parameter_of, is_captured_by}
 use Rattle.meaning_runs.specs.Promise.{all_run}
 use Rattle.meaning_runs.specs.EventSources.{HasSource, says_nothing, falls_off, of_mark}
-use Rattle.meaning_runs.specs.World.{Value, Maker, outside, Store, put_at, IsAny, with_cells, in_cell, group_in_cell, Given, Lent, Passing, Closure, Saved, saved_call, saved_pass, saved_literal, saved_wait, Stage, runs, Frame, new_frame}
+use Rattle.meaning_runs.specs.World.{Value, Maker, outside, Store, put_at, IsAny, any_nothing, with_cells, in_cell, group_in_cell, Given, Lent, Passing, Closure, Saved, saved_call, saved_pass, saved_literal, saved_wait, Stage, runs, InObject, Frame, is_in, kept_value, without_kept, new_frame}
 use Rattle.meaning_runs.specs.Moves.{Moves, happens, first_moves, first_is_done, first_leaves, picks_first, picks_second, turns, inside, gets_there, goes_past, gets_out}
 use Rattle.meaning.specs.BodyEvents.{sites_of}
 use Rattle.meaning_runs.proofs.CallSteps.{still_any}
 use Rattle.meaning_runs.proofs.Contexts.{put_at-same, put_at-other}
 use Rattle.meaning_runs.proofs.EventSources.{EachIn, of_body, marked}
+use Rattle.meaning_runs.proofs.KeptEvents.{unfiltered}
 use Rattle.meaning_runs.proofs.Places.{runs-inj}
 
 -- What is shown of a store
@@ -62,6 +63,27 @@ pub record FinePass (T : ℕ → Bool) (s : Store) (x : Shadow) (b : Body) (r : 
 abbrev pub FineCells : Store → Shadow → Bool → (ℕ → Option ℕ) → Type 0
 FineCells s x t newest = (v k : ℕ) → newest v ≡ Some k → (k < s.cell_count) × (x.is_shown k ≡ t)
 
+-- what objects keep is in the world
+abbrev pub FineKept : Store → List InObject → Type 0
+FineKept s ks = (k : InObject) → Contains ks k → IsAny s k.value
+
+pub kept_any : (s : Store) (ks : List InObject) → FineKept s ks → (v x : ℕ) → IsAny s (kept_value ks v x)
+kept_any s [] h v x = any_nothing
+kept_any s (k ∷ ks) h v x = by (is_in v x k) (kept_any s ks (λ j c. h j (contains_there k j ks c)) v x)
+  where
+    by : (b : Bool) → IsAny s (kept_value ks v x) → IsAny s (if b then k.value else kept_value ks v x)
+    by true rest = h k (contains_here k ks)
+    by false rest = rest
+
+pub kept_more : (s : Store) (ks : List InObject) (k : InObject) → IsAny s k.value → FineKept s ks → FineKept s (k ∷ ks)
+kept_more s ks k any h j c = elim (contains_cases k j ks c) [
+  | inl same ↦ subst (λ (i : InObject). IsAny s i.value) same any
+  | inr more ↦ h j more
+]
+
+pub kept_less : (s : Store) (ks : List InObject) (v x : ℕ) → FineKept s ks → FineKept s (without_kept ks v x)
+kept_less s ks v x h j c = h j (unfiltered (λ k. not (is_in v x k)) ks j c).0
+
 module _ (p : Program) where
   abbrev pub T : ℕ → Bool
   T = p.are_run
@@ -91,6 +113,7 @@ module _ (p : Program) where
     pub newest : FineCells s x (T f.body.home) f.newest
     pub waits : FineWait s x f.body f.waiting
     pub saves : FineSaved s x f.body f.saved
+    pub keeps : FineKept s f.kept
     pub code : FineCode f.body f.stage
 
   -- the frames of packages that run, above all others
@@ -137,6 +160,7 @@ module _ (p : Program) where
       newest = cells_grow (T f.body.home) f.newest h.newest;
       waits = λ r e. pass_grows f.body r (h.waits r e);
       saves = λ z c. item_grows f.body z (h.saves z c);
+      keeps = λ k c. any_grows k.value (h.keeps k c);
       code = h.code;
     }
 
@@ -161,6 +185,7 @@ module _ (p : Program) where
     newest = λ v k e. by (is_parameter_of b v) (is_captured_by b v) v k e;
     waits = λ r e. absurd (none-some r e);
     saves = λ y c. absurd (contains_nil y c);
+    keeps = λ k c. absurd (contains_nil k c);
     code = λ c e. subst (EachIn (HasSource b)) (runs-inj (code_of b) c e) (sources b);
   }
     where

@@ -11,12 +11,12 @@ use Rattle.meaning.proofs.Membership.{contains_here, contains_there, contains_ca
 use Rattle.meaning_reports.specs.UsedImports.{HandsThere}
 use Rattle.meaning_runs.specs.Bodies.{Program, Body}
 use Rattle.meaning_runs.specs.EventSources.{HasSource}
-use Rattle.meaning_runs.specs.World.{Value, nothing, cancel_function, Maker, outside, frame_at, Place, Store, put_at, IsAny, any_nothing, any_function, IsOutside, outside_none, outside_group, IsEarlier, with_new, calling, ending, waiting_for, MayEndWait, with_group, Given, Lent, Passing, Saved, saved_pass, Stage, runs, exits, Frame}
+use Rattle.meaning_runs.specs.World.{Value, nothing, cancel_function, Maker, outside, frame_at, Place, Store, put_at, IsAny, any_nothing, any_function, IsOutside, outside_none, outside_group, IsEarlier, with_new, calling, ending, waiting_for, MayEndWait, with_group, Given, Lent, Passing, Saved, saved_pass, Stage, runs, exits, InObject, Frame}
 use Rattle.meaning_runs.specs.Steps.{GoesOn, at_code, RunsSaved, Obtains, new_one, earlier_one, none_at_all, Makes, zero_group, with_context, MayJoin, joining, WasCalled}
 use Rattle.meaning_runs.proofs.Contexts.{put_at-same, put_at-other}
 use Rattle.meaning_runs.proofs.EventSources.{EachIn}
 use Rattle.meaning_runs.proofs.Places.{runs-inj, exits≢runs}
-use Rattle.meaning_runs.proofs.Shown.{Shadow, shadow_store, IsOut, IsShadow, Grown, FinePass, T, FineItem, FineWait, FineSaved, FineCode, FineFrame, frame_grows, OccurrenceFits, moved}
+use Rattle.meaning_runs.proofs.Shown.{Shadow, shadow_store, IsOut, IsShadow, Grown, FinePass, T, FineItem, FineWait, FineSaved, FineKept, FineCode, FineFrame, frame_grows, OccurrenceFits, moved}
 
 -- Small changes of stores
 
@@ -212,6 +212,20 @@ module _ (p : Program) where
   code_exits : (b : Body) → FineCode p b exits
   code_exits b c e = absurd (exits≢runs c e)
 
+  -- other things are kept in objects, or given to others
+  pub keeps_now : {s : Store} {x : Shadow} {f : Frame} → FineFrame p s x f
+      → (kept : List InObject) (given : List Value)
+      → FineKept s kept
+      → FineFrame p s x (record f { kept = kept; given_away = given })
+  keeps_now it kept given fine = record {
+    is_of = it.is_of;
+    newest = it.newest;
+    waits = it.waits;
+    saves = it.saves;
+    keeps = fine;
+    code = it.code;
+  }
+
   module _ {s : Store} {x : Shadow} {f : Frame} (it : FineFrame p s x f) {after : Store} {y : Shadow}
       (grown : Grown s x after y) where
     abbrev b : Body
@@ -235,6 +249,7 @@ module _ (p : Program) where
       newest = now.newest;
       waits = waits;
       saves = saves;
+      keeps = now.keeps;
       code = code;
     }
 

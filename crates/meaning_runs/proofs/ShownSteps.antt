@@ -11,16 +11,16 @@ use Rattle.meaning_reports.specs.Loaded.{HaveDistinctPaths}
 use Rattle.meaning_reports.specs.UsedImports.{HandsTo, passes, defers, lends as lends_it, HandsThere}
 use Rattle.meaning_runs.specs.Bodies.{Program, Body, IsOf, IsLiteralIn, IsFunction}
 use Rattle.meaning_runs.specs.Promise.{AreClosed, all_run}
-use Rattle.meaning_runs.specs.World.{Value, nothing, frame_at, Place, Store, put_at, IsAny, IsOutside, outside_group, calling, waiting_for, MayEndWait, with_group, with_cells, AreForeign, binding, binding_group, binds, held, held_group, Given, Passing, Closure, saved_call, saved_pass, saved_literal, saved_wait, runs, exits, Frame, World, new_frame, nothing_around}
-use Rattle.meaning_runs.specs.Steps.{GoesOn, ComesTo, at_code, with_function, joining, evaluating, lending, HasNoBody, Begins, of_function, of_none, Acts, moves_on, does_other, obtains_one, clears_one, calls_one, saves_call, makes_group, tries_nothing, ends_wait, saves_wait, evaluates, evaluates_deferred, lends, makes_call, calls_outside, saves_pass, saves_literal, comes_to_return, runs_call, runs_pass, runs_literal, runs_wait, returns_now}
-use Rattle.meaning_runs.proofs.CallSteps.{AreAny, any_held}
+use Rattle.meaning_runs.specs.World.{Value, nothing, frame_at, Place, Store, put_at, IsAny, IsOutside, outside_group, calling, waiting_for, MayEndWait, with_group, with_cells, AreForeign, binding, binding_group, binds, held, held_group, kept_value, without_kept, value_handed, handed_by as handed_value, own_cell, Given, Passing, Closure, saved_call, saved_pass, saved_literal, saved_wait, runs, exits, InObject, Frame, World, new_frame, nothing_around}
+use Rattle.meaning_runs.specs.Steps.{GoesOn, ComesTo, at_code, with_function, joining, evaluating, lending, HasNoBody, Begins, of_function, of_none, Acts, moves_on, does_other, obtains_one, obtains_into, keeps_one, renews_object, calls_kept, saves_kept, gives_object, gives_in_field, clears_one, calls_one, saves_call, makes_group, tries_nothing, ends_wait, saves_wait, evaluates, evaluates_deferred, lends, makes_call, calls_outside, saves_pass, saves_literal, comes_to_return, runs_call, runs_pass, runs_literal, runs_wait, returns_now}
+use Rattle.meaning_runs.proofs.CallSteps.{AreAny, any_held, obtaining}
 use Rattle.meaning_runs.proofs.Contexts.{put_at-same, put_at-other}
 use Rattle.meaning_runs.proofs.HandedEvents.{from_source}
 use Rattle.meaning_runs.proofs.HandedNames.{stays_trusted}
 use Rattle.meaning_runs.proofs.HolderSteps.{literal_is_of}
-use Rattle.meaning_runs.proofs.Shown.{Shadow, shadow_store, IsOut, IsShadow, Grown, FinePass, FineCells, T, FineClosure, FineFrame, cells_grow, frame_grows, new_is_fine, held_same, group_same, with_new_cells, cells_grown, cells_shown}
+use Rattle.meaning_runs.proofs.Shown.{Shadow, shadow_store, IsOut, IsShadow, Grown, FinePass, FineCells, T, FineClosure, FineFrame, FineKept, kept_any, kept_more, kept_less, any_grows, cells_grow, frame_grows, new_is_fine, held_same, group_same, with_new_cells, cells_grown, cells_shown}
 use Rattle.meaning_runs.proofs.ShownCells.{newest_behind, with_value, with_its_group, value_shown, group_shown, marked_old}
-use Rattle.meaning_runs.proofs.ShownActs.{calling_shown, waiting_shown, may_end_shown, any_shown, was_called_shown, outside_shown, obtains_shown, makes_shown, no_context, calling_contextual, waiting_contextual, obtains_contextual, makes_contextual, group_made, frame-outside, grown_then, past_it, goes_on, saves_more, pops, popped, waits_no_more, saves_its_pass, returns, joins}
+use Rattle.meaning_runs.proofs.ShownActs.{calling_shown, waiting_shown, may_end_shown, any_shown, was_called_shown, outside_shown, obtains_shown, makes_shown, no_context, calling_contextual, waiting_contextual, obtains_contextual, makes_contextual, group_made, frame-outside, grown_then, past_it, keeps_now, goes_on, saves_more, pops, popped, waits_no_more, saves_its_pass, returns, joins}
 
 not_both : (b : Bool) → b ≡ true → b ≡ false → ⊥
 not_both b e g = false≢true (sym g ∙ e)
@@ -107,6 +107,13 @@ module _ (p : Program) (closed : AreClosed p) (distinct : HaveDistinctPaths p.pa
         same : (v : ℕ) → held S f v ≡ held s f v
         same v = held_same s x is t f.newest it.newest shown v
 
+        same_handed : (h : Handed) → handed_value S f h ≡ handed_value s f h
+        same_handed h = by h.number h.object
+          where
+            by : (v : ℕ) (o : Option ℕ) → value_handed S f v o ≡ value_handed s f v o
+            by v None = same v
+            by v (Some y) = refl
+
         same_group : (v : ℕ) → held_group S f v ≡ held_group s f v
         same_group v = group_same s x is t f.newest it.newest shown v
 
@@ -160,12 +167,14 @@ module _ (p : Program) (closed : AreClosed p) (distinct : HaveDistinctPaths p.pa
 
         -- a variable is bound, after contexts changed
         binds_one : (made : Store) (c_is : IsShadow made x) (grown : Grown s x made x) (u : VariableAt) (value : Value)
-            (rest : Code Event) (obtained : List ℕ) {o : Option (Occurrence Event)}
+            (rest : Code Event) (obtained : List ℕ) (keeping : List InObject) {o : Option (Occurrence Event)}
             → GoesOn f o rest
+            → FineKept made keeping
             → Acts p S place f (binding (shadow_store made x) f u value)
-            ((record (binds made f u) { stage = runs rest; obtained = obtained }) ∷ [])
-            → ShownAct place (binding made f u value) ((record (binds made f u) { stage = runs rest; obtained = obtained }) ∷ [])
-        binds_one made c_is grown u value rest obtained d acts =
+            ((record (binds made f u) { stage = runs rest; obtained = obtained; kept = keeping }) ∷ [])
+            → ShownAct place (binding made f u value)
+            ((record (binds made f u) { stage = runs rest; obtained = obtained; kept = keeping }) ∷ [])
+        binds_one made c_is grown u value rest obtained keeping d fine acts =
             let its = cells_grow p grown t f.newest it.newest in
             let y = with_value made x c_is f u t its shown value in
             let after = binding made f u value in
@@ -177,12 +186,13 @@ module _ (p : Program) (closed : AreClosed p) (distinct : HaveDistinctPaths p.pa
             } in
             let whole = grown_then grown last in
             let now = frame_grows p whole f it in
-            one after y (record (binds made f u) { stage = runs rest; obtained = obtained }) acts whole
+            one after y (record (binds made f u) { stage = runs rest; obtained = obtained; kept = keeping }) acts whole
             (value_shown made x c_is f u t its shown value) record {
               is_of = it.is_of;
               newest = newest_behind made x c_is f u t its after y refl refl;
               waits = now.waits;
               saves = now.saves;
+              keeps = λ k c. any_grows p last k.value (fine k c);
               code = (goes_on p it whole d).code;
             } shown
 
@@ -231,10 +241,49 @@ module _ (p : Program) (closed : AreClosed p) (distinct : HaveDistinctPaths p.pa
             same_store (at_code f rest) (does_other d) (goes_on p it still d.comes_to.goes_on) shown
         shown_acts after frames (obtains_one {u = u} {c = c} {rest = rest} {value = value} {made = made} d gives) =
             let k = obtains_contextual s x is c value made gives in
-            binds_one made k.is k.grown u value rest (with_function value f.obtained) d.comes_to.goes_on
-            (obtains_one d (obtains_shown s x c value made gives))
+            binds_one made k.is k.grown u value rest (with_function value f.obtained) f.kept d.comes_to.goes_on
+            (frame_grows p k.grown f it).keeps (obtains_one d (obtains_shown s x c value made gives))
+        shown_acts after frames (obtains_into {u = u} {c = c} {x = object} {rest = rest} {value = value} {made = made} d
+            gives) =
+            let k = obtains_contextual s x is c value made gives in
+            let one_more : InObject = record { variable = u.number; object = object; value = value } in
+            binds_one made k.is k.grown (own_cell u.number) value rest (with_function value f.obtained) (one_more ∷ f.kept)
+            d.comes_to.goes_on
+            (kept_more made f.kept one_more (obtaining s made c value gives kept).2 (frame_grows p k.grown f it).keeps)
+            (obtains_into d (obtains_shown s x c value made gives))
+        shown_acts after frames (keeps_one {v = v} {x = object} {rest = rest} d) =
+            let one_more : InObject = record { variable = v; object = object; value = held s f v } in
+            same_store (record (at_code f rest) { kept = one_more ∷ f.kept })
+            (subst (λ z. Acts p S place f S
+            ((record (at_code f rest) { kept = record { variable = v; object = object; value = z } ∷ f.kept }) ∷ []))
+            (same v) (keeps_one d))
+            (keeps_now p (goes_on p it still d.comes_to.goes_on) (one_more ∷ f.kept) f.given_away
+            (kept_more s f.kept one_more (any_held s kept f v) it.keeps)) shown
+        shown_acts after frames (renews_object {v = v} {x = object} {rest = rest} d) =
+            same_store (record f { stage = runs rest; kept = without_kept f.kept v object }) (renews_object d)
+            (keeps_now p (goes_on p it still d.comes_to.goes_on) (without_kept f.kept v object) f.given_away
+            (kept_less s f.kept v object it.keeps)) shown
+        shown_acts after frames (calls_kept {v = v} {x = object} {rest = rest} d) =
+            let value = kept_value f.kept v object in
+            let k = calling_contextual s x is value in
+            one (calling s value) x (at_code f rest)
+            (subst (λ z. Acts p S place f z (at_code f rest ∷ [])) (calling_shown s x value) (calls_kept d))
+            k.grown k.is (goes_on p it k.grown d.comes_to.goes_on) shown
+        shown_acts after frames (saves_kept {v = v} {x = object} {rest = rest} d) =
+            let call = saved_call (kept_value f.kept v object) in
+            same_store (record f { stage = runs rest; saved = call ∷ f.saved }) (saves_kept d)
+            (saves_more p it still d.comes_to.goes_on call (kept_any s f.kept it.keeps v object)) shown
+        shown_acts after frames (gives_object {v = v} {x = object} {rest = rest} d) =
+            let given = kept_value f.kept v object ∷ f.given_away in
+            same_store (record (at_code f rest) { given_away = given }) (gives_object d)
+            (keeps_now p (goes_on p it still d.comes_to.goes_on) f.kept given it.keeps) shown
+        shown_acts after frames (gives_in_field {v = v} {rest = rest} d) =
+            same_store (record (at_code f rest) { given_away = held s f v ∷ f.given_away })
+            (subst (λ z. Acts p S place f S ((record (at_code f rest) { given_away = z ∷ f.given_away }) ∷ [])) (same v)
+            (gives_in_field d))
+            (keeps_now p (goes_on p it still d.comes_to.goes_on) f.kept (held s f v ∷ f.given_away) it.keeps) shown
         shown_acts after frames (clears_one {u = u} {rest = rest} d) =
-            binds_one s is still u nothing rest f.obtained d.comes_to.goes_on (clears_one d)
+            binds_one s is still u nothing rest f.obtained f.kept d.comes_to.goes_on it.keeps (clears_one d)
         shown_acts after frames (calls_one {v = v} {rest = rest} d) =
             let k = calling_contextual s x is (held s f v) in
             one (calling s (held s f v)) x (at_code f rest)
@@ -268,6 +317,7 @@ module _ (p : Program) (closed : AreClosed p) (distinct : HaveDistinctPaths p.pa
               newest = newest_behind s1 x1 m.is f u t its last_store y refl refl;
               waits = now.waits;
               saves = now.saves;
+              keeps = now.keeps;
               code = (goes_on p it whole d.comes_to.goes_on).code;
             } shown
         shown_acts after frames (tries_nothing {rest = rest} d) =
@@ -343,10 +393,10 @@ module _ (p : Program) (closed : AreClosed p) (distinct : HaveDistinctPaths p.pa
             (saves_more p it still d.comes_to.goes_on (saved_literal record { literal = b; newest = f.newest })
             (literal_fine b is_in)) shown
         shown_acts after frames (comes_to_return {handed = handed} {rest = rest} d) =
-            same_store (record f { stage = exits; handed_on = map (λ (h : Handed). held s f h.number) handed })
+            same_store (record f { stage = exits; handed_on = map (handed_value s f) handed })
             (subst (λ z. Acts p S place f S ((record f { stage = exits; handed_on = z }) ∷ []))
-            (λ j. map (λ (h : Handed). same h.number j) handed) (comes_to_return d))
-            (returns p it still (map (λ (h : Handed). held s f h.number) handed)) shown
+            (λ j. map (λ (h : Handed). same_handed h j) handed) (comes_to_return d))
+            (returns p it still (map (handed_value s f) handed)) shown
         shown_acts after frames (runs_call {value = value} {left = left} r) =
             let k = calling_contextual s x is value in
             one (calling s value) x (record f { saved = left })

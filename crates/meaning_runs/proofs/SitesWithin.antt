@@ -6,7 +6,7 @@ use Rattle.std.specs.Prelude.{◌==◌, ◌-◌}
 use Rattle.std.proofs.lemmas.List.Elements.{Contains-append_left, Contains-append_cases}
 use Rattle.std.proofs.lemmas.Bool.{false_from_ne_true}
 use Rattle.tree.specs.Syntax.{Expressions}
-use Rattle.meaning.specs.Mentions.{BodyPlace, Mark, mentions, defers_literal, returns, opens, closes, in_body}
+use Rattle.meaning.specs.Mentions.{BodyPlace, Mark, mentions, defers_literal, returns, opens, closes, in_body, of_fields}
 use Rattle.meaning.specs.BodyEvents.{is_site}
 use Rattle.meaning.proofs.Membership.{contains_cases, contains_nil, contains_here, contains_there}
 use Rattle.meaning_runs.proofs.Places.{eqb_is}
@@ -81,6 +81,7 @@ pub record Sited (own : Around) (lo hi : ℕ) (asks : List CodeSite) (ms : List 
 -- the site of these marks is that of what stands around
 abbrev pub IsOwn : Around → Mark → Type 0
 IsOwn own (mentions m) = IsAround own m.site
+IsOwn own (of_fields site m) = IsAround own site
 IsOwn own (defers_literal site at) = IsAround own site
 IsOwn own mark = ⊥
 
@@ -89,9 +90,10 @@ abbrev pub AreOwn : Around → List Mark → Type 0
 AreOwn own [] = Unit {0}
 AreOwn own (m ∷ ms) = IsOwn own m × AreOwn own ms
 
--- the mark is that of a mention, at the site around
+-- the mark is that of a mention, or of fields, at the site around
 abbrev pub IsMention : Around → Mark → Type 0
 IsMention own (mentions m) = IsAround own m.site
+IsMention own (of_fields site m) = IsAround own site
 IsMention own mark = ⊥
 
 -- each of them is
@@ -101,6 +103,7 @@ AreMentions own (m ∷ ms) = IsMention own m × AreMentions own ms
 
 pub mention_is_own : (own : Around) (m : Mark) → IsMention own m → IsOwn own m
 mention_is_own own (mentions m) h = h
+mention_is_own own (of_fields site m) h = h
 mention_is_own own (defers_literal site at) h = absurd h
 mention_is_own own (returns site es) h = absurd h
 mention_is_own own (opens b) h = absurd h
@@ -119,6 +122,7 @@ own_among own (n ∷ ms) m h among = elim (contains_cases n m ms among) [
 
 own_site : (own : Around) (m : Mark) (s : ℕ) → IsOwn own m → is_site m s ≡ true → IsAround own s
 own_site own (mentions m) s h e = subst (λ (n : ℕ). IsAround own n) (eqb_is m.site s e) h
+own_site own (of_fields site m) s h e = subst (λ (n : ℕ). IsAround own n) (eqb_is site s e) h
 own_site own (defers_literal site at) s h e = subst (λ (n : ℕ). IsAround own n) (eqb_is site s e) h
 own_site own (returns site es) s h e = absurd h
 own_site own (opens b) s h e = absurd h
@@ -126,6 +130,7 @@ own_site own closes s h e = absurd h
 
 follows_own : (own : Around) (m n : Mark) → IsOwn own m → MayFollow m n
 follows_own own (mentions m) n h = tt
+follows_own own (of_fields site m) n h = tt
 follows_own own (defers_literal site at) n h = tt
 follows_own own (returns site es) n h = absurd h
 follows_own own (opens b) n h = absurd h
@@ -182,9 +187,10 @@ longer_sited up w = record {
 
 -- Mentions at sites that the code asks for
 
--- a mention at one of these
+-- a mention at one of these, or a mark of fields
 abbrev pub IsAskedMention : List CodeSite → Mark → Type 0
 IsAskedMention asks (mentions m) = Contains asks (asked_at m.site)
+IsAskedMention asks (of_fields site m) = Contains asks (asked_at site)
 IsAskedMention asks mark = ⊥
 
 abbrev pub AreAskedMentions : List CodeSite → List Mark → Type 0
@@ -200,6 +206,7 @@ asked_mention asks (n ∷ ms) m h among = elim (contains_cases n m ms among) [
 
 asked_site : (asks : List CodeSite) (m : Mark) (s : ℕ) → IsAskedMention asks m → is_site m s ≡ true → Contains asks (asked_at s)
 asked_site asks (mentions m) s h e = subst (λ (n : ℕ). Contains asks (asked_at n)) (eqb_is m.site s e) h
+asked_site asks (of_fields site m) s h e = subst (λ (n : ℕ). Contains asks (asked_at n)) (eqb_is site s e) h
 asked_site asks (defers_literal site at) s h e = absurd h
 asked_site asks (returns site es) s h e = absurd h
 asked_site asks (opens b) s h e = absurd h
@@ -207,6 +214,7 @@ asked_site asks closes s h e = absurd h
 
 asked_follows : (asks : List CodeSite) (m n : Mark) → IsAskedMention asks m → MayFollow m n
 asked_follows asks (mentions m) n h = tt
+asked_follows asks (of_fields site m) n h = tt
 asked_follows asks (defers_literal site at) n h = tt
 asked_follows asks (returns site es) n h = absurd h
 asked_follows asks (opens b) n h = absurd h
@@ -296,6 +304,7 @@ module _ {own : Around} {lo hi low high : ℕ} {qs rs : List CodeSite} {ms ns : 
     (h : Sited own lo hi qs ms) (k : Sited own low high rs ns) where
   across : (m n : Mark) → Contains ms m → Contains ns n → MayFollow m n
   across (mentions m) n x y = tt
+  across (of_fields site m) n x y = tt
   across (defers_literal site at) n x y = tt
   across (returns s es) n x y = false_from_ne_true (is_site n s) λ e.
       let r = h.returning s es x in
@@ -564,6 +573,7 @@ returns_follow : (n : ℕ) (es : Expressions) (ms : List Mark)
     → Contains (returns n es ∷ []) k
     → MayFollow m k
 returns_follow n es ms before (mentions m) k x y = tt
+returns_follow n es ms before (of_fields site m) k x y = tt
 returns_follow n es ms before (defers_literal site at) k x y = tt
 returns_follow n es ms before (returns s fs) k x y = elim (contains_cases (returns n es) k [] y) [
   | inl e ↦ subst (λ (q : Mark). is_site q s ≡ false) e (eqb_not n s λ same. omega (arith, before s fs x, same))
@@ -674,6 +684,7 @@ asked_of_body b ms s (inr w) = elim (of_body b w.body ms w.opened) [
 
 follows_closes : (m n : Mark) → Contains (closes ∷ []) n → MayFollow m n
 follows_closes (mentions m) n x = tt
+follows_closes (of_fields site m) n x = tt
 follows_closes (defers_literal site at) n x = tt
 follows_closes (returns s es) n x = elim (contains_cases closes n [] x) [
   | inl e ↦ subst (λ (q : Mark). is_site q s ≡ false) e refl

@@ -1,7 +1,7 @@
 -- What an event binds is a local of the kind cancel, so that it is tracked as a cancel variable where it stands in a
 -- block: what a row obtains or clears on a left side is of that kind, and the mention is what stands there.
 use Rattle.std.proofs.Common.{◌≡◌, ℕ, zero, suc, ◌+◌, Bool, true, false, inl, inr, List, [], ◌∷◌, Option, Some, None, Contains, refl, sym, ap, ◌∙◌, subst}
-use Rattle.std.specs.Prelude.{◌==◌, ◌&&◌, ◌||◌, if◌then◌else◌, is_some, slice_get, length}
+use Rattle.std.specs.Prelude.{◌==◌, ◌&&◌, if◌then◌else◌, is_some, slice_get, length, ◌||◌}
 use Rattle.std.specs.List.{list_all}
 use Rattle.std.proofs.lemmas.Option.{same_Some}
 use Rattle.tree.specs.declared.operator.DeclKeyword.TheVariants.{Const, Var, «Type» as type_keyword}
@@ -10,18 +10,19 @@ use Rattle.meaning.specs.Scopes.{is_blank}
 use Rattle.meaning.specs.Code.{Occurrence}
 use Rattle.meaning.specs.Lists.{Reaches}
 use Rattle.meaning.specs.FunctionFacts.{VariableKind, cancel, group, CancelResult}
-use Rattle.meaning.specs.Mentions.{Named, RowForm, defines, assigns, declares, Row, Role, elsewhere, called, called_in_brackets, argument, returned, left, names_type, new_literal, parameter_pointer, Mention, BodyPlace, Mark, mentions, defers_literal, returns, opens, closes, exposed, found_nil, found_error, is_none_left}
-use Rattle.meaning.specs.Tracked.{Known, Giving, Left, local_at, lefts_of, may_bind, if_first, made_by_form, blank_left, name_left, left_name, left_local, local_meant_or, variable_of, is_given, are_locals, row_giving, obtains_there, row_obtains, GroupState, row_makes, Placed, LocalRole, parameter, receiver, variadic, result, in_block, Local, kind_of_local, made_by_type, made_by_pair}
-use Rattle.meaning.specs.Uses.{Seen, is_group, is_group_or_none, found, kind_of, may_be_tracked, tracked_kind, VariableAt, Event, other, defer_literal, return_event, Binding, obtained, cleared, made, is_cancel, kind_at, are_cancels, row_binds, row_clears, are_groups, is_second_free, made_binding, binding_at, binding_event, binding_outcome, row_outcome, role_outcome, local_outcome, is_own, body_gives}
+use Rattle.meaning.specs.Mentions.{Named, RowForm, defines, assigns, declares, Row, Role, elsewhere, as_key, called, called_in_brackets, argument, returned, left, names_type, new_literal, parameter_pointer, Mention, BodyPlace, Mark, mentions, defers_literal, returns, opens, closes, exposed, found_nil, found_error, is_none_left, pointed_to, of_fields}
+use Rattle.meaning.specs.Tracked.{Known, Giving, Left, local_at, lefts_of, may_bind, if_first, made_by_form, blank_left, name_left, left_name, left_local, local_meant_or, variable_of, is_given, are_locals, row_giving, obtains_there, row_obtains, GroupState, row_makes, Placed, LocalRole, parameter, receiver, variadic, result, in_block, Local, kind_of_local, made_by_type, made_by_pair, some_keep, is_outer_left, is_outer_at}
+use Rattle.meaning.specs.Uses.{Seen, is_group, is_group_or_none, found, kind_of, may_be_tracked, tracked_kind, VariableAt, Event, other, defer_literal, return_event, Binding, obtained, cleared, made, is_cancel, kind_at, are_cancels, row_binds, row_clears, are_groups, is_second_free, made_binding, binding_at, binding_event, binding_outcome, row_outcome, role_outcome, local_outcome, is_own}
 use Rattle.meaning.specs.BodyEvents.{handed_on, mark_events, seen_file}
 use Rattle.meaning.proofs.Membership.{contains_here, contains_there, contains_cases, contains_nil}
-use Rattle.meaning_packages.specs.PathFaults.{BindsCancel, obtains, clears}
+use Rattle.meaning_packages.specs.PathFaults.{BindsCancel, obtains, obtains_into, clears}
 use Rattle.meaning_reports.specs.Loaded.{known_in, seen_from, trees_of}
 use Rattle.meaning_runs.specs.Bodies.{Program, Body, IsOf, code_of}
 use Rattle.meaning_runs.specs.EventSources.{HasSource, says_nothing, falls_off, of_mark, IsBound, BindingsAreTracked}
 use Rattle.meaning_runs.proofs.Places.{eqb_is}
 use Rattle.meaning_runs.proofs.EventSources.{events_have_sources}
-use Rattle.meaning_runs.proofs.Bindings.{Binds, binds_so, kind_bound, bound_number, no_binding, single, mention_harmless, of_variable}
+use Rattle.meaning_runs.proofs.Bindings.{Binds, binds_so, kind_bound, bound_number, no_binding, single, mention_harmless, of_variable, object_binds_own}
+use Rattle.meaning_runs.proofs.KeptEvents.{is_cancel_kind, IsOfObject, by_renew, by_call, by_deferred, by_give, by_keep, by_outer, by_obtaining, by_gift, field_events_are}
 use Rattle.meaning_runs.proofs.OwnVariables.{found_is}
 use Rattle.meaning_runs.proofs.LeftSides.{Fits, Stands, left_sides_fit}
 use Rattle.meaning.specs.OuterBlocks.{or_else}
@@ -44,11 +45,6 @@ each_of test (g ∷ gs) k e h =
     by true q r f =
         subst (λ m. test m ≡ true) (eqb_is g.position k q) (first_part (test g.position) (list_all (λ x. test x.position) gs) h)
     by false q r f = f r
-
-is_cancel_kind : (kind : Option VariableKind) → is_cancel kind ≡ true → kind ≡ Some cancel
-is_cancel_kind None e = let bad : false ≡ true = e in cc
-is_cancel_kind (Some cancel) e = refl
-is_cancel_kind (Some group) e = let bad : false ≡ true = e in cc
 
 pub is_group_kind : (kind : Option VariableKind) → is_group kind ≡ true → kind ≡ Some group
 is_group_kind None e = let bad : false ≡ true = e in cc
@@ -136,14 +132,28 @@ made_is_group seen row k (Some state) binding q e =
     by true false groups h = let bad : None ≡ Some binding = h in cc
     by false c groups h = let bad : None ≡ Some binding = h in cc
 
-obtained_is_cancel : (seen : Seen) (row : Row) (k : ℕ) (g : Option Giving) → obtains_there seen.known row k g ≡ true → are_cancels seen row g ≡ true → is_cancel (kind_at seen row k) ≡ true
-obtained_is_cancel seen row k None o c = let bad : false ≡ true = o in cc
-obtained_is_cancel seen row k (Some g) o c =
-    each_of (λ j. is_cancel (kind_at seen row j)) g.gives k (first_part (is_given k g.gives) (are_locals seen.known row g.gives) o) c
+pub first_of_either : (b c : Bool) → (b || c) ≡ true → c ≡ false → b ≡ true
+first_of_either true c e q = refl
+first_of_either false c e q = let bad : true ≡ false = sym e ∙ q in cc
+
+-- where no outer object stands
+obtained_is_cancel : (seen : Seen) (row : Row) (k : ℕ) (g : Option Giving) → is_outer_at seen.known row k ≡ false → obtains_there seen.known row k g ≡ true → are_cancels seen row g ≡ true → is_cancel (kind_at seen row k) ≡ true
+obtained_is_cancel seen row k None named o c = let bad : false ≡ true = o in cc
+obtained_is_cancel seen row k (Some g) named o c =
+    first_of_either (is_cancel (kind_at seen row k)) (is_outer_at seen.known row k)
+    (each_of (λ j. is_cancel (kind_at seen row j) || is_outer_at seen.known row j) g.gives k (first_part (is_given k g.gives) (are_locals seen.known row g.gives) o) c) named
+
+-- no name is a field of an outer object
+pub named_is_no_outer : (known : Known) (row : Row) (k : ℕ) (n : Named) (declared : Option ℕ) → Fits n declared (left k row) → is_outer_at known row k ≡ false
+named_is_no_outer known row k n declared fits = ap (is_outer_left known) fits ∙ by (is_blank n.name)
+  where
+    by : (b : Bool) → is_outer_left known (Some (if b then blank_left else name_left n declared)) ≡ false
+    by true = refl
+    by false = refl
 
 -- what a row binds on its left side k is of that kind
-pub left_is_of_kind : (seen : Seen) (row : Row) (k : ℕ) (binding : Binding) → binding_at seen row k ≡ Some binding → kind_at seen row k ≡ Some (kind_of_binding binding)
-left_is_of_kind seen row k binding e =
+pub left_is_of_kind : (seen : Seen) (row : Row) (k : ℕ) (binding : Binding) → is_outer_at seen.known row k ≡ false → binding_at seen row k ≡ Some binding → kind_at seen row k ≡ Some (kind_of_binding binding)
+left_is_of_kind seen row k binding named e =
     by (row_obtains seen.known row k) (row_binds seen row) (row_clears seen.known row k && is_cancel (kind_at seen row k)) refl refl refl e
   where
     of_cancel : (one : Binding) → kind_of_binding one ≡ cancel → Some one ≡ Some binding → is_cancel (kind_at seen row k) ≡ true → kind_at seen row k ≡ Some (kind_of_binding binding)
@@ -153,7 +163,7 @@ left_is_of_kind seen row k binding e =
     by : (o r x : Bool) → row_obtains seen.known row k ≡ o → row_binds seen row ≡ r → (row_clears seen.known row k && is_cancel (kind_at seen row k)) ≡ x
         → (if o then if r then Some (obtained k) else None else if x then Some cleared else made_binding seen row (row_makes seen.known row k)) ≡ Some binding
         → kind_at seen row k ≡ Some (kind_of_binding binding)
-    by true true x p q s h = of_cancel (obtained k) refl h (obtained_is_cancel seen row k (row_giving seen.known row) p q)
+    by true true x p q s h = of_cancel (obtained k) refl h (obtained_is_cancel seen row k (row_giving seen.known row) named p q)
     by true false x p q s h = let bad : None ≡ Some binding = h in cc
     by false r true p q s h =
         of_cancel cleared refl h (second_part (row_clears seen.known row k) (is_cancel (kind_at seen row k)) s)
@@ -209,12 +219,14 @@ module _ (seen : Seen) (bodies : List BodyPlace) (m : Mention) (e : Event) (u : 
     by_row (Some kind) row k (Some binding) fits q h =
         let bound = binding_event seen.known l m row binding in
         let same : kind_of_binding binding ≡ kind_bound bound = kind_of_event seen.known l m row binding in
-        by_local_role kind row binding l.role (λ x. (bound_number seen.known l m row binding u x, subst (λ k. kind_of seen (Some l) ≡ Some k) same (mention_is_of_kind seen m row k l (kind_of_binding binding) fits is (left_is_of_kind seen row k binding q)))) h
+        by_local_role kind row binding l.role (λ x. (bound_number seen.known l m row binding u x, subst (λ k. kind_of seen (Some l) ≡ Some k) same (mention_is_of_kind seen m row k l (kind_of_binding binding) fits is (left_is_of_kind seen row k binding (named_is_no_outer seen.known row k m.named m.declares fits) q)))) h
 
     by_role : (r : Role) → Fits m.named m.declares r → Contains (role_outcome seen l bodies m r).events e → IsOfKind seen e u l
     by_role (left k row) fits h = by_row (kind_of seen (Some l)) row k (binding_at seen row k) fits refl h
     by_role elsewhere fits h = absurd (mention_harmless seen l (tracked_kind seen (Some l)) bodies m e h u binds)
+    by_role as_key fits h = absurd (mention_harmless seen l (tracked_kind seen (Some l)) bodies m e h u binds)
     by_role exposed fits h = absurd (mention_harmless seen l (tracked_kind seen (Some l)) bodies m e h u binds)
+    by_role pointed_to fits h = absurd (mention_harmless seen l (tracked_kind seen (Some l)) bodies m e h u binds)
     by_role (found_nil nil) fits h = absurd (mention_harmless seen l (tracked_kind seen (Some l)) bodies m e h u binds)
     by_role (found_error nil row) fits h = absurd (mention_harmless seen l (tracked_kind seen (Some l)) bodies m e h u binds)
     by_role (called c) fits h = absurd (mention_harmless seen l (tracked_kind seen (Some l)) bodies m e h u binds)
@@ -229,11 +241,54 @@ module _ (seen : Seen) (bodies : List BodyPlace) (m : Mention) (e : Event) (u : 
   by_found None q fits h = absurd (contains_nil e h)
   by_found (Some l) q fits h = (l, q, by_role l q m.role fits h)
 
-by_mark : (seen : Seen) (bodies : List BodyPlace) (mark : Mark) (e : Event) (u : VariableAt) → Stands mark → Contains (mark_events seen bodies mark) e → Binds e u → (m : Mention) × HasKind seen m e u
-by_mark seen bodies (mentions m) e u fits h binds =
-    (m, by_found seen bodies m e u binds (found seen (variable_of seen.known m)) refl fits (of_variable seen bodies m e u h binds))
+-- the local of what an event binds, as it is found, and its kind
+abbrev IsKinded : Seen → Event → VariableAt → Type 0
+IsKinded seen e u = (l : Local) × (found seen (Some l.number) ≡ Some l) × IsOfKind seen e u l
+
+kinded : (seen : Seen) (m : Mention) (e : Event) (u : VariableAt) → HasKind seen m e u → IsKinded seen e u
+kinded seen m e u h = (h.0, (found_is seen (variable_of seen.known m) h.0 h.1).0, h.2)
+
+kind_so : (kind : Option VariableKind) (r : LocalRole) → r ≡ in_block → (if may_be_tracked r then kind else None) ≡ kind
+kind_so kind r q = ap (λ x. if may_be_tracked x then kind else None) q
+
+of_object : (seen : Seen) (bodies : List BodyPlace) (mark : Mark) (e : Event) (u : VariableAt)
+    → IsOfObject seen bodies mark e
+    → Binds e u
+    → kind_bound e ≡ cancel
+    → IsKinded seen e u
+of_object seen bodies mark e u is binds kind =
+    let own = (object_binds_own e u is binds).0 in (
+      own.local,
+      ap (λ n. found seen (Some n)) own.is_it ∙ own.is_found,
+      (
+        own.is_it,
+        sym (kind_so (kind_of_local seen.known seen.marks own.local) own.local.role own.is_in_block)
+            ∙ own.is_cancel_variable ∙ ap Some (sym kind),
+      ),
+    )
+
+object_is_cancel : {seen : Seen} {bodies : List BodyPlace} {mark : Mark} (e : Event)
+    → IsOfObject seen bodies mark e
+    → kind_bound e ≡ cancel
+object_is_cancel e (by_renew k h) = refl
+object_is_cancel e (by_call k h) = refl
+object_is_cancel e (by_deferred k h) = refl
+object_is_cancel e (by_give k h) = refl
+object_is_cancel e (by_keep k h fits) = refl
+object_is_cancel e (by_outer k h fits) = refl
+object_is_cancel e (by_obtaining k site l a is h told) = refl
+object_is_cancel e (by_gift x v c q) = refl
+
+by_mark : (seen : Seen) (bodies : List BodyPlace) (mark : Mark) (e : Event) (u : VariableAt) → Stands mark → Contains (mark_events seen bodies mark) e → Binds e u → IsKinded seen e u
+by_mark seen bodies (mentions m) e u fits h binds = elim (of_variable seen bodies m e u h binds) [
+  | inl own ↦ kinded seen m e u (by_found seen bodies m e u binds (found seen (variable_of seen.known m)) refl fits own)
+  | inr is ↦ of_object seen bodies (mentions m) e u is binds (object_is_cancel e is)
+]
+by_mark seen bodies (of_fields site m) e u fits h binds =
+    let is = field_events_are seen bodies site m e h in
+    of_object seen bodies (of_fields site m) e u is binds (object_is_cancel e is)
 by_mark seen bodies (defers_literal site at) e u fits h binds = absurd (single (defer_literal at) refl e h u binds)
-by_mark seen bodies (returns at es) e u fits h binds = absurd (single (return_event (handed_on seen (body_gives seen.known bodies) 0 es)) refl e h u binds)
+by_mark seen bodies (returns at es) e u fits h binds = absurd (single (return_event (handed_on seen bodies 0 es)) refl e h u binds)
 by_mark seen bodies (opens x) e u fits h binds = absurd (contains_nil e h)
 by_mark seen bodies closes e u fits h binds = absurd (contains_nil e h)
 
@@ -251,9 +306,9 @@ pub of_tree : (known : ℕ → Known) (n : ℕ) (trees : List SourceFile) (seen 
 of_tree known n trees seen h = let w = of_number known n trees seen h in (known w.0, w.1, w.2, w.3)
 
 marks_stand : (seen : Seen) (k : Known) (tree : SourceFile) → seen_file k tree ≡ seen → (mark : Placed) → Contains seen.marks mark → Stands mark.mark
-marks_stand seen k tree q mark h = left_sides_fit k.edition tree mark (subst (λ (s : Seen). Contains s.marks mark) (sym q) h)
+marks_stand seen k tree q mark h = left_sides_fit k.edition (some_keep k.fields) tree mark (subst (λ (s : Seen). Contains s.marks mark) (sym q) h)
 
-by_source : (b : Body) (e : Event) (u : VariableAt) → ((mark : Placed) → Contains b.file.marks mark → Stands mark.mark) → HasSource b e → Binds e u → (m : Mention) × HasKind b.file m e u
+by_source : (b : Body) (e : Event) (u : VariableAt) → ((mark : Placed) → Contains b.file.marks mark → Stands mark.mark) → HasSource b e → Binds e u → IsKinded b.file e u
 by_source b e u stand says_nothing binds = absurd (no_binding other u refl binds)
 by_source b e u stand falls_off binds = absurd (no_binding (return_event []) u refl binds)
 by_source b e u stand (of_mark mark among here h) binds = by_mark b.file mark.bodies mark.mark e u (stand mark among) h binds
@@ -267,19 +322,26 @@ pub is_tracked : (p : Program) (b : Body) (t : List (Occurrence Event)) (o : Occ
     → tracked_kind b.file (Some h.local) ≡ Some (kind_bound o.event)
 is_tracked p b t o u of reached binds h =
     let r = of_tree (known_in p.packages p.tables of.loaded) 0 (trees_of of.loaded) b.file of.is_file in
-    let s = by_source b o.event u (marks_stand b.file r.0 r.1 r.2) (events_have_sources b t o reached) binds in
-    let w = s.1 in
+    let w = by_source b o.event u (marks_stand b.file r.0 r.1 r.2) (events_have_sources b t o reached) binds in
     let kind = w.2 in
-    let first = found_is b.file (variable_of b.file.known s.0) w.0 w.1 in
-    let second = found_is b.file (variable_of b.file.known h.mention) h.local h.is_found in
-    let same : w.0 ≡ h.local = same_Some w.0 h.local (sym first.0 ∙ ap (λ n. found b.file (Some n)) (kind.0 ∙ sym h.is_it) ∙ second.0) in
+    let second = found_is b.file (Some u.number) h.local h.is_found in
+    let same : w.0 ≡ h.local = same_Some w.0 h.local (sym w.1 ∙ ap (λ n. found b.file (Some n)) (kind.0 ∙ sym h.is_it) ∙ second.0) in
     ap (λ r. if may_be_tracked r then kind_of_local b.file.known b.file.marks h.local else None) h.is_in_block
     ∙ subst (λ l. kind_of b.file (Some l) ≡ Some (kind_bound o.event)) same kind.1
 
 pub cancel_bound : (e : Event) (u : VariableAt) → BindsCancel e u → kind_bound e ≡ cancel
 cancel_bound e u obtains = refl
+cancel_bound e u obtains_into = refl
 cancel_bound e u clears = refl
 
 pub bindings_are_tracked : BindingsAreTracked
 bindings_are_tracked p b t o u of reached binds h =
-    is_tracked p b t o u of reached (binds_so o.event u binds) h ∙ ap Some (cancel_bound o.event u binds)
+    let w = binds_so o.event u binds in
+    let its : IsBound b w.0 = record {
+      local = h.local;
+      is_found = ap (λ n. found b.file (Some n)) w.2 ∙ h.is_found;
+      is_it = h.is_it ∙ sym w.2;
+      is_declared_here = h.is_declared_here;
+      is_in_block = h.is_in_block;
+    } in
+    is_tracked p b t o w.0 of reached w.1 its ∙ ap Some (cancel_bound o.event u binds)

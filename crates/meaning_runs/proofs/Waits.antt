@@ -5,7 +5,7 @@ use Rattle.meaning.specs.Uses.{Event, wait}
 use Rattle.meaning.proofs.Membership.{contains_here, contains_cases, contains_nil}
 use Rattle.meaning_runs.specs.Bodies.{Program}
 use Rattle.meaning_runs.specs.World.{Value, Place, Store, itself, IsDone, ending, MayEndWait, waiting_for, Passing, Closure, Saved, saved_call, saved_pass, saved_literal, saved_wait, runs, Frame, held_group}
-use Rattle.meaning_runs.specs.Steps.{GoesOn, ComesTo, RunsSaved, ComesToCall, at_once, saved_before, Acts, moves_on, does_other, obtains_one, clears_one, calls_one, saves_call, makes_group, tries_nothing, ends_wait, saves_wait, evaluates, evaluates_deferred, lends, makes_call, calls_outside, saves_pass, saves_literal, comes_to_return, runs_call, runs_pass, runs_literal, runs_wait, returns_now}
+use Rattle.meaning_runs.specs.Steps.{GoesOn, ComesTo, RunsSaved, ComesToCall, at_once, saved_before, Acts, moves_on, does_other, obtains_one, clears_one, calls_one, saves_call, makes_group, tries_nothing, ends_wait, saves_wait, evaluates, evaluates_deferred, lends, makes_call, calls_outside, saves_pass, saves_literal, comes_to_return, runs_call, runs_pass, runs_literal, runs_wait, returns_now, obtains_into, keeps_one, renews_object, calls_kept, saves_kept, gives_object, gives_in_field}
 use Rattle.meaning_runs.specs.RunLists.{events_of_act, is_wait}
 use Rattle.meaning_runs.specs.Waits.{EndsWait, AllWaitsWait}
 use Rattle.meaning_runs.proofs.Places.{exits≢runs}
@@ -45,6 +45,13 @@ module _ (p : Program) (s : Store) (place : Place) (f : Frame) where
   by_event after frames (does_other d) o v group h e is = absurd (no_wait _ o v refl h e)
   by_event after frames (obtains_one d k) o v group h e is = absurd (no_wait _ o v refl h e)
   by_event after frames (clears_one d) o v group h e is = absurd (no_wait _ o v refl h e)
+  by_event after frames (obtains_into d k) o v group h e is = absurd (no_wait _ o v refl h e)
+  by_event after frames (keeps_one d) o v group h e is = absurd (no_wait _ o v refl h e)
+  by_event after frames (renews_object d) o v group h e is = absurd (no_wait _ o v refl h e)
+  by_event after frames (calls_kept d) o v group h e is = absurd (no_wait _ o v refl h e)
+  by_event after frames (saves_kept d) o v group h e is = absurd (no_wait _ o v refl h e)
+  by_event after frames (gives_object d) o v group h e is = absurd (no_wait _ o v refl h e)
+  by_event after frames (gives_in_field d) o v group h e is = absurd (no_wait _ o v refl h e)
   by_event after frames (calls_one d) o v group h e is = absurd (no_wait _ o v refl h e)
   by_event after frames (saves_call d) o v group h e is = absurd (no_wait _ o v refl h e)
   by_event after frames (makes_group d m) o v group h e is = absurd (no_wait _ o v refl h e)
@@ -106,6 +113,13 @@ module _ (p : Program) (s : Store) (place : Place) (f : Frame) where
     by_saved after frames (does_other d) = absurd (comes_nowhere d.comes_to)
     by_saved after frames (obtains_one d k) = absurd (comes_nowhere d.comes_to)
     by_saved after frames (clears_one d) = absurd (comes_nowhere d.comes_to)
+    by_saved after frames (obtains_into d k) = absurd (comes_nowhere d.comes_to)
+    by_saved after frames (keeps_one d) = absurd (comes_nowhere d.comes_to)
+    by_saved after frames (renews_object d) = absurd (comes_nowhere d.comes_to)
+    by_saved after frames (calls_kept d) = absurd (comes_nowhere d.comes_to)
+    by_saved after frames (saves_kept d) = absurd (comes_nowhere d.comes_to)
+    by_saved after frames (gives_object d) = absurd (comes_nowhere d.comes_to)
+    by_saved after frames (gives_in_field d) = absurd (comes_nowhere d.comes_to)
     by_saved after frames (calls_one d) = absurd (comes_nowhere d.comes_to)
     by_saved after frames (saves_call d) = absurd (comes_nowhere d.comes_to)
     by_saved after frames (makes_group d m) = absurd (comes_nowhere d.comes_to)

@@ -1,7 +1,6 @@
 -- Each write is marked as one, and each such mention of a tracked cancel variable binds it or is a fault.
 use Rattle.std.proofs.Common.{◌≡◌, ℕ, ◌+◌, Bool, true, false, inl, inr, List, [], ◌∷◌, ◌++◌, Option, Some, None, Contains, refl, sym, ap, ◌∙◌, subst}
 use Rattle.std.specs.Prelude.{◌&&◌, not, if◌then◌else◌, is_some, map}
-use Rattle.std.specs.List.{list_any}
 use Rattle.std.proofs.lemmas.Bool.{true≢false, false≢true, and_from, eq-eqb}
 use Rattle.std.proofs.lemmas.List.Elements.{Contains-append_left, Contains-append_right, Contains-append_cases}
 use Rattle.std.proofs.lemmas.Option.{same_Some}
@@ -14,16 +13,17 @@ use Rattle.tree.specs.declared.span.Span.{Span}
 use Rattle.tree.specs.Syntax.{Identifier, Expression, expression_node, ExpressionForm, name_expression, composite_literal, unary_expression, Expressions, no_expression, expression_and, StatementForm, empty_statement, declaration_statement, labeled_statement, expression_statement, send_statement, increment_statement, decrement_statement, assignment, operator_assignment, define_statement, go_statement, defer_statement, return_statement, break_statement, continue_statement, goto_statement, fallthrough_statement, block_statement, if_statement, for_statement, range_assignment, range_definition, switch_statement, type_switch_statement, select_statement, CaseClauses, no_case, case_and, declaration_of, Specs, no_spec, value_and, type_and}
 use Rattle.meaning.specs.Scopes.{is_blank, parameters_named}
 use Rattle.meaning.specs.FunctionFacts.{CancelType, cancel, group}
-use Rattle.meaning.specs.Mentions.{Named, bare, as_bare, as_new_literal, bare_within, defines, assigns, declares, Standing, ordinary, Row, CallPlace, nowhere, as_statement, only_value, return_item, deferred, Call, Role, elsewhere, exposed, found_nil, found_error, called, called_in_brackets, argument, returned, left, names_type, new_literal, parameter_pointer, Mention, BodyPlace, Mark, mentions, Spot, part_of, value_spot, mention, declaring, number_of, named_or, exposed_or, argument_or, argument_at, new_literal_or, left_names, declared_elsewhere, row_of, expression_marks, form_marks, expressions_marks, lefts_marks, ranged_marks, names_type_marks, parameters_marks, statement_form_marks, statements_marks, optional_statement_marks, cases_marks, declaration_marks, specs_marks}
-use Rattle.meaning.specs.Tracked.{Known, variable_of, declared_by, LocalRole, parameter, receiver, variadic, result, in_block, Local, giving_of, kind_of_local}
+use Rattle.meaning.specs.Mentions.{Named, bare, as_bare, as_new_literal, bare_within, defines, assigns, declares, Standing, ordinary, Row, CallPlace, nowhere, as_statement, only_value, return_item, deferred, Call, Role, elsewhere, as_key, exposed, found_nil, found_error, called, called_in_brackets, argument, returned, left, names_type, new_literal, parameter_pointer, Mention, BodyPlace, Mark, mentions, Spot, part_of, value_spot, declaring, number_of, named_or, exposed_or, argument_or, argument_at, new_literal_or, left_names, declared_elsewhere, row_of, expression_marks, form_marks, expressions_marks, lefts_marks, ranged_marks, names_type_marks, parameters_marks, statement_form_marks, statements_marks, optional_statement_marks, cases_marks, declaration_marks, specs_marks, pointed_to, under_go, field_written, rights_given, is_one}
+use Rattle.meaning.specs.Tracked.{Known, variable_of, declared_by, LocalRole, parameter, receiver, variadic, result, in_block, Local, giving_of, kind_of_local, some_keep}
 use Rattle.meaning.specs.Uses.{Seen, found, kind_of, tracked_kind, may_be_tracked, cancel_type_of, cancel_use_by, UseFault, fault_at, cancel_used_otherwise, bound_again, Binding, obtained, cleared, made, binding_at, binding_event, binding_outcome, first_faults, type_faults, again_faults, is_own, is_of_local, is_in_literal, mentions_inside, row_outcome, role_outcome, local_outcome, variable_outcome, variable_at, mention_outcome, use_outcome, error_events, cancel_passed, cancel_use, either_use, Outcome, Event, giving_faults, errgroup_faults, VariableAt}
+use Rattle.meaning.specs.Kept.{object_events}
 use Rattle.meaning.specs.BodyEvents.{seen_file}
 use Rattle.meaning.proofs.Membership.{contains_nil, contains_here, contains_there, contains_cases}
 use Rattle.meaning_packages.specs.PathFaults.{BindsCancel, obtains, clears}
 use Rattle.meaning_runs.specs.Writes.{one_name, names_on_left, name_of, spec_names, guard_names, written_by, handed_out, may_write, IsMarked, WritesAreMarked, IsSeenWrite, binds, is_fault, declares_another, WritesAreSeen}
 use Rattle.meaning_runs.proofs.LeftSides.{Fits, left_sides_fit}
 use Rattle.meaning_runs.proofs.OwnVariables.{find_is}
-use Rattle.meaning_runs.proofs.TrackedBindings.{left_is_of_kind, mention_is_of_kind}
+use Rattle.meaning_runs.proofs.TrackedBindings.{left_is_of_kind, mention_is_of_kind, named_is_no_outer}
 use Rattle.meaning_runs.proofs.Captured.{any_true}
 
 -- Marks
@@ -92,17 +92,19 @@ lefts : (row : Row) (site k : ℕ) (es : Expressions) (n : Named) → Contains (
 unfolding lefts_marks
 lefts row site k no_expression n h = absurd (contains_nil n h)
 lefts row site k (expression_and e es) n h = elim (Contains-append_cases (one_name (bare_within e)) (names_on_left es) n h) [
-  | inl first ↦ in_left (lefts_marks row site (k + 1) es) (left_so row site k e (expression_marks (part_of site) e) n first)
+  | inl first ↦ in_left (field_written site (Some record { left_side = k; row = row }) e ++ lefts_marks row site (k + 1) es)
+      (left_so row site k e (expression_marks (part_of site) e) n first)
   | inr rest ↦ in_right (named_or (as_bare e) site (left k row) (exposed_or site e (expression_marks (part_of site) e)))
-      (lefts row site (k + 1) es n rest)
+      (in_right (field_written site (Some record { left_side = k; row = row }) e) (lefts row site (k + 1) es n rest))
 ]
 
 ranged : (site : ℕ) (es : Expressions) (n : Named) → Contains (names_on_left es) n → IsMarked (ranged_marks site es) n
 unfolding ranged_marks
 ranged site no_expression n h = absurd (contains_nil n h)
 ranged site (expression_and e es) n h = elim (Contains-append_cases (one_name (bare_within e)) (names_on_left es) n h) [
-  | inl first ↦ in_left (ranged_marks site es) (named_so (bare_within e) site exposed (expression_marks (part_of site) e) n refl first)
-  | inr rest ↦ in_right (exposed_or site e (expression_marks (part_of site) e)) (ranged site es n rest)
+  | inl first ↦ in_left (field_written site None e ++ ranged_marks site es) (named_so (bare_within e) site exposed (expression_marks (part_of site) e) n refl first)
+  | inr rest ↦ in_right (exposed_or site e (expression_marks (part_of site) e))
+      (in_right (field_written site None e) (ranged site es n rest))
 ]
 
 of_specs : (keyword : DeclKeyword) (at : ℕ) (specs : Specs) (n : Named) → Contains (spec_names specs) n
@@ -146,14 +148,14 @@ of_statement standing at (labeled_statement name s) n h = absurd (contains_nil n
 of_statement standing at (expression_statement e) n h = absurd (contains_nil n h)
 of_statement standing at (send_statement c v) n h = absurd (contains_nil n h)
 of_statement standing at (increment_statement e) n h =
-    named_so (bare_within e) at exposed (expression_marks (part_of at) e) n refl h
+    in_left (field_written at None e) (named_so (bare_within e) at exposed (expression_marks (part_of at) e) n refl h)
 of_statement standing at (decrement_statement e) n h =
-    named_so (bare_within e) at exposed (expression_marks (part_of at) e) n refl h
+    in_left (field_written at None e) (named_so (bare_within e) at exposed (expression_marks (part_of at) e) n refl h)
 of_statement standing at (assignment ls rs) n h =
     let row = row_of standing at (assigns ls) rs in
-    in_right (expressions_marks (value_spot row at) rs) (lefts row at 0 ls n h)
+    in_right (expressions_marks (value_spot row at) rs) (in_right (rights_given at (is_one rs) ls rs) (lefts row at 0 ls n h))
 of_statement standing at (operator_assignment op l r) n h =
-    in_left (expression_marks (part_of at) r) (named_so (bare_within l) at exposed (expression_marks (part_of at) l) n refl h)
+    in_left (expression_marks (part_of at) r ++ field_written at None l) (named_so (bare_within l) at exposed (expression_marks (part_of at) l) n refl h)
 of_statement standing at (define_statement ns rs) n h =
     let row = row_of standing at (defines ns) rs in
     in_right (expressions_marks (value_spot row at) rs) (names row at 0 ns n h)
@@ -185,14 +187,15 @@ no_new_literal as_statement site h = h
 no_new_literal (only_value row) site h = h
 no_new_literal (return_item k) site h = h
 no_new_literal deferred site h = h
+no_new_literal under_go site h = h
 
 address : (spot : Spot) (e : Expression) (n : Named) → Contains (one_name (bare_within e)) n
     → IsMarked (new_literal_or spot.place spot.site (as_new_literal Address e)
-    (named_or (bare_within e) spot.site exposed (expression_marks (part_of spot.site) e))) n
+    (named_or (bare_within e) spot.site pointed_to (expression_marks (part_of spot.site) e))) n
 address spot (expression_node (composite_literal t es) span) n h = absurd (contains_nil n h)
 address spot e n h =
     no_new_literal spot.place spot.site
-    (named_so (bare_within e) spot.site exposed (expression_marks (part_of spot.site) e) n refl h)
+    (named_so (bare_within e) spot.site pointed_to (expression_marks (part_of spot.site) e) n refl h)
 
 of_unary : (spot : Spot) (span : Span) (op : UnaryOperator) (e : Expression) (n : Named)
     → Contains (handed_out (unary_expression op e)) n
@@ -260,10 +263,13 @@ no_use First known t l bodies m (left k row) w = refl
 no_use Second known t l bodies m (left k row) w = refl
 no_use First known t l bodies m exposed w = refl
 no_use Second known t l bodies m exposed w = refl
+no_use First known t l bodies m pointed_to w = refl
+no_use Second known t l bodies m pointed_to w = refl
 no_use First known t l bodies m (argument k true c) w = no_argument known t l bodies m k c
 no_use Second known t l bodies m (argument k true c) w = ap (λ o. either_use o None) (no_argument known t l bodies m k c)
 no_use edition known t l bodies m (argument k false c) w = absurd (false≢true w)
 no_use edition known t l bodies m elsewhere w = absurd (false≢true w)
+no_use edition known t l bodies m as_key w = absurd (false≢true w)
 no_use edition known t l bodies m (found_nil nil) w = absurd (false≢true w)
 no_use edition known t l bodies m (found_error nil row) w = absurd (false≢true w)
 no_use edition known t l bodies m (called c) w = absurd (false≢true w)
@@ -317,7 +323,7 @@ module _ (seen : Seen) (bodies : List BodyPlace) (m : Mention) (l : Local)
 
     bound : (e : Event) → Contains o.events e → BindsCancel e (variable_at l m) → IsSeenWrite seen bodies m l
     bound e h b =
-        binds e (Contains-append_left (variable_outcome seen bodies m).events (error_events seen m m.role) e
+        binds e (Contains-append_left (variable_outcome seen bodies m).events (error_events seen m m.role ++ object_events seen bodies m) e
         (subst (λ (p : Outcome). Contains p.events e) its_outcome h)) b
 
   -- a mention that binds nothing
@@ -345,7 +351,7 @@ module _ (seen : Seen) (bodies : List BodyPlace) (m : Mention) (l : Local)
   in_own row k cleared q b e same = subst (λ (x : Event). BindsCancel x (variable_at l m)) (sym same) clears
   in_own row k (made state) q b e same =
       let there = mention_is_of_kind seen m row k l group (subst (Fits m.named m.declares) q fits) is
-      (left_is_of_kind seen row k (made state) b) in
+      (left_is_of_kind seen row k (made state) (named_is_no_outer seen.known row k m.named m.declares (subst (Fits m.named m.declares) q fits)) b) in
       absurd (cancel_is_no_group (sym (its_kind seen l tracked) ∙ there))
 
   in_block_so : (row : Row) (k : ℕ) (binding : Binding) → m.role ≡ left k row → binding_at seen row k ≡ Some binding
@@ -400,8 +406,10 @@ module _ (seen : Seen) (bodies : List BodyPlace) (m : Mention) (l : Local)
       (ap (role_outcome seen l bodies m) q
       ∙ ap (λ kind. row_outcome seen l kind bodies m row (binding_at seen row k)) (its_kind seen l tracked))
   by_role exposed q w = unbound (ap (role_outcome seen l bodies m) q)
+  by_role pointed_to q w = unbound (ap (role_outcome seen l bodies m) q)
   by_role (argument k b c) q w = unbound (ap (role_outcome seen l bodies m) q)
   by_role elsewhere q w = absurd (false≢true w)
+  by_role as_key q w = absurd (false≢true w)
   by_role (found_nil nil) q w = absurd (false≢true w)
   by_role (found_error nil row) q w = absurd (false≢true w)
   by_role (called c) q w = absurd (false≢true w)
@@ -413,5 +421,5 @@ module _ (seen : Seen) (bodies : List BodyPlace) (m : Mention) (l : Local)
 
 pub writes_are_seen : WritesAreSeen
 writes_are_seen known tree bodies m l among is tracked writes =
-    let fits = left_sides_fit known.edition tree record { mark = mentions m; bodies = bodies } among in
+    let fits = left_sides_fit known.edition (some_keep known.fields) tree record { mark = mentions m; bodies = bodies } among in
     by_role (seen_file known tree) bodies m l is tracked among fits writes m.role refl writes

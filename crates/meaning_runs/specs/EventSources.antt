@@ -4,8 +4,7 @@ use Rattle.std.specs.Prelude.{◌≡◌, true, List, [], Some, Contains}
 use Rattle.meaning.specs.Code.{Occurrence}
 use Rattle.meaning.specs.Lists.{Reaches}
 use Rattle.meaning.specs.FunctionFacts.{cancel}
-use Rattle.meaning.specs.Mentions.{Mention}
-use Rattle.meaning.specs.Tracked.{Placed, Local, in_block, variable_of}
+use Rattle.meaning.specs.Tracked.{Placed, Local, in_block}
 use Rattle.meaning.specs.Uses.{VariableAt, Event, other, return_event, found, is_body, tracked_kind}
 use Rattle.meaning.specs.BodyEvents.{mark_events}
 use Rattle.meaning_packages.specs.PathFaults.{BindsCancel}
@@ -27,9 +26,8 @@ EventsHaveSources = (b : Body) (t : List (Occurrence Event)) (o : Occurrence Eve
 
 -- a local that the body declares in its block, and that the event binds
 pub record IsBound (b : Body) (u : VariableAt) : Type 0 where
-  pub mention : Mention
   pub local : Local
-  pub is_found : found b.file (variable_of b.file.known mention) ≡ Some local
+  pub is_found : found b.file (Some u.number) ≡ Some local
   pub is_it : local.number ≡ u.number
   pub is_declared_here : local.body ≡ b.place.at
   pub is_in_block : local.role ≡ in_block

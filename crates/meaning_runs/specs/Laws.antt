@@ -1,7 +1,7 @@
 -- What is proved of the machine, each by a public function of src/lib.rt.
 use Rattle.std.specs.Prelude.{◌≡◌, ℕ, ◌<◌, List, [], ◌∷◌, Option, Some, None, Contains}
 use Rattle.meaning.specs.Code.{Code}
-use Rattle.meaning.specs.Uses.{Event, other, obtain, clear, call, defer_call, pass, defer_pass, lend, start, try, wait, defer_wait, make, defer_literal, return_event}
+use Rattle.meaning.specs.Uses.{Event, other, obtain, obtain_kept, renew, keep, call_kept, defer_kept, give, give_field, clear, call, defer_call, pass, defer_pass, lend, start, try, wait, defer_wait, make, defer_literal, return_event}
 use Rattle.meaning_runs.specs.Bodies.{Program, Body, IsOf, IsOutermost, IsLiteralIn, Escapes}
 use Rattle.meaning_runs.specs.World.{Value, outside, ComesFrom, IsDone, with_new, MayEndWait, AreForeign, Closure, Saved, saved_call, saved_literal, saved_wait, Store, Stage, runs, exits, Frame, held_group, World, new_frame, nothing_around, nothing, held, with_stack}
 use Rattle.meaning_runs.specs.Steps.{GoesOn, DoesNext, RunsSaved, IsAtEnd, at_code, IsFree, Starts, Step}
@@ -50,6 +50,13 @@ HasFreeGoroutine w = (g : ℕ) × IsFree w g
 abbrev pub IsReady : World → Frame → Event → Type 0
 IsReady w f other = Unit {0}
 IsReady w f (obtain u c n is_new) = Unit {0}
+IsReady w f (obtain_kept u c n x) = Unit {0}
+IsReady w f (renew v x) = Unit {0}
+IsReady w f (keep v x) = Unit {0}
+IsReady w f (call_kept v x) = Unit {0}
+IsReady w f (defer_kept v x) = Unit {0}
+IsReady w f (give v x) = Unit {0}
+IsReady w f (give_field v) = Unit {0}
 IsReady w f (clear u) = Unit {0}
 IsReady w f (call v) = Unit {0}
 IsReady w f (defer_call v) = Unit {0}

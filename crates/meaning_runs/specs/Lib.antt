@@ -25,7 +25,10 @@ pub mod Returns
 pub mod LoudReturns
 pub mod GroupReturns
 pub mod EditionReturns
+pub mod FieldReturns
 pub mod Writes
+pub mod FieldWrites
+pub mod ToldFields
 -- What serves the proofs.
 pub mod EventSources
 pub mod BodyOffsets

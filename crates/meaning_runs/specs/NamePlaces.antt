@@ -5,7 +5,7 @@
 use Rattle.std.specs.Prelude.{ℕ, ◌≤◌, List, Option, Some, None, Contains, length}
 use Rattle.tree.specs.declared.edition.Edition.{Edition}
 use Rattle.tree.specs.Syntax.{Parameters, no_parameter, named_and, unnamed_and, name_alone_and, Signature, signature_of, SourceFile}
-use Rattle.meaning.specs.Mentions.{CallPlace, nowhere, as_statement, only_value, return_item, deferred, Role, elsewhere, called, called_in_brackets, argument, returned, left, names_type, new_literal, parameter_pointer, Mark, mentions, defers_literal, returns, opens, closes, file_marks, exposed, found_nil, found_error}
+use Rattle.meaning.specs.Mentions.{CallPlace, nowhere, as_statement, only_value, return_item, deferred, under_go, Role, elsewhere, as_key, pointed_to, called, called_in_brackets, argument, returned, left, names_type, new_literal, parameter_pointer, FieldMark, writes_field, Mark, mentions, of_fields, defers_literal, returns, opens, closes, file_marks, exposed, found_nil, found_error}
 use Rattle.meaning.specs.TreeOfText.{IsTreeOf}
 
 -- the statement of the row whose only value stands there
@@ -15,10 +15,13 @@ PlaceStandsWithin n as_statement = Unit {0}
 PlaceStandsWithin n (only_value row) = row.statement ≤ n
 PlaceStandsWithin n (return_item k) = Unit {0}
 PlaceStandsWithin n deferred = Unit {0}
+PlaceStandsWithin n under_go = Unit {0}
 
 abbrev pub RoleStandsWithin : ℕ → Role → Type 0
 RoleStandsWithin n elsewhere = Unit {0}
+RoleStandsWithin n as_key = Unit {0}
 RoleStandsWithin n exposed = Unit {0}
+RoleStandsWithin n pointed_to = Unit {0}
 RoleStandsWithin n (found_nil nil) = Unit {0}
 RoleStandsWithin n (found_error nil row) = Unit {0}
 RoleStandsWithin n (called c) = PlaceStandsWithin n c.place
@@ -43,9 +46,15 @@ ReceiverStandsWithin n (Some ps) = ParametersStandWithin n ps
 abbrev pub SignatureStandsWithin : ℕ → Signature → Type 0
 SignatureStandsWithin n (signature_of ps rs brackets) = ParametersStandWithin n ps × ParametersStandWithin n rs
 
+-- a field that is written may be a variable of its own
+abbrev pub FieldStandsWithin : ℕ → FieldMark → Type 0
+FieldStandsWithin n (writes_field l by) = l.field.span.start ≤ n
+FieldStandsWithin n mark = Unit {0}
+
 -- what the mark names stands at that offset or before
 abbrev pub StandsWithin : ℕ → Mark → Type 0
 StandsWithin n (mentions m) = (m.named.at ≤ n) × RoleStandsWithin n m.role
+StandsWithin n (of_fields site m) = FieldStandsWithin n m
 StandsWithin n (defers_literal site at) = Unit {0}
 StandsWithin n (returns at es) = Unit {0}
 StandsWithin n (opens b) = ReceiverStandsWithin n b.receiver × SignatureStandsWithin n b.signature

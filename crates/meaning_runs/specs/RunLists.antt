@@ -9,11 +9,11 @@ use Rattle.meaning.specs.Tracked.{Known}
 use Rattle.meaning.specs.BodyEvents.{seen_file}
 use Rattle.meaning.specs.Code.{Occurrence, Code}
 use Rattle.meaning.specs.Lists.{Exit, Lists}
-use Rattle.meaning.specs.Uses.{Event, other, obtain, clear, call, defer_call, pass, defer_pass, lend, start, try, wait, defer_wait, make, defer_literal, return_event}
+use Rattle.meaning.specs.Uses.{Event, other, obtain, obtain_kept, renew, keep, call_kept, defer_kept, give, give_field, clear, call, defer_call, pass, defer_pass, lend, start, try, wait, defer_wait, make, defer_literal, return_event}
 use Rattle.meaning.specs.BodyEvents.{bodies_of}
 use Rattle.meaning_runs.specs.Bodies.{Program, Body, IsOf, IsOutermost, is_parameter_of, code_of}
 use Rattle.meaning_runs.specs.World.{Place, put_at, Store, runs, exits, Frame, World}
-use Rattle.meaning_runs.specs.Steps.{ComesTo, HasNoBody, Acts, moves_on, does_other, obtains_one, clears_one, calls_one, saves_call, makes_group, tries_nothing, ends_wait, saves_wait, evaluates, evaluates_deferred, lends, makes_call, calls_outside, saves_pass, saves_literal, comes_to_return, runs_call, runs_pass, runs_literal, runs_wait, returns_now, Starts, ChangesMembers, starts_member, starts_stranger, starts_outside, starts_beside, leaves_group, Step, of_goroutine, of_members, of_environment}
+use Rattle.meaning_runs.specs.Steps.{ComesTo, HasNoBody, Acts, moves_on, does_other, obtains_one, obtains_into, keeps_one, renews_object, calls_kept, saves_kept, gives_object, gives_in_field, clears_one, calls_one, saves_call, makes_group, tries_nothing, ends_wait, saves_wait, evaluates, evaluates_deferred, lends, makes_call, calls_outside, saves_pass, saves_literal, comes_to_return, runs_call, runs_pass, runs_literal, runs_wait, returns_now, Starts, ChangesMembers, starts_member, starts_stranger, starts_outside, starts_beside, leaves_group, Step, of_goroutine, of_members, of_environment}
 use Rattle.meaning_runs.specs.Laws.{IsThere}
 use Rattle.meaning_runs.specs.Runs.{Run, no_step, step_more}
 use Rattle.meaning_runs.specs.Doings.{Does, IsLeft}
@@ -31,6 +31,13 @@ abbrev pub events_of_act : {p : Program} {s : Store} {place : Place} {f : Frame}
 events_of_act (moves_on g) = []
 events_of_act (does_other d) = event_of d.comes_to ∷ []
 events_of_act (obtains_one d o) = event_of d.comes_to ∷ []
+events_of_act (obtains_into d o) = event_of d.comes_to ∷ []
+events_of_act (keeps_one d) = event_of d.comes_to ∷ []
+events_of_act (renews_object d) = event_of d.comes_to ∷ []
+events_of_act (calls_kept d) = event_of d.comes_to ∷ []
+events_of_act (saves_kept d) = event_of d.comes_to ∷ []
+events_of_act (gives_object d) = event_of d.comes_to ∷ []
+events_of_act (gives_in_field d) = event_of d.comes_to ∷ []
 events_of_act (clears_one d) = event_of d.comes_to ∷ []
 events_of_act (calls_one d) = event_of d.comes_to ∷ []
 events_of_act (saves_call d) = event_of d.comes_to ∷ []
@@ -76,6 +83,13 @@ events_of (step_more r s) = events_of r ++ events_of_step s
 abbrev pub IsRunnable : Program → Body → Event → Type 0
 IsRunnable p b other = Unit {0}
 IsRunnable p b (obtain u c n is_new) = Unit {0}
+IsRunnable p b (obtain_kept u c n x) = Unit {0}
+IsRunnable p b (renew v x) = Unit {0}
+IsRunnable p b (keep v x) = Unit {0}
+IsRunnable p b (call_kept v x) = Unit {0}
+IsRunnable p b (defer_kept v x) = Unit {0}
+IsRunnable p b (give v x) = Unit {0}
+IsRunnable p b (give_field v) = Unit {0}
 IsRunnable p b (clear u) = Unit {0}
 IsRunnable p b (call v) = Unit {0}
 IsRunnable p b (defer_call v) = Unit {0}
@@ -94,6 +108,7 @@ IsRunnable p b (return_event handed) = Unit {0}
 abbrev pub hold_after : (ℕ → Bool) → Event → ℕ → Bool
 hold_after hold (make u state) = put_at hold u.number true
 hold_after hold (obtain u c n is_new) = put_at hold u.number false
+hold_after hold (obtain_kept u c n x) = put_at hold u.number false
 hold_after hold (clear u) = put_at hold u.number false
 hold_after hold e = hold
 

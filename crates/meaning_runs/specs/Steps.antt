@@ -9,11 +9,11 @@ use Rattle.std.specs.Str.{bytes_eq}
 use Rattle.meaning.specs.Code.{Occurrence, Code}
 use Rattle.meaning.specs.FunctionFacts.{context_path}
 use Rattle.meaning.specs.Tracked.{plain_makers, cause_makers, GroupState, idle, live}
-use Rattle.meaning.specs.Uses.{Callee, VariableAt, Handed, Event, other, obtain, clear, call, defer_call, pass, defer_pass, lend, start, try, wait, defer_wait, make, defer_literal, return_event}
+use Rattle.meaning.specs.Uses.{Callee, VariableAt, Handed, Event, other, obtain, obtain_kept, renew, keep, call_kept, defer_kept, give, give_field, clear, call, defer_call, pass, defer_pass, lend, start, try, wait, defer_wait, make, defer_literal, return_event}
 use Rattle.meaning.specs.BodyEvents.{Variable, own_parameter}
 use Rattle.meaning_packages.specs.CallsFlags.{calls_by}
 use Rattle.meaning_runs.specs.Bodies.{Program, Body, IsOf, variables_in, IsOutermost, IsLiteralIn, Escapes, IsFunction}
-use Rattle.meaning_runs.specs.World.{Value, nothing, cancel_function, Place, outside, frame_at, Store, IsEarlier, with_new, calling, IsAny, with_group, IsOutside, with_member, MayEndWait, waiting_for, Given, Lent, Passing, Closure, Saved, saved_call, saved_pass, saved_literal, saved_wait, runs, exits, Frame, World, with_stack, held, held_group, with_cells, AreForeign, binding, binding_group, binds, new_frame, nothing_around}
+use Rattle.meaning_runs.specs.World.{Value, nothing, cancel_function, Place, outside, frame_at, Store, IsEarlier, with_new, calling, IsAny, with_group, IsOutside, with_member, MayEndWait, waiting_for, Given, Lent, Passing, Closure, Saved, saved_call, saved_pass, saved_literal, saved_wait, runs, exits, Frame, World, with_stack, held, held_group, kept_value, without_kept, with_kept, giving_away, handed_by, with_cells, AreForeign, own_cell, binding, binding_group, binds, new_frame, nothing_around}
 use Rattle.meaning_runs.specs.Moves.{Moves}
 
 -- What a frame comes to
@@ -198,6 +198,37 @@ pub data Acts (p : Program) (s : Store) (place : Place) (f : Frame) : Store → 
       → Obtains s c value made
       → Acts p s place f (binding made f u value)
       ((record (binds made f u) { stage = runs rest; obtained = with_function value f.obtained }) ∷ [])
+  -- a field of a new object obtains it, and keeps it
+  obtains_into : {u : VariableAt} {c : Callee} {n x : ℕ} {rest : Code Event} {value : Value} {made : Store}
+      → DoesNext f (obtain_kept u c n x) rest
+      → Obtains s c value made
+      → Acts p s place f (binding made f (own_cell u.number) value)
+      (with_kept
+      (record (binds made f (own_cell u.number)) { stage = runs rest; obtained = with_function value f.obtained })
+      u.number x value ∷ [])
+  -- What an object keeps is what its field holds: that nothing else was put there meanwhile, through the object or by
+  -- others, is a premise of the promise, as long as the object wasn't given to others.
+  keeps_one : {v x : ℕ} {rest : Code Event}
+      → DoesNext f (keep v x) rest
+      → Acts p s place f s (with_kept (at_code f rest) v x (held s f v) ∷ [])
+  renews_object : {v x : ℕ} {rest : Code Event}
+      → DoesNext f (renew v x) rest
+      → Acts p s place f s ((record f { stage = runs rest; kept = without_kept f.kept v x }) ∷ [])
+  calls_kept : {v x : ℕ} {rest : Code Event}
+      → DoesNext f (call_kept v x) rest
+      → Acts p s place f (calling s (kept_value f.kept v x)) (at_code f rest ∷ [])
+  saves_kept : {v x : ℕ} {rest : Code Event}
+      → DoesNext f (defer_kept v x) rest
+      → Acts p s place f s
+      ((record f { stage = runs rest; saved = saved_call (kept_value f.kept v x) ∷ f.saved }) ∷ [])
+  -- others get the object, and what it keeps; what they do with it isn't looked at
+  gives_object : {v x : ℕ} {rest : Code Event}
+      → DoesNext f (give v x) rest
+      → Acts p s place f s (giving_away (at_code f rest) (kept_value f.kept v x) ∷ [])
+  -- others get what the variable holds in a field
+  gives_in_field : {v : ℕ} {rest : Code Event}
+      → DoesNext f (give_field v) rest
+      → Acts p s place f s (giving_away (at_code f rest) (held s f v) ∷ [])
   clears_one : {u : VariableAt} {rest : Code Event}
       → DoesNext f (clear u) rest
       → Acts p s place f (binding s f u nothing) (at_code (binds s f u) rest ∷ [])
@@ -266,7 +297,7 @@ pub data Acts (p : Program) (s : Store) (place : Place) (f : Frame) : Store → 
   -- the environment makes what it gives.
   comes_to_return : {handed : List Handed} {rest : Code Event}
       → DoesNext f (return_event handed) rest
-      → Acts p s place f s ((record f { stage = exits; handed_on = map (λ h. held s f h.number) handed }) ∷ [])
+      → Acts p s place f s ((record f { stage = exits; handed_on = map (handed_by s f) handed }) ∷ [])
   -- what was saved runs, the last one first
   runs_call : {value : Value} {left : List Saved}
       → RunsSaved f (saved_call value) left

@@ -3,9 +3,10 @@
 -- frame is one activation of a function, method or literal.
 -- (The documentation of `context` and `golang.org/x/sync/errgroup`; the Go specification, "Variables", "Function
 -- literals", "Calls", "Defer statements", "Go statements".)
-use Rattle.std.specs.Prelude.{◌≡◌, ℕ, ◌+◌, ◌<◌, ◌==◌, Bool, if◌then◌else◌, List, [], ◌∷◌, Option, Some, None, Contains}
+use Rattle.std.specs.Prelude.{◌≡◌, ℕ, ◌+◌, ◌<◌, ◌==◌, Bool, not, ◌&&◌, if◌then◌else◌, List, [], ◌∷◌, Option, Some, None, Contains}
+use Rattle.std.specs.List.{filter}
 use Rattle.meaning.specs.Code.{Code}
-use Rattle.meaning.specs.Uses.{Callee, Event, VariableAt}
+use Rattle.meaning.specs.Uses.{Callee, Event, VariableAt, Handed}
 use Rattle.meaning_runs.specs.Bodies.{Body, code_of, is_parameter_of, is_captured_by}
 
 -- what a cancel variable holds: a cancel function, or nothing
@@ -153,6 +154,13 @@ pub data Saved : Type 0 where
   -- a Wait for the group, or for none
   saved_wait : Option ℕ → Saved
 
+-- what a frame keeps in a field of an object: the variable from which the field got it, the object's, and what it is.
+-- Of an object the newest one is meant that the frame's declaration made.
+pub record InObject : Type 0 where
+  pub variable : ℕ
+  pub object : ℕ
+  pub value : Value
+
 -- a frame goes through what is left of its body, or it has come to a return
 pub data Stage : Type 0 where
   runs : Code Event → Stage
@@ -172,6 +180,10 @@ pub record Frame : Type 0 where
   pub obtained : List ℕ
   -- the groups that it made
   pub made : List ℕ
+  -- what it keeps in new objects, the last one first
+  pub kept : List InObject
+  -- what others got in a field
+  pub given_away : List Value
   -- what its return hands on to its caller
   pub handed_on : List Value
 
@@ -221,6 +233,37 @@ held s f v = in_cell s v (f.newest v)
 abbrev pub held_group : Store → Frame → ℕ → Option ℕ
 held_group s f v = group_in_cell s v (f.newest v)
 
+-- Objects
+
+abbrev pub is_in : ℕ → ℕ → InObject → Bool
+is_in v x k = (k.variable == v) && (k.object == x)
+
+-- what the object keeps that came from the variable
+abbrev pub kept_value : List InObject → ℕ → ℕ → Value
+kept_value [] v x = nothing
+kept_value (k ∷ ks) v x = if is_in v x k then k.value else kept_value ks v x
+
+-- the declaration of the object made a new one
+abbrev pub without_kept : List InObject → ℕ → ℕ → List InObject
+without_kept ks v x = filter (λ k. not (is_in v x k)) ks
+
+abbrev pub with_kept : Frame → ℕ → ℕ → Value → Frame
+with_kept f v x value = record f { kept = record { variable = v; object = x; value = value } ∷ f.kept }
+
+-- others get it
+abbrev pub giving_away : Frame → Value → Frame
+giving_away f value = record f { given_away = value ∷ f.given_away }
+
+-- what a return hands on: what the variable holds, or what the object keeps that came from it
+abbrev pub value_handed : Store → Frame → ℕ → Option ℕ → Value
+value_handed s f v None = held s f v
+value_handed s f v (Some x) = kept_value f.kept v x
+
+abbrev pub handed_by : Store → Frame → Handed → Value
+handed_by s f h = value_handed s f h.number h.object
+
+-- Cells that are made
+
 -- the cells that something makes, with these contents: of all numbers, of which only those of parameters are pointed to
 abbrev pub with_cells : Store → (ℕ → Value) → (ℕ → Option ℕ) → Store
 with_cells s values groups = record s {
@@ -241,6 +284,11 @@ is_declaration u = u.at == u.number
 abbrev pub cell_or : ℕ → Option ℕ → ℕ
 cell_or new None = new
 cell_or new (Some k) = k
+
+-- A field that is a variable of its own gets a cell of its own whenever a row obtains into it, as if it was declared
+-- there: no literal shares it.
+abbrev pub own_cell : ℕ → VariableAt
+own_cell number = record { number = number; at = number }
 
 -- The cell that a binding writes: a declaration makes a new one, an assignment writes the newest. (The next cell gets a
 -- higher number in both cases.)
@@ -271,6 +319,8 @@ new_frame s b around = record {
   saved = [];
   obtained = [];
   made = [];
+  kept = [];
+  given_away = [];
   handed_on = [];
 }
 

@@ -1,7 +1,7 @@
 -- What gives a variable a value, or hands its place out so that something else may: by the form of a statement, of an
--- expression and of an argument. Each is marked as a left side, as exposed, or as an argument with its address. Each
--- such mention of a tracked cancel variable binds it, clears it or is a fault. So where no use is a fault, what the
--- variable's cell holds changes by events of bindings alone. A read has no event, and changes nothing.
+-- expression and of an argument. Each is marked as a left side, as exposed, by its address, or as an argument with its
+-- address. And each such mention of a tracked cancel variable binds it, clears it or is a fault. So where no use is a
+-- fault, what the variable's cell holds changes by events of bindings alone. A read has no event, and changes nothing.
 -- (The Go specification, "Assignment statements", "IncDec statements", "Short variable declarations", "Variable
 -- declarations", "For statements with range clause", "Type switches", "Select statements", "Address operators".)
 use Rattle.std.specs.Prelude.{ℕ, ◌≡◌, ◌++◌, Bool, true, false, if◌then◌else◌, List, [], ◌∷◌, Option, Some, None, is_some, map, Contains}
@@ -10,7 +10,7 @@ use Rattle.tree.specs.declared.span.Span.{Span}
 use Rattle.tree.specs.Syntax.{Identifier, expression_node, ExpressionForm, unary_expression, Expressions, no_expression, expression_and, StatementForm, empty_statement, declaration_statement, labeled_statement, expression_statement, send_statement, increment_statement, decrement_statement, assignment, operator_assignment, define_statement, go_statement, defer_statement, return_statement, break_statement, continue_statement, goto_statement, fallthrough_statement, block_statement, if_statement, for_statement, range_assignment, range_definition, switch_statement, type_switch_statement, select_statement, CaseClauses, no_case, case_and, Declaration, declaration_of, Specs, no_spec, value_and, type_and, SourceFile, Expression}
 use Rattle.meaning.specs.Scopes.{is_blank}
 use Rattle.meaning.specs.FunctionFacts.{cancel}
-use Rattle.meaning.specs.Mentions.{Named, bare, bare_within, Standing, Call, Role, argument, left, exposed, Mention, BodyPlace, Mark, mentions, Spot, argument_at, expression_marks, form_marks, statement_form_marks}
+use Rattle.meaning.specs.Mentions.{Named, bare, bare_within, Standing, Call, Role, argument, left, exposed, pointed_to, Mention, BodyPlace, Mark, mentions, Spot, argument_at, expression_marks, form_marks, statement_form_marks}
 use Rattle.meaning.specs.Tracked.{Known, variable_of, declared_by, Local}
 use Rattle.meaning.specs.Uses.{Event, UseFault, Seen, found, tracked_kind, is_own, variable_at, mention_faults}
 use Rattle.meaning.specs.BodyEvents.{mark_events, seen_file}
@@ -84,6 +84,7 @@ handed_out form = []
 abbrev pub may_write : Role → Bool
 may_write (left k row) = true
 may_write exposed = true
+may_write pointed_to = true
 may_write (argument k has_address c) = has_address
 may_write role = false
 

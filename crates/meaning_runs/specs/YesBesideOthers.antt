@@ -1,6 +1,6 @@
 -- A yes holds too where packages that are not yes do anything that the environment may: of these nothing is believed,
 -- not even that they do what their texts tell of tracked variables.
-use Rattle.std.specs.Prelude.{◌≡◌, ◌==◌, ℕ, Bool, true, false, List, length, Option, Some, None, slice_get}
+use Rattle.std.specs.Prelude.{◌==◌, ℕ, Bool, false, List, length, Option, Some, None, slice_get}
 use Rattle.meaning_reports.specs.Loaded.{LoadedPackage, Tables}
 use Rattle.meaning_reports.specs.PackageReports.{Rules, Said, IsReportBy, by_paths}
 use Rattle.meaning_runs.specs.Bodies.{Program}

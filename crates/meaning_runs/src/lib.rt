@@ -17,8 +17,11 @@ ghost use Rattle.meaning_runs.specs.YesBesideOthers.{YesIsQuietBesideOthers};
 ghost use Rattle.meaning_runs.specs.RunLists.{BodiesAreOfTexts, DeferredLiteralsAreThere, ListsAreRun, ListsOfTextsAreRun, ReturnsAreLast, StartedLiteralsAreThere};
 ghost use Rattle.meaning_runs.specs.LoudReturns.{LostFunctionsAreSeen};
 ghost use Rattle.meaning_runs.specs.EditionReturns.{EditionReturnsExist};
+ghost use Rattle.meaning_runs.specs.FieldReturns.{FieldReturnsExist};
+ghost use Rattle.meaning_runs.specs.FieldWrites.{FieldWritesAreKept, FieldWritesAreMarked, KeptRowsAreApart};
 ghost use Rattle.meaning_runs.specs.GroupReturns.{GroupReturnsExist};
 ghost use Rattle.meaning_runs.specs.Returns.{ReturnsExist};
+ghost use Rattle.meaning_runs.specs.ToldFields.{FieldsAreTold};
 ghost use Rattle.meaning_runs.specs.Waits.{AllWaitsWait};
 ghost use Rattle.meaning_runs.specs.Writes.{WritesAreMarked, WritesAreSeen};
 
@@ -65,6 +68,27 @@ pub fn writes_are_marked()
 /// of these, and has no event.
 pub fn writes_are_seen()
     ensures { WritesAreSeen }
+{}
+
+/// Each field that a form of statement gives a value, `e.f` in brackets or not, is marked so.
+pub fn field_writes_are_marked()
+    ensures { FieldWritesAreMarked }
+{}
+
+/// Where what a variable holds is kept in a field of an object, each such mark of that field, of that object, puts
+/// there what this variable holds.
+pub fn field_writes_are_kept()
+    ensures { FieldWritesAreKept }
+{}
+
+/// What is kept in a file is kept apart: each variable in one field of one object, and in each of these one variable.
+pub fn kept_rows_are_apart()
+    ensures { KeptRowsAreApart }
+{}
+
+/// Where a body puts into a field what it obtained, a verdict tells of a field.
+pub fn fields_are_told()
+    ensures { FieldsAreTold }
 {}
 
 /// A goroutine's running frame always goes on, past its event or by what it saved, but for a Wait whose group has
@@ -251,4 +275,12 @@ pub fn group_returns_exist()
 /// return, and of one that calls it where it is nil, to one that is not quiet.
 pub fn edition_returns_exist()
     ensures { EditionReturnsExist }
+{}
+
+/// With fields, runs come to quiet returns: of a function that calls the field in which an object keeps its cancel
+/// function, at once or by a saved call, and of one that obtains into the field. They come to ones that are not quiet
+/// where nothing calls what the object keeps, and where the object is handed on before it keeps anything. And where
+/// others get the function, by the object, by the return or in a field of theirs, the frame owes nothing.
+pub fn field_returns_exist()
+    ensures { FieldReturnsExist }
 {}

@@ -8,22 +8,30 @@ use Rattle.mentions.specs.declared.mark.Standing.{Standing as KeptStanding}
 use Rattle.mentions.specs.declared.mark.Standing.TheVariants.{Ordinary, FirstOfFor, Communication}
 use Rattle.mentions.specs.declared.mark.Row.{Row as KeptRow}
 use Rattle.mentions.specs.declared.mark.CallPlace.{CallPlace as KeptPlace}
-use Rattle.mentions.specs.declared.mark.CallPlace.TheVariants.{Nowhere, Statement, OnlyValue, ReturnItem, Deferred}
+use Rattle.mentions.specs.declared.mark.CallPlace.TheVariants.{Nowhere, Statement, OnlyValue, ReturnItem, Deferred, UnderGo}
 use Rattle.mentions.specs.declared.mark.Call.{Call as KeptCall}
 use Rattle.mentions.specs.declared.mark.LiteralUse.{LiteralUse as KeptUse}
 use Rattle.mentions.specs.declared.mark.LiteralUse.TheVariants.{Other, DeferredCall, StartedBy}
 use Rattle.mentions.specs.declared.mark.Role.{Role as KeptRole}
-use Rattle.mentions.specs.declared.mark.Role.TheVariants.{Elsewhere, Exposed, FoundNil, FoundError, Called, CalledInBrackets, Argument, Returned, Left, NamesType, NewLiteral, ParameterPointer}
+use Rattle.mentions.specs.declared.mark.Role.TheVariants.{Elsewhere, Key, Exposed, PointedTo, FoundNil, FoundError, Called, CalledInBrackets, Argument, Returned, Left, NamesType, NewLiteral, ParameterPointer}
 use Rattle.mentions.specs.declared.mark.Mention.{Mention as KeptMention}
 use Rattle.mentions.specs.declared.mark.BodyPlace.{BodyPlace as KeptBody}
+use Rattle.mentions.specs.declared.mark.FieldLeft.{FieldLeft as KeptFieldLeft}
+use Rattle.mentions.specs.declared.mark.Assigned.{Assigned as KeptAssigned}
+use Rattle.mentions.specs.declared.mark.Taker.{Taker as KeptTaker}
+use Rattle.mentions.specs.declared.mark.Taker.TheVariants.{Nobody, CalledFunction, Appending, Method, Someone}
+use Rattle.mentions.specs.declared.mark.FieldMark.{FieldMark as KeptFieldMark}
+use Rattle.mentions.specs.declared.mark.FieldMark.TheVariants.{CallsField, WritesField, HandsOver, HandsLiteral, Renews, ImportsAll}
 use Rattle.mentions.specs.declared.mark.Mark.{Mark as KeptMark}
-use Rattle.mentions.specs.declared.mark.Mark.TheVariants.{Mentions, DefersLiteral, Returns, Opens, Closes}
+use Rattle.mentions.specs.declared.mark.Mark.TheVariants.{Mentions, OfFields, DefersLiteral, Returns, Opens, Closes}
 use Rattle.mentions.specs.declared.mark.Spot.{Spot as KeptSpot}
 use Rattle.mentions.specs.declared.found.NilTest.{NilTest as KeptTest}
+use Rattle.tree.specs.declared.operator.UnaryOperator.{UnaryOperator}
+use Rattle.tree.specs.declared.operator.UnaryOperator.TheVariants.{Address}
 use Rattle.tree.specs.declared.span.Span.{Span}
 use Rattle.tree.specs.Syntax.{Identifier}
-use Rattle.tree.specs.View.{identifier_syntax, parameters_syntax, signature_syntax, expressions_syntax, optional_expression_syntax, statements_syntax}
-use Rattle.meaning.specs.Mentions.{Named, RowForm, defines, assigns, declares, Standing, ordinary, first_of_for, communication, Row, CallPlace, nowhere, as_statement, only_value, return_item, deferred, Call, LiteralUse, other_use, deferred_call, started_by, Role, elsewhere, exposed, found_nil, found_error, called, called_in_brackets, argument, returned, left, names_type, new_literal, parameter_pointer, Mention, BodyPlace, Mark, mentions, defers_literal, returns, opens, closes, Spot, NilTest}
+use Rattle.tree.specs.View.{identifier_syntax, parameters_syntax, signature_syntax, expression_syntax, expressions_syntax, optional_expression_syntax, statements_syntax}
+use Rattle.meaning.specs.Mentions.{Named, RowForm, defines, assigns, declares, Standing, ordinary, first_of_for, communication, Row, CallPlace, nowhere, as_statement, only_value, return_item, deferred, under_go, Call, LiteralUse, other_use, deferred_call, started_by, Role, elsewhere, as_key, exposed, pointed_to, found_nil, found_error, called, called_in_brackets, argument, returned, left, names_type, new_literal, parameter_pointer, Mention, BodyPlace, FieldLeft, Assigned, Taker, no_taker, called_function, appending, method, some_taker, called_name, FieldMark, calls_field, writes_field, hands_over, hands_literal, renews, imports_all, Mark, mentions, of_fields, defers_literal, returns, opens, closes, Spot, NilTest}
 
 abbrev pub identifier_at : List ℕ → Span → Identifier
 identifier_at text span = record { text = text; span = span }
@@ -55,6 +63,7 @@ place_view Statement = as_statement
 place_view (OnlyValue row) = only_value (row_view row.now)
 place_view (ReturnItem k) = return_item k
 place_view Deferred = deferred
+place_view UnderGo = under_go
 
 abbrev pub call_view : KeptCall → Call
 call_view c = record {
@@ -75,7 +84,9 @@ use_view (StartedBy n) = started_by (named_view n)
 
 abbrev pub role_view : KeptRole → Role
 role_view Elsewhere = elsewhere
+role_view Key = as_key
 role_view Exposed = exposed
+role_view PointedTo = pointed_to
 role_view (FoundNil nil) = found_nil nil
 role_view (FoundError nil row) = found_error nil (row_view row.now)
 role_view (Called c) = called (call_view c.now)
@@ -106,8 +117,34 @@ body_view b = record {
   literal = use_view b.literal;
 }
 
+abbrev pub field_left_view : KeptFieldLeft → FieldLeft
+field_left_view l = record {
+  field = identifier_syntax l.field.now;
+  object = option_map named_view l.object;
+  has_brackets = l.has_brackets;
+}
+
+abbrev pub assigned_view : KeptAssigned → Assigned
+assigned_view a = record { left_side = a.left_side; row = row_view a.row.now }
+
+abbrev pub taker_view : KeptTaker → Taker
+taker_view Nobody = no_taker
+taker_view (CalledFunction c) = called_function (called_name (optional_call c))
+taker_view (Appending n) = appending (named_view n.now)
+taker_view (Method m) = method m.now
+taker_view Someone = some_taker
+
+abbrev pub field_mark_view : KeptFieldMark → FieldMark
+field_mark_view (CallsField f) = calls_field f.now
+field_mark_view (WritesField l by) = writes_field (field_left_view l) (option_map assigned_view by)
+field_mark_view (HandsOver taker e) = hands_over (taker_view taker) (expression_syntax e.now)
+field_mark_view (HandsLiteral taker at) = hands_literal (taker_view taker) at
+field_mark_view (Renews number) = renews number
+field_mark_view ImportsAll = imports_all
+
 abbrev pub mark_view : KeptMark → Mark
 mark_view (Mentions m) = mentions (mention_view m)
+mark_view (OfFields site m) = of_fields site (field_mark_view m.now)
 mark_view (DefersLiteral site at) = defers_literal site at
 mark_view (Returns at es) = returns at (expressions_syntax es.now)
 mark_view (Opens b) = opens (body_view b.now)
@@ -117,10 +154,20 @@ abbrev pub marks_view : List KeptMark → List Mark
 marks_view ms = map mark_view ms
 
 abbrev pub spot_view : KeptSpot → Spot
-spot_view s = record { place = place_view s.place; literal = use_view s.literal; site = s.site }
+spot_view s = record {
+  place = place_view s.place;
+  literal = use_view s.literal;
+  taker = taker_view s.taker;
+  site = s.site;
+}
 
 abbrev pub test_view : KeptTest → NilTest
 test_view t = record { named = named_view t.named; nil = t.nil }
+
+-- n of `&n`, where the operand's object is n
+abbrev pub addressed_object : UnaryOperator → Option Named → Option Named
+addressed_object Address object = object
+addressed_object operator object = None
 
 abbrev pub listed_test : Option NilTest → List NilTest
 listed_test None = []

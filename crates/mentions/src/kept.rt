@@ -1,13 +1,14 @@
 //! The marks of a file while they are made, and the arena in which what they refer to stands.
 
 ghost use Rattle.std.specs.Prelude.{◌≡◌, [], ◌∷◌, IfOk, OnOk, option_map};
-ghost use Rattle.mentions.specs.MarkViews.{Adds, row_view, call_view, optional_call, body_view, mark_view};
+ghost use Rattle.mentions.specs.MarkViews.{Adds, named_view, row_view, call_view, optional_call, body_view, field_mark_view, mark_view};
 
-use crate::mark::{BodyPlace, Call, Mark, Row};
+use crate::mark::{BodyPlace, Call, FieldMark, Mark, Named, Row};
 use bumpalo::Bump;
 use std::alloc::AllocError;
 
-/// The marks so far. Rows, calls and bodies stand in the arena, each once, whatever number of marks refers to it.
+/// The marks so far. Rows, calls, bodies and what is asked of fields stand in the arena, each once, whatever number of
+/// marks refers to it.
 #[derive(Drop)]
 pub struct Marks<'m, 'a> {
     pub arena: &'m Bump,
@@ -71,6 +72,31 @@ impl<'m, 'a> Marks<'m, 'a> {
     {
         let arena = self.arena;
         let kept = arena.try_alloc(body)?;
+        Ok(kept)
+    }
+    /// Keeps a name.
+    ///
+    /// # Errors
+    ///
+    /// Memory was refused.
+    pub fn keep_named(&self, named: Named<'a>) -> Result<&'m Named<'a>, AllocError>
+        ensures { IfOk result (λ kept. named_view kept.now ≡ named_view named.entry) }
+    {
+        let arena = self.arena;
+        let kept = arena.try_alloc(named)?;
+        Ok(kept)
+    }
+
+    /// Keeps what is asked of a field, or given to others.
+    ///
+    /// # Errors
+    ///
+    /// Memory was refused.
+    pub fn keep_field(&self, field: FieldMark<'m, 'a>) -> Result<&'m FieldMark<'m, 'a>, AllocError>
+        ensures { IfOk result (λ kept. field_mark_view kept.now ≡ field_mark_view field.entry) }
+    {
+        let arena = self.arena;
+        let kept = arena.try_alloc(field)?;
         Ok(kept)
     }
 }

@@ -3,6 +3,7 @@
 #![tactic(auto)]
 
 mod around;
+pub mod fields;
 pub mod found;
 mod kept;
 pub mod mark;
@@ -10,11 +11,12 @@ pub mod named;
 pub mod parts;
 
 pub use around::is_body;
+pub use fields::field_left;
 pub use found::{found_nil, guard_marks};
 pub use kept::Marks;
 pub use mark::{
-    BodyPlace, Call, CallPlace, LiteralUse, Mark, Mention, Named, Role, Row, RowForm, Spot,
-    Standing,
+    Assigned, BodyPlace, Call, CallPlace, FieldLeft, FieldMark, LiteralUse, Mark, Mention, Named,
+    Role, Row, RowForm, Spot, Standing, Taker,
 };
 pub use named::{
     addressed_within, as_bare, as_bracketed, as_named, as_new_literal, as_pointer, bare_within,

@@ -52,6 +52,7 @@ pub enum CallPlace<'m, 'a> {
     /// It is the item of that number of a return list.
     ReturnItem(usize),
     Deferred,
+    UnderGo,
 }
 
 /// A call of `n` or `n.m`.
@@ -78,9 +79,12 @@ pub enum LiteralUse<'a> {
 #[derive(Clone, Copy)]
 pub enum Role<'m, 'a> {
     Elsewhere,
-    /// n where no row declares it, where its address is taken, or where it may get another value, and is no argument
-    /// and no whole left side of a row.
+    /// n as key of an element of a composite literal.
+    Key,
+    /// n where no row declares it, or where it may get another value, and is no whole left side of a row.
     Exposed,
+    /// n of `&n` that is no argument.
+    PointedTo,
     /// n of `n == nil` or `n != nil`, once more at the brace at which it is known to be nil; with the offset of `nil`.
     FoundNil(u32),
     /// The same where it is known not to be nil, behind a row.
@@ -128,11 +132,70 @@ pub struct BodyPlace<'a> {
     pub literal: LiteralUse<'a>,
 }
 
+/// A left side `e.f`, in brackets or not.
+#[derive(Clone, Copy)]
+pub struct FieldLeft<'a> {
+    pub field: &'a Identifier,
+    /// n, where it is `n.f`, or `(n).f`, `(*n).f` or `(&n).f`.
+    pub object: Option<Named<'a>>,
+    /// Round it, or round what stands before its dot.
+    pub has_brackets: bool,
+}
+
+/// The left side of that number of a row.
+#[derive(Clone, Copy)]
+pub struct Assigned<'m, 'a> {
+    pub left_side: usize,
+    pub row: &'m Row<'a>,
+}
+
+/// Who gets what stands at a place. It takes 24 bytes, since each spot has one.
+#[derive(Clone, Copy)]
+pub enum Taker<'m, 'a> {
+    Nobody,
+    /// The function that is called, as its name says, if it has one.
+    CalledFunction(Option<&'m Call<'m, 'a>>),
+    /// `append`, of which the value goes to someone.
+    Appending(&'m Named<'a>),
+    /// The method of that name, under `go` or `defer`.
+    Method(&'a str),
+    /// Whoever reads a channel, or a place that is no name, or a goroutine.
+    Someone,
+}
+
+/// What a place asks of a field, or gives to others.
+#[derive(Clone, Copy)]
+pub enum FieldMark<'m, 'a> {
+    /// `e.f(..)`.
+    CallsField(&'a str),
+    /// `e.f` gets a value: by a row, or otherwise.
+    WritesField {
+        left: FieldLeft<'a>,
+        assigned: Option<Assigned<'m, 'a>>,
+    },
+    /// The expression is given to the taker.
+    HandsOver {
+        taker: Taker<'m, 'a>,
+        value: &'a Expr,
+    },
+    /// So is the literal at that offset, with what it mentions.
+    HandsLiteral {
+        taker: Taker<'m, 'a>,
+        at: u32,
+    },
+    /// A clause makes the local of that number anew.
+    Renews(u32),
+    /// An import of the file brings names that aren't written.
+    ImportsAll,
+}
+
 /// What stands in a file, in the order in which its statements do what they say. A mark takes 96 bytes, since rows,
-/// calls and bodies stand in an arena.
+/// calls, bodies and what is asked of fields stand in an arena.
 #[derive(Clone, Copy)]
 pub enum Mark<'m, 'a> {
     Mentions(Mention<'m, 'a>),
+    /// What is asked of a field, or given to others, with its site.
+    OfFields(u32, &'m FieldMark<'m, 'a>),
     /// A literal is called under `defer`: the offsets of the statement and of the literal.
     DefersLiteral(u32, u32),
     /// A return, its offset and its items.
@@ -149,10 +212,12 @@ pub struct Position {
     pub is_last: bool,
 }
 
-/// Where an expression stands: as a whole, how it is used if it is a literal, and the offset of its site.
+/// Where an expression stands: as a whole, how it is used and who gets it if it is a literal, and the offset of its
+/// site.
 #[derive(Clone, Copy)]
 pub struct Spot<'m, 'a> {
     pub place: CallPlace<'m, 'a>,
     pub literal: LiteralUse<'a>,
+    pub taker: Taker<'m, 'a>,
     pub site: u32,
 }

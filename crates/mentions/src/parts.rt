@@ -1,14 +1,17 @@
 //! What a mark says of a name, and the names that are declared.
 
 ghost use Rattle.std.specs.Prelude.{◌≡◌, ◌&&◌, not, [], ◌∷◌, OnOk, option_map, map};
-ghost use Rattle.meaning.specs.Mentions.{part_of, whole, is_start, exposed, call_of, argument_use, callee_use, place_in, name_role, is_one, value_spot, mention, declaring, number_of, left_names, declared_elsewhere, guard_in_clause};
+ghost use Rattle.meaning.specs.Mentions.{part_of, whole, is_start, exposed, call_of, argument_use, callee_use, callee_spot, argument_spot, place_in, name_role, is_one, value_spot, mention, declaring, number_of, left_names, declared_elsewhere, guard_in_clause};
 ghost use Rattle.meaning.specs.Scopes.{parameters_named};
 ghost use Rattle.mentions.specs.MarkViews.{Adds, identifier_at, named_view, row_view, place_view, call_view, optional_call, use_view, role_view, standing_view, spot_view};
 ghost use Rattle.tree.specs.Syntax.{no_parameter};
 ghost use Rattle.tree.specs.View.{expression_syntax, expressions_syntax, identifier_syntax, parameter_and, parameters_syntax};
 
+use crate::fields::{callee_taker, literal_taker};
 use crate::kept::Marks;
-use crate::mark::{Call, CallPlace, LiteralUse, Mark, Mention, Named, Role, Row, Spot, Standing};
+use crate::mark::{
+    Call, CallPlace, LiteralUse, Mark, Mention, Named, Role, Row, Spot, Standing, Taker,
+};
 use crate::named::as_named;
 use std::alloc::AllocError;
 use tree::{BLANK, Expr, Identifier, Param, Span};
@@ -20,6 +23,7 @@ pub fn part_of<'m, 'a>(site: u32) -> Spot<'m, 'a>
     Spot {
         place: CallPlace::Nowhere,
         literal: LiteralUse::Other,
+        taker: Taker::Nobody,
         site,
     }
 }
@@ -31,6 +35,7 @@ pub fn whole<'m, 'a>(place: CallPlace<'m, 'a>, site: u32) -> Spot<'m, 'a>
     Spot {
         place,
         literal: LiteralUse::Other,
+        taker: Taker::Nobody,
         site,
     }
 }
@@ -47,7 +52,7 @@ pub fn place_in<'m, 'a>(standing: Standing, place: CallPlace<'m, 'a>) -> CallPla
 }
 
 /// Whether it is one expression.
-fn is_one(list: &[Expr]) -> bool
+pub fn is_one(list: &[Expr]) -> bool
     ensures { result ≡ is_one (expressions_syntax list.now) }
 {
     list.len() == 1
@@ -126,6 +131,34 @@ pub fn callee_use<'a>(place: CallPlace<'_, '_>) -> LiteralUse<'a>
     match place {
         CallPlace::Deferred => LiteralUse::DeferredCall,
         _ => LiteralUse::Other,
+    }
+}
+
+/// Where the callee of a call stands that stands at this spot.
+pub fn callee_spot<'m, 'a>(spot: Spot<'m, 'a>) -> Spot<'m, 'a>
+    ensures { spot_view result ≡ callee_spot (spot_view spot.entry) }
+{
+    Spot {
+        place: CallPlace::Nowhere,
+        literal: callee_use(spot.place),
+        taker: callee_taker(spot.place),
+        site: spot.site,
+    }
+}
+
+/// Where the arguments of a call stand that stands at the place.
+pub fn argument_spot<'m, 'a>(
+    place: CallPlace<'m, 'a>,
+    call: Option<&'m Call<'m, 'a>>,
+    site: u32,
+) -> Spot<'m, 'a>
+    ensures { spot_view result ≡ argument_spot (place_view place.entry) (optional_call call.entry) site }
+{
+    Spot {
+        place: CallPlace::Nowhere,
+        literal: argument_use(call),
+        taker: literal_taker(place, call),
+        site,
     }
 }
 

@@ -22,4 +22,5 @@ said_so rules ps tables i p kept judged tells told judgment = record {
   is_path = told.is_path ∙ sym tells.is_path;
   is_table = judgment.is_table;
   are_findings = judgment.are_findings;
+  are_fields = judgment.are_fields;
 }

@@ -1,5 +1,5 @@
 -- A package without a fault as a whole: what is found in its files and of its imports is what is to be said of it.
-use Rattle.std.proofs.Common.{◌≡◌, ℕ, ◌+◌, inl, inr, Bool, true, false, if◌then◌else◌, List, [], ◌∷◌, ◌++◌, Contains, Option, Some, refl, sym, ap, ◌∙◌, subst}
+use Rattle.std.proofs.Common.{◌≡◌, ℕ, ◌+◌, inl, inr, Bool, true, false, if◌then◌else◌, List, [], ◌∷◌, ◌++◌, Contains, Option, Some, None, refl, sym, ap, ◌∙◌, subst}
 use Rattle.std.specs.Prelude.{◌↔◌, slice_get, flat_map}
 use Rattle.std.proofs.lemmas.List.Elements.{Contains-append_left, Contains-append_right, Contains-append_cases}
 use Rattle.std.proofs.lemmas.Option.{same_Some}
@@ -7,14 +7,16 @@ use Rattle.tree.specs.declared.edition.Edition.{Edition}
 use Rattle.tree.specs.Syntax.{SourceFile, ImportSpec}
 use Rattle.meaning.proofs.Membership.{contains_nil, contains_here, contains_cases}
 use Rattle.meaning.specs.FunctionFacts.{Meanings, FunctionFacts}
-use Rattle.meaning.specs.Tracked.{Known}
+use Rattle.meaning.specs.Tracked.{Fields, each_field, Known}
 use Rattle.meaning_packages.specs.CallsFlags.{FileWithCredits}
 use Rattle.report.specs.declared.codes.DiagnosticCode.TheVariants.{ImportIsNotYes}
 use Rattle.report.specs.Entries.{Entry}
 use Rattle.imports.specs.Ranks.{Package}
 use Rattle.imports.proofs.GivenImports.{FirstAt}
-use Rattle.meaning_reports.specs.Loaded.{LoadedPackage, NumberedTree, Tables, numbered_trees, imports_of, import_list, known_in, means_in, signatures_of, imported_signatures, trees_of}
-use Rattle.silent_files.specs.WalkedFiles.{seen_if, seen_some, walked_files}
+use Rattle.meaning_reports.specs.Loaded.{LoadedPackage, NumberedTree, Tables, numbered_trees, imports_of, import_list, known_in, known_with, keeping_in, fields_by, seen_from, means_in, signatures_of, imported_signatures, trees_of}
+use Rattle.silent_files.specs.WalkedFiles.{seen_if, seen_some, walked_files, SkipsSilent}
+use Rattle.keeping.specs.Keeping.{PutNothing}
+use Rattle.keeping.proofs.PuttingFiles.{skipped_put_nothing}
 use Rattle.meaning_reports.specs.WholeFaults.{ImportsAt, import_entry, HasNoWholeFault}
 use Rattle.meaning_reports.specs.UsedImports.{IsNeeded}
 use Rattle.meaning_reports.specs.PackageReports.{Rules, IsFindingBy, of_whole, of_import, of_dot, of_files}
@@ -31,23 +33,23 @@ use Rattle.one_package.proofs.LeftOutDots.{Says, left_out, left_out_found}
 
 -- The files
 
-known_seen : (b : Bool) (known : Known) (tree : SourceFile) → (seen_if b known tree).known ≡ known
-known_seen true known tree = refl
-known_seen false known tree = refl
+facts_seen : (b : Bool) (known : Known) (tree : SourceFile) → (seen_if b known tree).known.functions ≡ known.functions
+facts_seen true known tree = refl
+facts_seen false known tree = refl
 
--- what is known in them is what was told
-known_of_file : (walked : ℕ → Bool) (known : ℕ → Known) (n : ℕ) (trees : List SourceFile) (ks : List FileBodies)
+-- what is known in them of functions is what was told
+facts_of_file : (walked : ℕ → Bool) (known : ℕ → Known) (n : ℕ) (trees : List SourceFile) (ks : List FileBodies)
     (file : FileWithCredits)
     → Contains (with_all_credits (seen_some walked known n trees) ks) file
-    → (m : ℕ) × (file.seen.known ≡ known m)
-known_of_file walked known n [] ks file h = absurd (contains_nil file h)
-known_of_file walked known n (t ∷ ts) [] file h = absurd (contains_nil file h)
-known_of_file walked known n (t ∷ ts) (k ∷ ks) file h =
+    → (m : ℕ) × (file.seen.known.functions ≡ (known m).functions)
+facts_of_file walked known n [] ks file h = absurd (contains_nil file h)
+facts_of_file walked known n (t ∷ ts) [] file h = absurd (contains_nil file h)
+facts_of_file walked known n (t ∷ ts) (k ∷ ks) file h =
     elim (contains_cases (with_credits (seen_if (walked n) (known n) t) k) file
     (with_all_credits (seen_some walked known (n + 1) ts) ks) h) [
       | inl same ↦
-          (n, ap (λ (f : FileWithCredits). f.seen.known) (sym same) ∙ known_seen (walked n) (known n) t)
-      | inr later ↦ known_of_file walked known (n + 1) ts ks file later
+          (n, ap (λ (f : FileWithCredits). f.seen.known.functions) (sym same) ∙ facts_seen (walked n) (known n) t)
+      | inr later ↦ facts_of_file walked known (n + 1) ts ks file later
     ]
 
 pub have_facts : (ps : List LoadedPackage) (tables : Tables) (p : LoadedPackage) (walked : ℕ → Bool)
@@ -56,8 +58,8 @@ pub have_facts : (ps : List LoadedPackage) (tables : Tables) (p : LoadedPackage)
     → (ks : List FileBodies) → HaveFacts functions (with_all_credits (walked_files ps tables p walked) ks)
 have_facts ps tables p walked functions are_functions ks = record {
   each = λ file h name.
-      let m = known_of_file walked (known_in ps tables p) 0 (trees_of p) ks file h in
-      ap (λ (k : Known). k.functions name) m.1 ∙ sym (are_functions name);
+      let m = facts_of_file walked (known_in ps tables p) 0 (trees_of p) ks file h in
+      ap (λ (functions : List ℕ → Option FunctionFacts). functions name) m.1 ∙ sym (are_functions name);
 }
 
 module _ (ps : List LoadedPackage) (tables : Tables) (p : LoadedPackage) (edition : Edition)
@@ -67,23 +69,45 @@ module _ (ps : List LoadedPackage) (tables : Tables) (p : LoadedPackage) (editio
     (are_means : (file at : ℕ) → means file at ≡ means_in ps p file at)
     (are_functions : (name : List ℕ) → functions name ≡ signatures_of ps p name)
     (are_imported : (path name : List ℕ) → imported path name ≡ imported_signatures p tables path name) where
-  abbrev known : ℕ → Known
-  known number = record { edition = edition; means = means number; functions = functions; imported = imported }
+  abbrev known : Fields → ℕ → Known
+  known fields number = record {
+    edition = edition;
+    means = means number;
+    fields = fields;
+    object_lefts = λ at. None;
+    functions = functions;
+    imported = imported;
+  }
 
-  is_known : known ≡ known_in ps tables p
-  is_known i number = record {
+  is_known : (fields : Fields) → known fields ≡ known_with fields ps tables p
+  is_known fields i number = record {
     edition = is_edition i;
     means = λ at. are_means number at i;
+    fields = fields;
+    object_lefts = λ at. None;
     functions = λ name. are_functions name i;
     imported = λ path name. are_imported path name i;
   }
 
-  pub seen_so : (walked : ℕ → Bool) (trees : List SourceFile) (ks : List ToldFile) → trees ≡ trees_of p
-      → TellAllSeen (seen_some walked known 0 trees) ks
+  -- fields that keep by what was found of them in files, where those that aren't walked put nothing into fields
+  pub keeping_so : (walked : ℕ → Bool) (trees : List SourceFile) (fields : Fields) → trees ≡ trees_of p
+      → SkipsSilent ps tables p walked
+      → (PutNothing walked (known each_field) 0 trees → fields_by edition (seen_from (known each_field) 0 trees) ≡ fields)
+      → fields ≡ keeping_in ps tables p
+  keeping_so walked trees fields same skip found =
+      let none = subst (λ ts. PutNothing walked (known each_field) 0 ts) (sym same)
+      (subst (λ k. PutNothing walked k 0 (trees_of p)) (sym (is_known each_field))
+      (skipped_put_nothing ps tables p walked skip)) in
+      sym (found none) ∙ λ i. fields_by (is_edition i) (seen_from (is_known each_field i) 0 (same i))
+
+  pub seen_so : (walked : ℕ → Bool) (trees : List SourceFile) (ks : List ToldFile) (fields : Fields) → trees ≡ trees_of p
+      → fields ≡ keeping_in ps tables p
+      → TellAllSeen (seen_some walked (known fields) 0 trees) ks
       → TellAllSeen (walked_files ps tables p walked) ks
-  seen_so walked trees ks same told =
-      subst (λ ts. TellAllSeen (seen_some walked (known_in ps tables p) 0 ts) ks) same
-      (subst (λ k. TellAllSeen (seen_some walked k 0 trees) ks) is_known told)
+  seen_so walked trees ks fields same keeping told =
+      subst (λ fs. TellAllSeen (seen_some walked (known_with fs ps tables p) 0 (trees_of p)) ks) keeping
+      (subst (λ ts. TellAllSeen (seen_some walked (known_with fields ps tables p) 0 ts) ks) same
+      (subst (λ k. TellAllSeen (seen_some walked k 0 trees) ks) (is_known fields) told))
 
 -- What is found by any rules, and of imports
 

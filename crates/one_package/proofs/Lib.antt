@@ -9,4 +9,5 @@ mod LeftOutDots
 mod NeededImports
 mod NothingSaid
 mod PackageNames
+mod ToldFields
 mod WholeOnly

@@ -6,7 +6,7 @@ use Rattle.std.proofs.lemmas.Option.{same_Some}
 use Rattle.tree.specs.declared.edition.Edition.{Edition}
 use Rattle.tree.specs.declared.edition.Edition.TheVariants.{First, Second}
 use Rattle.calls_flags.specs.declared.told_file.ToldFile.{ToldFile}
-use Rattle.handed_on.specs.HandedOn.{files_hand}
+use Rattle.calls_flags.specs.HandedOn.{files_hand}
 use Rattle.imports.specs.Ranks.{Package, Imports}
 use Rattle.imports.specs.Settling.{place_from}
 use Rattle.imports.proofs.GivenImports.{there_first}

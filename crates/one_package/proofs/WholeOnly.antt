@@ -14,9 +14,9 @@ use Rattle.report.specs.Entries.{Entry}
 use Rattle.meaning_reports.specs.Loaded.{LoadedPackage, NumberedTree, Tables, numbered_trees, trees_of}
 use Rattle.meaning_reports.specs.WholeFaults.{IsWholeFault, HasNoWholeFault, has_two_functions}
 use Rattle.meaning_reports.specs.PackageTables.{empty}
-use Rattle.meaning_reports.specs.PackageReports.{Rules, IsFindingBy, of_whole, of_import, of_dot, of_files}
+use Rattle.meaning_reports.specs.PackageReports.{Rules, IsFindingBy, of_whole, of_import, of_dot, of_files, AreFieldsToTell, of_no}
 use Rattle.one_package.specs.declared.judged.Judged.{Judged}
-use Rattle.one_package.specs.Judgments.{IsJudgment, IsWholeOnly}
+use Rattle.one_package.specs.Judgments.{IsJudgment, IsWholeOnly, entries_of, keeping_of}
 
 -- The second function of a name is one of the trees'
 
@@ -64,6 +64,12 @@ module _ (rules : Rules) (ps : List LoadedPackage) (tables : Tables) (i : ℕ) (
   whole_of y fault x (of_dot file dot none out) = absurd (none y fault)
   whole_of y fault x (of_files none said) = absurd (none y fault)
 
+  -- no field is told of where there is something to say
+  none_told : (entries : List Entry) (fields : List (List ℕ)) (y : Entry) → Contains entries y → fields ≡ []
+      → AreFieldsToTell ps tables p entries fields
+  none_told [] fields y h none = absurd (contains_nil y h)
+  none_told (x ∷ xs) fields y h none = subst (AreFieldsToTell ps tables p (x ∷ xs)) (sym none) of_no
+
   pub only_whole : (judged : Judged) (entries : List Entry) → IsWholeOnly entries judged
       → ((x : Entry) → Contains entries x ↔ IsWholeFault ps i x)
       → (y : Entry) → IsWholeFault ps i y
@@ -77,6 +83,8 @@ module _ (rules : Rules) (ps : List LoadedPackage) (tables : Tables) (i : ℕ) (
         λ h. (only.each x).1 ((are x).1 (whole_of y fault x h)),
       );
     };
+    are_fields =
+        none_told (entries_of judged) (keeping_of judged) y ((only.each y).1 ((are y).1 fault)) only.no_fields;
   }
 
 module _ (ps : List LoadedPackage) (i : ℕ) (p : LoadedPackage) where

@@ -14,13 +14,13 @@ use Rattle.whole_packages.specs.LoadedViews.{TellPackages}
 use Rattle.whole_packages.specs.WholeEntries.{is_set, TellsOrder}
 use Rattle.first_values.specs.ValuesByName.{value_of}
 use Rattle.names.specs.Answers.{names_by_path}
-use Rattle.report.specs.Entries.{Entry, Precedes, entry_of}
+use Rattle.report.specs.Entries.{Entry, Precedes, entry_of, texts_of}
 use Rattle.report.specs.declared.diagnostics.Diagnostic.{Diagnostic}
 use Rattle.report.specs.declared.diagnostics.PackageReport.{PackageReport}
 use Rattle.meaning_reports.specs.Loaded.{LoadedPackage, PackageTable, Tables, import_list, package_names, imported_tables, imported_signatures, imported_flags}
 use Rattle.meaning_reports.specs.PackageTables.{IsTableBy, IsEmpty}
 use Rattle.meaning_reports.specs.UsedImports.{IsNeeded}
-use Rattle.meaning_reports.specs.PackageReports.{Rules, Said, IsFindingBy, AreFindingsBy}
+use Rattle.meaning_reports.specs.PackageReports.{Rules, Said, IsFindingBy, AreFindingsBy, AreFieldsToTell}
 use Rattle.silent_files.specs.SilentPackages.{GiveNone}
 use Rattle.files_to_walk.specs.Signs.{is_told, may_give}
 use Rattle.one_package.specs.declared.judged.Around.{Around}
@@ -34,10 +34,15 @@ table_view judged = kept_view judged.table
 abbrev pub entries_of : Judged → List Entry
 entries_of judged = map entry_of judged.report.diagnostics.items
 
+-- the fields that its verdict tells of
+abbrev pub keeping_of : Judged → List (List ℕ)
+keeping_of judged = texts_of judged.report.keeping.items
+
 abbrev pub said_view : Judged → Said
 said_view judged = record {
   path = judged.report.path.now;
   entries = entries_of judged;
+  keeping = keeping_of judged;
   table = table_view judged;
 }
 
@@ -135,12 +140,13 @@ PicksNotYes rules ps tables i around = AreNotYes rules ps tables i (is_picked ar
 
 -- What is found
 
--- it is what is to be said of the package, and its table
+-- it is what is to be said of the package, the fields that its verdict tells of, and its table
 pub record IsJudgment
     (rules : Rules) (ps : List LoadedPackage) (tables : Tables) (i : ℕ) (p : LoadedPackage) (judged : Judged)
     : Type 0 where
   pub is_table : IsTableBy rules.are_flags ps tables i p (table_view judged)
   pub are_findings : AreFindingsBy rules ps tables i (entries_of judged)
+  pub are_fields : AreFieldsToTell ps tables p (entries_of judged) (keeping_of judged)
 
 -- the report has the package's path and its sources, and the table has the flag of its givers
 pub record TellsSources (loaded : KeptPackage) (judged : Judged) : Type 0 where
@@ -148,8 +154,9 @@ pub record TellsSources (loaded : KeptPackage) (judged : Judged) : Type 0 where
   pub are_sources : judged.report.sources.now ≡ loaded.sources.items
   pub is_marked : MarksGivers judged.table
 
--- just these entries, in their order, and nothing is known of functions
+-- just these entries, in their order, no field is told of, and nothing is known of functions
 pub record IsWholeOnly (entries : List Entry) (judged : Judged) : Type 0 where
   pub in_order : AllPairs Precedes (entries_of judged)
   pub each : (x : Entry) → Contains (entries_of judged) x ↔ Contains entries x
+  pub no_fields : keeping_of judged ≡ []
   pub is_empty : IsEmpty (table_view judged)

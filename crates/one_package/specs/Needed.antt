@@ -1,7 +1,7 @@
 -- Which imports of a package have to be yes, by what was told of its files, and by what is known around it.
 use Rattle.std.specs.Prelude.{ℕ, ◌||◌, Bool, true, List}
 use Rattle.calls_flags.specs.declared.told_file.ToldFile.{ToldFile}
-use Rattle.handed_on.specs.HandedOn.{files_hand}
+use Rattle.calls_flags.specs.HandedOn.{files_hand}
 use Rattle.tree.specs.declared.edition.Edition.{Edition}
 use Rattle.tree.specs.declared.edition.Edition.TheVariants.{First, Second}
 use Rattle.one_package.specs.Dots.{is_faulty_path}

@@ -1,14 +1,15 @@
 //! One package.
 
-ghost use Rattle.std.specs.Prelude.{◌≡◌, ◌↔◌, ℕ, List, [], IfOk, Some, map, slice_get, Contains, string_bytes};
+ghost use Rattle.std.specs.Prelude.{◌≡◌, ◌↔◌, ℕ, Bool, List, [], IfOk, Some, map, slice_get, Contains, string_bytes};
 ghost use Rattle.std.specs.List.{AllPairs};
 ghost use Rattle.one_package.specs.Certified.{certificates_in, HasCertificates};
 ghost use Rattle.one_package.specs.Judgments.{IsJudgment, IsWholeOnly, PicksNotYes, TellsAround, TellsSources};
 ghost use Rattle.one_package.specs.ToldPackages.{IsMarked, IsToldPackage, IsFoundPackage};
+ghost use Rattle.meaning_reports.specs.PackageReports.{AreFieldsToTell};
 ghost use Rattle.called_parameters.specs.Called.{is_called};
 ghost use Rattle.certificate_json.specs.Certificates.{body_of};
 ghost use Rattle.whole_packages.specs.LoadedViews.{TellsPackage};
-ghost use Rattle.report.specs.Entries.{Entry, Precedes, entry_of};
+ghost use Rattle.report.specs.Entries.{Entry, Precedes, entry_of, texts_of};
 ghost use Rattle.meaning_reports.specs.Loaded.{LoadedPackage as MeantPackage, Tables};
 ghost use Rattle.meaning_reports.specs.WholeFaults.{HasNoWholeFault};
 
@@ -24,9 +25,10 @@ use certificate_json::Body;
 use declared_tables::PackageTable;
 use facts::{Imported, Table};
 use files_to_walk::KnownSigns;
+use findings::fields_to_tell;
 use names::PackageNames;
 use report::{Diagnostic, DiagnosticCode, PackageReport, in_order};
-use std::alloc::Global;
+use std::alloc::{AllocError, Global};
 use whole_packages::{LoadedPackage, Marked, add_imports, numbered_trees};
 
 /// What is known of the packages around the one that is judged.
@@ -65,10 +67,15 @@ pub struct Judged<'a> {
     pub certificates: Vec<Body>,
 }
 
-/// The report of a package of which this was found.
-fn report_of<'a>(loaded: &'a LoadedPackage, found: Vec<Diagnostic<'a>>) -> PackageReport<'a>
+/// The report of a package of which this was found, and whose verdict tells of these fields.
+fn report_of<'a>(
+    loaded: &'a LoadedPackage,
+    found: Vec<Diagnostic<'a>>,
+    keeping: Vec<&'a str>,
+) -> PackageReport<'a>
     ensures path { result.path.now ≡ string_bytes loaded.now.path }
     ensures sources { result.sources.now ≡ loaded.now.sources.items }
+    ensures keeping { result.keeping.items ≡ keeping.entry.items }
     ensures sorted { AllPairs Precedes (map entry_of result.diagnostics.items) }
     ensures same { (x : Entry)
         → Contains (map entry_of result.diagnostics.items) x ↔ Contains (map entry_of found.entry.items) x }
@@ -76,7 +83,26 @@ fn report_of<'a>(loaded: &'a LoadedPackage, found: Vec<Diagnostic<'a>>) -> Packa
     PackageReport {
         path: loaded.path.as_str(),
         sources: &loaded.sources,
+        keeping,
         diagnostics: in_order(found),
+    }
+}
+
+/// The fields of which the verdict of a package tells, of which this was told and found: of none where there is
+/// something to say of it.
+fn told_fields<'a>(
+    alloc: Global,
+    told: &ToldPackage<'a>,
+    found: &[Diagnostic<'a>],
+) -> Result<Vec<&'a str>, AllocError>
+    ensures { IfOk result (λ fields. (ps : List MeantPackage) (tables : Tables) (p : MeantPackage) (all : Bool)
+        → IsToldPackage ps tables p all told.now
+        → AreFieldsToTell ps tables p (map entry_of found.now) (texts_of fields.items)) }
+{
+    if found.is_empty() {
+        fields_to_tell(alloc, &told.files)
+    } else {
+        Ok(Vec::new(alloc))
     }
 }
 
@@ -91,7 +117,7 @@ fn whole_only<'a>(
     ensures certified { certificates_in result ≡ [] }
 {
     Judged {
-        report: report_of(loaded, faults),
+        report: report_of(loaded, faults, Vec::new(alloc)),
         table: PackageTable {
             signatures: Table::new(alloc),
             called: Called::new(alloc),
@@ -175,6 +201,7 @@ fn judge_told<'a, R: FileRules, H: Hands>(
         called,
         certificates,
     } = find_in_package(alloc, loaded, &told, around, by)?;
+    let keeping = told_fields(alloc, &told, &diagnostics)?;
     let ToldPackage {
         signatures,
         gives,
@@ -182,7 +209,7 @@ fn judge_told<'a, R: FileRules, H: Hands>(
         ..
     } = told;
     Ok(Judged {
-        report: report_of(loaded, diagnostics),
+        report: report_of(loaded, diagnostics, keeping),
         table: PackageTable {
             signatures,
             called,

@@ -6,8 +6,7 @@ ghost use Rattle.one_package.specs.Needed.{is_needed};
 
 use crate::dots::is_faulty_path;
 use crate::judged::Around;
-use calls_flags::ToldFile;
-use handed_on::files_hand;
+use calls_flags::{ToldFile, files_hand};
 use std::alloc::{AllocError, Global};
 use tree::Edition;
 use whole_packages::Picks;

@@ -15,8 +15,10 @@ use called_parameters::{Called, ImportedCalls};
 use calls_flags::{FileBodies, Telling, ToldFile};
 use facts::{Table, signatures};
 use files_to_walk::{signs_of_files, walked_files};
+use keeping::keeping_fields;
 use names::Names;
 use std::alloc::Global;
+use tracked_rows::{Fields, Known};
 use whole_packages::LoadedPackage;
 
 /// A package that was told of.
@@ -54,7 +56,7 @@ fn needs_all(tells_all: bool, gives: bool) -> bool
 }
 
 /// Tells of a package without a fault as a whole, where the uses in it mean this: of all its files, or of those in
-/// which something may be found.
+/// which something may be found. Before it is found which of its fields keep cancel functions.
 ///
 /// # Errors
 ///
@@ -77,12 +79,26 @@ pub fn tell_package<'a, H: Hands>(
     let signs = signs_of_files(&table, &loaded.trees);
     let all = needs_all(tellers.tells_all, signs.gives);
     let walked = walked_files(alloc, loaded, around.signs, all)?;
-    let telling = Telling {
+    let known = Known {
         edition: loaded.edition,
+        file: 0,
+        names: &*names,
+        table: &table,
+        imported: around.signatures,
+        fields: Fields::Each,
+        object_lefts: &[],
+    };
+    let fields = keeping_fields(alloc, known, &loaded.trees, &walked)?;
+    let telling = Telling {
+        edition: known.edition,
         files: &loaded.trees,
         names: &*names,
         table: &table,
         imported: around.signatures,
+        fields: Fields::These {
+            keeping: &fields.keeping,
+            filled: &fields.filled,
+        },
         walked: &walked,
     };
     let files = tellers.hands.tell(alloc, telling)?;

@@ -24,6 +24,7 @@ use Rattle.lists.proofs.Lists.TheSendSync as lists
 use Rattle.mentions.proofs.mark.LiteralUse.TheSendSync as literal
 use Rattle.mentions.specs.contracts.mark.BodyPlace as place
 use Rattle.names.proofs.resolution.Names.TheSendSync as names
+use Rattle.tracked_rows.proofs.fields.Fields.TheSendSync as fields
 use Rattle.tree.proofs.declaration.Spec.TheLaws.TheKnot as knot
 use Rattle.tree.proofs.edition.Edition.TheSendSync as edition
 use Rattle.tree.proofs.file.ImportDecl.TheSendSync as import_declaration
@@ -93,7 +94,10 @@ telling_sync κ ι =
         search (sendable, tree_sync),
         (
           search (sendable, names.the_sync),
-          (search (sendable, table.the_sync), (search (sendable, imported.the_sync), (search sendable, tt))),
+          (
+            search (sendable, table.the_sync),
+            (search (sendable, imported.the_sync), (search (sendable, fields.the_sync), (search sendable, tt))),
+          ),
         ),
       ),
     )
@@ -142,7 +146,13 @@ told_sync κ =
           search (sendable, lists.the_sync, fault.the_sync),
           (
             search (sendable, lists.the_sync, event.the_sync),
-            (search (sendable, lists.the_sync), (search (sendable, vec.the_sync, alloc.the_sync, place_sync), tt)),
+            (
+              search (sendable, lists.the_sync),
+              (
+                search (sendable, vec.the_sync, alloc.the_sync),
+                (search (sendable, vec.the_sync, alloc.the_sync, place_sync), tt),
+              ),
+            ),
           ),
         ),
       ),
@@ -162,7 +172,10 @@ told_send κ =
           search (sendable, lists.the_send, fault.the_send),
           (
             search (sendable, lists.the_send, event.the_send),
-            (search (sendable, lists.the_send), (search (sendable, crosses, place_send), tt)),
+            (
+              search (sendable, lists.the_send),
+              (search (sendable, crosses), (search (sendable, crosses, place_send), tt)),
+            ),
           ),
         ),
       ),

@@ -1,12 +1,12 @@
 //! The names of types, and instances of them (the Go specification, "Qualified identifiers", "Instantiations").
 
-ghost use Rattle.std.specs.Prelude.{◌≡◌, true};
-ghost use Rattle.lexer.specs.declared.token.TokenKind.TheVariants.{Identifier as identifier_kind};
+ghost use Rattle.std.specs.Prelude.{◌≡◌, ◌&&◌, true};
+ghost use Rattle.lexer.specs.declared.token.TokenKind.TheVariants.{Identifier as identifier_kind, LeftBracket as left_bracket_kind};
 ghost use Rattle.tree.specs.View.{expression_syntax};
 ghost use Rattle.parser_base.specs.Gives.{Gives};
 ghost use Rattle.parser_base.specs.Parts.{ReadsExpressions};
 ghost use Rattle.parser_base.specs.Places.{cursor, seen, parts_of, go_text};
-ghost use Rattle.tree_reader.specs.Reader.{read_named_type, read_type_arguments};
+ghost use Rattle.tree_reader.specs.Reader.{is_second, read_named_type, read_type_arguments};
 ghost use Rattle.tree_reader.specs.Reading.{stands};
 
 use lexer::TokenKind;
@@ -25,7 +25,7 @@ use tree_hold::release;
 /// # Errors
 ///
 /// Where no name stands after a dot, where what stands in brackets is no type, where it is too deep, and out of memory.
-#[tactic(auto, unfolding(tree_reader::specs::Reader::read_named_type))]
+#[tactic(auto, unfolding(tree_reader::specs::Reader::read_named_type, tree_reader::specs::Reader::read_type_arguments))]
 pub fn named_type<F: Fn(Wanted, TokenPlace) -> Read<Expr>>(
     source: SourceTokens<'_>,
     parts: &F,
@@ -38,6 +38,10 @@ pub fn named_type<F: Fn(Wanted, TokenPlace) -> Read<Expr>>(
 {
     let (first, end) = name(source, place)?;
     if !source.stands(end, TokenKind::Dot) {
+        // Most names stand alone, and an expression costs a move each time that it is handed on.
+        if !opens_arguments(source, end) {
+            return Ok((first, end));
+        }
         let begun = Begun {
             from: place,
             first,
@@ -58,6 +62,13 @@ pub fn named_type<F: Fn(Wanted, TokenPlace) -> Read<Expr>>(
     type_arguments(source, parts, begun)
 }
 
+/// Whether the brackets of an instance stand at `place`, if a type's name stands before it.
+fn opens_arguments(source: SourceTokens<'_>, place: TokenPlace) -> bool
+    ensures { result ≡ is_second source.entry.edition && stands left_bracket_kind (cursor source.entry place) }
+{
+    source.is_second() && source.stands(place, TokenKind::LeftBracket)
+}
+
 /// The brackets of an instance, where they follow a type's name. All that stands in them are types.
 #[tactic(auto, unfolding(tree_reader::specs::Reader::read_type_arguments))]
 fn type_arguments<F: Fn(Wanted, TokenPlace) -> Read<Expr>>(
@@ -71,7 +82,7 @@ fn type_arguments<F: Fn(Wanted, TokenPlace) -> Read<Expr>>(
         source.entry begun.place)) }
 {
     let Begun { from, first, place } = begun;
-    if !(source.is_second() && source.stands(place, TokenKind::LeftBracket)) {
+    if !opens_arguments(source, place) {
         return Ok((first, place));
     }
     if !fits(source, &first) {

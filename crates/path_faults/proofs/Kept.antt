@@ -1,6 +1,6 @@
 -- The faults that the program finds are those of the definitions, where a table tells exactly the classes that arrive.
-use Rattle.std.proofs.Common.{◌≡◌, ◌↔◌, ◌==◌, ℕ, Bool, true, false, not, ◌&&◌, inl, inr, List, [], ◌++◌, Some, IsTrue, Contains, refl, sym, ap, ◌∙◌, subst, true≢false}
-use Rattle.std.specs.Prelude.{slice_get}
+use Rattle.std.proofs.Common.{◌≡◌, ◌↔◌, ◌==◌, ℕ, Bool, true, false, not, ◌&&◌, ◌||◌, inl, inr, List, [], ◌∷◌, ◌++◌, Some, IsTrue, Contains, refl, sym, ap, ◌∙◌, subst, true≢false}
+use Rattle.std.specs.Prelude.{slice_get, is_none}
 use Rattle.std.proofs.lemmas.Bool.{false≢true, and_parts, and_from, or_cases, or_left, or_right, eqb-true, eq-eqb, not-true, not_from_false, false_from_ne_true}
 use Rattle.std.proofs.lemmas.List.Elements.{Contains-append_left, Contains-append_right, Contains-append_cases}
 use Rattle.std.proofs.lemmas.Option.{same_Some}
@@ -9,15 +9,15 @@ use Rattle.meaning.specs.Code.{Occurrence}
 use Rattle.meaning.specs.Lists.{Reaches}
 use Rattle.meaning.specs.FunctionFacts.{VariableKind, cancel, group}
 use Rattle.meaning.specs.Tracked.{live, idle}
-use Rattle.meaning.specs.Uses.{VariableAt, Handed, Event, other, obtain, clear, call, defer_call, pass, defer_pass, lend, start, try, wait, defer_wait, make, defer_literal, return_event, is_cancel, is_group}
+use Rattle.meaning.specs.Uses.{VariableAt, Handed, Event, other, obtain, obtain_kept, renew, keep, call_kept, defer_kept, give, give_field, clear, call, defer_call, pass, defer_pass, lend, start, try, wait, defer_wait, make, defer_literal, return_event, is_cancel, is_group}
 use Rattle.meaning.specs.BodyEvents.{Variable}
-use Rattle.meaning.specs.Classes.{CancelClass, unset, opened, safe, pending, GroupClass, unmade, in_state, awaited}
+use Rattle.meaning.specs.Classes.{CancelClass, unset, opened, kept, safe, pending, GroupClass, unmade, in_state, awaited}
 use Rattle.flow.specs.GraphOfCode.{nodes}
-use Rattle.meaning_packages.specs.PathFaults.{PathCode, overwritten, not_called, group_is_live, group_overwritten, left_to_live_group, PathFault, Paths, makes_it, is_declared, is_lost, is_handed, cancel_class, group_class, BindsCancel, obtains, clears, ComesToReturn, OwesCall, LeavesLive, IsLeft, IsPathFault, loses_cancel, loses_group, returns_live, returns_open, returns_pending, KeepsCall}
+use Rattle.meaning_packages.specs.PathFaults.{PathCode, overwritten, not_called, group_is_live, group_overwritten, left_to_live_group, PathFault, Paths, makes_it, is_declared, is_lost, is_handed, is_handed_kept, cancel_class, group_class, BindsCancel, obtains, obtains_into, clears, ComesToReturn, OwesCall, LeavesLive, IsLeft, IsPathFault, loses_cancel, loses_group, returns_live, returns_open, returns_kept, returns_pending, KeepsCall}
 use Rattle.meaning_packages.specs.Credits.{is_safe, is_live, is_settled, Settles}
 use Rattle.bodies.specs.Classified.{Classifies}
 use Rattle.path_faults.specs.FoundFaults as found
-use Rattle.path_faults.specs.FoundFaults.{each_from, fault_if, Cancels, Groups, is_live_group, may_be_lost, binding_faults, making_faults, is_same_place, is_live_at, is_live_there, is_left_to, owes_call, open_faults, left_faults, live_faults, return_faults, event_faults, faults_of_nodes, is_return, is_uncalled, breaks_call, is_unsettled, breaks_settling}
+use Rattle.path_faults.specs.FoundFaults.{each_from, fault_if, Cancels, Groups, is_live_group, may_be_lost, binding_faults, making_faults, is_same_place, is_live_at, is_live_there, is_left_to, owes_call, open_faults, left_faults, live_faults, return_faults, event_faults, faults_of_nodes, is_return, is_uncalled, is_open_there, breaks_call, is_unsettled, breaks_settling}
 use Rattle.path_faults.proofs.Places.{place_of, contains_at, any_witness, any_holds, passes_at, any_at, given_at, gives_at}
 
 -- Small facts
@@ -41,6 +41,18 @@ is_cancel_kind k e = ap (λ x. is_cancel (Some x)) e
 
 pub is_group_kind : (k : VariableKind) → k ≡ group → is_group (Some k) ≡ true
 is_group_kind k e = ap (λ x. is_group (Some x)) e
+
+unhanded : (a b c d : Bool) → (a || c) ≡ false → (c ≡ false → d ≡ false) → ((a && b) || d) ≡ false
+unhanded true b c d e rest = absurd (true≢false e)
+unhanded false b c d e rest = rest e
+
+-- what is not handed on where it is kept is not handed on
+pub not_handed : (number : ℕ) (handed : List Handed) → is_handed_kept number handed ≡ false
+    → is_handed number handed ≡ false
+not_handed number [] e = refl
+not_handed number (h ∷ hs) e =
+    unhanded (h.number == number) (is_none h.object) (is_handed_kept number hs) (is_handed number hs) e
+    (not_handed number hs)
 
 pub in_fault_if : (t : Bool) (at : ℕ) (code : PathCode) (name : List ℕ) (f : PathFault)
     → Contains (fault_if t at code name) f → (t ≡ true) × (record { at = at; code = code; name = name } ≡ f)
@@ -90,23 +102,31 @@ added_to_none before after adds none is = is ∙ ap (λ l. l ++ adds) none
 module _ (has : CancelClass → Bool) (vs : List Variable) (pending_groups : List ℕ) where
   pub lost_has : may_be_lost vs has pending_groups ≡ true → (k : CancelClass) × (has k ≡ true) × (is_lost vs k ≡ true)
   lost_has e =
-      elim (or_cases (has opened) (found.is_left_outside vs has pending_groups) e) [
+      elim (or_cases (has opened) (has kept || found.is_left_outside vs has pending_groups) e) [
         | inl is ↦ (opened, is, refl)
-        | inr some ↦
-            let w = any_witness (λ g. has (pending g) && not (makes_it vs g)) pending_groups some in
-            let parts = and_parts (has (pending w.0)) (not (makes_it vs w.0)) w.2 in
-            (pending w.0, parts.0, parts.1)
+        | inr more ↦
+            elim (or_cases (has kept) (found.is_left_outside vs has pending_groups) more) [
+              | inl is ↦ (kept, is, refl)
+              | inr some ↦
+                  let w = any_witness (λ g. has (pending g) && not (makes_it vs g)) pending_groups some in
+                  let parts = and_parts (has (pending w.0)) (not (makes_it vs w.0)) w.2 in
+                  (pending w.0, parts.0, parts.1)
+            ]
       ]
 
   pub has_lost : ((g : ℕ) → has (pending g) ≡ true → Contains pending_groups g) → (k : CancelClass) → has k ≡ true
       → is_lost vs k ≡ true → may_be_lost vs has pending_groups ≡ true
   has_lost all unset h e = absurd (false≢true e)
-  has_lost all opened h e = or_left (has opened) (found.is_left_outside vs has pending_groups) h
+  has_lost all opened h e = or_left (has opened) (has kept || found.is_left_outside vs has pending_groups) h
+  has_lost all kept h e =
+      or_right (has opened) (has kept || found.is_left_outside vs has pending_groups)
+      (or_left (has kept) (found.is_left_outside vs has pending_groups) h)
   has_lost all safe h e = absurd (false≢true e)
   has_lost all (pending g) h e =
-      or_right (has opened) (found.is_left_outside vs has pending_groups)
+      or_right (has opened) (has kept || found.is_left_outside vs has pending_groups)
+      (or_right (has kept) (found.is_left_outside vs has pending_groups)
       (any_holds (λ g. has (pending g) && not (makes_it vs g)) pending_groups g (all g h)
-      (and_from (has (pending g)) (not (makes_it vs g)) h e))
+      (and_from (has (pending g)) (not (makes_it vs g)) h e)))
 
 -- what may be unsettled
 module _ (has : CancelClass → Bool) (has_group : GroupClass → Bool) (pending_groups : List ℕ) where
@@ -115,10 +135,12 @@ module _ (has : CancelClass → Bool) (has_group : GroupClass → Bool) (pending
   settled_safe all e unset h = absurd (true≢false (sym (or_left (has unset) _ h) ∙ e))
   settled_safe all e opened h =
       absurd (true≢false (sym (or_right (has unset) _ (or_left (has opened) _ h)) ∙ e))
+  settled_safe all e kept h =
+      absurd (true≢false (sym (or_right (has unset) _ (or_right (has opened) _ (or_left (has kept) _ h))) ∙ e))
   settled_safe all e safe h = refl
   settled_safe all e (pending g) h =
-      absurd (true≢false (sym (or_right (has unset) _ (or_right (has opened) _
-      (any_holds (λ g. has (pending g)) pending_groups g (all g h) h))) ∙ e))
+      absurd (true≢false (sym (or_right (has unset) _ (or_right (has opened) _ (or_right (has kept) _
+      (any_holds (λ g. has (pending g)) pending_groups g (all g h) h)))) ∙ e))
 
   pub settled_at_rest : is_unsettled has has_group pending_groups group ≡ false → (k : GroupClass) → has_group k ≡ true
       → is_live k ≡ false
@@ -135,7 +157,11 @@ module _ (has : CancelClass → Bool) (has_group : GroupClass → Bool) (pending
         | inr more ↦
             elim (or_cases (has opened) _ more) [
               | inl h ↦ (opened, h, refl)
-              | inr some ↦ let w = any_witness (λ g. has (pending g)) pending_groups some in (pending w.0, w.2, refl)
+              | inr rest ↦
+                  elim (or_cases (has kept) _ rest) [
+                    | inl h ↦ (kept, h, refl)
+                    | inr some ↦ let w = any_witness (λ g. has (pending g)) pending_groups some in (pending w.0, w.2, refl)
+                  ]
             ]
       ]
 
@@ -143,12 +169,20 @@ bound_by : {e : Event} {u : VariableAt} → BindsCancel e u → (vs : List Varia
     (pgs : List ℕ) (lives : ℕ → Bool) (n at : ℕ) (f : PathFault) → Contains (binding_faults vs cancels pgs n u) f
     → Contains (event_faults vs cancels groups pgs lives n at e) f
 bound_by (obtains) vs cancels groups pgs lives n at f c = c
+bound_by (obtains_into) vs cancels groups pgs lives n at f c = c
 bound_by (clears) vs cancels groups pgs lives n at f c = c
 
 pub return_of : (e : Event) → is_return e ≡ true → (handed : List Handed) × (e ≡ return_event handed)
 return_of (return_event handed) e = (handed, refl)
 return_of other e = absurd (false≢true e)
 return_of (obtain u f k d) e = absurd (false≢true e)
+return_of (obtain_kept u f k x) e = absurd (false≢true e)
+return_of (renew u x) e = absurd (false≢true e)
+return_of (keep u x) e = absurd (false≢true e)
+return_of (call_kept u x) e = absurd (false≢true e)
+return_of (defer_kept u x) e = absurd (false≢true e)
+return_of (give u x) e = absurd (false≢true e)
+return_of (give_field u) e = absurd (false≢true e)
 return_of (clear u) e = absurd (false≢true e)
 return_of (call u) e = absurd (false≢true e)
 return_of (defer_call u) e = absurd (false≢true e)
@@ -390,17 +424,28 @@ module _ (b : Paths) (cancels : Cancels) (groups : Groups) (pending_groups : Lis
       (and_from (is_declared v.role) (not (is_handed v.number handed)) o.is_declared_here
       (not_from_false (is_handed v.number handed) o.is_kept))
 
+  abbrev kept_test : ℕ → ℕ → Variable → List Handed → Bool
+  kept_test i n v handed = cancels i n kept && not (is_handed_kept v.number handed)
+
   open_found : (n : ℕ) (o : Occurrence Event) → slice_get os n ≡ Some o → (handed : List Handed)
       → o.event ≡ return_event handed → (f : PathFault) → Contains (open_faults vs cancels n o.at handed) f
       → IsPathFault b f
   open_found n o here handed returns f h =
       let w = fault_at vs (found.returns_open cancels n handed) o.at not_called f h in
       let v = w.variable in
-      let parts = and_parts (owes_call v handed) (cancels w.place n opened) w.passes in
+      let parts = and_parts (owes_call v handed) (is_open_there v.number handed (cancels w.place n)) w.passes in
       let owes = owed_parts v handed (contains_at vs w.place v w.is_there) parts.0 in
-      let it = (tells.of_cancel w.place v w.is_there owes.is_cancel_variable).found n o opened here parts.1 in
       subst (IsPathFault b) w.is_it
-      (returns_open v handed it.before o (record { reaches = it.reaches; is_return = returns }) owes it.is_class)
+      (elim (or_cases (cancels w.place n opened) (kept_test w.place n v handed) parts.1) [
+        | inl is ↦
+            let it = (tells.of_cancel w.place v w.is_there owes.is_cancel_variable).found n o opened here is in
+            returns_open v handed it.before o (record { reaches = it.reaches; is_return = returns }) owes it.is_class
+        | inr held ↦
+            let both = and_parts (cancels w.place n kept) (not (is_handed_kept v.number handed)) held in
+            let it = (tells.of_cancel w.place v w.is_there owes.is_cancel_variable).found n o kept here both.0 in
+            returns_kept v handed it.before o (record { reaches = it.reaches; is_return = returns }) owes it.is_class
+            (not-true (is_handed_kept v.number handed) both.1)
+      ])
 
   left_found : (n : ℕ) (o : Occurrence Event) → slice_get os n ≡ Some o → (handed : List Handed)
       → o.event ≡ return_event handed → (f : PathFault)
@@ -443,11 +488,19 @@ module _ (b : Paths) (cancels : Cancels) (groups : Groups) (pending_groups : Lis
       → Contains (event_faults vs cancels groups pending_groups (lives o.at o.order) n o.at e) f → IsPathFault b f
   node_found n o here f (obtain u c k d) is h =
       binding_found n o here u (subst (λ x. BindsCancel x u) (sym is) (obtains)) f h
+  node_found n o here f (obtain_kept u c k x) is h =
+      binding_found n o here u (subst (λ x. BindsCancel x u) (sym is) (obtains_into)) f h
   node_found n o here f (clear u) is h =
       binding_found n o here u (subst (λ x. BindsCancel x u) (sym is) (clears)) f h
   node_found n o here f (make u s) is h = making_found n o here u s is f h
   node_found n o here f (return_event handed) is h = return_found n o here handed is f h
   node_found n o here f other is h = absurd (contains_nil f h)
+  node_found n o here f (renew u x) is h = absurd (contains_nil f h)
+  node_found n o here f (keep u x) is h = absurd (contains_nil f h)
+  node_found n o here f (call_kept u x) is h = absurd (contains_nil f h)
+  node_found n o here f (defer_kept u x) is h = absurd (contains_nil f h)
+  node_found n o here f (give u x) is h = absurd (contains_nil f h)
+  node_found n o here f (give_field u) is h = absurd (contains_nil f h)
   node_found n o here f (call u) is h = absurd (contains_nil f h)
   node_found n o here f (defer_call u) is h = absurd (contains_nil f h)
   node_found n o here f (pass u c k) is h = absurd (contains_nil f h)
@@ -518,7 +571,18 @@ module _ (b : Paths) (cancels : Cancels) (groups : Groups) (pending_groups : Lis
       at_return it.0 o it.1 handed comes.is_return _
       (Contains-append_left (open_faults vs cancels it.0 o.at handed) _ _
       (gives_fault vs (found.returns_open cancels it.0 handed) o.at not_called at.0 v at.1
-      (and_from (owes_call v handed) (cancels at.0 it.0 opened) (is_owed v handed owes) it.2)))
+      (and_from (owes_call v handed) (is_open_there v.number handed (cancels at.0 it.0)) (is_owed v handed owes)
+      (or_left (cancels at.0 it.0 opened) (kept_test at.0 it.0 v handed) it.2))))
+  is_found _ (returns_kept v handed t o comes owes is not_handed) =
+      let at = place_of vs v owes.is_of_body in
+      let it = open_at_node at.0 v at.1 owes.is_cancel_variable t o comes.reaches kept is in
+      at_return it.0 o it.1 handed comes.is_return _
+      (Contains-append_left (open_faults vs cancels it.0 o.at handed) _ _
+      (gives_fault vs (found.returns_open cancels it.0 handed) o.at not_called at.0 v at.1
+      (and_from (owes_call v handed) (is_open_there v.number handed (cancels at.0 it.0)) (is_owed v handed owes)
+      (or_right (cancels at.0 it.0 opened) (kept_test at.0 it.0 v handed)
+      (and_from (cancels at.0 it.0 kept) (not (is_handed_kept v.number handed)) it.2
+      (not_from_false (is_handed_kept v.number handed) not_handed))))))
   is_found _ (returns_pending v handed t o comes owes left) =
       let at = place_of vs v owes.is_of_body in
       let it = left_at_node at.0 v at.1 owes.is_cancel_variable t o comes.reaches left in
@@ -531,9 +595,12 @@ module _ (b : Paths) (cancels : Cancels) (groups : Groups) (pending_groups : Lis
 
   -- Calls at returns
 
+  abbrev kept_or_left : ℕ → ℕ → Occurrence Event → Bool
+  kept_or_left i n o = cancels i n kept || is_left_to vs (cancels i n) (lives o.at o.order)
+
   pub keeps : (i : ℕ) (v : Variable) → slice_get vs i ≡ Some v → v.kind ≡ cancel
       → IsTrue (not (breaks_call vs cancels lives os i)) ↔ KeepsCall b v
-  keeps i v there kind = (λ e. kept (not-true (breaks_call vs cancels lives os i) e), called)
+  keeps i v there kind = (λ e. unbroken (not-true (breaks_call vs cancels lives os i) e), called)
     where
       breaks : (n : ℕ) (o : Occurrence Event) (handed : List Handed) → slice_get os n ≡ Some o
           → o.event ≡ return_event handed → is_uncalled vs (cancels i n) (lives o.at o.order) ≡ true
@@ -542,16 +609,22 @@ module _ (b : Paths) (cancels : Cancels) (groups : Groups) (pending_groups : Lis
           any_at (λ n o. is_return o.event && is_uncalled vs (cancels i n) (lives o.at o.order)) os n o here
           (and_from (is_return o.event) (is_uncalled vs (cancels i n) (lives o.at o.order)) (ap is_return returns) e)
 
-      kept : breaks_call vs cancels lives os i ≡ false → KeepsCall b v
-      kept e = record {
+      unbroken : breaks_call vs cancels lives os i ≡ false → KeepsCall b v
+      unbroken e = record {
         never_open = λ handed t o comes is.
             let it = open_at_node i v there kind t o comes.reaches opened is in
             true≢false (sym (breaks it.0 o handed it.1 comes.is_return
-            (or_left (cancels i it.0 opened) (is_left_to vs (cancels i it.0) (lives o.at o.order)) it.2)) ∙ e);
+            (or_left (cancels i it.0 opened) (kept_or_left i it.0 o) it.2)) ∙ e);
+        never_kept = λ handed t o comes is.
+            let it = open_at_node i v there kind t o comes.reaches kept is in
+            true≢false (sym (breaks it.0 o handed it.1 comes.is_return
+            (or_right (cancels i it.0 opened) (kept_or_left i it.0 o)
+            (or_left (cancels i it.0 kept) (is_left_to vs (cancels i it.0) (lives o.at o.order)) it.2))) ∙ e);
         never_left = λ handed t o comes left.
             let it = left_at_node i v there kind t o comes.reaches left in
             true≢false (sym (breaks it.0 o handed it.1 comes.is_return
-            (or_right (cancels i it.0 opened) (is_left_to vs (cancels i it.0) (lives o.at o.order)) it.2)) ∙ e);
+            (or_right (cancels i it.0 opened) (kept_or_left i it.0 o)
+            (or_right (cancels i it.0 kept) (is_left_to vs (cancels i it.0) (lives o.at o.order)) it.2))) ∙ e);
       }
 
       uncalled : KeepsCall b v → breaks_call vs cancels lives os i ≡ true → ⊥
@@ -560,13 +633,21 @@ module _ (b : Paths) (cancels : Cancels) (groups : Groups) (pending_groups : Lis
           let o = w.element in
           let parts = and_parts (is_return o.event) (is_uncalled vs (cancels i w.place) (lives o.at o.order)) w.passes in
           let returns = return_of o.event parts.0 in
-          elim (or_cases (cancels i w.place opened) (is_left_to vs (cancels i w.place) (lives o.at o.order)) parts.1) [
+          elim (or_cases (cancels i w.place opened) (kept_or_left i w.place o) parts.1) [
             | inl is ↦
                 let it = (tells.of_cancel i v there kind).found w.place o opened w.is_there is in
                 keeps.never_open returns.0 it.before o (record { reaches = it.reaches; is_return = returns.1 }) it.is_class
-            | inr left ↦
-                let it = left_before w.place o w.is_there i v there kind left in
-                keeps.never_left returns.0 it.before o (record { reaches = it.reaches; is_return = returns.1 }) it.is_left
+            | inr more ↦
+                elim (or_cases (cancels i w.place kept) (is_left_to vs (cancels i w.place) (lives o.at o.order)) more) [
+                  | inl is ↦
+                      let it = (tells.of_cancel i v there kind).found w.place o kept w.is_there is in
+                      keeps.never_kept returns.0 it.before o (record { reaches = it.reaches; is_return = returns.1 })
+                      it.is_class
+                  | inr left ↦
+                      let it = left_before w.place o w.is_there i v there kind left in
+                      keeps.never_left returns.0 it.before o (record { reaches = it.reaches; is_return = returns.1 })
+                      it.is_left
+                ]
           ]
 
       called : KeepsCall b v → IsTrue (not (breaks_call vs cancels lives os i))

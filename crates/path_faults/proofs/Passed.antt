@@ -3,9 +3,8 @@ use Rattle.std.proofs.Common.{◌≡◌, ◌↔◌, ◌==◌, ℕ, Bool, true, f
 use Rattle.std.proofs.lemmas.Bool.{and_parts, and_from}
 use Rattle.std.proofs.lemmas.List.Elements.{Contains-append_left, Contains-append_right, Contains-append_cases}
 use Rattle.meaning.proofs.Membership.{contains_nil, contains_here, contains_there, contains_cases}
-use Rattle.tree.specs.declared.edition.Edition.{Edition}
 use Rattle.tree.specs.declared.edition.Edition.TheVariants.{First, Second}
-use Rattle.meaning.specs.Uses.{VariableAt, Event, other, obtain, clear, call, defer_call, pass, defer_pass, lend, start, try, wait, defer_wait, make, defer_literal, return_event, is_cancel}
+use Rattle.meaning.specs.Uses.{VariableAt, Event, other, obtain, obtain_kept, renew, keep, call_kept, defer_kept, give, give_field, clear, call, defer_call, pass, defer_pass, lend, start, try, wait, defer_wait, make, defer_literal, return_event, is_cancel}
 use Rattle.meaning.specs.BodyEvents.{Variable}
 use Rattle.meaning.specs.Classes.{Promises}
 use Rattle.events.specs.declared.told.SiteEvent.{SiteEvent}
@@ -107,6 +106,13 @@ module _ (vs : List Variable) (p : Promises) where
       let w = unless_parts (p.calls c k) u f h in record { it = u; is_pass = defers w.0; gives = w.1 }
   passing other f h = absurd (contains_nil f h)
   passing (obtain u c k d) f h = absurd (contains_nil f h)
+  passing (obtain_kept u c k x) f h = absurd (contains_nil f h)
+  passing (renew u x) f h = absurd (contains_nil f h)
+  passing (keep u x) f h = absurd (contains_nil f h)
+  passing (call_kept u x) f h = absurd (contains_nil f h)
+  passing (defer_kept u x) f h = absurd (contains_nil f h)
+  passing (give u x) f h = absurd (contains_nil f h)
+  passing (give_field u) f h = absurd (contains_nil f h)
   passing (clear u) f h = absurd (contains_nil f h)
   passing (call u) f h = absurd (contains_nil f h)
   passing (defer_call u) f h = absurd (contains_nil f h)

@@ -6,10 +6,10 @@ use Rattle.std.specs.List.{list_any}
 use Rattle.meaning.specs.Code.{Occurrence}
 use Rattle.meaning.specs.FunctionFacts.{VariableKind, cancel, group}
 use Rattle.meaning.specs.Tracked.{live}
-use Rattle.meaning.specs.Uses.{VariableAt, Handed, Event, obtain, clear, pass, defer_pass, make, return_event, is_cancel, is_group}
+use Rattle.meaning.specs.Uses.{VariableAt, Handed, Event, obtain, obtain_kept, clear, pass, defer_pass, make, return_event, is_cancel, is_group}
 use Rattle.meaning.specs.BodyEvents.{Variable}
-use Rattle.meaning.specs.Classes.{Promises, CancelClass, unset, opened, pending, GroupClass, in_state}
-use Rattle.meaning_packages.specs.PathFaults.{PathCode, overwritten, not_called, group_is_live, group_overwritten, left_to_live_group, passed_on, PathFault, is_declared, makes_it, is_handed}
+use Rattle.meaning.specs.Classes.{Promises, CancelClass, unset, opened, kept, pending, GroupClass, in_state}
+use Rattle.meaning_packages.specs.PathFaults.{PathCode, overwritten, not_called, group_is_live, group_overwritten, left_to_live_group, passed_on, PathFault, is_declared, makes_it, is_handed, is_handed_kept}
 
 -- what each element of a list gives, with its place, where the first has the place n
 abbrev pub each_from : {A B : Type 0} → (ℕ → A → List B) → ℕ → List A → List B
@@ -44,6 +44,7 @@ pub data Deed : Type 0 where
 
 abbrev pub deed_of : Event → Deed
 deed_of (obtain u f k is_declared) = binds u
+deed_of (obtain_kept u f k x) = binds u
 deed_of (clear u) = binds u
 deed_of (make u state) = makes u
 deed_of (return_event handed) = returns handed
@@ -66,7 +67,7 @@ abbrev pub is_left_outside : List Variable → (CancelClass → Bool) → List �
 is_left_outside vs has = list_any (λ g. has (pending g) && not (makes_it vs g))
 
 abbrev pub may_be_lost : List Variable → (CancelClass → Bool) → List ℕ → Bool
-may_be_lost vs has pending_groups = has opened || is_left_outside vs has pending_groups
+may_be_lost vs has pending_groups = has opened || (has kept || is_left_outside vs has pending_groups)
 
 abbrev pub loses_cancel : List Variable → Cancels → List ℕ → ℕ → ℕ → ℕ → Variable → Bool
 loses_cancel vs cancels pending_groups n number i v =
@@ -101,14 +102,19 @@ is_live_there vs groups nodes at order j = any_from (λ n o. is_live_at vs group
 abbrev pub is_left_to : List Variable → (CancelClass → Bool) → (ℕ → Bool) → Bool
 is_left_to vs has lives = any_from (λ j g. is_group (Some g.kind) && (has (pending g.number) && lives j)) 0 vs
 
+-- whatever a return hands on
 abbrev pub is_uncalled : List Variable → (CancelClass → Bool) → (ℕ → Bool) → Bool
-is_uncalled vs has lives = has opened || is_left_to vs has lives
+is_uncalled vs has lives = has opened || (has kept || is_left_to vs has lives)
+
+-- the variable of that number is open, or kept in an object that a return of these does not hand on
+abbrev pub is_open_there : ℕ → List Handed → (CancelClass → Bool) → Bool
+is_open_there number handed has = has opened || (has kept && not (is_handed_kept number handed))
 
 abbrev pub owes_call : Variable → List Handed → Bool
 owes_call v handed = is_cancel (Some v.kind) && (is_declared v.role && not (is_handed v.number handed))
 
 abbrev pub returns_open : Cancels → ℕ → List Handed → ℕ → Variable → Bool
-returns_open cancels n handed i v = owes_call v handed && cancels i n opened
+returns_open cancels n handed i v = owes_call v handed && is_open_there v.number handed (cancels i n)
 
 abbrev pub open_faults : List Variable → Cancels → ℕ → ℕ → List Handed → List PathFault
 open_faults vs cancels n at handed =
@@ -120,6 +126,11 @@ returns_left vs cancels lives n handed i v = owes_call v handed && is_left_to vs
 abbrev pub left_faults : List Variable → Cancels → (ℕ → Bool) → ℕ → ℕ → List Handed → List PathFault
 left_faults vs cancels lives n at handed =
     each_from (fault_of (returns_left vs cancels lives n handed) at left_to_live_group) 0 vs
+
+-- one or the other
+abbrev pub returns_uncalled : List Variable → Cancels → (ℕ → Bool) → ℕ → List Handed → ℕ → Variable → Bool
+returns_uncalled vs cancels lives n handed i v =
+    owes_call v handed && (is_open_there v.number handed (cancels i n) || is_left_to vs (cancels i n) lives)
 
 abbrev pub returns_live : Groups → ℕ → ℕ → Variable → Bool
 returns_live groups n i g = is_declared g.role && is_live_group g (groups i n)
@@ -142,7 +153,7 @@ is_fault vs cancels groups pending_groups lives n nothing i v = false
 is_fault vs cancels groups pending_groups lives n (binds u) i v = loses_cancel vs cancels pending_groups n u.number i v
 is_fault vs cancels groups pending_groups lives n (makes u) i v = loses_group groups n u.number i v
 is_fault vs cancels groups pending_groups lives n (returns handed) i v =
-    (owes_call v handed && is_uncalled vs (cancels i n) lives) || returns_live groups n i v
+    returns_uncalled vs cancels lives n handed i v || returns_live groups n i v
 
 -- the same with places and codes, of all variables
 abbrev pub deed_faults
@@ -173,7 +184,7 @@ breaks_call vs cancels lives nodes i =
 
 abbrev pub is_unsettled : (CancelClass → Bool) → (GroupClass → Bool) → List ℕ → VariableKind → Bool
 is_unsettled cancels groups pending_groups cancel =
-    cancels unset || (cancels opened || list_any (λ g. cancels (pending g)) pending_groups)
+    cancels unset || (cancels opened || (cancels kept || list_any (λ g. cancels (pending g)) pending_groups))
 is_unsettled cancels groups pending_groups group = groups (in_state live)
 
 -- the variable of the place i and of that kind may be unsettled at some return

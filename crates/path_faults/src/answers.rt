@@ -18,11 +18,10 @@ use crate::at_node::AtNode;
 use crate::deeds::is_return;
 use crate::live::{LiveGroups, live_groups};
 use crate::returns::is_uncalled;
-use bodies::NodeEvent;
+use bodies::{Arrivals, CancelClass, GroupClass, NodeEvent};
 use events::Variable;
 use facts::VariableKind;
 use flow::{Graph, NodePlace};
-use states::{Arrivals, CancelClass, GroupClass};
 use std::alloc::{AllocError, Global};
 use tracked_rows::GroupState;
 
@@ -57,7 +56,7 @@ fn breaks_call<'a, A: Arrivals>(
 }
 
 /// Whether the cancel variable at that place in the list has been called at each return that a list of the body's
-/// events comes to: it is neither open there, nor pending in a group that may be live there.
+/// events comes to: it is neither open there, nor kept in an object, nor pending in a group that may be live there.
 ///
 /// # Errors
 ///
@@ -102,6 +101,7 @@ fn is_unsettled<A: Arrivals>(arrivals: &A, node: usize, variable: usize, kind: V
         VariableKind::Cancel => {
             arrivals.has_cancel(variable, node, CancelClass::Unset)
                 || arrivals.has_cancel(variable, node, CancelClass::Opened)
+                || arrivals.has_cancel(variable, node, CancelClass::Kept)
                 || is_pending(arrivals, node, variable)
         }
         VariableKind::Group => {

@@ -9,7 +9,7 @@ ghost use Rattle.events.specs.VariableViews.{variable_view};
 use crate::at_node::AtNode;
 use crate::fault::{PathCode, PathFault, add_if};
 use crate::losses::{loses_cancel, loses_group};
-use states::Arrivals;
+use bodies::Arrivals;
 use std::alloc::AllocError;
 use tracked_rows::VariableAt;
 

@@ -8,13 +8,11 @@ ghost use Rattle.path_faults.specs.FoundFaults.{deed_of, is_return_deed, is_retu
 ghost use Rattle.tracked_rows.specs.EventViews.{event_view};
 
 use crate::at_node::AtNode;
-use crate::kinds::owes_call;
 use crate::live::Lives;
 use crate::losses::{loses_cancel, loses_group};
-use crate::returns::{is_uncalled, returns_live};
-use bodies::NodeEvent;
+use crate::returns::{returns_live, returns_uncalled};
+use bodies::{Arrivals, NodeEvent};
 use events::Variable;
-use states::Arrivals;
 use tracked_rows::{Event, Handed, VariableAt};
 
 /// What a node does of which a class of a variable may be a fault.
@@ -34,10 +32,18 @@ fn deed_of_event<'e>(event: &'e Event<'_>) -> Deed<'e>
     ensures { deed_view result ≡ deed_of (event_view event.now) }
 {
     match event {
-        Event::Obtain { variable, .. } | Event::Clear { variable } => Deed::Binds(*variable),
+        Event::Obtain { variable, .. }
+        | Event::ObtainKept { variable, .. }
+        | Event::Clear { variable } => Deed::Binds(*variable),
         Event::Make { variable, .. } => Deed::Makes(*variable),
         Event::Return { handed } => Deed::Returns(handed),
-        Event::Call { .. }
+        Event::Renew { .. }
+        | Event::Keep { .. }
+        | Event::CallKept { .. }
+        | Event::DeferKept { .. }
+        | Event::Give { .. }
+        | Event::GiveField { .. }
+        | Event::Call { .. }
         | Event::DeferCall { .. }
         | Event::Pass { .. }
         | Event::DeferPass { .. }
@@ -95,7 +101,7 @@ pub fn is_fault<'a, A: Arrivals, L: Lives>(
         Deed::Binds(bound) => loses_cancel(at, bound.number, place, variable),
         Deed::Makes(made) => loses_group(at, made.number, place, variable),
         Deed::Returns(handed) => {
-            owes_call(variable, handed) && is_uncalled(at, place)
+            returns_uncalled(at, handed, place, variable)
                 || returns_live(at.arrivals, at.node.node, place, variable)
         }
     }

@@ -2,7 +2,7 @@
 
 ghost use Rattle.std.specs.Prelude.{◌≡◌, map};
 ghost use Rattle.tracked_rows.specs.EventViews.{handed_view};
-ghost use Rattle.meaning_packages.specs.PathFaults.{is_declared, is_handed, makes_it};
+ghost use Rattle.meaning_packages.specs.PathFaults.{is_declared, is_handed, is_handed_kept, makes_it};
 ghost use Rattle.path_faults.specs.FoundFaults.{owes_call};
 ghost use Rattle.events.specs.VariableViews.{variable_role_view, variable_view};
 
@@ -31,9 +31,21 @@ pub fn makes_it(variables: &[Variable<'_>], group: u32) -> bool
     false
 }
 
-/// Whether a return hands on the variable of that number.
+/// Whether a return hands on the variable of that number, whatever is known of it.
 pub fn is_handed(number: u32, handed: &[Handed]) -> bool
     ensures { result ≡ is_handed number (map handed_view handed.now) }
+{
+    for item in handed {
+        if item.number == number && item.object.is_none() {
+            return true;
+        }
+    }
+    false
+}
+
+/// Whether a return hands on the variable of that number where it is kept in an object.
+pub fn is_handed_kept(number: u32, handed: &[Handed]) -> bool
+    ensures { result ≡ is_handed_kept number (map handed_view handed.now) }
 {
     for item in handed {
         if item.number == number {

@@ -8,11 +8,10 @@ ghost use Rattle.events.specs.VariableViews.{variable_view};
 ghost use Rattle.flow.specs.declared.order.NodePlace;
 
 use crate::losses::is_live_group;
-use bodies::NodeEvent;
+use bodies::{Arrivals, NodeEvent};
 use events::Variable;
 use flow::{Graph, NodePlace};
 use indexmap::IndexSet;
-use states::Arrivals;
 use std::alloc::{AllocError, Global};
 
 /// Which groups may be live at nodes.

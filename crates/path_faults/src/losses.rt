@@ -6,8 +6,8 @@ ghost use Rattle.events.specs.VariableViews.{variable_view};
 
 use crate::at_node::AtNode;
 use crate::kinds::makes_it;
+use bodies::{Arrivals, CancelClass, GroupClass};
 use events::Variable;
-use states::{Arrivals, CancelClass, GroupClass};
 use tracked_rows::GroupState;
 
 /// Whether the cancel variable may be pending in a group that the body does not make, where the node comes next.
@@ -41,6 +41,7 @@ fn may_be_lost<A: Arrivals>(
         (A.pending_groups arrivals.now) }
 {
     arrivals.has_cancel(variable, node, CancelClass::Opened)
+        || arrivals.has_cancel(variable, node, CancelClass::Kept)
         || is_left_outside(variables, arrivals, variable, node)
 }
 

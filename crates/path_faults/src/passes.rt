@@ -12,8 +12,8 @@ ghost use Rattle.events.specs.VariableViews.{variable_view};
 ghost use Rattle.tree.specs.declared.edition.Edition.TheVariants.{First};
 
 use crate::fault::{PathCode, PathFault, add_if};
+use bodies::Promises;
 use events::{Told, Variable};
-use states::Promises;
 use std::alloc::{AllocError, Global};
 use tracked_rows::{Event, VariableAt};
 use tree::Edition;
@@ -79,6 +79,13 @@ fn add_passing<'a, P: Promises>(
             )
         }
         Event::Obtain { .. }
+        | Event::ObtainKept { .. }
+        | Event::Renew { .. }
+        | Event::Keep { .. }
+        | Event::CallKept { .. }
+        | Event::DeferKept { .. }
+        | Event::Give { .. }
+        | Event::GiveField { .. }
         | Event::Clear { .. }
         | Event::Call { .. }
         | Event::DeferCall { .. }

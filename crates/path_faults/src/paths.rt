@@ -15,10 +15,9 @@ use crate::deeds::{Deed, deed_of};
 use crate::fault::PathFault;
 use crate::live::{LiveGroups, Lives, live_groups};
 use crate::returns::add_return;
-use bodies::NodeEvent;
+use bodies::{Arrivals, NodeEvent};
 use events::Variable;
 use flow::{Graph, NodePlace};
-use states::Arrivals;
 use std::alloc::{AllocError, Global};
 
 /// Adds the faults of what a node does.

@@ -3,16 +3,16 @@
 ghost use Rattle.std.specs.Prelude.{◌≡◌, OnOk, map};
 ghost use Rattle.tracked_rows.specs.EventViews.{handed_view};
 ghost use Rattle.path_faults.specs.FaultViews.{AddsFaults};
-ghost use Rattle.path_faults.specs.FoundFaults.{is_left_to, is_uncalled, returns_open, open_faults, returns_left, left_faults, returns_live, live_faults, return_faults};
+ghost use Rattle.path_faults.specs.FoundFaults.{is_left_to, is_uncalled, is_open_there, returns_open, open_faults, returns_left, left_faults, returns_uncalled, returns_live, live_faults, return_faults};
 ghost use Rattle.events.specs.VariableViews.{variable_view};
 
 use crate::at_node::AtNode;
 use crate::fault::{PathCode, PathFault, add_if};
-use crate::kinds::{is_declared, owes_call};
+use crate::kinds::{is_declared, is_handed_kept, owes_call};
 use crate::live::Lives;
 use crate::losses::is_live_group;
+use bodies::{Arrivals, CancelClass};
 use events::Variable;
-use states::{Arrivals, CancelClass};
 use std::alloc::AllocError;
 use tracked_rows::Handed;
 
@@ -35,7 +35,8 @@ pub fn is_left_to<A: Arrivals, L: Lives>(at: &AtNode<'_, '_, A, L>, place: usize
     false
 }
 
-/// Whether the cancel variable at that place in the list may be open at the node, or left there to a live group.
+/// Whether the cancel variable at that place in the list may be open at the node, or kept in an object, or left there
+/// to a live group, whatever a return hands on.
 pub fn is_uncalled<A: Arrivals, L: Lives>(at: &AtNode<'_, '_, A, L>, variable: usize) -> bool
     ensures { result ≡ is_uncalled (map variable_view at.now.variables.now)
         (A.cancels at.now.arrivals.now variable at.now.node.node)
@@ -43,10 +44,33 @@ pub fn is_uncalled<A: Arrivals, L: Lives>(at: &AtNode<'_, '_, A, L>, variable: u
 {
     at.arrivals
         .has_cancel(variable, at.node.node, CancelClass::Opened)
+        || at
+            .arrivals
+            .has_cancel(variable, at.node.node, CancelClass::Kept)
         || is_left_to(at, variable)
 }
 
-/// Whether the variable at that place in the list is a cancel variable that is owed at a return, and may be open there.
+/// Whether the cancel variable of that number, at that place in the list, may be open at the node, or kept in an object
+/// that a return of these does not hand on.
+fn is_open_there<A: Arrivals, L>(
+    at: &AtNode<'_, '_, A, L>,
+    handed: &[Handed],
+    place: usize,
+    number: u32,
+) -> bool
+    ensures { result ≡ is_open_there number (map handed_view handed.now)
+        (A.cancels at.now.arrivals.now place at.now.node.node) }
+{
+    at.arrivals
+        .has_cancel(place, at.node.node, CancelClass::Opened)
+        || (at
+            .arrivals
+            .has_cancel(place, at.node.node, CancelClass::Kept)
+            && !is_handed_kept(number, handed))
+}
+
+/// Whether the variable at that place in the list is a cancel variable that is owed at a return, and may be open there,
+/// or kept in an object that is not handed on.
 fn returns_open<'a, A: Arrivals, L>(
     at: &AtNode<'_, 'a, A, L>,
     handed: &[Handed],
@@ -56,10 +80,7 @@ fn returns_open<'a, A: Arrivals, L>(
     ensures { result ≡ returns_open (A.cancels at.now.arrivals.now) at.now.node.node (map handed_view handed.now) place
         (variable_view variable.entry) }
 {
-    owes_call(variable, handed)
-        && at
-            .arrivals
-            .has_cancel(place, at.node.node, CancelClass::Opened)
+    owes_call(variable, handed) && is_open_there(at, handed, place, variable.number)
 }
 
 fn add_open<'a, A: Arrivals, L>(
@@ -120,6 +141,22 @@ fn add_left<'a, A: Arrivals, L: Lives>(
         )?;
     }
     Ok(())
+}
+
+/// Whether the variable at that place in the list is a cancel variable that is owed at a return, and may not have been
+/// called there.
+pub fn returns_uncalled<'a, A: Arrivals, L: Lives>(
+    at: &AtNode<'_, 'a, A, L>,
+    handed: &[Handed],
+    place: usize,
+    variable: Variable<'a>,
+) -> bool
+    ensures { result ≡ returns_uncalled (map variable_view at.now.variables.now) (A.cancels at.now.arrivals.now)
+        (L.lives at.now.live.now at.now.node) at.now.node.node (map handed_view handed.now) place
+        (variable_view variable.entry) }
+{
+    owes_call(variable, handed)
+        && (is_open_there(at, handed, place, variable.number) || is_left_to(at, place))
 }
 
 /// Whether the variable at that place in the list is a group that the body declares, and may be live at a return.

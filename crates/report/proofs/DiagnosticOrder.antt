@@ -1,20 +1,17 @@
 -- The diagnostics' own order is the order of their entries.
-use Rattle.std.proofs.Common.{◌≡◌, ◌⊎◌, ℕ, List, [], ◌∷◌, map, Contains, AllPairs, refl, sym, ap, ◌∙◌, subst, inl, inr, arith}
+use Rattle.std.proofs.Common.{◌≡◌, ◌⊎◌, ℕ, List, [], ◌∷◌, map, Contains, AllPairs, refl, sym, ap, ◌∙◌, inl, inr}
 use Rattle.std.specs.Ordering.{nat_cmp, ordering_then, eq_by_cmp}
 use Rattle.std.specs.List.{dedup}
-use Rattle.std.specs.List.Sorted.{IsStrictlySortedBy, IsPermutation, IsSorted}
+use Rattle.std.specs.List.Sorted.{IsPermutation, IsSorted}
 use Rattle.std.proofs.lemmas.Cmp.{ranked}
 use Rattle.std.proofs.lemmas.Bool.{and_parts, eqb-true}
-use Rattle.std.proofs.lemmas.List.Sorted.{Contains-permutation, IsPermutation-sym}
-use Rattle.std.proofs.lemmas.List.Kept.{AllPairs-cons, IsStrictlySortedBy-dedup, Any-dedup, Contains-from_dedup}
-use Rattle.std.proofs.lemmas.List.Elements.{All-map, All-weaker, All-from_recursion}
-use Rattle.report.proofs.Members.{contains_map, contains_unmap}
+use Rattle.report.proofs.Once.{once_in_order, once_there, once_from_there}
 use Rattle.std.specs.Prelude.{◌==◌, if◌then◌else◌}
 use Rattle.std.specs.declared.cmp.Ordering.TheVariants.{the_data as Ordering, Less, Equal, Greater}
 use Rattle.std.specs.Cmp.Lexicographic.{slice_cmp, on_texts, texts_ties, same_text}
 use Rattle.report.specs.contracts.diagnostics.DiagnosticOrd.TheImpl as diagnostic_ord
 use Rattle.report.specs.contracts.diagnostics.DiagnosticPartialEq.TheImpl as diagnostic_eq
-use Rattle.std.specs.Cmp.{IsTotalOrder, IsEquivalence, then_total, on_total, nat_cmp_total, unsigned_ties, both_tied, eq_by_cmp_equiv}
+use Rattle.std.specs.Cmp.{IsTotalOrder, then_total, on_total, nat_cmp_total, unsigned_ties, both_tied}
 use Rattle.std.proofs.Common.{true}
 use Rattle.report.specs.declared.codes.DiagnosticCode.{DiagnosticCode}
 use Rattle.report.specs.declared.codes.TextFault.TheVariants.{NotUtf8, Nul, UnclosedString, UnclosedComment, UnclosedRune, UnknownCharacter, TooLong}
@@ -37,9 +34,6 @@ diagnostic_total = on_total entry_of entry_total
 ties : (a b : Diagnostic) → (diagnostic_eq.ghosts).eq a b ≡ eq_by_cmp (diagnostic_ord.ghosts).cmp a b
 ties a b =
     both_tied _ _ _ _ (unsigned_ties a.file b.file) (both_tied _ _ _ _ (unsigned_ties a.offset b.offset) (both_tied _ _ _ _ (unsigned_ties (code_rank a.code) (code_rank b.code)) (texts_ties (a.name.now) (b.name.now))))
-
-diagnostic_equiv : IsEquivalence (diagnostic_eq.ghosts).eq
-diagnostic_equiv = subst IsEquivalence (λ i a b. sym (ties a b) i) (eq_by_cmp_equiv diagnostic_total)
 
 -- the code of a rank, so that no two codes have one rank
 abbrev code_at : ℕ → DiagnosticCode
@@ -100,7 +94,7 @@ then_less Less p e = inl refl
 then_less Equal p e = inr (refl, e)
 then_less Greater p e = cc
 
-text_precedes : (xs ys : List ℕ) → slice_cmp nat_cmp xs ys ≡ Less → TextPrecedes xs ys
+pub text_precedes : (xs ys : List ℕ) → slice_cmp nat_cmp xs ys ≡ Less → TextPrecedes xs ys
 text_precedes [] [] e = cc
 text_precedes [] (y ∷ ys) e = tt
 text_precedes (x ∷ xs) [] e = cc
@@ -127,26 +121,19 @@ precedes a b e =
           ]
     ]
 
-strictly : (xs : List Diagnostic) → IsStrictlySortedBy (diagnostic_ord.ghosts).cmp xs → AllPairs Precedes (map entry_of xs)
-unfolding IsStrictlySortedBy
-strictly [] h = λ i j d l k. absurd (omega (arith, k))
-strictly (x ∷ xs) h =
-    AllPairs-cons Precedes (entry_of x) (map entry_of xs) (All-map (Precedes (entry_of x)) entry_of xs (All-weaker (λ y. (diagnostic_ord.ghosts).cmp x y ≡ Less) (λ y. Precedes (entry_of x) (entry_of y)) (λ y. precedes (entry_of x) (entry_of y)) xs (All-from_recursion (λ y. (diagnostic_ord.ghosts).cmp x y ≡ Less) xs h.0))) (strictly xs h.1)
-
 -- sorted, and each entry once
 module _ (items sorted : List Diagnostic) (moved : IsPermutation items sorted) where
   pub once_sorted : IsSorted (diagnostic_ord.ghosts).cmp sorted → AllPairs Precedes (map entry_of (dedup (diagnostic_eq.ghosts).eq sorted))
-  once_sorted h = strictly _ (IsStrictlySortedBy-dedup diagnostic_total ties sorted h)
+  once_sorted h =
+      once_in_order entry_of (diagnostic_ord.ghosts).cmp (diagnostic_eq.ghosts).eq diagnostic_total ties Precedes
+      (λ a b. precedes (entry_of a) (entry_of b)) sorted h
 
   pub once_complete : (x : Entry) → Contains (map entry_of items) x → Contains (map entry_of (dedup (diagnostic_eq.ghosts).eq sorted)) x
-  once_complete x h =
-      let s = contains_unmap entry_of items x h in
-      let any = Any-dedup diagnostic_equiv sorted s.0 (Contains-permutation items sorted s.0 moved s.1) in
-      let kept = contains_map entry_of (dedup (diagnostic_eq.ghosts).eq sorted) any.1 (any.0, any.2, any.3) in
-      subst (λ l. Contains (map entry_of (dedup (diagnostic_eq.ghosts).eq sorted)) l) (sym (tied_entries s.0 any.1 any.4) ∙ s.2) kept
+  once_complete =
+      once_there entry_of (diagnostic_ord.ghosts).cmp (diagnostic_eq.ghosts).eq diagnostic_total ties tied_entries items
+      sorted moved
 
   pub once_sound : (x : Entry) → Contains (map entry_of (dedup (diagnostic_eq.ghosts).eq sorted)) x → Contains (map entry_of items) x
-  once_sound x h =
-      let s = contains_unmap entry_of (dedup (diagnostic_eq.ghosts).eq sorted) x h in
-      let g = Contains-permutation sorted items s.0 (IsPermutation-sym items sorted moved) (Contains-from_dedup (diagnostic_eq.ghosts).eq sorted s.0 s.1) in
-      subst (λ l. Contains (map entry_of items) l) s.2 (contains_map entry_of items s.0 g)
+  once_sound =
+      once_from_there entry_of (diagnostic_ord.ghosts).cmp (diagnostic_eq.ghosts).eq diagnostic_total ties items sorted
+      moved

@@ -1,3 +1,6 @@
 pub mod Members
+mod Once
 pub mod DiagnosticOrder
+mod NameOrder
 pub mod Fronts
+mod KeepingLines

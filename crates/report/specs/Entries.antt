@@ -1,5 +1,6 @@
 -- What diagnostics say, wherever their names are kept, and the order in which a report has them.
-use Rattle.std.specs.Prelude.{◌≡◌, ℕ, ◌<◌, ◌⊎◌, List, [], ◌∷◌}
+use Rattle.std.specs.Prelude.{◌≡◌, ℕ, ◌<◌, ◌⊎◌, List, [], ◌∷◌, map}
+use Rattle.std.specs.Borrow.{Bor}
 use Rattle.report.specs.declared.codes.DiagnosticCode.{DiagnosticCode}
 use Rattle.report.specs.declared.diagnostics.Diagnostic.{Diagnostic}
 use Rattle.report.specs.Codes.{code_rank}
@@ -13,6 +14,10 @@ pub record Entry : Type 0 where
 
 abbrev pub entry_of : Diagnostic → Entry
 entry_of d = record { file = d.file; offset = d.offset; code = d.code; name = d.name.now }
+
+-- names, wherever they are kept
+abbrev pub texts_of : List (Bor (List ℕ)) → List (List ℕ)
+texts_of = map (λ name. name.now)
 
 -- one text stands before another, byte by byte
 abbrev pub TextPrecedes : List ℕ → List ℕ → Type 0

@@ -1,8 +1,8 @@
 //! Findings, their order, and what is said of one package.
 
-ghost use Rattle.std.specs.Prelude.{◌≡◌, ◌↔◌, [], map, Contains, IsTrue};
+ghost use Rattle.std.specs.Prelude.{◌≡◌, ◌↔◌, ℕ, List, [], map, Contains, IsTrue};
 ghost use Rattle.std.specs.List.{AllPairs};
-ghost use Rattle.report.specs.Entries.{Entry, entry_of, Precedes};
+ghost use Rattle.report.specs.Entries.{Entry, entry_of, Precedes, texts_of, TextPrecedes};
 
 use crate::codes::DiagnosticCode;
 use lexer::Source;
@@ -29,11 +29,25 @@ pub fn in_order<'a>(diagnostics: Vec<Diagnostic<'a>>) -> Vec<Diagnostic<'a>>
     ordered
 }
 
+/// The names in the order of their bytes, each once.
+pub fn names_in_order<'a>(names: Vec<&'a str>) -> Vec<&'a str>
+    ensures sorted { AllPairs TextPrecedes (texts_of result.items) }
+    ensures same { (name : List ℕ)
+        → Contains (texts_of result.items) name ↔ Contains (texts_of names.entry.items) name }
+{
+    let mut each = names;
+    each.sort_unstable();
+    each.dedup();
+    each
+}
+
 /// What is said of the package of this import path, whose files are the sources.
 #[derive(Debug, Drop)]
 pub struct PackageReport<'a> {
     pub path: &'a str,
     pub sources: &'a [Source],
+    /// The fields in which it keeps cancel functions, which its verdict tells of.
+    pub keeping: Vec<&'a str>,
     pub diagnostics: Vec<Diagnostic<'a>>,
 }
 

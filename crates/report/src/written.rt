@@ -2,7 +2,8 @@
 
 ghost use Rattle.std.specs.Prelude.{◌≡◌, slice_get, flat_map};
 ghost use Rattle.lexer.specs.Place.{line_of, column_of};
-ghost use Rattle.report.specs.ReportText.{bytes_of, diagnostic_line, verdict_line, package_text, report_text};
+ghost use Rattle.report.specs.Entries.{texts_of};
+ghost use Rattle.report.specs.ReportText.{bytes_of, diagnostic_line, keeping_line, more_names, verdict_line, package_text, report_text};
 ghost use Rattle.report.specs.Writing.{refusals_after, IsWritten};
 
 use crate::cursors::{first_byte, moved};
@@ -12,10 +13,11 @@ use crate::pieces::put_pieces;
 use crate::sinks::{Sink, WriteFault};
 use lexer::{Place, Source};
 
-/// Writes the report's text: of each package a line for each diagnostic, `FILE:LINE:COLUMN: CODE NAME TEXT`, and then
-/// `yes PATH` or `no PATH`. Each line is ended by byte 10. Lines and columns count from 1, columns in bytes. A
-/// diagnostic of a file that is not among the package's sources stands at `-:1:1`, so that none is lost, and one past
-/// the end of its file at that end. Where the diagnostics are in their order, this reads each source but once.
+/// Writes the report's text: of each package a line for each diagnostic, `FILE:LINE:COLUMN: CODE NAME TEXT`, one line
+/// `keeping F, F: PATH` of the fields in which it keeps cancel functions, if there are some, and then `yes PATH` or
+/// `no PATH`. Each line is ended by byte 10. Lines and columns count from 1, columns in bytes. A diagnostic of a file
+/// that is not among the package's sources stands at `-:1:1`, so that none is lost, and one past the end of its file at
+/// that end. Where the diagnostics are in their order, this reads each source but once.
 ///
 /// # Errors
 ///
@@ -35,6 +37,7 @@ fn write_package<S: Sink>(report: &PackageReport, sink: &mut S) -> Result<(), Wr
     ensures refusals { S.refusals sink.new ≡ refusals_after (S.refusals sink.old) result }
 {
     write_lines(report.sources, &report.diagnostics, sink)?;
+    write_keeping(report.path, &report.keeping, sink)?;
     write_verdict(report, sink)
 }
 
@@ -92,6 +95,35 @@ fn write_line<'a, S: Sink>(
         ],
         sink,
     )
+}
+
+/// Writes the line of the fields in which the package of that path keeps cancel functions, if there are some.
+fn write_keeping<'a, S: Sink>(
+    path: &'a str,
+    fields: &'a [&'a str],
+    sink: &mut S,
+) -> Result<(), WriteFault>
+    ensures taken { IsWritten (keeping_line path.now (texts_of fields.now))
+        (S.taken sink.old) (S.taken sink.new) result }
+    ensures refusals { S.refusals sink.new ≡ refusals_after (S.refusals sink.old) result }
+{
+    let Some((first, more)) = fields.split_first() else {
+        return Ok(());
+    };
+    put_pieces(&[Text("keeping "), Text(*first)], sink)?;
+    write_more(more, sink)?;
+    put_pieces(&[Text(": "), Text(path), Text("\n")], sink)
+}
+
+/// Writes names behind another one.
+fn write_more<'a, S: Sink>(names: &'a [&'a str], sink: &mut S) -> Result<(), WriteFault>
+    ensures taken { IsWritten (more_names (texts_of names.now)) (S.taken sink.old) (S.taken sink.new) result }
+    ensures refusals { S.refusals sink.new ≡ refusals_after (S.refusals sink.old) result }
+{
+    for name in names {
+        put_pieces(&[Text(", "), Text(*name)], sink)?;
+    }
+    Ok(())
 }
 
 fn write_verdict<S: Sink>(report: &PackageReport, sink: &mut S) -> Result<(), WriteFault>

@@ -1,17 +1,18 @@
--- The text of a report in each form is that of the paths, the sources and the entries of its packages: nothing else that
--- is kept of a report changes it.
+-- The text of a report in each form is that of the paths, the sources, the fields that keep and the entries of its
+-- packages: nothing else that is kept of a report changes it.
 use Rattle.std.proofs.Common.{◌≡◌, ℕ, List, [], ◌∷◌, ◌++◌, map, flat_map, refl, ap, ◌∙◌, sym}
 use Rattle.std.specs.Prelude.{codes}
+use Rattle.std.specs.Borrow.{Bor}
 use Rattle.std.specs.List.{concat}
 use Rattle.serde_json.specs.Data.{Data, boolean, string}
 use Rattle.serde_json.specs.Written.{compact_text}
 use Rattle.lexer.specs.declared.source.Source.{Source}
 use Rattle.report.specs.declared.diagnostics.Diagnostic.{Diagnostic}
 use Rattle.report.specs.declared.diagnostics.PackageReport.{PackageReport}
-use Rattle.report.specs.Entries.{Entry, entry_of}
-use Rattle.report.specs.ReportText.{diagnostic_line, verdict_of, package_text}
+use Rattle.report.specs.Entries.{Entry, entry_of, texts_of}
+use Rattle.report.specs.ReportText.{diagnostic_line, keeping_line, verdict_of, package_text}
 use Rattle.report_formats.specs.Formats.{text_in}
-use Rattle.report_formats.specs.JsonText.{diagnostic_value, is_yes, package_value, report_value, json_text}
+use Rattle.report_formats.specs.JsonText.{diagnostic_value, is_yes, name_value, package_value, report_value, json_text}
 use Rattle.report_formats.specs.Objects.{object_of, list_of, whole}
 use Rattle.report_formats.specs.SarifCodes.{rule_codes}
 use Rattle.report_formats.specs.SarifText.{result_value, package_results, only, driver, run_value, log_value, sarif_text}
@@ -24,6 +25,7 @@ use Rattle.report_formats.specs.declared.formats.Format.TheVariants.{Text, Json,
 pub record SaysTheSame (one other : PackageReport) : Type 0 where
   pub path : one.path.now ≡ other.path.now
   pub sources : one.sources.now ≡ other.sources.now
+  pub keeping : texts_of one.keeping.items ≡ texts_of other.keeping.items
   pub entries : map entry_of one.diagnostics.items ≡ map entry_of other.diagnostics.items
 
 abbrev pub SayTheSame : List PackageReport → List PackageReport → Type 0
@@ -32,11 +34,28 @@ SayTheSame [] (s ∷ ss) = ⊥
 SayTheSame (r ∷ rs) [] = ⊥
 SayTheSame (r ∷ rs) (s ∷ ss) = SaysTheSame r s × SayTheSame rs ss
 
--- what is told of a package by its path, its sources and its entries alone
-module _ {X : Type 0} (told : PackageReport → X) (by : List ℕ → List Source → List Entry → X)
-    (is_by : (r : PackageReport) → told r ≡ by r.path.now r.sources.now (map entry_of r.diagnostics.items)) where
+-- what is kept of a report, wherever its names are kept
+pub record Kept : Type 0 where
+  pub path : List ℕ
+  pub sources : List Source
+  pub keeping : List (List ℕ)
+  pub entries : List Entry
+
+abbrev kept_of : PackageReport → Kept
+kept_of r = record {
+  path = r.path.now;
+  sources = r.sources.now;
+  keeping = texts_of r.keeping.items;
+  entries = map entry_of r.diagnostics.items;
+}
+
+-- what is told of a package by these alone
+module _ {X : Type 0} (told : PackageReport → X) (by : Kept → X) (is_by : (r : PackageReport) → told r ≡ by (kept_of r)) where
   same_one : (r s : PackageReport) → SaysTheSame r s → told r ≡ told s
-  same_one r s h = is_by r ∙ ((λ i. by (h.path i) (h.sources i) (h.entries i)) ∙ sym (is_by s))
+  same_one r s h =
+      let same : kept_of r ≡ kept_of s =
+      λ i. record { path = h.path i; sources = h.sources i; keeping = h.keeping i; entries = h.entries i } in
+      is_by r ∙ (ap by same ∙ sym (is_by s))
 
   same_of_each : (rs ss : List PackageReport) → SayTheSame rs ss → map told rs ≡ map told ss
   same_of_each [] [] h = refl
@@ -48,8 +67,8 @@ module _ {X : Type 0} (told : PackageReport → X) (by : List ℕ → List Sourc
       λ i. first i ∷ rest i
 
 -- the same where what is told of packages is joined
-module _ {Y : Type 0} (told : PackageReport → List Y) (by : List ℕ → List Source → List Entry → List Y)
-    (is_by : (r : PackageReport) → told r ≡ by r.path.now r.sources.now (map entry_of r.diagnostics.items)) where
+module _ {Y : Type 0} (told : PackageReport → List Y) (by : Kept → List Y)
+    (is_by : (r : PackageReport) → told r ≡ by (kept_of r)) where
   same_joined : (rs ss : List PackageReport) → SayTheSame rs ss → flat_map told rs ≡ flat_map told ss
   same_joined [] [] h = refl
   same_joined [] (s ∷ ss) h = absurd h
@@ -91,16 +110,19 @@ verdict_by : (ds : List Diagnostic) → verdict_of ds ≡ verdict_of (map diagno
 verdict_by [] = refl
 verdict_by (d ∷ ds) = refl
 
-abbrev text_by : List ℕ → List Source → List Entry → List ℕ
-text_by path sources xs =
-    flat_map (λ (x : Entry). diagnostic_line sources (diagnostic_of x)) xs
-    ++ concat (verdict_of (map diagnostic_of xs) ∷ codes " " ∷ path ∷ codes "\n" ∷ [])
+abbrev text_by : Kept → List ℕ
+text_by k =
+    flat_map (λ (x : Entry). diagnostic_line k.sources (diagnostic_of x)) k.entries
+    ++ (keeping_line k.path k.keeping
+    ++ concat (verdict_of (map diagnostic_of k.entries) ∷ codes " " ∷ k.path ∷ codes "\n" ∷ []))
 
-package_by : (r : PackageReport) → package_text r ≡ text_by r.path.now r.sources.now (map entry_of r.diagnostics.items)
+package_by : (r : PackageReport) → package_text r ≡ text_by (kept_of r)
 package_by r =
     let lines = lines_by r.sources.now r.diagnostics.items in
     let verdict = verdict_by r.diagnostics.items in
-    λ i. lines i ++ concat (verdict i ∷ codes " " ∷ r.path.now ∷ codes "\n" ∷ [])
+    λ i. lines i
+    ++ (keeping_line r.path.now (texts_of r.keeping.items)
+    ++ concat (verdict i ∷ codes " " ∷ r.path.now ∷ codes "\n" ∷ []))
 
 -- As JSON
 
@@ -108,23 +130,29 @@ yes_by : (ds : List Diagnostic) → is_yes ds ≡ is_yes (map diagnostic_of (map
 yes_by [] = refl
 yes_by (d ∷ ds) = refl
 
-abbrev value_by : List ℕ → List Source → List Entry → Data
-value_by path sources xs = object_of (
-    (codes "path", string path)
-    ∷ (codes "yes", boolean (is_yes (map diagnostic_of xs)))
-    ∷ (codes "keeping", list_of [])
-    ∷ (codes "diagnostics", list_of (map (λ (x : Entry). diagnostic_value sources (diagnostic_of x)) xs))
+names_by : (names : List (Bor (List ℕ))) → map name_value names ≡ map string (texts_of names)
+names_by [] = refl
+names_by (n ∷ ns) =
+    let rest = names_by ns in
+    λ i. string n.now ∷ rest i
+
+abbrev value_by : Kept → Data
+value_by k = object_of (
+    (codes "path", string k.path)
+    ∷ (codes "yes", boolean (is_yes (map diagnostic_of k.entries)))
+    ∷ (codes "keeping", list_of (map string k.keeping))
+    ∷ (codes "diagnostics", list_of (map (λ (x : Entry). diagnostic_value k.sources (diagnostic_of x)) k.entries))
     ∷ [])
 
-package_value_by : (r : PackageReport)
-    → package_value r ≡ value_by r.path.now r.sources.now (map entry_of r.diagnostics.items)
+package_value_by : (r : PackageReport) → package_value r ≡ value_by (kept_of r)
 package_value_by r =
     let yes = yes_by r.diagnostics.items in
+    let names = names_by r.keeping.items in
     let values = of_entries (diagnostic_value r.sources.now) (λ d. refl) r.diagnostics.items in
     λ i. object_of (
     (codes "path", string r.path.now)
     ∷ (codes "yes", boolean (yes i))
-    ∷ (codes "keeping", list_of [])
+    ∷ (codes "keeping", list_of (names i))
     ∷ (codes "diagnostics", list_of (values i))
     ∷ [])
 
@@ -137,11 +165,10 @@ same_json rs ss h =
 
 -- As SARIF
 
-abbrev results_by : List ℕ → List Source → List Entry → List Data
-results_by path sources xs = map (λ (x : Entry). result_value sources (diagnostic_of x)) xs
+abbrev results_by : Kept → List Data
+results_by k = map (λ (x : Entry). result_value k.sources (diagnostic_of x)) k.entries
 
-package_results_by : (r : PackageReport)
-    → package_results r ≡ results_by r.path.now r.sources.now (map entry_of r.diagnostics.items)
+package_results_by : (r : PackageReport) → package_results r ≡ results_by (kept_of r)
 package_results_by r = of_entries (result_value r.sources.now) (λ d. refl) r.diagnostics.items
 
 same_run : (rs ss : List PackageReport) → SayTheSame rs ss → run_value rule_codes rs ≡ run_value rule_codes ss

@@ -1,6 +1,7 @@
 -- The text of a report as JSON (RFC 8259): one object, and a newline. What the text of an object is, with the escapes
 -- in its strings, is what `serde_json` writes for it (`compact_text`).
 use Rattle.std.specs.Prelude.{ℕ, List, [], ◌∷◌, ◌++◌, Bool, true, false, Option, slice_get, map, codes}
+use Rattle.std.specs.Borrow.{Bor}
 use Rattle.serde_json.specs.Data.{Data, boolean, string}
 use Rattle.serde_json.specs.Written.{compact_text}
 use Rattle.lexer.specs.declared.source.Source.{Source}
@@ -31,12 +32,16 @@ abbrev pub is_yes : List Diagnostic → Bool
 is_yes [] = true
 is_yes (d ∷ ds) = false
 
--- one package; what it keeps is not told yet
+-- the name of a field in which a package keeps cancel functions
+abbrev pub name_value : Bor (List ℕ) → Data
+name_value name = string name.now
+
+-- one package
 abbrev pub package_value : PackageReport → Data
 package_value r = object_of (
     (codes "path", string r.path.now)
     ∷ (codes "yes", boolean (is_yes r.diagnostics.items))
-    ∷ (codes "keeping", list_of [])
+    ∷ (codes "keeping", list_of (map name_value r.keeping.items))
     ∷ (codes "diagnostics", list_of (map (diagnostic_value r.sources.now) r.diagnostics.items))
     ∷ [])
 

@@ -1,12 +1,12 @@
 //! A report as JSON.
 
 ghost use Rattle.std.specs.Prelude.{◌≡◌, ◌++◌, false, slice_get, map};
-ghost use Rattle.serde_json.specs.Data.{boolean};
+ghost use Rattle.serde_json.specs.Data.{boolean, string};
 ghost use Rattle.serde_json.specs.Written.{comma_if, compact_text};
 ghost use Rattle.lexer.specs.Place.{line_of, column_of};
 ghost use Rattle.report.specs.ReportText.{bytes_of};
 ghost use Rattle.report.specs.Writing.{refusals_after, IsWritten};
-ghost use Rattle.report_formats.specs.JsonText.{diagnostic_value, is_yes, package_value, json_text};
+ghost use Rattle.report_formats.specs.JsonText.{diagnostic_value, is_yes, name_value, package_value, json_text};
 ghost use Rattle.report_formats.specs.Pieces.{listed};
 
 use crate::pieces::FormatPiece::{Number, Plain, Spelled};
@@ -59,10 +59,12 @@ fn write_package<S: Sink>(
             Spelled(InString, report.path),
             Plain("\",\"yes\":"),
             Plain(verdict(report)),
-            Plain(",\"keeping\":[],\"diagnostics\":["),
+            Plain(",\"keeping\":["),
         ],
         sink,
     )?;
+    write_names(&report.keeping, sink)?;
+    put_all(b"],\"diagnostics\":[", sink)?;
     write_diagnostics(report.sources, &report.diagnostics, sink)?;
     put_all(b"]}", sink)
 }
@@ -71,6 +73,35 @@ fn verdict(report: &PackageReport) -> &'static str
     ensures { result.now ≡ compact_text (boolean (is_yes report.now.diagnostics.items)) }
 {
     if report.is_yes() { "true" } else { "false" }
+}
+
+fn write_names<S: Sink>(names: &[&str], sink: &mut S) -> Result<(), WriteFault>
+    ensures taken { IsWritten (listed false (map name_value names.now))
+        (S.taken sink.old) (S.taken sink.new) result }
+    ensures refusals { S.refusals sink.new ≡ refusals_after (S.refusals sink.old) result }
+{
+    let mut is_later = false;
+    for name in names {
+        write_name(name, is_later, sink)?;
+        is_later = true;
+    }
+    Ok(())
+}
+
+fn write_name<S: Sink>(name: &str, is_later: bool, sink: &mut S) -> Result<(), WriteFault>
+    ensures taken { IsWritten (comma_if is_later ++ compact_text (string name.now))
+        (S.taken sink.old) (S.taken sink.new) result }
+    ensures refusals { S.refusals sink.new ≡ refusals_after (S.refusals sink.old) result }
+{
+    put_each(
+        &[
+            Plain(comma(is_later)),
+            Plain("\""),
+            Spelled(InString, name),
+            Plain("\""),
+        ],
+        sink,
+    )
 }
 
 fn write_diagnostics<S: Sink>(

@@ -5,16 +5,23 @@ use Rattle.lexer.specs.declared.token.Token.{Token}
 use Rattle.tree.specs.declared.edition.Edition.{Edition}
 use Rattle.tree.specs.declared.operator.DeclKeyword.{DeclKeyword}
 use Rattle.tree.specs.Syntax.{Identifier, Parameters, Specs, no_spec, value_and, type_and, declaration_of, Block, Function, TopLevelDeclaration, function_declaration, general_declaration, ImportSpec, ImportDeclaration, SourceFile}
-use Rattle.meaning.specs.Mentions.{part_of, expressions_marks, receiver_marks, type_parameters_marks, function_body, function_marks, outer_specs_marks, top_level_marks, top_levels_marks, file_marks}
+use Rattle.meaning.specs.Mentions.{of_fields, imports_all, part_of, expressions_marks, receiver_marks, type_parameters_marks, function_body, function_marks, outer_specs_marks, top_level_marks, top_levels_marks, is_dot, import_marks, file_marks}
+use Rattle.meaning.specs.OuterBlocks.{specs_of}
 use Rattle.meaning.specs.Scopes.{parameters_named, named_in_types}
 use Rattle.meaning.specs.Cursor.{read_in}
 use Rattle.meaning.specs.TreeOfText.{first_place}
 use Rattle.meaning.specs.Grammar.{as_type, as_expression, IsSecond, IsNoMethod, type_parameters, import_name, SpellsTypeParameters, SpellsSpecs, SpellsDeclaration, SpellsImportSpec, SpellsImportSpecs, SpellsOneImport, SpellsImports, SpellsReceiver, SpellsFunction, SpellsTopLevel, SpellsTopLevels, SpellsFile}
 use Rattle.silent_files.specs.NamedWords.{Lexed, ReceiverHasWords, NamesAreWords, LackedWordsAreNoNames}
 use Rattle.silent_files.proofs.NoMarks.{no_expressions, no_outer_specs}
-use Rattle.silent_files.proofs.WordRules.{IsInside, Says, Keeps, AllHaveWords, none_left, both_have, says_nothing, keeps_nothing, says_never, keeps_token, says_both, behind, ending, says_chosen, so, given, spanned, keeps_only_if, enclosed, keeps_string, keeps_semicolon, says_one, says_identifier, says_identifiers, both}
-use Rattle.silent_files.proofs.WordParts.{elsewhere_have, says_type_parameters, says_after_type_name, body_has, says_perhaps, says_expressions}
+use Rattle.silent_files.proofs.WordRules.{IsInside, Says, Keeps, AllHaveWords, none_left, one_has, both_have, says_nothing, keeps_nothing, says_never, keeps_token, says_both, behind, ending, says_chosen, so, given, spanned, keeps_only_if, enclosed, keeps_string, keeps_semicolon, says_one, says_identifier, says_identifiers, both}
+use Rattle.silent_files.proofs.WordParts.{either, elsewhere_have, says_type_parameters, says_after_type_name, body_has, says_perhaps, says_expressions}
 use Rattle.silent_files.proofs.WordsSpelled.{no_parameters_have, of_type_parameters, says_last, of_expression, of_each, of_optional, of_signature, of_items, of_statements}
+
+-- what imports say names nothing
+imports_have : {source : Lexed} (is : List ImportSpec) → AllHaveWords source (import_marks is)
+imports_have [] = none_left
+imports_have (i ∷ is) =
+    both_have (either (is_dot i.name) (one_has (of_fields i.span.start imports_all) tt) none_left) (imports_have is)
 
 module _ (source : Lexed) (edition : Edition) where
   receiver : (site : ℕ) (ps : Option Parameters)
@@ -109,7 +116,8 @@ module _ (source : Lexed) (edition : Edition) where
   whole_file : (file : SourceFile) → Says source (AllHaveWords source (file_marks file)) (SpellsFile (read_in edition source.text) file)
   whole_file file =
       spanned (behind (keeps_token _) (behind (says_identifier edition file.package_name) (behind keeps_semicolon
-      (behind (imports file.imports) (top_levels file.declarations)))))
+      (behind (imports file.imports)
+      (so (λ w. both_have (imports_have (specs_of file.imports)) w) (top_levels file.declarations))))))
 
 all_inside : (text : List ℕ) (tokens : List Token) → IsInside record { text = text; tokens = tokens } (first_place tokens)
 all_inside text tokens = record { end = inl refl; tokens = λ t among. among }

@@ -2,7 +2,7 @@
 use Rattle.std.proofs.Common.{◌≡◌, ℕ, List, [], ◌++◌, Option, refl, ap, ◌∙◌, append_assoc}
 use Rattle.tree.specs.declared.operator.DeclKeyword.{DeclKeyword}
 use Rattle.tree.specs.Syntax.{no_expression, OptionalExpression, missing_expression, present_expression, OptionalStatement, missing_statement, present_statement, Specs, no_spec, value_and, type_and}
-use Rattle.meaning.specs.Mentions.{Standing, Call, Mark, Spot, expressions_marks, optional_marks, arguments_marks, items_marks, ranged_marks, optional_statement_marks, specs_marks, outer_specs_marks}
+use Rattle.meaning.specs.Mentions.{Standing, CallPlace, Call, Mark, Spot, expressions_marks, optional_marks, arguments_marks, items_marks, ranged_marks, optional_statement_marks, specs_marks, outer_specs_marks}
 use Rattle.meaning.specs.Grammar.{IsLast}
 
 pub missing_gives_none : (site : ℕ) (e : OptionalExpression) → e ≡ missing_expression → optional_marks site e ≡ []
@@ -21,9 +21,9 @@ pub no_expressions : (spot : Spot) → expressions_marks spot no_expression ≡ 
 unfolding expressions_marks
 no_expressions spot = refl
 
-pub no_arguments : (c : Option Call) (site k : ℕ) → arguments_marks c site k no_expression ≡ []
+pub no_arguments : (place : CallPlace) (c : Option Call) (site k : ℕ) → arguments_marks place c site k no_expression ≡ []
 unfolding arguments_marks
-no_arguments c site k = refl
+no_arguments place c site k = refl
 
 pub no_items : (site k : ℕ) → items_marks site k no_expression ≡ []
 unfolding items_marks

@@ -1,8 +1,8 @@
 -- Where no use means `context` or `errgroup`, no named function gives, and no name is `recover`, nothing is to be
 -- found.
 use Rattle.std.proofs.Common.{◌≡◌, ℕ, zero, suc, ◌+◌, inl, inr, Bool, true, false, List, [], ◌∷◌, ◌++◌, map, Contains, Option, Some, None, refl, sym, ap, ◌∙◌, subst}
-use Rattle.std.specs.Prelude.{◌==◌, ◌&&◌, ◌||◌, if◌then◌else◌, is_some, option_map, flat_map, codes, length}
-use Rattle.std.specs.List.{list_any}
+use Rattle.std.specs.Prelude.{◌==◌, not, ◌&&◌, ◌||◌, if◌then◌else◌, is_some, option_map, flat_map, codes, length}
+use Rattle.std.specs.List.{list_any, filter}
 use Rattle.std.specs.Str.{bytes_eq}
 use Rattle.std.proofs.lemmas.Option.{same_Some}
 use Rattle.std.proofs.lemmas.List.Elements.{Contains-append_cases}
@@ -14,14 +14,17 @@ use Rattle.meaning.specs.Scopes.{is_blank}
 use Rattle.meaning.specs.Jumps.{jumps_in}
 use Rattle.meaning.specs.OuterBlocks.{or_else, has_any}
 use Rattle.meaning.specs.Declarations.{Meaning, local_name, import_name, function_name, package_name, universe_name}
-use Rattle.meaning.specs.Mentions.{Named, as_named, as_pointer, RowForm, defines, assigns, declares, Row, Call, Role, elsewhere, exposed, found_nil, found_error, called, called_in_brackets, argument, returned, left, names_type, new_literal, parameter_pointer, Mention, BodyPlace, Mark, mentions, defers_literal, returns, opens, closes, as_new_literal}
-use Rattle.meaning.specs.FunctionFacts.{context_path, errgroup_path, is_import, is_selected, is_of, is_of_some, cancel_type_of_name, is_group_pointer, tracked_type, Item, items_of, item_type, kind_of_type, TrackedType, cancel, cancel_or_group, group, group_or_none, plain, with_cause}
-use Rattle.meaning.specs.Tracked.{Known, facts_of, facts_giving, plain_makers, cause_makers, is_plain_maker, is_maker, giving_of, call_giving, variable_of, declared_by, may_bind, only_call, fits, row_giving, obtains_there, row_obtains, GroupState, is_group_type, is_new_call, made_by_call, made_by_value, made_by_values, if_first, made_by_type, made_by_pair, made_by_form, row_makes, lefts_of_expressions, local_at, Placed, outer, placed, LocalRole, Local, item_local, parameter_role, parameter_locals, receiver_locals, only_cancel, result_locals, receiver_items, signature_locals, body_locals, parameter, receiver, result, row_typed, role_typed, declared_local, locals_there, locals_of, find_local, is_variable, is_obtained_by, is_made_by, obtains_in, makes_in, kind_by_rows, kind_of_local, call_in, idle, is_of_universe, is_universe, live, maker_giving}
+use Rattle.meaning.specs.Mentions.{Named, as_named, as_pointer, RowForm, defines, assigns, declares, Row, Call, Role, elsewhere, as_key, exposed, pointed_to, found_nil, found_error, called, called_in_brackets, argument, returned, left, names_type, new_literal, parameter_pointer, Mention, BodyPlace, FieldLeft, Assigned, FieldMark, calls_field, writes_field, hands_over, hands_literal, renews, imports_all, Mark, mentions, of_fields, defers_literal, returns, opens, closes, as_new_literal}
+use Rattle.meaning.specs.FunctionFacts.{Meanings, context_path, errgroup_path, is_import, is_selected, is_of, is_of_some, cancel_type_of_name, is_group_pointer, tracked_type, Item, items_of, item_type, kind_of_type, TrackedType, cancel, cancel_or_group, group, group_or_none, plain, with_cause}
+use Rattle.meaning.specs.Tracked.{Known, has_field, ObjectLeft, left_of_outer, left_of_new, facts_of, facts_meant, facts_giving, plain_makers, cause_makers, is_plain_maker, is_maker, giving_of, call_giving, variable_of, declared_by, may_bind, only_call, fits, row_giving, obtains_there, row_obtains, GroupState, is_group_type, is_new_call, made_by_call, made_by_value, made_by_values, if_first, made_by_type, made_by_pair, made_by_form, row_makes, lefts_of_expressions, local_at, Placed, outer, placed, LocalRole, Local, item_local, parameter_role, parameter_locals, receiver_locals, only_cancel, result_locals, receiver_items, signature_locals, body_locals, parameter, receiver, result, row_typed, role_typed, declared_local, locals_there, locals_of, find_local, is_variable, is_obtained_by, is_made_by, obtains_in, makes_in, kind_by_rows, kind_of_local, call_in, idle, is_of_universe, is_universe, live, maker_giving}
 use Rattle.meaning.proofs.Membership.{contains_nil, contains_cases, contains_unmap}
 use Rattle.meaning_reports.specs.UsedImports.{HandsTo, passes, defers, lends}
-use Rattle.meaning.specs.Uses.{Callee, Handed, Event, call, defer_literal, return_event, body_gives, error_events, lost_to, Outcome, Seen, found, may_be_tracked, tracked_kind, is_outside, is_body, nothing, variable_outcome, role_outcome, row_outcome, mention_outcome, local_outcome, binding_at, giving_faults, errgroup_faults, recover_faults, mention_faults, is_cancel, is_result, result_faults, bound_again, fault_at, group_used_otherwise, if_not, is_made_or_parameter, last_fault, recover_used, goto_used}
+use Rattle.meaning.specs.Objects.{unaddressed, ObjectKind, object_in, local_named, type_at, object_row, object_rows_there, object_rows}
+use Rattle.meaning.specs.Kept.{Element, Gift, named_gift, element_gift, gifts, takes_it, is_block_role, owned, own_cancel, is_field_meant, field_value, kept_in, kept_element, role_fields, stored_name, stored_keeps, holder, keeps_by_mark, object_kind_of, keeps_there, belongs, by_variable, kept_of, is_of_body, kept_there, field_call, field_calls, renew_all, keep_event, keep_events, declared_at_name, declared_events, role_events, object_events, give_all, given_field, carried, gift_events, mentioned_in, in_order_of_place, first_mentions, obtained_event, written_events, field_events}
+use Rattle.meaning.specs.KeepingFields.{is_obtained_in, carried_field, obtained_fields, given_elements, fields_kept_there, fields_kept}
+use Rattle.meaning.specs.Uses.{Callee, Handed, Event, call, defer_literal, return_event, error_events, lost_to, Outcome, Seen, seen_with, found, is_own, row_binds, are_cancels, field_obtained, field_left_faults, field_variable, field_faults, may_be_tracked, tracked_kind, is_outside, is_body, nothing, variable_outcome, role_outcome, row_outcome, mention_outcome, local_outcome, binding_at, giving_faults, errgroup_faults, recover_faults, mention_faults, is_cancel, is_result, result_faults, bound_again, fault_at, group_used_otherwise, if_not, is_made_or_parameter, last_fault, recover_used, goto_used}
 use Rattle.meaning.specs.BodyEvents.{Variable, mark_faults, outer_faults_of, faults_of, variable_there, variable_found, variables_among, variables_of, in_their_order, is_captured_there, forbids_recover, jump_faults, handed_on, mark_events, events_at, is_site}
-use Rattle.silent_files.specs.SilentFiles.{GivesNothing, GivesByContext, tells, named_tells, call_tells, type_tells, items_tell, signature_tells, form_tells, row_tells, role_tells, mark_tells, names_recover}
+use Rattle.silent_files.specs.SilentFiles.{IsSilent, GivesNothing, GivesByContext, tells, named_tells, call_tells, type_tells, items_tell, signature_tells, form_tells, row_tells, role_tells, field_tells, mark_tells, names_recover}
 use Rattle.silent_files.specs.SilentLaws.{SilentFilesAreSilent, FilesWithoutMakersAreSilent}
 
 -- tests of two parts
@@ -37,6 +40,10 @@ neither_second true b e = let bad : true ≡ false = e in cc
 pub not_both : (a b : Bool) → b ≡ false → (a && b) ≡ false
 not_both true b e = e
 not_both false b e = refl
+
+none_mapped : {A B : Type 0} {f : A → List B} → ((x : A) → f x ≡ []) → (xs : List A) → flat_map f xs ≡ []
+none_mapped h [] = refl
+none_mapped h (x ∷ xs) = λ i. h x i ++ none_mapped h xs i
 
 pub none_of : {A : Type 0} (f : A → Bool) → ((x : A) → f x ≡ false) → (xs : List A) → list_any f xs ≡ false
 none_of f h [] = refl
@@ -111,11 +118,11 @@ module _ (known : Known) (gives : GivesByContext known) where
       by false true e f = absurd cc
       by true b e f = absurd cc
 
-  no_call_giving : (c : Option Call) → call_tells known c ≡ false → call_giving known c ≡ None
+  pub no_call_giving : (c : Option Call) → call_tells known c ≡ false → call_giving known c ≡ None
   no_call_giving None h = refl
   no_call_giving (Some c) h = no_giving c.callee h
 
-  no_row_giving : (row : Row) → row_tells known row ≡ false → row_giving known row ≡ None
+  pub no_row_giving : (row : Row) → row_tells known row ≡ false → row_giving known row ≡ None
   no_row_giving row h = by (may_bind row.standing row.form)
     where
       by : (b : Bool) → (if b then fits row (call_giving known (only_call row row.values)) else None) ≡ None
@@ -317,7 +324,9 @@ module _ (known : Known) (gives : GivesByContext known) where
 
   no_role_type : (r : Role) → role_tells known r ≡ false → role_typed known r ≡ None
   no_role_type elsewhere h = refl
+  no_role_type as_key h = refl
   no_role_type exposed h = refl
+  no_role_type pointed_to h = refl
   no_role_type (found_nil nil) h = refl
   no_role_type (found_error nil row) h = refl
   no_role_type (called c) h = refl
@@ -340,6 +349,7 @@ module _ (known : Known) (gives : GivesByContext known) where
       → Untyped (locals_there known bodies mark)
   there_untyped bodies (mentions m) h =
       declared_untyped m bodies (declared_by known m) (neither_second (tells known m.named) _ h)
+  there_untyped bodies (of_fields site m) h = tt
   there_untyped bodies (defers_literal site at) h = tt
   there_untyped bodies (returns at es) h = tt
   there_untyped bodies (opens b) h = body_untyped b h
@@ -359,7 +369,9 @@ module _ (known : Known) (gives : GivesByContext known) where
 
   not_obtained : (m : Mention) (r : Role) → role_tells known r ≡ false → is_obtained_by known m r ≡ false
   not_obtained m elsewhere h = refl
+  not_obtained m as_key h = refl
   not_obtained m exposed h = refl
+  not_obtained m pointed_to h = refl
   not_obtained m (found_nil nil) h = refl
   not_obtained m (found_error nil row) h = refl
   not_obtained m (called c) h = refl
@@ -373,7 +385,9 @@ module _ (known : Known) (gives : GivesByContext known) where
 
   not_made : (m : Mention) (r : Role) → is_made_by known m r ≡ false
   not_made m elsewhere = refl
+  not_made m as_key = refl
   not_made m exposed = refl
+  not_made m pointed_to = refl
   not_made m (found_nil nil) = refl
   not_made m (found_error nil row) = refl
   not_made m (called c) = refl
@@ -389,6 +403,7 @@ module _ (known : Known) (gives : GivesByContext known) where
   no_obtaining number (mentions m) h =
       not_both (is_variable (variable_of known m) number) _
       (not_obtained m m.role (neither_second (tells known m.named) _ h))
+  no_obtaining number (of_fields site m) h = refl
   no_obtaining number (defers_literal site at) h = refl
   no_obtaining number (returns at es) h = refl
   no_obtaining number (opens b) h = refl
@@ -404,6 +419,7 @@ module _ (known : Known) (gives : GivesByContext known) where
 
   no_making : (number : ℕ) (mark : Mark) → makes_in known number mark ≡ false
   no_making number (mentions m) = not_both (is_variable (variable_of known m) number) _ (not_made m m.role)
+  no_making number (of_fields site m) = refl
   no_making number (defers_literal site at) = refl
   no_making number (returns at es) = refl
   no_making number (opens b) = refl
@@ -452,7 +468,9 @@ calls_hand_nothing seen m (found_error nil row) e f h c = by (is_universe (seen.
         call_hands_nothing n.0 e f (sym n.2) h
     by false k = contains_nil e k
 calls_hand_nothing seen m elsewhere e f h c = contains_nil e c
+calls_hand_nothing seen m as_key e f h c = contains_nil e c
 calls_hand_nothing seen m exposed e f h c = contains_nil e c
+calls_hand_nothing seen m pointed_to e f h c = contains_nil e c
 calls_hand_nothing seen m (found_nil nil) e f h c = contains_nil e c
 calls_hand_nothing seen m (called d) e f h c = contains_nil e c
 calls_hand_nothing seen m called_in_brackets e f h c = contains_nil e c
@@ -464,13 +482,13 @@ calls_hand_nothing seen m (new_literal row) e f h c = contains_nil e c
 calls_hand_nothing seen m parameter_pointer e f h c = contains_nil e c
 
 module _ (known : Known) (gives : GivesByContext known) (ps : List Placed)
-    (none_tell : list_any (λ (p : Placed). mark_tells known p.mark) ps ≡ false) where
+    (none_tell : list_any (λ (p : Placed). mark_tells known p.mark) ps ≡ false) (ls : List Local) (none_typed : Untyped ls) where
   abbrev seen : Seen
-  seen = record { known = known; marks = ps; locals = locals_of known ps }
+  seen = record { known = known; marks = ps; locals = ls }
 
   found_so : (o : Option ℕ) (l : Local) → found seen o ≡ Some l → l.typed ≡ None
   found_so None l e = let bad : None ≡ Some l = e in cc
-  found_so (Some n) l e = found_untyped (locals_of known ps) n l (untyped known gives ps none_tell) e
+  found_so (Some n) l e = found_untyped ls n l none_typed e
 
   not_tracked : (l : Local) → l.typed ≡ None → tracked_kind seen (Some l) ≡ None
   not_tracked l e = by (may_be_tracked l.role)
@@ -505,7 +523,9 @@ module _ (known : Known) (gives : GivesByContext known) (ps : List Placed)
   role_nothing l e bodies m (left k row) =
       ap (λ kind. row_outcome seen l kind bodies m row (binding_at seen row k)) (no_kind known gives ps none_tell l e)
   role_nothing l e bodies m elsewhere = ap (λ kind. mention_outcome seen l kind bodies m) (not_tracked l e)
+  role_nothing l e bodies m as_key = ap (λ kind. mention_outcome seen l kind bodies m) (not_tracked l e)
   role_nothing l e bodies m exposed = ap (λ kind. mention_outcome seen l kind bodies m) (not_tracked l e)
+  role_nothing l e bodies m pointed_to = ap (λ kind. mention_outcome seen l kind bodies m) (not_tracked l e)
   role_nothing l e bodies m (found_nil nil) = ap (λ kind. mention_outcome seen l kind bodies m) (not_tracked l e)
   role_nothing l e bodies m (found_error nil row) = ap (λ kind. mention_outcome seen l kind bodies m) (not_tracked l e)
   role_nothing l e bodies m (called c) = ap (λ kind. mention_outcome seen l kind bodies m) (not_tracked l e)
@@ -551,10 +571,28 @@ module _ (known : Known) (gives : GivesByContext known) (ps : List Placed)
       ap (λ (vs : List Variable). if has_any vs
       then flat_map (λ at. fault_at at goto_used (codes "-")) (jumps_in b.statements) else []) (no_variable b.at)
 
+  no_binding : (row : Row) → row_tells known row ≡ false → row_binds seen row ≡ false
+  no_binding row h = ap (are_cancels seen row) (no_row_giving known gives row h)
+
+  no_field_fault : (m : FieldMark) → field_tells known m ≡ false → field_faults seen m ≡ []
+  no_field_fault (writes_field l (Some a)) h = by (field_variable seen l.field)
+    where
+      by : (o : Option Local) → field_left_faults seen o l.field a.row a.left_side ≡ []
+      by None = refl
+      by (Some v) =
+          ap (λ b. if b then field_obtained seen v l.field a.row a.left_side else []) (no_binding a.row h)
+  no_field_fault (writes_field l None) h = refl
+  no_field_fault (calls_field f) h = refl
+  no_field_fault (hands_over taker e) h = refl
+  no_field_fault (hands_literal taker at) h = refl
+  no_field_fault (renews number) h = refl
+  no_field_fault imports_all h = refl
+
   no_mark_fault : (bodies : List BodyPlace) (mark : Mark) → mark_tells known mark ≡ false → names_recover mark ≡ false
       → mark_faults seen bodies mark ≡ []
   no_mark_fault bodies (mentions m) h e = λ i.
       no_mention_fault bodies m (neither_first _ _ h) i ++ no_recover_fault bodies m e i
+  no_mark_fault bodies (of_fields site m) h e = no_field_fault m h
   no_mark_fault bodies (defers_literal site at) h e = refl
   no_mark_fault bodies (returns at es) h e = refl
   no_mark_fault bodies (opens b) h e = λ i.
@@ -590,24 +628,196 @@ module _ (known : Known) (gives : GivesByContext known) (ps : List Placed)
       by true none rest = λ i. none i ++ rest i
       by false none rest = rest
 
+  -- What is kept
+
+  none_owned : (bodies : List BodyPlace) (o : Option ℕ) → owned seen bodies (found seen o) ≡ None
+  none_owned bodies o = by (found seen o) (found_so o)
+    where
+      by : (f : Option Local) → ((l : Local) → f ≡ Some l → l.typed ≡ None) → owned seen bodies f ≡ None
+      by None h = refl
+      by (Some l) h =
+          ap (λ kind. if is_cancel kind && (is_own l bodies && is_block_role l.role) then Some l.number else None)
+          (not_tracked l (h l refl))
+
+  pub no_own_cancel : (bodies : List BodyPlace) (n : Option Named) → own_cancel seen bodies n ≡ None
+  no_own_cancel bodies n = none_owned bodies (local_named known n)
+
+  kept_by_none : (v x : Option ℕ) (f : List ℕ) → v ≡ None → kept_in v x f ≡ []
+  kept_by_none v x f e = ap (λ o. kept_in o x f) e ∙ by x
+    where
+      by : (o : Option ℕ) → kept_in None o f ≡ []
+      by None = refl
+      by (Some y) = refl
+
+  if_none : {A : Type 0} (b : Bool) (xs : List A) → xs ≡ [] → (if b then xs else []) ≡ []
+  if_none true xs e = e
+  if_none false xs e = refl
+
+  no_field_value : (bodies : List BodyPlace) (e : Element) → field_value seen bodies e ≡ None
+  no_field_value bodies e = by (is_field_meant seen e.field (known.means e.at))
+    where
+      by : (b : Bool) → (if b then own_cancel seen bodies (Some e.value) else None) ≡ None
+      by true = no_own_cancel bodies (Some e.value)
+      by false = refl
+
+  no_element : (bodies : List BodyPlace) (x : Option ℕ) (e : Element) → kept_element seen bodies x e ≡ []
+  no_element bodies x e =
+      if_none (has_field known.fields e.field) _ (kept_by_none _ x e.field (no_field_value bodies e))
+
+  no_stored : (bodies : List BodyPlace) (l : FieldLeft) (row : Row) (o : Option ObjectLeft)
+      → stored_keeps seen bodies l row o ≡ []
+  no_stored bodies l row None =
+      if_none (not l.has_brackets && has_field known.fields l.field.text) _
+      (kept_by_none _ (unaddressed known ps (local_named known l.object)) l.field.text
+      (no_own_cancel bodies (stored_name row.form row.values)))
+  no_stored bodies l row (Some left_of_outer) = refl
+  no_stored bodies l row (Some (left_of_new x number)) =
+      kept_by_none _ (Some x) l.field.text (none_owned bodies (Some number))
+
+  no_keep_by : (bodies : List BodyPlace) (mark : Mark) → keeps_by_mark seen bodies mark ≡ []
+  no_keep_by bodies (mentions m) =
+      none_mapped (no_element bodies (holder seen (declared_by known m))) (role_fields m.role)
+  no_keep_by bodies (of_fields site (writes_field l (Some a))) =
+      no_stored bodies l a.row (known.object_lefts l.field.span.start)
+  no_keep_by bodies (of_fields site (writes_field l None)) = refl
+  no_keep_by bodies (of_fields site (calls_field f)) = refl
+  no_keep_by bodies (of_fields site (hands_over taker e)) = refl
+  no_keep_by bodies (of_fields site (hands_literal taker at)) = refl
+  no_keep_by bodies (of_fields site (renews number)) = refl
+  no_keep_by bodies (of_fields site imports_all) = refl
+  no_keep_by bodies (defers_literal site at) = refl
+  no_keep_by bodies (returns at es) = refl
+  no_keep_by bodies (opens b) = refl
+  no_keep_by bodies closes = refl
+
+  no_keep : (bodies : List BodyPlace) (mark : Mark) → keeps_there seen bodies mark ≡ []
+  no_keep bodies mark = ap (filter (λ k. is_some (object_kind_of seen bodies k.object))) (no_keep_by bodies mark)
+
+  none_kept : kept_of seen ≡ []
+  none_kept =
+      ap (λ ks. by_variable (filter (belongs seen) ks)) (none_mapped (λ (p : Placed). no_keep p.bodies p.mark) ps)
+
+  no_kept_there : (bodies : List BodyPlace) (o : Option ℕ) → kept_there seen bodies o ≡ []
+  no_kept_there bodies None = refl
+  no_kept_there bodies (Some x) =
+      ap (filter (λ k. (k.object == x) && is_of_body bodies (found seen (Some x)))) none_kept
+
+  no_keep_event : (bodies : List BodyPlace) (mark : Mark) → keep_events seen bodies mark ≡ []
+  no_keep_event bodies mark =
+      ap (λ ks. flat_map (λ k. keep_event (object_kind_of seen bodies k.object) k) (filter (belongs seen) ks))
+      (no_keep bodies mark)
+
+  no_declared_event : (bodies : List BodyPlace) (m : Mention) → declared_events seen bodies m ≡ []
+  no_declared_event bodies m = λ i.
+      renew_all (no_kept_there bodies (declared_at_name m.named.at (declared_by known m)) i)
+      ++ no_keep_event bodies (mentions m) i
+
+  no_field_call : (bodies : List BodyPlace) (m : Mention) (f : Option (List ℕ)) (c : Call)
+      → field_calls seen bodies m f c ≡ []
+  no_field_call bodies m None c = refl
+  no_field_call bodies m (Some f) c =
+      ap (flat_map (field_call seen f c)) (no_kept_there bodies (variable_of known m))
+
+  no_object_event : (bodies : List BodyPlace) (m : Mention) (r : Role) → role_events seen bodies m r ≡ []
+  no_object_event bodies m (called c) = no_field_call bodies m m.named.selected c
+  no_object_event bodies m (left k row) = no_declared_event bodies m
+  no_object_event bodies m exposed = no_declared_event bodies m
+  no_object_event bodies m pointed_to = refl
+  no_object_event bodies m elsewhere = refl
+  no_object_event bodies m as_key = refl
+  no_object_event bodies m (found_nil nil) = refl
+  no_object_event bodies m (found_error nil row) = refl
+  no_object_event bodies m called_in_brackets = refl
+  no_object_event bodies m (argument k has_address c) = refl
+  no_object_event bodies m (returned k) = refl
+  no_object_event bodies m (names_type row) = refl
+  no_object_event bodies m (new_literal row) = refl
+  no_object_event bodies m parameter_pointer = refl
+
+  none_carried : (bodies : List BodyPlace) (e : Element) → carried seen bodies e ≡ None
+  none_carried bodies e = by (has_field known.fields e.field)
+    where
+      by : (b : Bool) → (if b then field_value seen bodies e else None) ≡ None
+      by true = no_field_value bodies e
+      by false = refl
+
+  no_gift_event : (bodies : List BodyPlace) (g : Gift) → gift_events seen bodies g ≡ []
+  no_gift_event bodies (named_gift n) = ap give_all (no_kept_there bodies (local_named known (Some n)))
+  no_gift_event bodies (element_gift e) = ap given_field (none_carried bodies e)
+
+  no_written_event : (bodies : List BodyPlace) (mark : Mark) (l : FieldLeft) (a : Assigned) (o : Option ObjectLeft)
+      → written_events seen bodies mark l a o ≡ []
+  no_written_event bodies mark l a None = no_keep_event bodies mark
+  no_written_event bodies mark l a (Some o) =
+      if_none (row_obtains known a.row a.left_side && row_binds seen a.row) _
+      (ap (map (obtained_event seen l a)) (no_keep bodies mark))
+
+  no_field_event : (bodies : List BodyPlace) (mark : Mark) (m : FieldMark) → field_events seen bodies mark m ≡ []
+  no_field_event bodies mark (calls_field f) = refl
+  no_field_event bodies mark (writes_field l None) = refl
+  no_field_event bodies mark (writes_field l (Some a)) =
+      no_written_event bodies mark l a (known.object_lefts l.field.span.start)
+  no_field_event bodies mark (hands_over taker e) =
+      if_none (takes_it known taker) _ (none_mapped (no_gift_event bodies) (gifts missing_expression e))
+  no_field_event bodies mark (hands_literal taker at) =
+      if_none (takes_it known taker) _
+      (none_mapped (λ x. ap give_all (no_kept_there bodies (Some x)))
+      (first_mentions (in_order_of_place (mentioned_in seen at))))
+  no_field_event bodies mark (renews number) = ap renew_all (no_kept_there bodies (Some number))
+  no_field_event bodies mark imports_all = refl
+
+  no_carried_field : (bodies : List BodyPlace) (e : Element) → carried_field seen bodies e ≡ []
+  no_carried_field bodies e = rw (none_carried bodies e) refl
+
+  module _ (no_lefts : (at : ℕ) → known.object_lefts at ≡ None) where
+    no_obtained_field : (mark : Mark) → obtained_fields seen mark ≡ []
+    no_obtained_field (of_fields site (writes_field l (Some a))) =
+        ap (λ o. if is_some o then l.field.text ∷ [] else []) (no_lefts l.field.span.start)
+    no_obtained_field (of_fields site (writes_field l None)) = refl
+    no_obtained_field (of_fields site (calls_field f)) = refl
+    no_obtained_field (of_fields site (hands_over taker e)) = refl
+    no_obtained_field (of_fields site (hands_literal taker at)) = refl
+    no_obtained_field (of_fields site (renews number)) = refl
+    no_obtained_field (of_fields site imports_all) = refl
+    no_obtained_field (mentions m) = refl
+    no_obtained_field (defers_literal site at) = refl
+    no_obtained_field (returns at es) = refl
+    no_obtained_field (opens b) = refl
+    no_obtained_field closes = refl
+
+    no_field_there : (bodies : List BodyPlace) (mark : Mark) → fields_kept_there seen bodies mark ≡ []
+    no_field_there bodies mark = λ i.
+        map (λ k. k.field) (filter (λ k. belongs seen k && is_obtained_in seen k.variable) (no_keep bodies mark i))
+        ++ (no_obtained_field mark i
+        ++ none_mapped (no_carried_field bodies) (given_elements seen mark) i)
+
+    no_field : fields_kept seen ≡ []
+    no_field = none_mapped (λ (p : Placed). no_field_there p.bodies p.mark) ps
+
   -- Events
 
   mark_hands_nothing : (bodies : List BodyPlace) (mark : Mark) (e : Event) (f : Callee) → HandsTo f e
       → Contains (mark_events seen bodies mark) e
       → ⊥
   mark_hands_nothing bodies (mentions m) e f h c =
-      elim (Contains-append_cases (variable_outcome seen bodies m).events (error_events seen m m.role) e c) [
+      elim (Contains-append_cases (variable_outcome seen bodies m).events
+      (error_events seen m m.role ++ object_events seen bodies m) e c) [
         | inl own ↦ contains_nil e (subst (λ (o : Outcome). Contains o.events e) (variable_nothing bodies m) own)
-        | inr lost ↦ calls_hand_nothing seen m m.role e f h lost
+        | inr others ↦ elim (Contains-append_cases (error_events seen m m.role) (object_events seen bodies m) e others) [
+          | inl lost ↦ calls_hand_nothing seen m m.role e f h lost
+          | inr kept ↦ contains_nil e (subst (λ es. Contains es e) (no_object_event bodies m m.role) kept)
+        ]
       ]
+  mark_hands_nothing bodies (of_fields site m) e f h c =
+      contains_nil e (subst (λ es. Contains es e) (no_field_event bodies (of_fields site m) m) c)
   mark_hands_nothing bodies (defers_literal site at) e f h c =
       elim (contains_cases (defer_literal at) e [] c) [
         | inl same ↦ literal_hands_nothing at e f (sym same) h
         | inr n ↦ contains_nil e n
       ]
   mark_hands_nothing bodies (returns at es) e f h c =
-      elim (contains_cases (return_event (handed_on seen (body_gives known bodies) 0 es)) e [] c) [
-        | inl same ↦ return_hands_nothing (handed_on seen (body_gives known bodies) 0 es) e f (sym same) h
+      elim (contains_cases (return_event (handed_on seen bodies 0 es)) e [] c) [
+        | inl same ↦ return_hands_nothing (handed_on seen bodies 0 es) e f (sym same) h
         | inr n ↦ contains_nil e n
       ]
   mark_hands_nothing bodies (opens b) e f h c = contains_nil e c
@@ -632,13 +842,16 @@ module _ (known : Known) (gives : GivesByContext known) (ps : List Placed)
 
 -- what no mark has, no placed mark has
 
-none_placed : (f : Mark → Bool) (bodies : List BodyPlace) (ms : List Mark) → list_any f ms ≡ false
+pub none_placed : (f : Mark → Bool) (bodies : List BodyPlace) (ms : List Mark) → list_any f ms ≡ false
     → list_any (λ (p : Placed). f p.mark) (placed bodies ms) ≡ false
 unfolding placed
 none_placed f bodies [] h = refl
 none_placed f bodies (mentions m ∷ ms) h =
     ap (λ b. b || list_any (λ (p : Placed). f p.mark) (placed bodies ms)) (neither_first (f (mentions m)) _ h)
     ∙ none_placed f bodies ms (neither_second (f (mentions m)) _ h)
+none_placed f bodies (of_fields site m ∷ ms) h =
+    ap (λ b. b || list_any (λ (p : Placed). f p.mark) (placed bodies ms)) (neither_first (f (of_fields site m)) _ h)
+    ∙ none_placed f bodies ms (neither_second (f (of_fields site m)) _ h)
 none_placed f bodies (defers_literal site at ∷ ms) h =
     ap (λ b. b || list_any (λ (p : Placed). f p.mark) (placed bodies ms))
     (neither_first (f (defers_literal site at)) _ h)
@@ -651,18 +864,207 @@ none_placed f bodies (opens b ∷ ms) h =
     ∙ none_placed f (b ∷ bodies) ms (neither_second (f (opens b)) _ h)
 none_placed f bodies (closes ∷ ms) h = none_placed f (outer bodies) ms (neither_second (f closes) _ h)
 
+-- What is known of left sides is no matter
+
+abbrev pub with_lefts : Known → (ℕ → Option ObjectLeft) → Known
+with_lefts known lefts = record known { object_lefts = lefts }
+
+module _ (known other : Known) (same : known.means ≡ other.means) where
+  abbrev tells_by : Meanings → Named → Bool
+  tells_by means n =
+      (list_any (λ name. is_of means context_path name n) plain_makers
+      || list_any (λ name. is_of means context_path name n) cause_makers)
+      || (is_of means context_path (codes "CancelFunc") n || is_of means context_path (codes "CancelCauseFunc") n)
+
+  name_same : (n : Named) → tells known n ≡ tells other n
+  name_same n = ap (λ means. tells_by means n) same
+
+  named_same : (o : Option Named) → named_tells known o ≡ named_tells other o
+  named_same None = refl
+  named_same (Some n) = name_same n
+
+  call_same : (c : Option Call) → call_tells known c ≡ call_tells other c
+  call_same None = refl
+  call_same (Some c) = name_same c.callee
+
+  type_same : (t : OptionalExpression) → type_tells known t ≡ type_tells other t
+  type_same missing_expression = refl
+  type_same (present_expression t) = named_same (as_named t)
+
+  items_same : (is : List Item) → items_tell known is ≡ items_tell other is
+  items_same [] = refl
+  items_same (x ∷ xs) = λ i. type_same x.type i || items_same xs i
+
+  signature_same : (s : Signature) → signature_tells known s ≡ signature_tells other s
+  signature_same (signature_of ps rs brackets) = λ i. items_same (items_of ps) i || items_same (items_of rs) i
+
+  form_same : (form : RowForm) → form_tells known form ≡ form_tells other form
+  form_same (defines ns) = refl
+  form_same (assigns ls) = refl
+  form_same (declares keyword ns t) = type_same t
+
+  row_same : (row : Row) → row_tells known row ≡ row_tells other row
+  row_same row = λ i. call_same (only_call row row.values) i || form_same row.form i
+
+  role_same : (r : Role) → role_tells known r ≡ role_tells other r
+  role_same (left k row) = row_same row
+  role_same elsewhere = refl
+  role_same as_key = refl
+  role_same exposed = refl
+  role_same pointed_to = refl
+  role_same (found_nil nil) = refl
+  role_same (found_error nil row) = refl
+  role_same (called c) = refl
+  role_same called_in_brackets = refl
+  role_same (argument k has_address c) = refl
+  role_same (returned k) = refl
+  role_same (names_type row) = refl
+  role_same (new_literal row) = refl
+  role_same parameter_pointer = refl
+
+  field_same : (m : FieldMark) → field_tells known m ≡ field_tells other m
+  field_same (writes_field l (Some a)) = row_same a.row
+  field_same (writes_field l None) = refl
+  field_same (calls_field f) = refl
+  field_same (hands_over taker e) = refl
+  field_same (hands_literal taker at) = refl
+  field_same (renews number) = refl
+  field_same imports_all = refl
+
+  -- which marks tell goes by what the uses of the file mean alone
+  pub tells_the_same : (m : Mark) → mark_tells known m ≡ mark_tells other m
+  tells_the_same (mentions m) = λ i. name_same m.named i || role_same m.role i
+  tells_the_same (of_fields site m) = field_same m
+  tells_the_same (defers_literal site at) = refl
+  tells_the_same (returns at es) = refl
+  tells_the_same (opens b) = λ i. items_same (receiver_items b.receiver) i || signature_same b.signature i
+  tells_the_same closes = refl
+
+facts_too : (known : Known) (lefts : ℕ → Option ObjectLeft) (n : Named)
+    → facts_of (with_lefts known lefts) n ≡ facts_of known n
+facts_too known lefts n = by n.selected (known.means n.at)
+  where
+    by : (selected : Option (List ℕ)) (m : Option Meaning)
+        → facts_meant (with_lefts known lefts) n.name selected m ≡ facts_meant known n.name selected m
+    by None None = refl
+    by None (Some (local_name number kind)) = refl
+    by None (Some (import_name path)) = refl
+    by None (Some function_name) = refl
+    by None (Some package_name) = refl
+    by None (Some universe_name) = refl
+    by (Some m) None = refl
+    by (Some m) (Some (local_name number kind)) = refl
+    by (Some m) (Some (import_name path)) = refl
+    by (Some m) (Some function_name) = refl
+    by (Some m) (Some package_name) = refl
+    by (Some m) (Some universe_name) = refl
+
+pub gives_too : (known : Known) (lefts : ℕ → Option ObjectLeft) → GivesByContext known
+    → GivesByContext (with_lefts known lefts)
+gives_too known lefts gives = record {
+  no_group = gives.no_group;
+  no_giver = λ n. ap facts_giving (facts_too known lefts n) ∙ gives.no_giver n;
+}
+
+tells_too : (known other : Known) → known.means ≡ other.means → (ps : List Placed)
+    → list_any (λ (p : Placed). mark_tells known p.mark) ps ≡ list_any (λ (p : Placed). mark_tells other p.mark) ps
+tells_too known other same [] = refl
+tells_too known other same (p ∷ ps) = λ i. tells_the_same known other same p.mark i || tells_too known other same ps i
+
+-- No row obtains into a field
+
+object_row_none : (bodies : List BodyPlace) (f : Identifier) (x : Option ℕ) (kind : Option ObjectKind)
+    → object_row bodies f x kind None ≡ []
+object_row_none [] f x kind = refl
+object_row_none (b ∷ bs) f None kind = refl
+object_row_none (b ∷ bs) f (Some x) None = refl
+object_row_none (b ∷ bs) f (Some x) (Some kind) = refl
+
+module _ (known : Known) (gives : GivesByContext known) (all : List Placed) where
+  no_row_there : (bodies : List BodyPlace) (mark : Mark) → mark_tells known mark ≡ false
+      → object_rows_there known all bodies mark ≡ []
+  no_row_there bodies (of_fields site (writes_field l (Some a))) h = by (not l.has_brackets && has_field known.fields l.field.text)
+    where
+      rows : object_row bodies l.field (local_named known l.object)
+          (object_in known all bodies (unaddressed known all (local_named known l.object)))
+          (type_at a.left_side (row_giving known a.row)) ≡ []
+      rows =
+          ap (λ g. object_row bodies l.field (local_named known l.object)
+          (object_in known all bodies (unaddressed known all (local_named known l.object))) (type_at a.left_side g))
+          (no_row_giving known gives a.row h)
+          ∙ object_row_none bodies l.field (local_named known l.object)
+          (object_in known all bodies (unaddressed known all (local_named known l.object)))
+
+      by : (b : Bool) → (if b then object_row bodies l.field (local_named known l.object)
+          (object_in known all bodies (unaddressed known all (local_named known l.object)))
+          (type_at a.left_side (row_giving known a.row)) else []) ≡ []
+      by true = rows
+      by false = refl
+  no_row_there bodies (of_fields site (writes_field l None)) h = refl
+  no_row_there bodies (of_fields site (calls_field f)) h = refl
+  no_row_there bodies (of_fields site (hands_over taker e)) h = refl
+  no_row_there bodies (of_fields site (hands_literal taker at)) h = refl
+  no_row_there bodies (of_fields site (renews number)) h = refl
+  no_row_there bodies (of_fields site imports_all) h = refl
+  no_row_there bodies (mentions m) h = refl
+  no_row_there bodies (defers_literal site at) h = refl
+  no_row_there bodies (returns at es) h = refl
+  no_row_there bodies (opens b) h = refl
+  no_row_there bodies closes h = refl
+
+  no_object_row : (ps : List Placed) → list_any (λ (p : Placed). mark_tells known p.mark) ps ≡ false
+      → flat_map (λ (p : Placed). object_rows_there known all p.bodies p.mark) ps ≡ []
+  no_object_row [] h = refl
+  no_object_row (p ∷ ps) h = λ i.
+      no_row_there p.bodies p.mark (neither_first _ _ h) i
+      ++ no_object_row ps (neither_second (mark_tells known p.mark) _ h) i
+
+abbrev no_lefts_known : ℕ → Option ObjectLeft
+no_lefts_known at = None
+
+-- a file in which nothing is to be found is seen as if no row could obtain into a field
+module _ (known : Known) (gives : GivesByContext known) (ps : List Placed)
+    (none_tell : list_any (λ (p : Placed). mark_tells known p.mark) ps ≡ false) where
+  pub seen_plainly : seen_with known ps (object_rows known ps) ≡ seen_with known ps []
+  seen_plainly = ap (seen_with known ps) (no_object_row known gives ps ps none_tell)
+
+  abbrev plain_known : Known
+  plain_known = with_lefts known no_lefts_known
+
+  plain_tell : list_any (λ (p : Placed). mark_tells plain_known p.mark) ps ≡ false
+  plain_tell = tells_too plain_known known refl ps ∙ none_tell
+
+  abbrev plain_locals : List Local
+  plain_locals = locals_of known ps ++ []
+
+  plain_untyped : Untyped plain_locals
+  plain_untyped = both_untyped (locals_of known ps) [] (untyped known gives ps none_tell) tt
+
+  -- no cancel variable is there to be kept
+  pub never_own : (bodies : List BodyPlace) (n : Option Named) → own_cancel (seen_with known ps []) bodies n ≡ None
+  never_own =
+      no_own_cancel plain_known (gives_too known no_lefts_known gives) ps plain_tell plain_locals plain_untyped
+
+  plainly_silent : list_any (λ (p : Placed). names_recover p.mark) ps ≡ false → IsSilent (seen_with known ps [])
+  plainly_silent none_there =
+      let too = gives_too known no_lefts_known gives in
+      record {
+        no_variable = no_variable plain_known too ps plain_tell plain_locals plain_untyped;
+        outside = no_outer_fault plain_known too ps plain_tell plain_locals plain_untyped ps plain_tell none_there;
+        inside = λ body.
+            no_inner_fault plain_known too ps plain_tell plain_locals plain_untyped body ps plain_tell none_there;
+        hands_nothing = λ f h.
+            events_hand_nothing plain_known too ps plain_tell plain_locals plain_untyped h.body.at h.at ps h.event f
+            h.hands h.is_event;
+        keeps_nothing = no_field plain_known too ps plain_tell plain_locals plain_untyped (λ at. refl);
+      }
+
 pub without_makers : FilesWithoutMakersAreSilent
 without_makers known marks gives tell recovers =
     let ps = placed [] marks in
     let none_tell = none_placed (mark_tells known) [] marks tell in
-    let none_there = none_placed names_recover [] marks recovers in
-    record {
-      no_variable = no_variable known gives ps none_tell;
-      outside = no_outer_fault known gives ps none_tell ps none_tell none_there;
-      inside = λ body. no_inner_fault known gives ps none_tell body ps none_tell none_there;
-      hands_nothing = λ f h.
-          events_hand_nothing known gives ps none_tell h.body.at h.at ps h.event f h.hands h.is_event;
-    }
+    subst IsSilent (sym (seen_plainly known gives ps none_tell))
+    (plainly_silent known gives ps none_tell (none_placed names_recover [] marks recovers))
 
 -- Where no use means `context`
 
@@ -710,22 +1112,37 @@ module _ (known : Known) (gives : GivesNothing known) where
   no_form_tells (assigns ls) = refl
   no_form_tells (declares keyword ns t) = no_type_tells t
 
+  no_row_tells : (row : Row) → row_tells known row ≡ false
+  no_row_tells row = λ i. no_call_tells (only_call row row.values) i || no_form_tells row.form i
+
+  no_field_tells : (m : FieldMark) → field_tells known m ≡ false
+  no_field_tells (writes_field l (Some a)) = no_row_tells a.row
+  no_field_tells (writes_field l None) = refl
+  no_field_tells (calls_field f) = refl
+  no_field_tells (hands_over taker e) = refl
+  no_field_tells (hands_literal taker at) = refl
+  no_field_tells (renews number) = refl
+  no_field_tells imports_all = refl
+
   no_role_tells : (r : Role) → role_tells known r ≡ false
   no_role_tells elsewhere = refl
+  no_role_tells as_key = refl
   no_role_tells exposed = refl
+  no_role_tells pointed_to = refl
   no_role_tells (found_nil nil) = refl
   no_role_tells (found_error nil row) = refl
   no_role_tells (called c) = refl
   no_role_tells called_in_brackets = refl
   no_role_tells (argument k has_address c) = refl
   no_role_tells (returned k) = refl
-  no_role_tells (left k row) = λ i. no_call_tells (only_call row row.values) i || no_form_tells row.form i
+  no_role_tells (left k row) = no_row_tells row
   no_role_tells (names_type row) = refl
   no_role_tells (new_literal row) = refl
   no_role_tells parameter_pointer = refl
 
   pub no_mark_tells : (mark : Mark) → mark_tells known mark ≡ false
   no_mark_tells (mentions m) = λ i. none_tells m.named i || no_role_tells m.role i
+  no_mark_tells (of_fields site m) = no_field_tells m
   no_mark_tells (defers_literal site at) = refl
   no_mark_tells (returns at es) = refl
   no_mark_tells (opens b) = λ i. no_items_tell (receiver_items b.receiver) i || no_signature_tells b.signature i

@@ -11,21 +11,21 @@ use Rattle.meaning.specs.OuterBlocks.{PackageNames, PackageLevel, is_first_path,
 use Rattle.meaning.specs.Scopes.{LocalName, file_names}
 use Rattle.meaning.specs.Declarations.{Meaning, local_name, import_name, function_name, package_name, universe_name, Use, use_at, uses_of, local_meant, locals_of, package_or_universe, import_or_around, local_or_around, meaning_of, meaning_at}
 use Rattle.meaning.specs.FunctionFacts.{FunctionFacts, context_path, errgroup_path}
-use Rattle.meaning.specs.Mentions.{Named, BodyPlace, Mark, is_found, marks_by, file_marks}
-use Rattle.meaning.specs.Tracked.{Known, facts_of, facts_meant, facts_giving, is_empty}
+use Rattle.meaning.specs.Mentions.{Named, BodyPlace, Mark, is_found, is_of_fields, marks_by, file_marks}
+use Rattle.meaning.specs.Tracked.{Fields, some_keep, Known, facts_of, facts_meant, facts_giving, is_empty}
 use Rattle.meaning.specs.Uses.{Callee, Seen, UseFault}
 use Rattle.meaning.specs.BodyEvents.{Variable, variables_of, too_many_faults, body_faults}
 use Rattle.meaning.proofs.Membership.{contains_nil, contains_here, contains_there, contains_cases}
-use Rattle.meaning_packages.specs.PathFaults.{Paths, PathFault, paths_of, IsPathFault, loses_cancel, loses_group, returns_live, returns_open, returns_pending, IsPassFault, passes_on, IsFaultOf, of_a_pass, of_a_path}
+use Rattle.meaning_packages.specs.PathFaults.{Paths, PathFault, paths_of, IsPathFault, loses_cancel, loses_group, returns_live, returns_open, returns_kept, returns_pending, IsPassFault, passes_on, IsFaultOf, of_a_pass, of_a_path}
 use Rattle.meaning_packages.specs.Credits.{Credits, promises_in, IsCredited}
 use Rattle.meaning_packages.specs.CallsFlags.{Flags, FileWithCredits, IsKept, AreConsistent}
-use Rattle.meaning_reports.specs.Loaded.{LoadedPackage, Tables, trees_of, imports_of, package_names, imported_signatures, known_in}
+use Rattle.meaning_reports.specs.Loaded.{LoadedPackage, Tables, trees_of, imports_of, package_names, imported_signatures, known_in, known_with, keeping_in}
 use Rattle.meaning_reports.specs.PackageReports.{IsFileFinding, outside_bodies, of_use, of_path}
 use Rattle.report.specs.Entries.{Entry}
 use Rattle.silent_files.specs.SilentFiles.{GivesNothing, GivesByContext, mark_tells, names_recover, IsSilent}
 use Rattle.silent_files.specs.SilentPackages.{imports_first, imports_group, GiveNone, NamesNoGiver, StandsFor, itself, silent}
 use Rattle.silent_files.specs.SilentLaws.{SkippedFilesAreSilent, ImportsTell, SilentFilesChangeNothing}
-use Rattle.silent_files.proofs.SilentFiles.{neither_first, neither_second, none_of, no_mark_tells, without_makers}
+use Rattle.silent_files.proofs.SilentFiles.{neither_first, neither_second, none_of, no_mark_tells, tells_the_same, without_makers}
 use Rattle.std.proofs.lemmas.Bool.{false≢true}
 
 -- Nothing of a silent file
@@ -46,6 +46,7 @@ module _ (seen : Seen) (quiet : IsSilent seen) where
   no_path_fault b none _ (loses_group g u state t o reaches made same live) = none g live.is_of_body
   no_path_fault b none _ (returns_live g handed t o comes declared live) = none g live.is_of_body
   no_path_fault b none _ (returns_open v handed t o comes owes opened) = none v owes.is_of_body
+  no_path_fault b none _ (returns_kept v handed t o comes owes kept elsewhere) = none v owes.is_of_body
   no_path_fault b none _ (returns_pending v handed t o comes owes left) = none v owes.is_of_body
 
   no_pass_fault : (b : Paths) → ((v : Variable) → Contains b.variables v → ⊥) → (f : PathFault) → IsPassFault b f → ⊥
@@ -239,9 +240,9 @@ gives_none (Some f) h =
     ap (λ gs. if is_empty gs then None else Some record { gives = f.gives; results = f.results }) (h f refl)
 
 module _ (ps : List LoadedPackage) (tables : Tables) (p : LoadedPackage) (number : ℕ) (tree : SourceFile)
-    (may : NamesNoGiver ps tables p number tree) where
+    (may : NamesNoGiver ps tables p number tree) (fields : Fields) where
   abbrev known : Known
-  known = known_in ps tables p number
+  known = known_with fields ps tables p number
 
   spec_meant : (at : ℕ) (path : List ℕ) → known.means at ≡ Some (import_name path) → IsSpecOf (imports_of tree) path
   spec_meant at path e =
@@ -278,7 +279,7 @@ module _ (ps : List LoadedPackage) (tables : Tables) (p : LoadedPackage) (number
     no_giver = no_giver_named;
   }
 
-  gives_by_context : imports_group tree ≡ false → GivesByContext known
+  pub gives_by_context : imports_group tree ≡ false → GivesByContext known
   gives_by_context no_group = record {
     no_group = λ at path e.
         let s = spec_meant at path e in
@@ -306,17 +307,31 @@ none_kept f g (m ∷ ms) h =
     by true here rest = ap (λ b. b || list_any f (filter g ms)) here ∙ rest
     by false here rest = rest
 
-none_by : (edition : Edition) (f : Mark → Bool) (ms : List Mark) → list_any f ms ≡ false
-    → list_any f (marks_by edition ms) ≡ false
-none_by First f ms h = none_kept f (λ m. not (is_found m)) ms h
-none_by Second f ms h = h
+pub none_by : (edition : Edition) (keep : Bool) (f : Mark → Bool) (ms : List Mark) → list_any f ms ≡ false
+    → list_any f (marks_by edition keep ms) ≡ false
+none_by First keep f ms h = none_kept f (λ m. not (is_found m || is_of_fields m)) ms h
+none_by Second false f ms h = none_kept f (λ m. not (is_of_fields m)) ms h
+none_by Second true f ms h = h
+
+-- which fields keep is no matter
+pub all_tell : (fields other : Fields) (ps : List LoadedPackage) (tables : Tables) (p : LoadedPackage) (number : ℕ)
+    (ms : List Mark)
+    → list_any (mark_tells (known_with fields ps tables p number)) ms
+    ≡ list_any (mark_tells (known_with other ps tables p number)) ms
+all_tell fields other ps tables p number [] = refl
+all_tell fields other ps tables p number (m ∷ ms) = λ i.
+    tells_the_same (known_with fields ps tables p number) (known_with other ps tables p number) refl m i
+    || all_tell fields other ps tables p number ms i
 
 pub skipped_so : SkippedFilesAreSilent
-skipped_so ps tables p number tree may =
-    without_makers (known_in ps tables p number) (marks_by p.edition (file_marks tree))
-    (gives_by_context ps tables p number tree may.names_no_giver may.no_group_import)
-    (none_by p.edition (mark_tells (known_in ps tables p number)) (file_marks tree) may.none_tells)
-    (none_by p.edition names_recover (file_marks tree) may.no_recover)
+skipped_so fields ps tables p number tree may =
+    let known = known_with fields ps tables p number in
+    let keep = some_keep fields in
+    without_makers known (marks_by p.edition keep (file_marks tree))
+    (gives_by_context ps tables p number tree may.names_no_giver fields may.no_group_import)
+    (none_by p.edition keep (mark_tells known) (file_marks tree)
+    (all_tell fields (keeping_in ps tables p) ps tables p number (file_marks tree) ∙ may.none_tells))
+    (none_by p.edition keep names_recover (file_marks tree) may.no_recover)
 
 pub imports_tell : ImportsTell
 imports_tell ps tables p number tree names no_first no_recover = record {
@@ -324,6 +339,6 @@ imports_tell ps tables p number tree names no_first no_recover = record {
   no_group_import = no_second (imports_of tree) no_first;
   none_tells =
       none_of _ (no_mark_tells (known_in ps tables p number)
-      (gives_nothing ps tables p number tree names no_first)) (file_marks tree);
+      (gives_nothing ps tables p number tree names (keeping_in ps tables p) no_first)) (file_marks tree);
   no_recover = no_recover;
 }

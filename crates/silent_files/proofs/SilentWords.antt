@@ -5,13 +5,13 @@ use Rattle.std.specs.List.{list_any}
 use Rattle.std.proofs.lemmas.List.Elements.{Contains-append_left, Contains-append_right}
 use Rattle.lexer.specs.Tokens.{IsTokens}
 use Rattle.tree.specs.Syntax.{Identifier, OptionalExpression, missing_expression, present_expression, Signature, signature_of, Parameters, no_parameter, named_and, unnamed_and, name_alone_and}
-use Rattle.meaning.specs.Mentions.{Named, as_named, RowForm, defines, assigns, declares, Call, Role, elsewhere, exposed, found_nil, found_error, called, called_in_brackets, argument, returned, left, names_type, new_literal, parameter_pointer, Mark, mentions, defers_literal, returns, opens, closes, file_marks}
+use Rattle.meaning.specs.Mentions.{Named, as_named, RowForm, defines, assigns, declares, Call, Role, elsewhere, as_key, exposed, pointed_to, found_nil, found_error, called, called_in_brackets, argument, returned, left, names_type, new_literal, parameter_pointer, Row, FieldMark, calls_field, writes_field, hands_over, hands_literal, renews, imports_all, Mark, mentions, of_fields, defers_literal, returns, opens, closes, file_marks}
 use Rattle.meaning.specs.FunctionFacts.{context_path, is_of, is_import, is_selected, Item, alone, items_of}
 use Rattle.meaning.specs.Tracked.{Known, plain_makers, cause_makers, only_call, receiver_items}
 use Rattle.meaning.proofs.Membership.{contains_here, contains_there}
-use Rattle.silent_files.specs.NamedWords.{Lexed, LacksWord, LacksEach, IsSelectedWord, AreWords, AreWordsIf, CallHasWords, TypeHasWords, FormHasWords, RoleHasWords, ParametersHaveWords, ReceiverHasWords, SignatureHasWords, HasWords}
+use Rattle.silent_files.specs.NamedWords.{Lexed, LacksWord, LacksEach, IsSelectedWord, AreWords, AreWordsIf, CallHasWords, TypeHasWords, FormHasWords, RowHasWords, RoleHasWords, FieldHasWords, ParametersHaveWords, ReceiverHasWords, SignatureHasWords, HasWords}
 use Rattle.silent_files.proofs.NamedWords.{names_are_words, lacked_words_are_no_names}
-use Rattle.silent_files.specs.SilentFiles.{tells, named_tells, call_tells, type_tells, items_tell, signature_tells, form_tells, role_tells, mark_tells, names_recover}
+use Rattle.silent_files.specs.SilentFiles.{tells, named_tells, call_tells, type_tells, items_tell, signature_tells, form_tells, row_tells, role_tells, field_tells, mark_tells, names_recover}
 use Rattle.silent_files.specs.SilentWords.{cancel_types, telling_words, WordsTell}
 use Rattle.silent_files.proofs.SilentFiles.{neither_first}
 
@@ -49,6 +49,7 @@ module _ (source : Lexed) (cut : IsTokens source.text source.tokens) where
   is_no_recover : LacksWord (codes "recover") source.text → (m : Mark) → HasWords source m → names_recover m ≡ false
   is_no_recover lacks (mentions m) h =
       lacked_words_are_no_names source (codes "recover") m.named.name m.named.at cut lacks h.0.name
+  is_no_recover lacks (of_fields site m) h = refl
   is_no_recover lacks (defers_literal site at) h = refl
   is_no_recover lacks (returns at es) h = refl
   is_no_recover lacks (opens b) h = refl
@@ -94,17 +95,31 @@ module _ (source : Lexed) (cut : IsTokens source.text source.tokens) where
     form_tells_none (assigns ls) h = refl
     form_tells_none (declares keyword names t) h = type_tells_none t h
 
+    row_tells_none : (row : Row) → RowHasWords source row → row_tells known row ≡ false
+    row_tells_none row h =
+        neither _ _ (call_tells_none (only_call row row.values) h.0) (form_tells_none row.form h.1)
+
+    field_tells_none : (m : FieldMark) → FieldHasWords source m → field_tells known m ≡ false
+    field_tells_none (writes_field l (Some a)) h = row_tells_none a.row h
+    field_tells_none (writes_field l None) h = refl
+    field_tells_none (calls_field f) h = refl
+    field_tells_none (hands_over taker e) h = refl
+    field_tells_none (hands_literal taker at) h = refl
+    field_tells_none (renews number) h = refl
+    field_tells_none imports_all h = refl
+
     role_tells_none : (role : Role) → RoleHasWords source role → role_tells known role ≡ false
     role_tells_none elsewhere h = refl
+    role_tells_none as_key h = refl
     role_tells_none exposed h = refl
+    role_tells_none pointed_to h = refl
     role_tells_none (found_nil nil) h = refl
     role_tells_none (found_error nil row) h = refl
     role_tells_none (called c) h = refl
     role_tells_none called_in_brackets h = refl
     role_tells_none (argument k has_address c) h = refl
     role_tells_none (returned k) h = refl
-    role_tells_none (left k row) h =
-        neither _ _ (call_tells_none (only_call row row.values) h.0) (form_tells_none row.form h.1)
+    role_tells_none (left k row) h = row_tells_none row h
     role_tells_none (names_type row) h = refl
     role_tells_none (new_literal row) h = refl
     role_tells_none parameter_pointer h = refl
@@ -132,6 +147,7 @@ module _ (source : Lexed) (cut : IsTokens source.text source.tokens) where
 
     mark_tells_none : (m : Mark) → HasWords source m → mark_tells known m ≡ false
     mark_tells_none (mentions m) h = neither _ _ (tells_none m.named h.0) (role_tells_none m.role h.1)
+    mark_tells_none (of_fields site m) h = field_tells_none m h
     mark_tells_none (defers_literal site at) h = refl
     mark_tells_none (returns at es) h = refl
     mark_tells_none (opens b) h = neither _ _ (receiver_tells_none b.receiver h.0) (signature_tells_none b.signature h.1)

@@ -1,6 +1,6 @@
 -- What is found in the files that are walked is what is to be said of all of them.
 use Rattle.std.proofs.Common.{◌≡◌, ℕ, zero, suc, ◌+◌, Bool, true, false, inl, inr, List, [], ◌∷◌, Some, Contains, refl, sym, ◌∙◌, subst, arith}
-use Rattle.std.specs.Prelude.{slice_get}
+use Rattle.std.specs.Prelude.{◌↔◌, slice_get}
 use Rattle.std.specs.List.{AllZip}
 use Rattle.std.proofs.lemmas.Option.{same_Some, none-some}
 use Rattle.tree.specs.Syntax.{SourceFile}
@@ -8,17 +8,18 @@ use Rattle.meaning.specs.Tracked.{Known, placed, locals_of}
 use Rattle.meaning.specs.Uses.{Callee, Seen, seen_in}
 use Rattle.meaning.proofs.Membership.{contains_here, contains_there, contains_cases, contains_nil}
 use Rattle.meaning.specs.BodyEvents.{bodies_of, seen_file, variables_of, outer_faults_of, faults_of}
+use Rattle.meaning.specs.KeepingFields.{fields_kept}
 use Rattle.meaning_packages.specs.Credits.{Credits, AreFullCredits}
 use Rattle.meaning_packages.specs.CallsFlags.{Flags, FileWithCredits, AreMost, calls_by}
-use Rattle.meaning_reports.specs.Loaded.{LoadedPackage, Tables, trees_of, known_in, imported_flags, seen_from, seen_files}
+use Rattle.meaning_reports.specs.Loaded.{LoadedPackage, Tables, trees_of, keeping_in, known_in, imported_flags, seen_from, seen_files}
 use Rattle.meaning_reports.specs.PackageTables.{AreCredited, no_file, file_and, IsJudged}
-use Rattle.meaning_reports.specs.PackageReports.{IsFileFinding, SaysByPaths}
+use Rattle.meaning_reports.specs.PackageReports.{IsFileFinding, IsKeptIn, SaysByPaths}
 use Rattle.meaning_reports.specs.UsedImports.{HandsThere}
 use Rattle.meaning_reports.proofs.OneAnswer.{one_list, one_most}
 use Rattle.report.specs.Entries.{Entry}
 use Rattle.silent_files.specs.SilentFiles.{IsSilent}
 use Rattle.silent_files.specs.SilentPackages.{StandsFor, itself, silent}
-use Rattle.silent_files.specs.WalkedFiles.{seen_if, seen_some, HandOver, AreWalked, IsSaidOf, WalkedFilesAreEnough}
+use Rattle.silent_files.specs.WalkedFiles.{seen_if, seen_some, walked_files, SkipsSilent, HandOver, IsKeptAmong, AreWalked, IsSaidOf, WalkedFilesAreEnough}
 use Rattle.silent_files.proofs.SilentPackages.{no_variable_of, all_back, nothing_changes, skipped_so}
 
 -- A file without marks
@@ -39,12 +40,17 @@ bare_bodies : (known : Known) → bodies_of (seen_in known []) ≡ []
 unfolding placed
 bare_bodies known = refl
 
+bare_fields : (known : Known) → fields_kept (seen_in known []) ≡ []
+unfolding placed
+bare_fields known = refl
+
 bare : (known : Known) → IsSilent (seen_in known [])
 bare known = record {
   no_variable = bare_variables known;
   outside = bare_outside known;
   inside = bare_inside known;
   hands_nothing = λ f h. contains_nil h.body (subst (λ bs. Contains bs h.body) (bare_bodies known) h.is_of_file);
+  keeps_nothing = bare_fields known;
 }
 
 -- no literal of it is relied on
@@ -122,6 +128,12 @@ at_zero k = omega arith
 at_next : (n k : ℕ) → n + suc k ≡ n + 1 + k
 at_next n k = omega arith
 
+-- it is so of one of these files
+record HasSome (IsSo : Seen → Type 0) (files : List Seen) : Type 0 where
+  file : Seen
+  is_file : Contains files file
+  is_so : IsSo file
+
 module _ (walked : ℕ → Bool) (known : ℕ → Known) where
   abbrev IsQuiet : ℕ → SourceFile → Type 0
   IsQuiet m tree = walked m ≡ false → IsSilent (seen_file (known m) tree)
@@ -142,46 +154,48 @@ module _ (walked : ℕ → Bool) (known : ℕ → Known) where
       subst (AllWhole (seen_file (known n) tree ∷ seen_from known (n + 1) trees)) (sym f.is)
       (record { others = w.file ∷ ws.others; are = file_and w.same w.full ws.are; stand = (w.stand, ws.stand) })
 
-  -- what they hand on
+  -- what is so of one of them, but of no file in which nothing is to be found
 
-  seen_hands : (b : Bool) (m : ℕ) (tree : SourceFile) (f : Callee) → (b ≡ false → IsSilent (seen_file (known m) tree))
-      → (HandsThere (seen_if b (known m) tree) f → HandsThere (seen_file (known m) tree) f)
-      × (HandsThere (seen_file (known m) tree) f → HandsThere (seen_if b (known m) tree) f)
-  seen_hands true m tree f quiet = (λ h. h, λ h. h)
-  seen_hands false m tree f quiet =
-      (λ h. absurd ((bare (known m)).hands_nothing f h), λ h. absurd ((quiet refl).hands_nothing f h))
+  module _ (IsSo : Seen → Type 0) (none : (seen : Seen) → IsSilent seen → IsSo seen → ⊥) where
+    so_of : (b : Bool) (m : ℕ) (tree : SourceFile) → (b ≡ false → IsSilent (seen_file (known m) tree))
+        → (IsSo (seen_if b (known m) tree) → IsSo (seen_file (known m) tree))
+        × (IsSo (seen_file (known m) tree) → IsSo (seen_if b (known m) tree))
+    so_of true m tree quiet = (λ h. h, λ h. h)
+    so_of false m tree quiet = (
+      λ h. absurd (none (seen_in (known m) []) (bare (known m)) h),
+      λ h. absurd (none (seen_file (known m) tree) (quiet refl) h),
+    )
 
-  over_first : (file : Seen) (files : List Seen) (f : Callee) → HandsThere file f → HandOver (file ∷ files) f
-  over_first file files f h = record { file = file; is_file = contains_here file files; hands = h }
+    over_first : (file : Seen) (files : List Seen) → IsSo file → HasSome IsSo (file ∷ files)
+    over_first file files h = record { file = file; is_file = contains_here file files; is_so = h }
 
-  over_later : (file : Seen) (files : List Seen) (f : Callee) → HandOver files f → HandOver (file ∷ files) f
-  over_later file files f h =
-      record { file = h.file; is_file = contains_there file h.file files h.is_file; hands = h.hands }
+    over_later : (file : Seen) (files : List Seen) → HasSome IsSo files → HasSome IsSo (file ∷ files)
+    over_later file files h =
+        record { file = h.file; is_file = contains_there file h.file files h.is_file; is_so = h.is_so }
 
-  hand_both : (n : ℕ) (trees : List SourceFile) (f : Callee)
-      → ((k : ℕ) (tree : SourceFile) → slice_get trees k ≡ Some tree → IsQuiet (n + k) tree)
-      → (HandOver (seen_some walked known n trees) f → HandOver (seen_from known n trees) f)
-      × (HandOver (seen_from known n trees) f → HandOver (seen_some walked known n trees) f)
-  hand_both n [] f quiet =
-      (λ h. absurd (contains_nil h.file h.is_file), λ h. absurd (contains_nil h.file h.is_file))
-  hand_both n (tree ∷ trees) f quiet =
-      let first = seen_hands (walked n) n tree f (subst (λ m. IsQuiet m tree) (at_first n) (quiet zero tree refl)) in
-      let rest =
-      hand_both (n + 1) trees f (λ k t is. subst (λ m. IsQuiet m t) (at_next n k) (quiet (suc k) t is)) in
-      let one = seen_if (walked n) (known n) tree in
-      let whole = seen_file (known n) tree in
-      let ones = seen_some walked known (n + 1) trees in
-      let wholes = seen_from known (n + 1) trees in (
-        λ h. elim (contains_cases one h.file ones h.is_file) [
-          | inl same ↦
-              over_first whole wholes f (first.0 (subst (λ s. HandsThere s f) (sym same) h.hands))
-          | inr more ↦ over_later whole wholes f (rest.0 record { file = h.file; is_file = more; hands = h.hands })
-        ],
-        λ h. elim (contains_cases whole h.file wholes h.is_file) [
-          | inl same ↦ over_first one ones f (first.1 (subst (λ s. HandsThere s f) (sym same) h.hands))
-          | inr more ↦ over_later one ones f (rest.1 record { file = h.file; is_file = more; hands = h.hands })
-        ],
-      )
+    some_both : (n : ℕ) (trees : List SourceFile)
+        → ((k : ℕ) (tree : SourceFile) → slice_get trees k ≡ Some tree → IsQuiet (n + k) tree)
+        → (HasSome IsSo (seen_some walked known n trees) → HasSome IsSo (seen_from known n trees))
+        × (HasSome IsSo (seen_from known n trees) → HasSome IsSo (seen_some walked known n trees))
+    some_both n [] quiet =
+        (λ h. absurd (contains_nil h.file h.is_file), λ h. absurd (contains_nil h.file h.is_file))
+    some_both n (tree ∷ trees) quiet =
+        let first = so_of (walked n) n tree (subst (λ m. IsQuiet m tree) (at_first n) (quiet zero tree refl)) in
+        let rest =
+        some_both (n + 1) trees (λ k t is. subst (λ m. IsQuiet m t) (at_next n k) (quiet (suc k) t is)) in
+        let one = seen_if (walked n) (known n) tree in
+        let whole = seen_file (known n) tree in
+        let ones = seen_some walked known (n + 1) trees in
+        let wholes = seen_from known (n + 1) trees in (
+          λ h. elim (contains_cases one h.file ones h.is_file) [
+            | inl same ↦ over_first whole wholes (first.0 (subst IsSo (sym same) h.is_so))
+            | inr more ↦ over_later whole wholes (rest.0 record { file = h.file; is_file = more; is_so = h.is_so })
+          ],
+          λ h. elim (contains_cases whole h.file wholes h.is_file) [
+            | inl same ↦ over_first one ones (first.1 (subst IsSo (sym same) h.is_so))
+            | inr more ↦ over_later one ones (rest.1 record { file = h.file; is_file = more; is_so = h.is_so })
+          ],
+        )
 
   each_walked : ((n : ℕ) → walked n ≡ true) → (n : ℕ) (trees : List SourceFile)
       → seen_some walked known n trees ≡ seen_from known n trees
@@ -212,7 +226,7 @@ module _ (ps : List LoadedPackage) (tables : Tables) (i : ℕ) (p : LoadedPackag
   wholes =
       all_whole walked (known_in ps tables p) 0 (trees_of p)
       (λ n tree is. subst (λ m. IsQuiet walked (known_in ps tables p) m tree) (at_zero n)
-      (λ skipped. skipped_so ps tables p n tree (are.skip_silent.may_be n tree is skipped)))
+      (λ skipped. skipped_so (keeping_in ps tables p) ps tables p n tree (are.skip_silent.may_be n tree is skipped)))
       files are.are_files
 
   judged : IsJudged ps tables i p wholes.others flags
@@ -261,13 +275,43 @@ module _ (ps : List LoadedPackage) (tables : Tables) (i : ℕ) (p : LoadedPackag
             said.file x) same said.is_finding));
       }
 
+module _ (ps : List LoadedPackage) (tables : Tables) (p : LoadedPackage) (walked : ℕ → Bool)
+    (skip : SkipsSilent ps tables p walked) where
+  are_quiet : (k : ℕ) (tree : SourceFile) → slice_get (trees_of p) k ≡ Some tree
+      → IsQuiet walked (known_in ps tables p) (0 + k) tree
+  are_quiet k tree is =
+      subst (λ m. IsQuiet walked (known_in ps tables p) m tree) (at_zero k)
+      (λ skipped. skipped_so (keeping_in ps tables p) ps tables p k tree (skip.may_be k tree is skipped))
+
+  hands_so : (f : Callee) → HandOver (walked_files ps tables p walked) f ↔ HandOver (seen_files ps tables p) f
+  hands_so f =
+      let both = some_both walked (known_in ps tables p) (λ seen. HandsThere seen f)
+      (λ seen quiet. quiet.hands_nothing f) 0 (trees_of p) are_quiet in (
+        λ h.
+            let w = both.0 record { file = h.file; is_file = h.is_file; is_so = h.hands } in
+            record { file = w.file; is_file = w.is_file; hands = w.is_so },
+        λ h.
+            let w = both.1 record { file = h.file; is_file = h.is_file; is_so = h.hands } in
+            record { file = w.file; is_file = w.is_file; hands = w.is_so },
+      )
+
+  keeps_so : (field : List ℕ) → IsKeptAmong (walked_files ps tables p walked) field ↔ IsKeptIn ps tables p field
+  keeps_so field =
+      let both = some_both walked (known_in ps tables p) (λ seen. Contains (fields_kept seen) field)
+      (λ seen quiet h. contains_nil field (subst (λ fs. Contains fs field) quiet.keeps_nothing h)) 0 (trees_of p)
+      are_quiet in (
+        λ h.
+            let w = both.0 record { file = h.file; is_file = h.is_file; is_so = h.is_kept } in
+            record { file = w.file; is_file = w.is_file; is_kept = w.is_so },
+        λ h.
+            let w = both.1 record { file = h.file; is_file = h.is_file; is_so = h.is_kept } in
+            record { file = w.file; is_file = w.is_file; is_kept = w.is_so },
+      )
+
 pub walks_are_enough : WalkedFilesAreEnough
 walks_are_enough = record {
-  hand_over = λ ps tables p walked f skip.
-      let both = hand_both walked (known_in ps tables p) 0 (trees_of p) f
-      (λ n tree is. subst (λ m. IsQuiet walked (known_in ps tables p) m tree) (at_zero n)
-      (λ skipped. skipped_so ps tables p n tree (skip.may_be n tree is skipped))) in
-      (both.0, both.1);
+  keeping = λ ps tables p walked field skip. keeps_so ps tables p walked skip field;
+  hand_over = λ ps tables p walked f skip. hands_so ps tables p walked skip f;
   all = λ ps tables p walked is. each_walked walked (known_in ps tables p) is 0 (trees_of p);
   flags = λ ps tables i p walked files flags are. record {
     files = (wholes ps tables i p walked files flags are).others;

@@ -2,7 +2,7 @@
 -- mention that is told in their place. And the small rules of the grammar.
 use Rattle.std.proofs.Common.{◌≡◌, ℕ, ◌+◌, inl, inr, Bool, true, false, not, List, [], ◌∷◌, ◌++◌, Contains, Option, Some, None, refl, sym, subst}
 use Rattle.std.proofs.lemmas.List.Elements.{Contains-append_left, Contains-append_right, Contains-append_cases}
-use Rattle.std.specs.Prelude.{◌-◌, ◌&&◌, if◌then◌else◌, option_map, codes}
+use Rattle.std.specs.Prelude.{◌-◌, ◌&&◌, if◌then◌else◌, is_some, option_map, codes}
 use Rattle.std.specs.Str.{bytes_eq}
 use Rattle.tree.specs.declared.edition.Edition.{Edition}
 use Rattle.tree.specs.declared.edition.Edition.TheVariants.{First, Second}
@@ -13,15 +13,15 @@ use Rattle.tree.specs.declared.operator.ChanDirection.{ChanDirection}
 use Rattle.tree.specs.declared.operator.ChanDirection.TheVariants.{Both, Send, Receive}
 use Rattle.tree.specs.declared.operator.UnaryOperator.{UnaryOperator}
 use Rattle.tree.specs.declared.operator.UnaryOperator.TheVariants.{Address}
-use Rattle.tree.specs.Syntax.{Identifier, TypeName, Expression, expression_node, name_expression, composite_literal, parenthesized, selector_expression, index_expression, instance_expression, call_expression, star_expression, unary_expression, binary_expression, array_type, ExpressionForm, Parameters, no_parameter, named_and, unnamed_and, name_alone_and, Expressions, no_expression, expression_and, OptionalExpression, missing_expression, present_expression, OptionalStatement, missing_statement, present_statement, statement_node, if_statement, Statements, statement_and}
+use Rattle.tree.specs.Syntax.{Identifier, TypeName, Expression, expression_node, name_expression, composite_literal, parenthesized, selector_expression, index_expression, instance_expression, call_expression, star_expression, unary_expression, binary_expression, array_type, ExpressionForm, Parameters, no_parameter, named_and, unnamed_and, name_alone_and, Expressions, no_expression, expression_and, OptionalExpression, missing_expression, present_expression, OptionalStatement, missing_statement, present_statement, statement_node, send_statement, define_statement, if_statement, Statements, statement_and}
 use Rattle.meaning.specs.Scopes.{is_blank, first_of, bare_names, named_in_type}
-use Rattle.meaning.specs.Mentions.{Named, as_bare, as_named, without_brackets, as_bracketed, as_pointer, as_new_literal, select_from, embedded, Standing, ordinary, first_of_for, communication, Row, CallPlace, nowhere, as_statement, only_value, return_item, deferred, place_in, Call, call_of, is_one, is_none_left, argument_use, LiteralUse, other_use, deferred_call, started_by, Role, elsewhere, exposed, found_nil, found_error, called_in_brackets, argument, left, new_literal, parameter_pointer, BodyPlace, Mark, defers_literal, opens, closes, in_body, Spot, part_of, whole, mention, name_role, named_or, bare_within, addressed_within, exposed_or, NilTest, nil_test, nil_where, nil_marks, has_both, compares, error_where, error_marks, guard_marks, behind_row, callee_or, callee_use, declaring, number_of, addressed, argument_or, argument_at, new_literal_or, deferral, parameter_type_or, left_names, declared_elsewhere, guard_in_clause, expression_marks, form_marks, expressions_marks, arguments_marks, items_marks, lefts_marks, ranged_marks, statement_marks, statement_form_marks, statements_marks, optional_statement_marks}
+use Rattle.meaning.specs.Mentions.{Named, as_bare, as_named, without_brackets, as_bracketed, as_pointer, as_new_literal, select_from, embedded, Standing, ordinary, first_of_for, communication, Row, CallPlace, nowhere, as_statement, only_value, return_item, deferred, under_go, place_in, Call, call_of, is_one, is_none_left, LiteralUse, other_use, deferred_call, started_by, Role, elsewhere, as_key, exposed, pointed_to, found_nil, found_error, called_in_brackets, argument, left, new_literal, parameter_pointer, BodyPlace, FieldLeft, Assigned, Taker, no_taker, called_function, appending, method, some_taker, writes_field, Mark, of_fields, defers_literal, opens, closes, in_body, Spot, part_of, whole, field_left, written, field_written, field_called, given_to, literal_given_to, receiver_given, all_given_to, appended, right_given, rights_given, sent, renewed, communication_given, guard_renewed, callee_spot, argument_spot, argument_taker, mention, name_role, named_or, bare_within, addressed_within, exposed_or, NilTest, nil_test, nil_where, nil_marks, has_both, compares, error_where, error_marks, guard_marks, behind_row, callee_or, declaring, number_of, addressed, argument_or, argument_at, new_literal_or, deferral, parameter_type_or, left_names, declared_elsewhere, guard_in_clause, expression_marks, form_marks, expressions_marks, arguments_marks, items_marks, lefts_marks, ranged_marks, statement_marks, statement_form_marks, statements_marks, optional_statement_marks}
 use Rattle.meaning.specs.Cursor.{read_in, Rule, ◌⨾◌, identifier}
 use Rattle.meaning.specs.OperatorTokens.{assign_operator}
 use Rattle.meaning.specs.Grammar.{Position, as_type, as_expression, as_value, as_element, as_constraint, parameters_stand, length_stands, no_type_parameters, type_parameters, after_type_name, end_of_selector, end_of_name, after_instance, end_of_type, channel, arguments, perhaps, elements, third_bound, guard_name, initial, range_left, case_head, communication_head, optional_tag, before_item, after_items, qualifier, type_name, SpellsExpression, SpellsExpressions, SpellsMore}
 use Rattle.meaning.proofs.Membership.{contains_nil, contains_here, contains_there}
 use Rattle.meaning_reports.proofs.ImportsOf.{only_one}
-use Rattle.silent_files.specs.NamedWords.{Lexed, IsBound, AreWords, AreWordsIf, CallHasWords, FormHasWords, RowHasWords, PlaceIsBound, RoleHasWords, HasWords}
+use Rattle.silent_files.specs.NamedWords.{Lexed, IsBound, AreWords, AreWordsIf, CallHasWords, FormHasWords, RowHasWords, PlaceIsBound, RoleHasWords, FieldHasWords, HasWords}
 use Rattle.meaning.specs.Tracked.{call_in, only_call}
 use Rattle.silent_files.proofs.WordRules.{Says, Keeps, AllHaveWords, none_left, one_more, one_has, both_have, IsName, AreNames, says_nothing, keeps_nothing, says_never, keeps_not_before, keeps_token, says_both, behind, ending, says_one, so, given, spanned, keeps_optional, enclosed, keeps_only_if, keeps_string, keeps_semicolon, says_identifier, both, moved, no_marks}
 
@@ -56,6 +56,7 @@ role_of_name source as_statement = tt
 role_of_name source (only_value row) = tt
 role_of_name source (return_item k) = tt
 role_of_name source deferred = tt
+role_of_name source under_go = tt
 
 pub statement_place : (source : Lexed) (standing : Standing) → PlaceIsBound source (place_in standing as_statement)
 statement_place source ordinary = tt
@@ -142,7 +143,7 @@ module _ {source : Lexed} where
   addressed_within_there spot _ e h = tt
 
   addressed_there : (site : ℕ) (op : UnaryOperator) (e : Expression) (ms : List Mark)
-      → AllHaveWords source (named_or (addressed_within op e) site exposed ms)
+      → AllHaveWords source (named_or (addressed_within op e) site pointed_to ms)
       → AreWordsIf source (addressed op e)
   addressed_there site Address (expression_node (name_expression name) span) ms h = (first_mention _ [] h).0
   addressed_there site Address _ ms h = tt
@@ -159,10 +160,14 @@ module _ {source : Lexed} where
       → AllHaveWords source (exposed_or site e (expression_marks (part_of site) e))
   exposed_has site e h = in_place (bare_within e) site exposed (within_there (part_of site) e h) tt h
 
+  pub key_has : (site : ℕ) (e : Expression) → AllHaveWords source (expression_marks (part_of site) e)
+      → AllHaveWords source (named_or (as_bare e) site as_key (expression_marks (part_of site) e))
+  key_has site e h = in_place (as_bare e) site as_key (bare_there (part_of site) e h) tt h
+
   pub addressed_has : (site : ℕ) (op : UnaryOperator) (e : Expression) → AllHaveWords source (expression_marks (part_of site) e)
-      → AllHaveWords source (named_or (addressed_within op e) site exposed (expression_marks (part_of site) e))
+      → AllHaveWords source (named_or (addressed_within op e) site pointed_to (expression_marks (part_of site) e))
   addressed_has site op e h =
-      in_place (addressed_within op e) site exposed (addressed_within_there (part_of site) op e h) tt h
+      in_place (addressed_within op e) site pointed_to (addressed_within_there (part_of site) op e h) tt h
 
   pub selected : (spot : Spot) (e : Expression) (m : Identifier) → AllHaveWords source (expression_marks (part_of spot.site) e)
       → IsName source m
@@ -182,7 +187,7 @@ module _ {source : Lexed} where
       by None low = in_place (as_bracketed e) site called_in_brackets (bracketed_there spot e h) tt h
       by (Some x) low = one_has _ (low, lies)
 
-  either : (b : Bool) {ms ns : List Mark} → AllHaveWords source ms → AllHaveWords source ns → AllHaveWords source (if b then ms else ns)
+  pub either : (b : Bool) {ms ns : List Mark} → AllHaveWords source ms → AllHaveWords source ns → AllHaveWords source (if b then ms else ns)
   either true h k = h
   either false h k = k
 
@@ -190,7 +195,7 @@ module _ {source : Lexed} where
       → AllHaveWords source (argument_or c site k e (expression_marks spot e))
   unfolding expression_marks form_marks
   argued c site k spot (expression_node (unary_expression op e) span) is h =
-      let operand = named_or (addressed_within op e) spot.site exposed (expression_marks (part_of spot.site) e) in
+      let operand = named_or (addressed_within op e) spot.site pointed_to (expression_marks (part_of spot.site) e) in
       let own = subst (λ (p : CallPlace). AllHaveWords source (new_literal_or p spot.site (as_new_literal op e) operand)) is h in
       in_place (addressed op e) site (argument k true c)
       (addressed_there spot.site op e (expression_marks (part_of spot.site) e) own) tt h
@@ -209,6 +214,7 @@ module _ {source : Lexed} where
   newly (only_value row) site o low h = in_place o site (new_literal row) low tt h
   newly (return_item k) site o low h = h
   newly deferred site o low h = h
+  newly under_go site o low h = h
 
   pub typed : (is_plain : Bool) (spot : Spot) (t : Expression) (site : ℕ) → AllHaveWords source (expression_marks spot t)
       → AllHaveWords source (parameter_type_or is_plain t site (expression_marks spot t))
@@ -220,11 +226,11 @@ module _ {source : Lexed} where
       → CallHasWords source (call_in row e)
   unfolding expression_marks form_marks
   call_there row spot (expression_node (call_expression e es ellipsis) span) h =
-      by (as_named e) (before_others source _ _ h)
+      by (as_named e) (before_others source _ _ (behind_others source _ _ (behind_others source _ _ h)))
     where
       by : (o : Option Named)
           → AllHaveWords source (callee_or (option_map (λ x. record { callee = x; arguments = es; has_ellipsis = ellipsis; place = spot.place }) o) spot.site e
-          (expression_marks record { place = nowhere; literal = callee_use spot.place; site = spot.site } e))
+          (expression_marks (callee_spot spot) e))
           → CallHasWords source (option_map (λ x. record { callee = x; arguments = es; has_ellipsis = ellipsis; place = only_value row }) o)
       by None k = tt
       by (Some x) k = (first_mention _ [] k).0
@@ -259,6 +265,98 @@ module _ {source : Lexed} where
   elsewhere_have site [] h = none_left
   elsewhere_have site (name ∷ names) h =
       one_more _ _ (declared_has site exposed name (number_of name) h.0 tt) (elsewhere_have site names h.1)
+
+  -- fields, and what is given, have the words of rows alone
+
+  pub written_has : (site : ℕ) (by : Option Assigned) (o : Option FieldLeft)
+      → ((l : FieldLeft) → FieldHasWords source (writes_field l by))
+      → AllHaveWords source (written site by o)
+  written_has site by None h = none_left
+  written_has site by (Some l) h = one_has (of_fields site (writes_field l by)) (h l)
+
+  pub unread_has : (site : ℕ) (e : Expression) → AllHaveWords source (field_written site None e)
+  unread_has site e = written_has site None (field_left e) (λ l. tt)
+
+  pub stored_has : (site k : ℕ) (row : Row) (e : Expression) → RowHasWords source row
+      → AllHaveWords source (field_written site (Some record { left_side = k; row = row }) e)
+  stored_has site k row e h =
+      written_has site (Some record { left_side = k; row = row }) (field_left e) (λ l. h)
+
+  pub given_has : (site : ℕ) (taker : Taker) (e : Expression) → AllHaveWords source (given_to site taker e)
+  given_has site no_taker e = none_left
+  given_has site (called_function n) e = one_has _ tt
+  given_has site (appending n) e = one_has _ tt
+  given_has site (method m) e = one_has _ tt
+  given_has site some_taker e = one_has _ tt
+
+  pub literal_given_has : (site : ℕ) (taker : Taker) (at : ℕ) → AllHaveWords source (literal_given_to site taker at)
+  literal_given_has site no_taker at = none_left
+  literal_given_has site (called_function n) at = one_has _ tt
+  literal_given_has site (appending n) at = one_has _ tt
+  literal_given_has site (method m) at = one_has _ tt
+  literal_given_has site some_taker at = one_has _ tt
+
+  selected_given : (site : ℕ) (place : CallPlace) (e : Expression) (m : Identifier) (span : Span)
+      → AllHaveWords source (receiver_given place site (expression_node (selector_expression e m) span))
+  selected_given site nowhere e m span = none_left
+  selected_given site as_statement e m span = none_left
+  selected_given site (only_value row) e m span = none_left
+  selected_given site (return_item k) e m span = none_left
+  selected_given site deferred e m span = given_has site (method m.text) e
+  selected_given site under_go e m span = given_has site (method m.text) e
+
+  pub receiver_has : (place : CallPlace) (site : ℕ) (e : Expression) → AllHaveWords source (receiver_given place site e)
+  receiver_has place site (expression_node (selector_expression e m) span) = selected_given site place e m span
+  receiver_has nowhere site _ = none_left
+  receiver_has as_statement site _ = none_left
+  receiver_has (only_value row) site _ = none_left
+  receiver_has (return_item k) site _ = none_left
+  receiver_has deferred site _ = none_left
+  receiver_has under_go site _ = none_left
+
+  pub called_has : (site : ℕ) (e : Expression) → AllHaveWords source (field_called site e)
+  called_has site (expression_node (selector_expression e m) span) = one_has _ tt
+  called_has site _ = none_left
+
+  all_given_has : (site : ℕ) (taker : Taker) (es : Expressions) → AllHaveWords source (all_given_to site taker es)
+  all_given_has site taker no_expression = none_left
+  all_given_has site taker (expression_and e es) = both_have (given_has site taker e) (all_given_has site taker es)
+
+  appended_has : (site : ℕ) (o : Option Named) (es : Expressions) → AllHaveWords source (appended site o es)
+  appended_has site None es = none_left
+  appended_has site (Some n) es =
+      either (bytes_eq n.name (codes "append")) (all_given_has site (appending n) es) none_left
+
+  right_has : (site : ℕ) (is_only : Bool) (e : Expression) → AllHaveWords source (right_given site is_only e)
+  right_has site is_only (expression_node (call_expression f es ellipsis) span) =
+      either is_only none_left (appended_has site (as_bare f) es)
+  right_has site is_only _ = one_has _ tt
+
+  pub rights_have : (site : ℕ) (is_only : Bool) (ls rs : Expressions)
+      → AllHaveWords source (rights_given site is_only ls rs)
+  rights_have site is_only no_expression rs = none_left
+  rights_have site is_only (expression_and l ls) no_expression = none_left
+  rights_have site is_only (expression_and l ls) (expression_and r rs) =
+      both_have (either (is_some (bare_within l)) none_left (right_has site is_only r)) (rights_have site is_only ls rs)
+
+  pub sent_has : (standing : Standing) (at : ℕ) (v : Expression) → AllHaveWords source (sent standing at v)
+  sent_has ordinary at v = one_has _ tt
+  sent_has first_of_for at v = one_has _ tt
+  sent_has communication at v = none_left
+
+  renewed_have : (site : ℕ) (ns : List Identifier) → AllHaveWords source (renewed site ns)
+  renewed_have site [] = none_left
+  renewed_have site (n ∷ ns) = one_more _ _ tt (renewed_have site ns)
+
+  pub communication_has : (clause : ℕ) (s : OptionalStatement) → AllHaveWords source (communication_given clause s)
+  communication_has clause missing_statement = none_left
+  communication_has clause (present_statement (statement_node (send_statement c v) span)) = one_has _ tt
+  communication_has clause (present_statement (statement_node (define_statement ns rs) span)) = renewed_have clause ns
+  communication_has clause (present_statement (statement_node _ span)) = none_left
+
+  pub guard_renewed_has : (guard : Option Identifier) (clause : Span) → AllHaveWords source (guard_renewed guard clause)
+  guard_renewed_has None clause = none_left
+  guard_renewed_has (Some n) clause = one_has _ tt
 
   -- what a condition finds out names what stands in it
 
@@ -589,22 +687,26 @@ module _ (source : Lexed) (edition : Edition) (place : Position) where
   says_expressions spot no_expression low h = says_never
   says_expressions spot (expression_and e es) low h = both (h.0 spot low) (more_expressions spot es low h.1)
 
-  more_arguments : (c : Option Call) (site k : ℕ) (es : Expressions) → EachSays es
-      → Says source (AllHaveWords source (arguments_marks c site k es)) (SpellsMore (read_in edition source.text) place es)
+  more_arguments : (stand : CallPlace) (c : Option Call) (site k : ℕ) (es : Expressions) → EachSays es
+      → Says source (AllHaveWords source (arguments_marks stand c site k es)) (SpellsMore (read_in edition source.text) place es)
   unfolding SpellsMore arguments_marks
-  more_arguments c site k no_expression h = says_nothing none_left
-  more_arguments c site k (expression_and e es) h =
-      let spot : Spot = record { place = nowhere; literal = argument_use c; site = site } in
+  more_arguments stand c site k no_expression h = says_nothing none_left
+  more_arguments stand c site k (expression_and e es) h =
+      let spot = argument_spot stand c site in
       behind (keeps_token _)
-      (both (so (argued_at c site k (is_none_left es) spot e refl) (h.0 spot tt)) (more_arguments c site (k + 1) es h.1))
+      (so (λ w. both_have w.0 (both_have (given_has site (argument_taker stand c) e) w.1))
+      (says_both (so (argued_at c site k (is_none_left es) spot e refl) (h.0 spot tt))
+      (more_arguments stand c site (k + 1) es h.1)))
 
-  pub says_argument_list : (c : Option Call) (site k : ℕ) (es : Expressions) → EachSays es
-      → Says source (AllHaveWords source (arguments_marks c site k es)) (SpellsExpressions (read_in edition source.text) place es)
+  pub says_argument_list : (stand : CallPlace) (c : Option Call) (site k : ℕ) (es : Expressions) → EachSays es
+      → Says source (AllHaveWords source (arguments_marks stand c site k es)) (SpellsExpressions (read_in edition source.text) place es)
   unfolding SpellsExpressions arguments_marks
-  says_argument_list c site k no_expression h = says_never
-  says_argument_list c site k (expression_and e es) h =
-      let spot : Spot = record { place = nowhere; literal = argument_use c; site = site } in
-      both (so (argued_at c site k (is_none_left es) spot e refl) (h.0 spot tt)) (more_arguments c site (k + 1) es h.1)
+  says_argument_list stand c site k no_expression h = says_never
+  says_argument_list stand c site k (expression_and e es) h =
+      let spot = argument_spot stand c site in
+      so (λ w. both_have w.0 (both_have (given_has site (argument_taker stand c) e) w.1))
+      (says_both (so (argued_at c site k (is_none_left es) spot e refl) (h.0 spot tt))
+      (more_arguments stand c site (k + 1) es h.1))
 
   more_items : (site k : ℕ) (es : Expressions) → EachSays es
       → Says source (AllHaveWords source (items_marks site k es)) (SpellsMore (read_in edition source.text) place es)
@@ -624,14 +726,17 @@ module _ (source : Lexed) (edition : Edition) (place : Position) where
   unfolding SpellsMore ranged_marks
   more_ranged site no_expression h = says_nothing none_left
   more_ranged site (expression_and e es) h =
-      behind (keeps_token _) (both (so (exposed_has site e) (h.0 (part_of site) tt)) (more_ranged site es h.1))
+      behind (keeps_token _)
+      (so (λ w. both_have (exposed_has site e w.0) (both_have (unread_has site e) w.1))
+      (says_both (h.0 (part_of site) tt) (more_ranged site es h.1)))
 
   pub says_ranged : (site : ℕ) (es : Expressions) → EachSays es
       → Says source (AllHaveWords source (ranged_marks site es)) (SpellsExpressions (read_in edition source.text) place es)
   unfolding SpellsExpressions ranged_marks
   says_ranged site no_expression h = says_never
   says_ranged site (expression_and e es) h =
-      both (so (exposed_has site e) (h.0 (part_of site) tt)) (more_ranged site es h.1)
+      so (λ w. both_have (exposed_has site e w.0) (both_have (unread_has site e) w.1))
+      (says_both (h.0 (part_of site) tt) (more_ranged site es h.1))
 
   on_left : (row : Row) (site k : ℕ) (e : Expression) → AllHaveWords source (expression_marks (part_of site) e)
       → RowHasWords source row
@@ -643,7 +748,7 @@ module _ (source : Lexed) (edition : Edition) (place : Position) where
   unfolding SpellsMore lefts_marks
   more_lefts row site k no_expression h = says_nothing λ r. none_left
   more_lefts row site k (expression_and e es) h =
-      behind (keeps_token _) (so (λ w r. both_have (on_left row site k e w.0 r) (w.1 r))
+      behind (keeps_token _) (so (λ w r. both_have (on_left row site k e w.0 r) (both_have (stored_has site k row e r) (w.1 r)))
       (says_both (h.0 (part_of site) tt) (more_lefts row site (k + 1) es h.1)))
 
   pub says_lefts : (row : Row) (site k : ℕ) (es : Expressions) → EachSays es
@@ -652,5 +757,5 @@ module _ (source : Lexed) (edition : Edition) (place : Position) where
   unfolding SpellsExpressions lefts_marks
   says_lefts row site k no_expression h = says_never
   says_lefts row site k (expression_and e es) h =
-      so (λ w r. both_have (on_left row site k e w.0 r) (w.1 r))
+      so (λ w r. both_have (on_left row site k e w.0 r) (both_have (stored_has site k row e r) (w.1 r)))
       (says_both (h.0 (part_of site) tt) (more_lefts row site (k + 1) es h.1))

@@ -6,12 +6,12 @@ use Rattle.tree.specs.declared.span.Span.{Span}
 use Rattle.tree.specs.declared.operator.DeclKeyword.{DeclKeyword}
 use Rattle.tree.specs.Syntax.{Identifier, Expression, expression_node, ExpressionForm, name_expression, basic_literal, function_literal, composite_literal, literal_value, key_value, parenthesized, selector_expression, index_expression, instance_expression, slice_expression, type_assertion, call_expression, star_expression, unary_expression, binary_expression, array_type, ellipsis_array_type, slice_type, map_type, channel_type, function_type, struct_type, interface_type, Expressions, no_expression, expression_and, OptionalExpression, missing_expression, present_expression, Signature, signature_of, Parameters, no_parameter, named_and, unnamed_and, name_alone_and, Fields, no_field, fields_and, embedded_and, element_and, method_and, Statement, statement_node, StatementForm, empty_statement, declaration_statement, labeled_statement, expression_statement, send_statement, increment_statement, decrement_statement, assignment, operator_assignment, define_statement, go_statement, defer_statement, return_statement, break_statement, continue_statement, goto_statement, fallthrough_statement, block_statement, if_statement, for_statement, range_assignment, range_definition, switch_statement, type_switch_statement, select_statement, Statements, no_statement, statement_and, OptionalStatement, missing_statement, present_statement, CaseClauses, no_case, case_and, CommunicationClauses, no_communication, communication_and, Declaration, declaration_of, Specs, no_spec, value_and, type_and}
 use Rattle.meaning.specs.Scopes.{parameters_named, named_in_type, named_in_types}
-use Rattle.meaning.specs.Mentions.{as_named, as_new_literal, embedded, defines, assigns, declares, Standing, ordinary, first_of_for, communication, Row, nowhere, as_statement, deferred, place_in, call_of, callee_use, elsewhere, names_type, first_row, row_in, Mark, returns, Spot, part_of, whole, mention, literal_body, value_spot, row_of, expression_marks, form_marks, expressions_marks, optional_marks, arguments_marks, items_marks, ranged_marks, names_type_marks, signature_marks, parameters_marks, fields_marks, statement_marks, statement_form_marks, statements_marks, optional_statement_marks, cases_marks, communications_marks, declaration_marks, specs_marks}
+use Rattle.meaning.specs.Mentions.{as_named, as_new_literal, embedded, is_one, defines, assigns, declares, Standing, ordinary, first_of_for, communication, Row, as_statement, deferred, under_go, place_in, call_of, arguments_place, callee_spot, elsewhere, names_type, first_row, row_in, Mark, returns, Spot, part_of, whole, mention, literal_body, value_spot, row_of, expression_marks, form_marks, expressions_marks, optional_marks, arguments_marks, items_marks, ranged_marks, names_type_marks, signature_marks, parameters_marks, fields_marks, statement_marks, statement_form_marks, statements_marks, optional_statement_marks, cases_marks, communications_marks, declaration_marks, specs_marks}
 use Rattle.meaning.specs.Cursor.{read_in, Cursor, Rule, ◌⇒◌, nothing, spanning}
 use Rattle.meaning.specs.Grammar.{Position, as_type, as_expression, as_value, as_element, as_constraint, inside, operand, element_place, statement_start, of_struct, of_interface, Owner, IsMissing, IsLast, SpellsExpression, SpellsForm, SpellsExpressions, SpellsMore, SpellsOptional, SpellsSignature, SpellsResult, SpellsItems, SpellsTypeParameters, SpellsFields, SpellsStatement, SpellsStatementForm, SpellsOptionalStatement, SpellsElse, SpellsStatements, SpellsCases, SpellsCommunications, SpellsDeclaration, SpellsSpecs}
 use Rattle.silent_files.specs.NamedWords.{Lexed, IsBound, AreWordsIf, TypeHasWords, PlaceIsBound, ParametersHaveWords, SignatureHasWords}
 use Rattle.silent_files.proofs.WordRules.{IsInside, Says, AllHaveWords, AreNames, none_left, one_more, one_has, both_have, start_in, says_nothing, keeps_nothing, says_never, keeps_not_before, keeps_token, says_both, behind, ending, knowing, says_chosen, so, given, spanned, spanned_at, keeps_only_if, enclosed, keeps_semicolon, keeps_semicolons, says_name, says_identifier, keeps_optional_identifier, says_identifiers, both, moved, no_marks}
-use Rattle.silent_files.proofs.WordParts.{name_there, type_names_have, both_names, new_there, in_place, exposed_has, addressed_has, nil_has, found_has, behind_has, selected, callee_by, newly, typed, role_of_name, value_place, row_has, statement_place, names_have, elsewhere_have, IsNameIf, guard_has, deferral_has, body_has, keeps_end_of_selector, keeps_end_of_name, keeps_after_instance, says_after_type_name, keeps_end_of_type, keeps_channel, keeps_assign_operator, keeps_tag, keeps_before_item, keeps_after_items, says_type_name, says_guard_name, says_arguments, says_perhaps, says_elements, says_range_left, says_case_head, says_third_bound, says_initial, says_communication, EachSays, says_expressions, says_argument_list, says_items, says_ranged, says_lefts}
+use Rattle.silent_files.proofs.WordParts.{name_there, type_names_have, both_names, new_there, in_place, exposed_has, key_has, addressed_has, nil_has, found_has, behind_has, selected, callee_by, newly, typed, role_of_name, value_place, row_has, statement_place, names_have, elsewhere_have, IsNameIf, guard_has, deferral_has, literal_given_has, receiver_has, called_has, rights_have, sent_has, unread_has, communication_has, guard_renewed_has, body_has, keeps_end_of_selector, keeps_end_of_name, keeps_after_instance, says_after_type_name, keeps_end_of_type, keeps_channel, keeps_assign_operator, keeps_tag, keeps_before_item, keeps_after_items, says_type_name, says_guard_name, says_arguments, says_perhaps, says_elements, says_range_left, says_case_head, says_third_bound, says_initial, says_communication, EachSays, says_expressions, says_argument_list, says_items, says_ranged, says_lefts}
 use Rattle.silent_files.proofs.NoMarks.{missing_gives_none, missing_statement_gives_none, no_expressions, no_arguments, no_items, no_ranged, three_and_one, no_specs_left}
 
 -- a statement begins there
@@ -77,7 +77,8 @@ module _ (source : Lexed) (edition : Edition) where
     of_form place spot span (function_literal signature ss braces) low =
         spanned (given (behind (keeps_token _)
         (so (λ w. both_have (body_has (literal_body spot.literal span.start signature ss braces) (tt, w.0.1)
-        (both_have w.0.0 w.1)) (deferral_has spot.literal spot.site span.start))
+        (both_have w.0.0 w.1)) (both_have (deferral_has spot.literal spot.site span.start)
+        (literal_given_has spot.site spot.taker span.start)))
         (says_both (of_signature span.start signature) (spanned (enclosed _ _ (of_statements ss)))))))
     of_form place spot span (composite_literal t es) low =
         spanned (given (given (both (of_expression as_type (part_of spot.site) t tt)
@@ -88,7 +89,7 @@ module _ (source : Lexed) (edition : Edition) where
         (no_expressions (part_of spot.site))
         (says_expressions source edition as_element (part_of spot.site) es tt (of_each as_element es)))))
     of_form place spot span (key_value k v) low =
-        spanned (given (both (of_expression as_value (part_of spot.site) k tt)
+        spanned (given (both (so (key_has spot.site k) (of_expression as_value (part_of spot.site) k tt))
         (behind (keeps_token _) (of_expression as_value (part_of spot.site) v tt))))
     of_form place spot span (parenthesized e) low =
         spanned (enclosed _ _ (of_expression (inside place) (part_of spot.site) e tt))
@@ -113,13 +114,18 @@ module _ (source : Lexed) (edition : Edition) where
         spanned (given (given (both (of_expression as_expression (part_of spot.site) e tt)
         (behind (keeps_token _) (enclosed _ _ (of_expression as_type (part_of spot.site) t tt))))))
     of_form place spot span (call_expression e es ellipsis) low =
-        let inner : Spot = record { place = nowhere; literal = callee_use spot.place; site = spot.site } in
-        spanned (given (given (both
+        let inner = callee_spot spot in
+        let c = call_of spot.place e es ellipsis in
+        let stand = arguments_place spot.place e in
+        spanned (given (given
+        (so (λ w. both_have (receiver_has spot.place spot.site e)
+        (both_have w.1 (both_have w.0 (called_has spot.site e))))
+        (says_both
         (so (callee_by spot.site spot.place inner e es ellipsis low) (of_expression as_expression inner e tt))
-        (enclosed _ _ (says_arguments es (arguments_marks (call_of spot.place e es ellipsis) spot.site 0) ellipsis
-        (no_arguments (call_of spot.place e es ellipsis) spot.site 0)
-        (says_argument_list source edition as_expression (call_of spot.place e es ellipsis) spot.site 0 es
-        (of_each as_expression es)))))))
+        (enclosed _ _ (says_arguments es (arguments_marks stand c spot.site 0) ellipsis
+        (no_arguments stand c spot.site 0)
+        (says_argument_list source edition as_expression stand c spot.site 0 es
+        (of_each as_expression es))))))))
     of_form place spot span (star_expression e) low =
         spanned (given (behind (keeps_token _) (of_expression (inside place) (part_of spot.site) e tt)))
     of_form place spot span (unary_expression op e) low =
@@ -266,21 +272,25 @@ module _ (source : Lexed) (edition : Edition) where
     of_statement_form standing at (expression_statement e) low =
         of_expression as_expression (whole (place_in standing as_statement) at) e (statement_place source standing)
     of_statement_form standing at (send_statement c v) low =
-        both (of_expression as_expression (part_of at) c tt)
-        (behind (keeps_token _) (of_expression as_expression (part_of at) v tt))
+        so (λ w. both_have w.0 (both_have w.1 (sent_has standing at v)))
+        (says_both (of_expression as_expression (part_of at) c tt)
+        (behind (keeps_token _) (of_expression as_expression (part_of at) v tt)))
     of_statement_form standing at (increment_statement e) low =
-        ending (so (exposed_has at e) (of_expression as_expression (part_of at) e tt)) (keeps_token _)
+        ending (so (λ w. both_have (exposed_has at e w) (unread_has at e))
+        (of_expression as_expression (part_of at) e tt)) (keeps_token _)
     of_statement_form standing at (decrement_statement e) low =
-        ending (so (exposed_has at e) (of_expression as_expression (part_of at) e tt)) (keeps_token _)
+        ending (so (λ w. both_have (exposed_has at e w) (unread_has at e))
+        (of_expression as_expression (part_of at) e tt)) (keeps_token _)
     of_statement_form standing at (assignment ls rs) low =
         let row = row_of standing at (assigns ls) rs in
-        so (λ w. both_have w.1 (w.0 (row_has row (value_spot row at) w.1 tt)))
+        so (λ w. both_have w.1 (both_have (rights_have at (is_one rs) ls rs) (w.0 (row_has row (value_spot row at) w.1 tt))))
         (says_both (says_lefts source edition as_expression row at 0 ls (of_each as_expression ls))
         (behind (keeps_token _)
         (says_expressions source edition as_expression (value_spot row at) rs (value_place source row low) (of_each as_expression rs))))
     of_statement_form standing at (operator_assignment op l r) low =
-        both (so (exposed_has at l) (of_expression as_expression (part_of at) l tt))
-        (behind (keeps_assign_operator op) (of_expression as_expression (part_of at) r tt))
+        so (λ w. both_have (exposed_has at l w.0) (both_have w.1 (unread_has at l)))
+        (says_both (of_expression as_expression (part_of at) l tt)
+        (behind (keeps_assign_operator op) (of_expression as_expression (part_of at) r tt)))
     of_statement_form standing at (define_statement names rs) low =
         let row = row_of standing at (defines names) rs in
         so (λ w. both_have w.1 (names_have row at 0 names (row_has row (value_spot row at) w.1 tt) w.0))
@@ -288,7 +298,7 @@ module _ (source : Lexed) (edition : Edition) where
         (behind (keeps_token _)
         (says_expressions source edition as_expression (value_spot row at) rs (value_place source row low) (of_each as_expression rs))))
     of_statement_form standing at (go_statement e) low =
-        given (behind (keeps_token _) (of_expression as_expression (part_of at) e tt))
+        given (behind (keeps_token _) (of_expression as_expression (whole under_go at) e tt))
     of_statement_form standing at (defer_statement e) low =
         given (behind (keeps_token _) (of_expression as_expression (whole deferred at) e tt))
     of_statement_form standing at (return_statement es) low =
@@ -362,7 +372,7 @@ module _ (source : Lexed) (edition : Edition) where
         → Says source (AllHaveWords source (cases_marks at guard cs)) (SpellsCases (read_in edition source.text) cs)
     of_cases at guard h no_case = says_nothing none_left
     of_cases at guard h (case_and es ss span cs) =
-        so (λ w. both_have (guard_has at guard span h) w)
+        so (λ w. both_have (guard_has at guard span h) (both_have (guard_renewed_has guard span) w))
         (moved (append_assoc (expressions_marks (part_of span.start) es) (statements_marks ss) (cases_marks at guard cs))
         (both (spanned
         (both (says_case_head es (expressions_marks (part_of span.start)) (no_expressions (part_of span.start))
@@ -373,9 +383,9 @@ module _ (source : Lexed) (edition : Edition) where
         → Says source (AllHaveWords source (communications_marks cs)) (SpellsCommunications (read_in edition source.text) cs)
     of_communications no_communication = says_nothing none_left
     of_communications (communication_and c ss span cs) =
-        moved (append_assoc (optional_statement_marks communication c) (statements_marks ss) (communications_marks cs))
-        (given (both (spanned
-        (both (says_communication c (missing_statement_gives_none communication c) (of_optional_statement communication c))
+        given (so (λ w. both_have w.0.0 (both_have (communication_has span.start c) (both_have w.0.1 w.1)))
+        (says_both (spanned
+        (says_both (says_communication c (missing_statement_gives_none communication c) (of_optional_statement communication c))
         (behind (keeps_token _) (of_statements ss)))) (of_communications cs)))
 
     of_declaration : (d : Declaration) → Says source (AllHaveWords source (declaration_marks d)) (SpellsDeclaration (read_in edition source.text) d)

@@ -11,7 +11,7 @@ use Rattle.lexer.specs.declared.token.TokenKind.TheVariants.{Identifier as ident
 use Rattle.lexer.specs.Tokens.{IsTokens}
 use Rattle.tree.specs.declared.edition.Edition.{Edition}
 use Rattle.tree.specs.Syntax.{OptionalExpression, missing_expression, present_expression, Parameters, no_parameter, named_and, unnamed_and, name_alone_and, Signature, signature_of, SourceFile}
-use Rattle.meaning.specs.Mentions.{Named, as_named, RowForm, defines, assigns, declares, Row, CallPlace, nowhere, as_statement, only_value, return_item, deferred, Call, Role, elsewhere, exposed, found_nil, found_error, called, called_in_brackets, argument, returned, left, names_type, new_literal, parameter_pointer, Mark, mentions, defers_literal, returns, opens, closes, file_marks}
+use Rattle.meaning.specs.Mentions.{Named, as_named, RowForm, defines, assigns, declares, Row, CallPlace, nowhere, as_statement, only_value, return_item, deferred, under_go, Call, Role, elsewhere, as_key, exposed, pointed_to, found_nil, found_error, called, called_in_brackets, argument, returned, left, names_type, new_literal, parameter_pointer, FieldMark, writes_field, Mark, mentions, of_fields, defers_literal, returns, opens, closes, file_marks}
 use Rattle.meaning.specs.Tracked.{only_call}
 use Rattle.meaning.specs.TreeOfText.{IsTreeOf}
 
@@ -84,10 +84,13 @@ PlaceIsBound source as_statement = Unit {0}
 PlaceIsBound source (only_value row) = IsBound source row.statement
 PlaceIsBound source (return_item k) = Unit {0}
 PlaceIsBound source deferred = Unit {0}
+PlaceIsBound source under_go = Unit {0}
 
 abbrev pub RoleHasWords : Lexed → Role → Type 0
 RoleHasWords source elsewhere = Unit {0}
+RoleHasWords source as_key = Unit {0}
 RoleHasWords source exposed = Unit {0}
+RoleHasWords source pointed_to = Unit {0}
 RoleHasWords source (found_nil nil) = Unit {0}
 RoleHasWords source (found_error nil row) = Unit {0}
 RoleHasWords source (called c) = PlaceIsBound source c.place
@@ -98,6 +101,13 @@ RoleHasWords source (left k row) = RowHasWords source row
 RoleHasWords source (names_type row) = Unit {0}
 RoleHasWords source (new_literal row) = Unit {0}
 RoleHasWords source parameter_pointer = Unit {0}
+
+-- Fields
+
+-- where a row assigns to the field
+abbrev pub FieldHasWords : Lexed → FieldMark → Type 0
+FieldHasWords source (writes_field l (Some a)) = RowHasWords source a.row
+FieldHasWords source m = Unit {0}
 
 -- Bodies
 
@@ -120,6 +130,7 @@ SignatureHasWords source (signature_of ps rs brackets) = ParametersHaveWords sou
 -- what the mark names are words of the text
 abbrev pub HasWords : Lexed → Mark → Type 0
 HasWords source (mentions m) = AreWords source m.named × RoleHasWords source m.role
+HasWords source (of_fields site m) = FieldHasWords source m
 HasWords source (defers_literal site at) = Unit {0}
 HasWords source (returns at es) = Unit {0}
 HasWords source (opens b) = ReceiverHasWords source b.receiver × SignatureHasWords source b.signature

@@ -1,8 +1,8 @@
 -- Files in which nothing is to be found. In such a file no use means a maker, a type of cancel functions or something
 -- of `errgroup`, no function that a use could mean gives a cancel function, and no name is `recover`. Then no local is
--- tracked, no use is a fault, no body has a variable, and none hands anything to a function. Functions that only take
--- cancel functions or groups don't matter: who has none can pass none. And where no variable is, a condition finds out
--- nothing of one.
+-- tracked, no use is a fault, no body has a variable, and none hands anything to a function or keeps it in a field.
+-- Functions that only take cancel functions or groups don't matter: who has none can pass none. And where no variable
+-- is, a condition finds out nothing of one.
 -- (This tool's rules.)
 use Rattle.std.specs.Prelude.{ℕ, ◌≡◌, ◌||◌, Bool, false, List, [], Option, Some, None, codes}
 use Rattle.std.specs.List.{list_any}
@@ -10,11 +10,12 @@ use Rattle.std.specs.Str.{bytes_eq}
 use Rattle.meaning.specs.OuterBlocks.{is_first_path}
 use Rattle.meaning.specs.Declarations.{import_name}
 use Rattle.tree.specs.Syntax.{OptionalExpression, missing_expression, present_expression, Signature, signature_of}
-use Rattle.meaning.specs.Mentions.{Named, as_named, RowForm, defines, assigns, declares, Row, Call, Role, left, Mark, mentions, defers_literal, returns, opens, closes}
+use Rattle.meaning.specs.Mentions.{Named, as_named, RowForm, defines, assigns, declares, Row, Call, Role, left, FieldMark, writes_field, Mark, mentions, of_fields, defers_literal, returns, opens, closes}
 use Rattle.meaning.specs.FunctionFacts.{context_path, errgroup_path, is_of, Item, items_of}
 use Rattle.meaning.specs.Tracked.{Known, facts_of, facts_giving, is_maker, only_call, receiver_items}
 use Rattle.meaning.specs.Uses.{Callee, Seen}
 use Rattle.meaning.specs.BodyEvents.{variables_of, outer_faults_of, faults_of}
+use Rattle.meaning.specs.KeepingFields.{fields_kept}
 use Rattle.meaning_reports.specs.UsedImports.{HandsThere}
 
 -- no use means `context` or `errgroup`, and no function that is named gives a cancel function
@@ -66,9 +67,14 @@ abbrev pub role_tells : Known → Role → Bool
 role_tells known (left k row) = row_tells known row
 role_tells known role = false
 
+abbrev pub field_tells : Known → FieldMark → Bool
+field_tells known (writes_field l (Some a)) = row_tells known a.row
+field_tells known m = false
+
 -- a mark names a maker or a type of cancel functions
 abbrev pub mark_tells : Known → Mark → Bool
 mark_tells known (mentions m) = tells known m.named || role_tells known m.role
+mark_tells known (of_fields site m) = field_tells known m
 mark_tells known (defers_literal site at) = false
 mark_tells known (returns at es) = false
 mark_tells known (opens b) = items_tell known (receiver_items b.receiver) || signature_tells known b.signature
@@ -76,6 +82,7 @@ mark_tells known closes = false
 
 abbrev pub names_recover : Mark → Bool
 names_recover (mentions m) = bytes_eq m.named.name (codes "recover")
+names_recover (of_fields site m) = false
 names_recover (defers_literal site at) = false
 names_recover (returns at es) = false
 names_recover (opens b) = false
@@ -87,3 +94,4 @@ pub record IsSilent (seen : Seen) : Type 0 where
   pub outside : outer_faults_of seen seen.marks ≡ []
   pub inside : (body : ℕ) → faults_of seen body seen.marks ≡ []
   pub hands_nothing : (f : Callee) → HandsThere seen f → ⊥
+  pub keeps_nothing : fields_kept seen ≡ []

@@ -3,12 +3,12 @@ use Rattle.std.specs.Prelude.{ℕ, ◌≡◌, Bool, false, List}
 use Rattle.std.specs.List.{list_any, AllZip}
 use Rattle.tree.specs.Syntax.{SourceFile}
 use Rattle.meaning.specs.Mentions.{Mark, file_marks}
-use Rattle.meaning.specs.Tracked.{Known}
+use Rattle.meaning.specs.Tracked.{Fields, Known}
 use Rattle.meaning.specs.Uses.{Callee, Seen, seen_in}
 use Rattle.meaning.specs.BodyEvents.{seen_file}
 use Rattle.meaning_packages.specs.Credits.{Credits, AreFullCredits}
 use Rattle.meaning_packages.specs.CallsFlags.{Flags, FileWithCredits, AreMost}
-use Rattle.meaning_reports.specs.Loaded.{LoadedPackage, Tables, known_in}
+use Rattle.meaning_reports.specs.Loaded.{LoadedPackage, Tables, known_with}
 use Rattle.meaning_reports.specs.PackageReports.{IsFileFinding}
 use Rattle.report.specs.Entries.{Entry}
 use Rattle.silent_files.specs.SilentFiles.{GivesNothing, GivesByContext, mark_tells, names_recover, IsSilent}
@@ -29,11 +29,12 @@ FilesWithoutMakersAreSilent = (known : Known) (marks : List Mark)
     → list_any names_recover marks ≡ false
     → IsSilent (seen_in known marks)
 
--- of a file of a package
+-- of a file of a package, whatever fields keep
 abbrev pub SkippedFilesAreSilent : Type 0
-SkippedFilesAreSilent = (ps : List LoadedPackage) (tables : Tables) (p : LoadedPackage) (number : ℕ) (tree : SourceFile)
+SkippedFilesAreSilent = (fields : Fields) (ps : List LoadedPackage) (tables : Tables) (p : LoadedPackage) (number : ℕ)
+    (tree : SourceFile)
     → MayBeSkipped ps tables p number tree
-    → IsSilent (seen_file (known_in ps tables p number) tree)
+    → IsSilent (seen_file (known_with fields ps tables p number) tree)
 
 -- a file that imports neither `context` nor `errgroup` names no maker, and no type of cancel functions
 abbrev pub ImportsTell : Type 0

@@ -6,10 +6,11 @@ use Rattle.tree.specs.Syntax.{SourceFile}
 use Rattle.meaning.specs.Tracked.{Known}
 use Rattle.meaning.specs.Uses.{Callee, Seen, seen_in}
 use Rattle.meaning.specs.BodyEvents.{seen_file}
+use Rattle.meaning.specs.KeepingFields.{fields_kept}
 use Rattle.meaning_packages.specs.CallsFlags.{Flags, FileWithCredits, AreMost, calls_by}
 use Rattle.meaning_reports.specs.Loaded.{LoadedPackage, Tables, trees_of, known_in, imported_flags, seen_files}
 use Rattle.meaning_reports.specs.PackageTables.{AreCredited, AreFlagsByPaths}
-use Rattle.meaning_reports.specs.PackageReports.{IsFileFinding, SaysByPaths}
+use Rattle.meaning_reports.specs.PackageReports.{IsFileFinding, IsKeptIn, SaysByPaths}
 use Rattle.meaning_reports.specs.UsedImports.{HandsThere}
 use Rattle.meaning_reports.specs.WholeFaults.{HasNoWholeFault}
 use Rattle.report.specs.Entries.{Entry}
@@ -66,7 +67,17 @@ pub record HandOver (files : List Seen) (f : Callee) : Type 0 where
   pub is_file : Contains files file
   pub hands : HandsThere file f
 
+-- one of these files keeps in the field what it obtained
+pub record IsKeptAmong (files : List Seen) (field : List ℕ) : Type 0 where
+  pub file : Seen
+  pub is_file : Contains files file
+  pub is_kept : Contains (fields_kept file) field
+
 pub record WalkedFilesAreEnough : Type 0 where
+  -- all that files keep in fields is found in those that are walked
+  pub keeping : (ps : List LoadedPackage) (tables : Tables) (p : LoadedPackage) (walked : ℕ → Bool) (field : List ℕ)
+      → SkipsSilent ps tables p walked
+      → IsKeptAmong (walked_files ps tables p walked) field ↔ IsKeptIn ps tables p field
   -- all that files hand on is found in those that are walked
   pub hand_over : (ps : List LoadedPackage) (tables : Tables) (p : LoadedPackage) (walked : ℕ → Bool) (f : Callee)
       → SkipsSilent ps tables p walked

@@ -16,7 +16,7 @@ use Rattle.names.proofs.Adding.{or_else-assoc, or_else-none, first_of, map-or_el
 use Rattle.tracked.specs.declared.table.Entries.{Entries}
 use Rattle.tracked.specs.declared.table.Locals.{Locals}
 use Rattle.tracked.specs.LocalViews.{SeenLocal, entry_in, fresh, numbers_of, new_numbers, update_entry, HasNoLocals, AddsLocals, HasLocals}
-use Rattle.tracked.proofs.Numbers.{keeps_all, keeps_both, is_among, distinct-append, has_number, neither_of}
+use Rattle.tracked.proofs.Numbers.{keeps_all, keeps_both, keeps_same, is_among, distinct-append, has_number, neither_of}
 
 -- what these locals are before any mark is seen of them
 abbrev pub fresh_in : List Local → ℕ → Option SeenLocal
@@ -107,6 +107,20 @@ has_added a b ls none adds = record {
       adds.numbers ∙ (ap (λ l. l ++ new_numbers a.entries (numbers_of ls)) none.numbers
       ∙ keeps_all (λ n. not (is_some (entry_in a.entries n))) (λ n. ap (λ o. not (is_some o)) (none.entries n))
       (distinct (numbers_of ls)));
+}
+
+-- and what is added to some
+pub has_more : (a b : Locals) (xs ys : List Local) → HasLocals a xs → AddsLocals a b ys → HasLocals b (xs ++ ys)
+has_more a b xs ys has adds = record {
+  entries = λ n.
+      adds.entries n ∙ ap (λ o. or_else o (fresh_in ys n)) (has.entries n) ∙ sym (fresh_in-append xs ys n);
+  numbers =
+      adds.numbers
+      ∙ ap (λ (l : List ℕ). l ++ new_numbers a.entries (numbers_of ys)) has.numbers
+      ∙ ap (λ (l : List ℕ). distinct (numbers_of xs) ++ l)
+      (keeps_same (λ n. not (is_some (entry_in a.entries n))) (λ n. not (is_among (numbers_of xs) n))
+      (λ n. ap not (ap is_some (has.entries n) ∙ has_number xs n)) (distinct (numbers_of ys)))
+      ∙ sym (ap distinct (map-append (λ (l : Local). l.number) xs ys) ∙ distinct-append (numbers_of xs) (numbers_of ys));
 }
 
 -- one local: there is one of its number, or it is put

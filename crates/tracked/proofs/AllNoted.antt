@@ -1,20 +1,18 @@
 -- What all marks of a file do to a local that nothing was known of.
-use Rattle.std.proofs.Common.{◌≡◌, ℕ, Bool, true, false, ◌&&◌, ◌||◌, if◌then◌else◌, List, [], ◌∷◌, Option, Some, None, option_map, refl, sym, ap, ◌∙◌}
+use Rattle.std.proofs.Common.{◌≡◌, ℕ, Bool, true, false, ◌&&◌, ◌||◌, if◌then◌else◌, List, [], ◌∷◌, ◌++◌, Option, Some, None, option_map, refl, sym, ap, ◌∙◌}
 use Rattle.std.specs.Prelude.{◌==◌, not}
 use Rattle.std.specs.List.{list_any}
 use Rattle.std.proofs.lemmas.Bool.Decides.{Decides-eqb}
-use Rattle.meaning.specs.Mentions.{BodyPlace, Mark, mentions, defers_literal, returns, opens, closes}
-use Rattle.meaning.specs.Tracked.{Known, Placed, placed, Local, locals_of, find_local, variable_of, is_variable, obtains_in, makes_in}
-use Rattle.meaning.specs.Uses.{Seen, seen_in, is_own, is_of_local, mentions_inside}
-use Rattle.mentions.specs.declared.mark.Mark.{Mark as KeptMark}
-use Rattle.mentions.specs.MarkViews.{marks_view}
+use Rattle.meaning.specs.Mentions.{BodyPlace, Mark, mentions, of_fields, defers_literal, returns, opens, closes}
+use Rattle.meaning.specs.Tracked.{Known, Placed, Local, locals_of, find_local, variable_of, is_variable, obtains_in, makes_in}
+use Rattle.meaning.specs.Objects.{ObjectRow, object_rows, field_locals}
+use Rattle.meaning.specs.Uses.{Seen, is_own, is_of_local, mentions_inside}
 use Rattle.tracked.specs.declared.table.Entries.{Entries}
 use Rattle.meaning.specs.BodyEvents.{distinct}
 use Rattle.tracked.specs.declared.table.Locals.{Locals}
 use Rattle.tracked.specs.declared.seen.Seen.{Seen as KeptSeen}
-use Rattle.tracked_rows.specs.RowViews.{known_view}
-use Rattle.tracked.specs.LocalViews.{SeenLocal, entry_in, fresh, noted, noted_all, numbers_of, HasLocals, entry_of, SeesLocals}
-use Rattle.tracked.proofs.Added.{fresh_in}
+use Rattle.tracked.specs.LocalViews.{SeenLocal, entry_in, fresh, noted, noted_all, numbers_of, AddsLocals, HasLocals, TellsLocals, entry_of, seen_view, SeesLocals}
+use Rattle.tracked.proofs.Added.{fresh_in, has_more}
 
 or_false : (b : Bool) → (b || false) ≡ b
 or_false true = refl
@@ -64,6 +62,7 @@ module _ (known : Known) where
       ap (λ b. with_flags e (obtains_in known e.local.number (mentions m)) (makes_in known e.local.number (mentions m))
       (b && not (is_own e.local bodies)))
       (same_variable (variable_of known m) e.local)
+  noted-flags bodies (of_fields site m) e = with_none e
   noted-flags bodies (defers_literal site at) e = with_none e
   noted-flags bodies (returns at es) e = with_none e
   noted-flags bodies (opens b) e = with_none e
@@ -101,30 +100,51 @@ all_noted seen [] n = refl
 all_noted seen (l ∷ ls) n =
     first_noted seen n l (find_local ls n) (all_noted seen ls n) (l.number == n) (Decides-eqb l.number n).0
 
--- a table with the locals of a file, after all marks were noted
-pub seen_entries : (known : Known) (ms ns os : List KeptMark) → ns ≡ ms → os ≡ ms → (a b : Entries)
-    → ((n : ℕ) → entry_in a n ≡ fresh_in (locals_of known (placed [] (marks_view ns))) n)
-    → ((n : ℕ) → entry_in b n ≡ option_map (noted_all known n (placed [] (marks_view os))) (entry_in a n))
-    → (n : ℕ) → entry_in b n
-    ≡ option_map (entry_of (seen_in known (marks_view ms))) (find_local (seen_in known (marks_view ms)).locals n)
-seen_entries known ms ns os same equal a b there noted_there n =
-    noted_there n
-    ∙ ap (λ (l : List KeptMark). option_map (noted_all known n (placed [] (marks_view l))) (entry_in a n)) equal
-    ∙ ap (option_map (noted_all known n (placed [] (marks_view ms))))
-    (there n ∙ ap (λ (l : List KeptMark). fresh_in (locals_of known (placed [] (marks_view l))) n) same)
-    ∙ all_noted (seen_in known (marks_view ms)) (locals_of known (placed [] (marks_view ms))) n
+-- a table with these locals, after all marks were noted
+pub told_entries : (known : Known) (ps : List Placed) (ls : List Local) (a b : Entries)
+    → ((n : ℕ) → entry_in a n ≡ fresh_in ls n)
+    → ((n : ℕ) → entry_in b n ≡ option_map (noted_all known n ps) (entry_in a n))
+    → (n : ℕ) → entry_in b n ≡ option_map (λ l. noted_all known n ps (fresh l)) (find_local ls n)
+told_entries known ps ls a b there notes n =
+    notes n ∙ ap (option_map (noted_all known n ps)) (there n) ∙ both (find_local ls n)
+  where
+    both : (o : Option Local)
+        → option_map (noted_all known n ps) (option_map fresh o) ≡ option_map (λ l. noted_all known n ps (fresh l)) o
+    both None = refl
+    both (Some l) = refl
+
+together : (known : Known) (ps : List Placed) (n : ℕ) (o : Option Local)
+    → option_map (λ l. noted_all known n ps (fresh l)) o ≡ option_map (noted_all known n ps) (option_map fresh o)
+together known ps n None = refl
+together known ps n (Some l) = refl
 
 -- what is kept of a file so is what its marks do to its locals
-pub sees_locals : (seen : KeptSeen) (ns os : List KeptMark) → ns ≡ seen.marks.items → os ≡ seen.marks.items → (before : Locals)
-    → HasLocals before (locals_of (known_view seen.known) (placed [] (marks_view ns)))
-    → ((n : ℕ) → entry_in seen.locals.entries n ≡ option_map (noted_all (known_view seen.known) n (placed [] (marks_view os))) (entry_in before.entries n))
-    → seen.locals.numbers.items ≡ before.numbers.items
-    → SeesLocals seen
-sees_locals seen ns os same equal before has notes numbers = record {
-  entries =
-      seen_entries (known_view seen.known) seen.marks.items ns os same equal before.entries seen.locals.entries
-      has.entries notes;
-  numbers =
-      numbers ∙ (has.numbers
-      ∙ ap (λ (ms : List KeptMark). distinct (numbers_of (locals_of (known_view seen.known) (placed [] (marks_view ms))))) same);
-}
+pub sees_locals : (seen : KeptSeen) (ps : List Placed) (rows : List ObjectRow)
+    → ps ≡ (seen_view seen).marks → rows ≡ object_rows (seen_view seen).known (seen_view seen).marks
+    → TellsLocals seen.locals (seen_view seen).known ps rows → SeesLocals seen
+sees_locals seen ps rows same equal tells =
+    let known = (seen_view seen).known in
+    let ls : List Placed → List ObjectRow → List Local = λ ps rows. locals_of known ps ++ field_locals rows rows in
+    record {
+      entries = λ n.
+          tells.entries n
+          ∙ ap (λ (ps : List Placed). option_map (λ l. noted_all known n ps (fresh l)) (find_local (ls ps rows) n)) same
+          ∙ ap (λ (rows : List ObjectRow). option_map (λ l. noted_all known n (seen_view seen).marks (fresh l))
+          (find_local (ls (seen_view seen).marks rows) n)) equal
+          ∙ together known (seen_view seen).marks n (find_local (seen_view seen).locals n)
+          ∙ all_noted (seen_view seen) (seen_view seen).locals n;
+      numbers =
+          tells.numbers ∙ ap (λ (ps : List Placed). distinct (numbers_of (ls ps rows))) same
+          ∙ ap (λ (rows : List ObjectRow). distinct (numbers_of (ls (seen_view seen).marks rows))) equal;
+    }
+
+-- the locals of the marks, and then those of rows that obtain into fields
+pub tells_locals : (known : Known) (ps : List Placed) (rows : List ObjectRow) (a b c : Locals)
+    → HasLocals a (locals_of known ps) → AddsLocals a b (field_locals rows rows)
+    → ((n : ℕ) → entry_in c.entries n ≡ option_map (noted_all known n ps) (entry_in b.entries n))
+    → c.numbers.items ≡ b.numbers.items → TellsLocals c known ps rows
+tells_locals known ps rows a b c has adds notes numbers =
+    let more = has_more a b (locals_of known ps) (field_locals rows rows) has adds in record {
+      entries = told_entries known ps (locals_of known ps ++ field_locals rows rows) b.entries c.entries more.entries notes;
+      numbers = numbers ∙ more.numbers;
+    }

@@ -5,7 +5,7 @@ use Rattle.tree.proofs.Depths.{drop_item}
 use Rattle.mentions.specs.declared.mark.BodyPlace.{BodyPlace as KeptBody}
 use Rattle.mentions.specs.declared.mark.Mark.{Mark as KeptMark}
 use Rattle.mentions.specs.MarkViews.{body_view, mark_view, marks_view}
-use Rattle.meaning.specs.Mentions.{BodyPlace, Mark, mentions, defers_literal, returns, opens, closes}
+use Rattle.meaning.specs.Mentions.{BodyPlace, Mark, mentions, of_fields, defers_literal, returns, opens, closes}
 use Rattle.meaning.specs.Tracked.{Known, Local, placed, locals_of, locals_there}
 use Rattle.tracked.specs.declared.table.Entries.{Entries}
 use Rattle.tracked.specs.declared.table.Locals.{Locals}
@@ -20,6 +20,7 @@ module _ (known : Known) (bs : List BodyPlace) where
       ≡ locals_there known (bodies_at bs m) m ++ locals_of known (placed (bodies_at bs m) ms)
   unfolding placed locals_of
   locals_of-mark (mentions m) ms = refl
+  locals_of-mark (of_fields site m) ms = refl
   locals_of-mark (defers_literal site at) ms = refl
   locals_of-mark (returns at es) ms = refl
   locals_of-mark (opens b) ms = refl
@@ -30,6 +31,7 @@ module _ (known : Known) (bs : List BodyPlace) where
       ≡ noted_all known n (placed (bodies_at bs m) ms) (noted known n (bodies_at bs m) m e)
   unfolding placed
   noted_all-mark n (mentions m) ms e = refl
+  noted_all-mark n (of_fields site m) ms e = refl
   noted_all-mark n (defers_literal site at) ms e = refl
   noted_all-mark n (returns at es) ms e = refl
   noted_all-mark n (opens b) ms e = refl

@@ -1,5 +1,5 @@
 -- What the program keeps of locals, and what it stands for.
-use Rattle.std.specs.Prelude.{ℕ, ◌≡◌, not, ◌&&◌, ◌||◌, Bool, false, if◌then◌else◌, List, [], ◌∷◌, ◌++◌, Option, Some, None, is_some, option_map, map, nat_eq}
+use Rattle.std.specs.Prelude.{ℕ, ◌≡◌, not, ◌&&◌, ◌||◌, Bool, true, false, if◌then◌else◌, List, [], ◌∷◌, ◌++◌, Option, Some, None, is_none, is_some, option_map, map, nat_eq, nat_lt}
 use Rattle.std.specs.List.{list_any, filter}
 use Rattle.indexmap.specs.IndexMap.{get}
 use Rattle.tracked.specs.declared.local.LocalRole.{LocalRole as KeptRole}
@@ -8,17 +8,24 @@ use Rattle.tracked.specs.declared.local.Local.{Local as KeptLocal}
 use Rattle.tracked.specs.declared.local.SeenLocal.{SeenLocal as KeptSeenLocal}
 use Rattle.tracked.specs.declared.table.Entries.{Entries}
 use Rattle.tracked.specs.declared.table.Locals.{Locals}
+use Rattle.tracked.specs.declared.object_rows.ObjectKind.{ObjectKind as KeptKind}
+use Rattle.tracked.specs.declared.object_rows.ObjectKind.TheVariants.{New, Outer}
+use Rattle.tracked.specs.declared.object_rows.ObjectRow.{ObjectRow as KeptRow}
+use Rattle.tracked.specs.declared.unbound.BoundAgain.{BoundAgain}
+use Rattle.tracked.specs.declared.unbound.Objects.{Objects}
 use Rattle.tracked.specs.declared.obtainings.Obtaining.{Obtaining as KeptObtaining}
 use Rattle.tracked.specs.declared.obtainings.Obtainings.{Obtainings}
 use Rattle.tracked.specs.declared.seen.Seen.{Seen as KeptSeen}
 use Rattle.facts.specs.FactViews.{type_view, tracked_type_view}
 use Rattle.mentions.specs.MarkViews.{marks_view}
 use Rattle.tracked_rows.specs.RowViews.{known_view}
+use Rattle.tree.specs.View.{identifier_syntax}
 use Rattle.meaning.specs.OuterBlocks.{or_else}
-use Rattle.meaning.specs.Mentions.{BodyPlace, Mention, Mark, mentions, defers_literal, returns, opens, closes}
+use Rattle.meaning.specs.Mentions.{BodyPlace, Mention, Mark, mentions, of_fields, defers_literal, returns, opens, closes}
 use Rattle.meaning.specs.FunctionFacts.{VariableKind, cancel, group, kind_of_type}
-use Rattle.meaning.specs.Tracked.{Known, variable_of, outer, Placed, LocalRole, parameter, receiver, variadic, result, in_block, Local, find_local, is_variable, obtains_in, makes_in}
-use Rattle.meaning.specs.Uses.{Seen, seen_in, may_be_tracked, is_own, is_in_literal, Obtaining, first_of_some, obtained_there, first_obtaining}
+use Rattle.meaning.specs.Tracked.{Known, some_keep, variable_of, declared_by, outer, Placed, placed, LocalRole, parameter, receiver, variadic, result, in_block, Local, locals_of, find_local, is_variable, obtains_in, makes_in}
+use Rattle.meaning.specs.Objects.{is_binding, is_bound_again, ObjectKind, new_object, outer_object, ObjectRow, object_rows, is_same_field, object_left, field_locals}
+use Rattle.meaning.specs.Uses.{Seen, may_be_tracked, is_own, is_in_literal, Obtaining, first_of_some, obtained_there, first_obtaining}
 use Rattle.meaning.specs.BodyEvents.{distinct}
 
 -- Bodies
@@ -26,6 +33,7 @@ use Rattle.meaning.specs.BodyEvents.{distinct}
 -- the bodies around a mark, by those around the mark before it
 abbrev pub bodies_at : List BodyPlace → Mark → List BodyPlace
 bodies_at bs (mentions m) = bs
+bodies_at bs (of_fields site m) = bs
 bodies_at bs (defers_literal site at) = bs
 bodies_at bs (returns at es) = bs
 bodies_at bs (opens b) = b ∷ bs
@@ -115,6 +123,7 @@ noted_mention known n bodies m e = record {
 
 abbrev pub noted : Known → ℕ → List BodyPlace → Mark → SeenLocal → SeenLocal
 noted known n bodies (mentions m) e = noted_mention known n bodies m e
+noted known n bodies (of_fields site m) e = e
 noted known n bodies (defers_literal site at) e = e
 noted known n bodies (returns at es) e = e
 noted known n bodies (opens b) e = e
@@ -128,10 +137,68 @@ abbrev pub NotesMark : Known → List BodyPlace → Mark → Entries → Entries
 NotesMark known bodies mark before after =
     (n : ℕ) → entry_in after n ≡ option_map (noted known n bodies mark) (entry_in before n)
 
+-- Rows that obtain into fields
+
+abbrev pub object_kind_view : KeptKind → ObjectKind
+object_kind_view New = new_object
+object_kind_view Outer = outer_object
+
+abbrev pub object_row_view : KeptRow → ObjectRow
+object_row_view r = record {
+  object = r.object;
+  kind = object_kind_view r.kind;
+  field = identifier_syntax r.field.now;
+  type = type_view r.cancel_type;
+  body = r.body;
+}
+
+abbrev pub lesser_place : ObjectRow → ObjectRow → ℕ → ℕ
+lesser_place r q place = if is_same_field r q && nat_lt q.field.span.start place then q.field.span.start else place
+
+-- What may be an object
+
+-- the local that a mention binds elsewhere than in its declaration
+abbrev pub bound_by : Known → Mention → Option ℕ
+bound_by known m = if is_binding m.role && is_none (declared_by known m) then variable_of known m else None
+
+abbrev pub bound_in : BoundAgain → ℕ → Option Bool
+bound_in bound n = get nat_eq bound.by_number n
+
+abbrev pub update_bound : ℕ → Option Bool → ℕ → Option Bool
+update_bound number known n = if nat_eq number n then Some true else known
+
+abbrev pub unbound_in : Objects → ℕ → Option Local
+unbound_in objects n =
+    if is_some (bound_in objects.bound n) then None else option_map (λ e. e.local) (entry_in objects.locals.entries n)
+
+abbrev pub unbound_local : Known → List Placed → ℕ → Option Local
+unbound_local known marks n = if is_bound_again known marks n then None else find_local (locals_of known marks) n
+
+abbrev pub HasObjects : Objects → Known → List Placed → Type 0
+HasObjects objects known marks = (n : ℕ) → unbound_in objects n ≡ unbound_local known marks n
+
+-- none are kept where no field keeps
+abbrev pub MayHaveObjects : Option Objects → Known → List Placed → Type 0
+MayHaveObjects None known marks = some_keep known.fields ≡ false
+MayHaveObjects (Some objects) known marks = HasObjects objects known marks
+
 -- A file
 
+-- as it is seen by what is known of it, which says for what left sides `x.f` stand
+abbrev pub seen_by : Known → List Placed → Seen
+seen_by known marks = record {
+  known = known;
+  marks = marks;
+  locals = locals_of known marks ++ field_locals (object_rows known marks) (object_rows known marks);
+}
+
+-- it says so
+abbrev pub HasLefts : Known → List Placed → Type 0
+HasLefts known marks =
+    (at : ℕ) → known.object_lefts at ≡ object_left (object_rows known marks) (object_rows known marks) at
+
 abbrev pub seen_view : KeptSeen → Seen
-seen_view seen = seen_in (known_view seen.known) (marks_view seen.marks.items)
+seen_view seen = seen_by (known_view seen.known) (placed [] (marks_view seen.marks.items))
 
 -- what the marks of the file do to a local
 abbrev pub entry_of : Seen → Local → SeenLocal
@@ -141,6 +208,13 @@ entry_of seen l = record {
   is_made = list_any (λ p. makes_in seen.known l.number p.mark) seen.marks;
   is_in_literal = is_in_literal seen l;
 }
+
+-- these are the locals of the marks, and those of rows that obtain into fields, each with what the marks do to it
+pub record TellsLocals (locals : Locals) (known : Known) (marks : List Placed) (rows : List ObjectRow) : Type 0 where
+  pub entries : (n : ℕ) → entry_in locals.entries n
+      ≡ option_map (λ l. noted_all known n marks (fresh l))
+      (find_local (locals_of known marks ++ field_locals rows rows) n)
+  pub numbers : locals.numbers.items ≡ distinct (numbers_of (locals_of known marks ++ field_locals rows rows))
 
 -- the table has the locals of the file, each with what its marks do to it, and the number of each once
 pub record SeesLocals (seen : KeptSeen) : Type 0 where
@@ -171,10 +245,13 @@ NotesObtaining seen mark before after =
 abbrev pub HasFirsts : Obtainings → Seen → Type 0
 HasFirsts obtainings seen = (n : ℕ) → obtaining_in obtainings n ≡ first_obtaining seen n seen.marks
 
--- besides, the first binding of each local that obtains it is kept
+-- besides, the first binding of each local that obtains it is kept, and what may be an object; and what is known says
+-- for what left sides `x.f` stand
 pub record Sees (seen : KeptSeen) : Type 0 where
   pub locals : SeesLocals seen
   pub obtainings : HasFirsts seen.obtainings (seen_view seen)
+  pub objects : MayHaveObjects seen.objects (seen_view seen).known (seen_view seen).marks
+  pub lefts : HasLefts (seen_view seen).known (seen_view seen).marks
 
 -- Kinds
 

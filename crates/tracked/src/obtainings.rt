@@ -3,7 +3,8 @@
 ghost use Rattle.std.specs.Prelude.{◌≡◌, ℕ, None, IfOk, OnOk, map, option_map};
 ghost use Rattle.facts.specs.FactViews.{type_view, cancel_result_view};
 ghost use Rattle.meaning.specs.Mentions.{mentions};
-ghost use Rattle.meaning.specs.Uses.{first_of_some, obtained_by_row, obtained_in_role, type_from, type_given, type_obtained};
+ghost use Rattle.meaning.specs.Tracked.{type_given};
+ghost use Rattle.meaning.specs.Uses.{first_of_some, obtained_by_row, obtained_in_role, type_from, type_obtained};
 ghost use Rattle.mentions.specs.MarkViews.{mark_view, mention_view, row_view};
 ghost use Rattle.tracked.specs.LocalViews.{seen_view, obtaining_view, obtaining_in, obtaining_at, update_obtaining, NotesObtaining, HasFirsts, SeesLocals};
 ghost use Rattle.tracked_rows.specs.RowViews.{giving_view};
@@ -100,7 +101,8 @@ impl Obtainings {
         }
     }
 
-    fn obtaining(&self, number: u32) -> Option<Obtaining>
+    /// That of the local of that number.
+    pub fn obtaining(&self, number: u32) -> Option<Obtaining>
         ensures { option_map obtaining_view result ≡ obtaining_in self.now number }
     {
         match self.by_number.get(&number) {

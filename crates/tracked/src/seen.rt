@@ -1,29 +1,28 @@
 //! A file with what is known of it.
 
-ghost use Rattle.std.specs.Prelude.{◌≡◌, ℕ, [], IfOk, OnOk, map, option_map};
+ghost use Rattle.std.specs.Prelude.{◌≡◌, ℕ, true, [], IfOk, OnOk, is_some, map, option_map};
 ghost use Rattle.facts.specs.FactViews.{kind_view, type_view};
-ghost use Rattle.tracked.specs.LocalViews.{local_view, entry_view, entry_in, noted_all, seen_view, entry_of, HasLocals, SeesLocals, Sees};
-ghost use Rattle.meaning.specs.BodyEvents.{distinct, seen_file};
-ghost use Rattle.meaning.specs.Tracked.{placed, locals_of};
-ghost use Rattle.meaning.specs.Uses.{found, kind_of, is_tracked, cancel_type_of};
+ghost use Rattle.tracked.specs.LocalViews.{local_view, entry_view, entry_in, noted_all, object_row_view, seen_by, seen_view, entry_of, unbound_local, HasLocals, TellsLocals, SeesLocals, HasLefts, MayHaveObjects, Sees};
+ghost use Rattle.meaning.specs.BodyEvents.{distinct};
+ghost use Rattle.meaning.specs.Objects.{object_rows};
+ghost use Rattle.meaning.specs.Tracked.{some_keep, placed, locals_of};
+ghost use Rattle.meaning.specs.Uses.{found, kind_of, is_tracked, cancel_type_of, first_obtaining};
 ghost use Rattle.mentions.specs.MarkViews.{marks_view};
 ghost use Rattle.tracked_rows.specs.RowViews.{known_view};
-ghost use Rattle.tree.specs.View.{file_syntax};
 
 use crate::around::enter;
 use crate::declared::add_locals;
 use crate::kinds::{kind, tracked_kind};
 use crate::local::{Local, SeenLocal};
 use crate::noted::note;
+use crate::object_rows::{ObjectRow, add_fields};
 use crate::obtainings::{Obtainings, first_obtainings};
 use crate::table::{Entries, Locals};
-use bumpalo::Bump;
+use crate::unbound::Objects;
 use facts::{CancelType, TrackedType, VariableKind};
-use marks::file_marks;
 use mentions::{BodyPlace, Mark};
 use std::alloc::{AllocError, Global};
 use tracked_rows::Known;
-use tree::File;
 
 /// A file's marks and locals, with what is known.
 #[derive(Drop)]
@@ -31,11 +30,17 @@ pub struct Seen<'k, 'm, 'a> {
     pub known: Known<'k, 'a>,
     pub marks: Vec<Mark<'m, 'a>>,
     locals: Locals<'a>,
+    /// None, where no field keeps.
+    objects: Option<Objects<'a>>,
     obtainings: Obtainings,
 }
 
 /// The locals that the marks declare.
-fn all_locals<'a>(
+///
+/// # Errors
+///
+/// Memory was refused.
+pub fn all_locals<'a>(
     alloc: Global,
     known: Known<'_, 'a>,
     marks: &[Mark<'_, 'a>],
@@ -70,27 +75,48 @@ fn note_all<'a>(
     Ok(())
 }
 
-/// Looks at a file. What its marks refer to stands in the arena.
+/// What becomes of the locals that these marks declare, and of those of these rows, which obtain into fields.
+fn seen_locals<'a>(
+    alloc: Global,
+    known: Known<'_, 'a>,
+    marks: &[Mark<'_, 'a>],
+    rows: &[ObjectRow<'a>],
+) -> Result<Locals<'a>, AllocError>
+    ensures { IfOk result (λ locals. TellsLocals locals (known_view known.entry) (placed [] (marks_view marks.now))
+        (map object_row_view rows.now)) }
+{
+    let mut locals = all_locals(alloc, known, marks)?;
+    add_fields(rows, &mut locals)?;
+    note_all(alloc, known, marks, &mut locals.entries)?;
+    Ok(locals)
+}
+
+/// Looks at the marks of a file in which these rows obtain into fields, as what is known says too.
 ///
 /// # Errors
 ///
 /// Memory was refused.
-pub fn see<'k, 'm, 'a>(
+pub fn look<'k, 'm, 'a>(
     alloc: Global,
-    arena: &'m Bump,
     known: Known<'k, 'a>,
-    file: &'a File,
+    marks: Vec<Mark<'m, 'a>>,
+    rows: &[ObjectRow<'a>],
+    objects: Option<Objects<'a>>,
 ) -> Result<Seen<'k, 'm, 'a>, AllocError>
-    ensures view { IfOk result (λ seen. seen_view seen ≡ seen_file (known_view known.entry) (file_syntax file.now)) }
+    requires rows { map object_row_view rows.now ≡ object_rows (known_view known)
+        (placed [] (marks_view marks.items)) }
+    requires lefts { HasLefts (known_view known) (placed [] (marks_view marks.items)) }
+    requires objects { MayHaveObjects objects (known_view known) (placed [] (marks_view marks.items)) }
+    ensures view { IfOk result (λ seen. seen_view seen ≡ seen_by (known_view known.entry)
+        (placed [] (marks_view marks.entry.items))) }
     ensures sees { IfOk result (λ seen. Sees seen) }
 {
-    let marks = file_marks(alloc, arena, known.edition, file)?;
-    let mut locals = all_locals(alloc, known, &marks)?;
-    note_all(alloc, known, &marks, &mut locals.entries)?;
+    let locals = seen_locals(alloc, known, &marks, rows)?;
     let mut seen = Seen {
         known,
         marks,
         locals,
+        objects,
         obtainings: Obtainings::new(alloc),
     };
     seen.obtainings = first_obtainings(alloc, &seen)?;
@@ -150,6 +176,27 @@ impl<'k, 'm, 'a> Seen<'k, 'm, 'a> {
         match local.typed {
             Some(TrackedType::Cancel(cancel_type)) => cancel_type,
             _ => self.obtainings.type_obtained(local.number),
+        }
+    }
+
+    /// Whether some row obtains the local of that number, and binds it.
+    pub fn is_obtained(&self, number: u32) -> bool
+        requires { Sees self.now }
+        ensures { result ≡ is_some (first_obtaining (seen_view self.now) number (seen_view self.now).marks) }
+    {
+        self.obtainings.obtaining(number).is_some()
+    }
+
+    /// The local of that number that has a name of its own and is bound in its declaration alone, where some field
+    /// keeps: it may be an object.
+    pub fn unbound(&self, number: u32) -> Option<Local<'a>>
+        requires { Sees self.now }
+        ensures { some_keep (seen_view self.now).known.fields ≡ true → option_map local_view result
+            ≡ unbound_local (seen_view self.now).known (seen_view self.now).marks number }
+    {
+        match &self.objects {
+            Some(objects) => objects.unbound(number),
+            None => None,
         }
     }
 }

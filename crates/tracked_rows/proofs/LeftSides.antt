@@ -6,11 +6,10 @@ use Rattle.std.proofs.lemmas.Option.{slice_get-map, slice_get_read, slice_get_pa
 use Rattle.tree.specs.declared.expression.Expr.{Expr}
 use Rattle.tree.specs.declared.span.Identifier.{Identifier as KeptIdentifier}
 use Rattle.tree.specs.View.{identifier_syntax, expression_syntax, expressions_syntax}
-use Rattle.meaning.specs.Mentions.{as_bare}
-use Rattle.meaning.specs.Tracked.{Left, left_of_name, left_of_named, lefts_of_expressions}
+use Rattle.meaning.specs.Tracked.{Left, left_of_name, left_of_expression, lefts_of_expressions}
 
 abbrev pub left_in : Expr → Left
-left_in e = left_of_named (as_bare (expression_syntax e))
+left_in e = left_of_expression (expression_syntax e)
 
 pub lefts-map : (es : List Expr) → lefts_of_expressions (expressions_syntax es) ≡ map left_in es
 lefts-map [] = refl

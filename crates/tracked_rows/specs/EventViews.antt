@@ -4,15 +4,15 @@ use Rattle.tracked_rows.specs.declared.event.Callee.{Callee as KeptCallee}
 use Rattle.tracked_rows.specs.declared.event.Handed.{Handed as KeptHanded}
 use Rattle.tracked_rows.specs.declared.event.VariableAt.{VariableAt as KeptVariable}
 use Rattle.tracked_rows.specs.declared.event.Event.{Event as KeptEvent}
-use Rattle.tracked_rows.specs.declared.event.Event.TheVariants.{Obtain, Clear, Call, DeferCall, Pass, DeferPass, Lend, Start, Try, Wait, DeferWait, Make, DeferLiteral, Return}
+use Rattle.tracked_rows.specs.declared.event.Event.TheVariants.{Obtain, Clear, Call, DeferCall, ObtainKept, Renew, Keep, CallKept, DeferKept, Give, GiveField, Pass, DeferPass, Lend, Start, Try, Wait, DeferWait, Make, DeferLiteral, Return}
 use Rattle.tracked_rows.specs.RowViews.{state_view}
-use Rattle.meaning.specs.Uses.{Callee, Handed, VariableAt, Event, obtain, clear, call, defer_call, pass, defer_pass, lend, start, try, wait, defer_wait, make, defer_literal, return_event}
+use Rattle.meaning.specs.Uses.{Callee, Handed, VariableAt, Event, obtain, clear, call, defer_call, obtain_kept, renew, keep, call_kept, defer_kept, give, give_field, pass, defer_pass, lend, start, try, wait, defer_wait, make, defer_literal, return_event}
 
 abbrev pub callee_view : KeptCallee → Callee
 callee_view c = record { path = option_map (λ p. p.now) c.path; name = c.name.now }
 
 abbrev pub handed_view : KeptHanded → Handed
-handed_view h = record { number = h.number; position = h.position }
+handed_view h = record { number = h.number; position = h.position; object = h.object }
 
 abbrev pub variable_view : KeptVariable → VariableAt
 variable_view v = record { number = v.number; at = v.at }
@@ -22,6 +22,13 @@ event_view (Obtain v f k is_declared) = obtain (variable_view v) (callee_view f)
 event_view (Clear v) = clear (variable_view v)
 event_view (Call v) = call v
 event_view (DeferCall v) = defer_call v
+event_view (ObtainKept v f k x) = obtain_kept (variable_view v) (callee_view f) k x
+event_view (Renew v x) = renew v x
+event_view (Keep v x) = keep v x
+event_view (CallKept v x) = call_kept v x
+event_view (DeferKept v x) = defer_kept v x
+event_view (Give v x) = give v x
+event_view (GiveField v) = give_field v
 event_view (Pass v f k) = pass (variable_view v) (callee_view f) k
 event_view (DeferPass v f k) = defer_pass (variable_view v) (callee_view f) k
 event_view (Lend v f k) = lend v (callee_view f) k

@@ -1,24 +1,44 @@
 -- What the program keeps of what is known, and of rows, and what it stands for.
-use Rattle.std.specs.Prelude.{Bool, false, Option, Some, None, length, map, codes}
+use Rattle.std.specs.Prelude.{ℕ, ◌==◌, Bool, false, if◌then◌else◌, List, [], ◌∷◌, Option, Some, None, length, map, codes}
 use Rattle.tracked_rows.specs.declared.known.Known.{Known as KeptKnown}
+use Rattle.tracked_rows.specs.declared.fields.Fields.{Fields as KeptFields}
+use Rattle.tracked_rows.specs.declared.fields.Fields.TheVariants.{Each, These}
+use Rattle.tracked_rows.specs.declared.fields.ObjectLeft.{ObjectLeft as KeptObjectLeft}
+use Rattle.tracked_rows.specs.declared.fields.ObjectLeft.TheVariants.{Outer, New}
+use Rattle.tracked_rows.specs.declared.fields.PlacedLeft.{PlacedLeft}
 use Rattle.tracked_rows.specs.declared.lefts.Left.{Left as KeptLeft}
-use Rattle.tracked_rows.specs.declared.lefts.Left.TheVariants.{Blank, Name, Other}
+use Rattle.tracked_rows.specs.declared.lefts.Left.TheVariants.{Blank, Name, Field, Other}
 use Rattle.tracked_rows.specs.declared.calls.Giving.{Giving as KeptGiving}
 use Rattle.tracked_rows.specs.declared.makings.GroupState.{GroupState as KeptState}
 use Rattle.tracked_rows.specs.declared.makings.GroupState.TheVariants.{Idle, Live}
 use Rattle.names.specs.Answers.{declared_at}
 use Rattle.facts.specs.FactViews.{cancel_result_view, facts_by_name, facts_by_path}
 use Rattle.mentions.specs.MarkViews.{named_view}
-use Rattle.tree.specs.Syntax.{Expression, Expressions, no_expression, expression_and}
-use Rattle.meaning.specs.Mentions.{Row, Call}
+use Rattle.tree.specs.Syntax.{Identifier, Expression, Expressions, no_expression, expression_and}
+use Rattle.meaning.specs.Mentions.{Named, Row, Call}
 use Rattle.meaning.specs.FunctionFacts.{errgroup_path, is_of}
-use Rattle.meaning.specs.Tracked.{Known, Left, blank_left, name_left, other_left, lefts_of, Giving, GroupState, idle, live, made_by_values}
+use Rattle.meaning.specs.Tracked.{Fields, each_field, these_fields, ObjectLeft, left_of_outer, left_of_new, Known, Left, blank_left, name_left, field_left, other_left, lefts_of, Giving, GroupState, idle, live, made_by_values}
 use Rattle.meaning.specs.Uses.{clears_by_value}
+
+abbrev pub fields_view : KeptFields → Fields
+fields_view Each = each_field
+fields_view (These keeping filled) = these_fields (map (λ f. f.now) keeping.now) (map (λ f. f.now) filled.now)
+
+abbrev pub object_left_view : KeptObjectLeft → ObjectLeft
+object_left_view Outer = left_of_outer
+object_left_view (New object number) = left_of_new object number
+
+-- the first of these at that offset
+abbrev pub left_among : List PlacedLeft → ℕ → Option ObjectLeft
+left_among [] at = None
+left_among (l ∷ ls) at = if l.at == at then Some (object_left_view l.left) else left_among ls at
 
 abbrev pub known_view : KeptKnown → Known
 known_view k = record {
   edition = k.edition;
   means = declared_at k.names.now k.file;
+  fields = fields_view k.fields;
+  object_lefts = left_among k.object_lefts.now;
   functions = facts_by_name k.table.now;
   imported = facts_by_path k.imported.now;
 }
@@ -26,7 +46,13 @@ known_view k = record {
 abbrev pub left_view : KeptLeft → Left
 left_view Blank = blank_left
 left_view (Name n number) = name_left (named_view n) number
+left_view (Field at) = field_left at
 left_view Other = other_left
+
+-- `e.f`, with n where e is a name n
+abbrev pub field_of : Option Named → Identifier → Left
+field_of None f = other_left
+field_of (Some n) f = field_left f.span.start
 
 abbrev pub giving_view : KeptGiving → Giving
 giving_view g = record { gives = map cancel_result_view g.gives.now; results = g.results }

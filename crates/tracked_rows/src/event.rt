@@ -24,6 +24,8 @@ pub struct Callee<'a> {
 pub struct Handed {
     pub number: u32,
     pub position: usize,
+    /// The object in which it is kept, if it is that which the item names.
+    pub object: Option<u32>,
 }
 
 /// A variable, with the offset of its name where it is bound or passed: there a fault of a path stands.
@@ -50,6 +52,42 @@ pub enum Event<'a> {
         variable: u32,
     },
     DeferCall {
+        variable: u32,
+    },
+    /// A field of the object is a variable of its own: it obtains what the field keeps from then on.
+    ObtainKept {
+        variable: VariableAt,
+        source: Callee<'a>,
+        result: usize,
+        object: u32,
+    },
+    /// The declaration of an object is evaluated that keeps the variable in a field.
+    Renew {
+        variable: u32,
+        object: u32,
+    },
+    /// A field of the object gets what the variable holds.
+    Keep {
+        variable: u32,
+        object: u32,
+    },
+    /// The field is called.
+    CallKept {
+        variable: u32,
+        object: u32,
+    },
+    /// The call of the field is saved.
+    DeferKept {
+        variable: u32,
+        object: u32,
+    },
+    /// The object is given to others.
+    Give {
+        variable: u32,
+        object: u32,
+    },
+    /// What the variable holds goes to others in a field.
+    GiveField {
         variable: u32,
     },
     /// The variable is the function's argument at that position.

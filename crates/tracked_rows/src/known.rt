@@ -1,4 +1,5 @@
-//! What is known of a file: the edition of the rules, what its uses mean, and the facts of functions.
+//! What is known of a file: the edition of the rules, what its uses mean, the facts of functions, and which fields keep
+//! cancel functions.
 
 ghost use Rattle.std.specs.Prelude.{◌≡◌, option_map};
 ghost use Rattle.meaning.specs.FunctionFacts.{is_of};
@@ -6,15 +7,16 @@ ghost use Rattle.meaning.specs.Tracked.{facts_of, is_of_universe, local_meant_or
 ghost use Rattle.facts.specs.FactViews.{facts_view};
 ghost use Rattle.mentions.specs.MarkViews.{named_view};
 ghost use Rattle.names.specs.Answers.{decl_view};
-ghost use Rattle.tracked_rows.specs.RowViews.{known_view};
+ghost use Rattle.tracked_rows.specs.RowViews.{known_view, object_left_view};
 
+use crate::fields::{Fields, ObjectLeft, PlacedLeft, left_among};
 use facts::{FunctionFacts, Imported, Table, is_of};
 use mentions::Named;
 use names::{NameMeaning, Names};
 use tree::Edition;
 
 /// The edition of the rules, what the uses of the file of that number mean, and the facts of functions: of this
-/// package's, and of given imports'.
+/// package's, and of given imports'; and the fields that keep.
 #[derive(Clone, Copy)]
 pub struct Known<'k, 'a> {
     pub edition: Edition,
@@ -22,6 +24,11 @@ pub struct Known<'k, 'a> {
     pub names: &'k Names<'a>,
     pub table: &'k Table<'a>,
     pub imported: &'k Imported<'a, 'k>,
+    /// The fields of the package that keep cancel functions.
+    pub fields: Fields<'k, 'a>,
+    /// The left sides `x.f` of the file into which a maker or giver gives what the field keeps. There are none before
+    /// the file was looked at.
+    pub object_lefts: &'k [PlacedLeft],
 }
 
 /// What the use at the offset means.
@@ -72,4 +79,11 @@ pub fn local_meant(known: Known<'_, '_>, at: u32, declares: Option<u32>) -> Opti
         Some(NameMeaning::Local(number, _)) => Some(number),
         Some(_) => None,
     }
+}
+
+/// What the left side `x.f` stands for of which f has that offset, if a maker or giver gives what the field keeps.
+pub fn object_left(known: Known<'_, '_>, at: u32) -> Option<ObjectLeft>
+    ensures { option_map object_left_view result ≡ (known_view known.entry).object_lefts at }
+{
+    left_among(known.object_lefts, at)
 }

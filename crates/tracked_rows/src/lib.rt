@@ -6,12 +6,17 @@
 
 pub mod calls;
 pub mod event;
+pub mod fields;
 pub mod known;
 pub mod lefts;
 pub mod makings;
 
 pub use calls::{Giving, giving_of, is_maker, only, only_call, row_giving};
 pub use event::{Callee, Event, Handed, VariableAt, callee_of, last_name};
-pub use known::{Known, facts_of, is_named, is_of_universe, local_meant, meaning};
-pub use lefts::{Left, count, is_binding_form, is_blank_at, left_of, local_at, may_bind};
+pub use fields::{Fields, ObjectLeft, PlacedLeft, has_field, may_be_field, some_keep};
+pub use known::{Known, facts_of, is_named, is_of_universe, local_meant, meaning, object_left};
+pub use lefts::{
+    Left, count, is_binding_form, is_blank_at, is_outer_at, left_of, local_at, may_bind,
+    own_variable,
+};
 pub use makings::{GroupState, are_locals, is_given, row_clears, row_makes, row_obtains};

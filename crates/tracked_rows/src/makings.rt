@@ -1,9 +1,9 @@
 //! What a row obtains, makes or clears, by its form.
 
-ghost use Rattle.std.specs.Prelude.{◌≡◌, ◌&&◌, ◌==◌, if◌then◌else◌, Some, None, option_map, map, length, is_some};
+ghost use Rattle.std.specs.Prelude.{◌≡◌, ◌&&◌, ◌||◌, ◌==◌, if◌then◌else◌, Some, None, option_map, map, length, is_some};
 ghost use Rattle.facts.specs.FactViews.{cancel_result_view};
 ghost use Rattle.meaning.specs.FunctionFacts.{listed};
-ghost use Rattle.meaning.specs.Tracked.{lefts_of, is_given, are_locals, row_obtains, row_makes, idle, is_group_type, is_new_call, made_by_call, made_by_value, made_by_type, made_by_pair, live, if_first};
+ghost use Rattle.meaning.specs.Tracked.{lefts_of, is_given, local_at, is_outer_at, are_locals, row_obtains, row_makes, idle, is_group_type, is_new_call, made_by_call, made_by_value, made_by_type, made_by_pair, live, if_first};
 ghost use Rattle.meaning.specs.Uses.{row_clears, is_no_giving, clears_at, clears_by_form, clears_by_type, is_empty_value};
 ghost use Rattle.mentions.specs.MarkViews.{named_view, call_view, row_view};
 ghost use Rattle.tracked_rows.specs.RowViews.{known_view, state_view, made_by_only, makes_with_context, clears_by_only};
@@ -12,7 +12,7 @@ ghost use Rattle.tree.specs.View.{expression_syntax, expressions_syntax};
 
 use crate::calls::{call_in, giving_of, only, only_call, row_giving};
 use crate::known::{Known, is_named, is_of_universe};
-use crate::lefts::{count, local_at, may_bind};
+use crate::lefts::{count, is_outer_at, local_at, may_bind};
 use facts::{CancelResult, cancel_type_named};
 use mentions::{Call, Named, Row, RowForm, as_bare, as_named, as_new_literal};
 use names::ERRGROUP;
@@ -37,12 +37,20 @@ pub fn is_given(number: usize, gives: &[CancelResult]) -> bool
     false
 }
 
-/// Whether a local stands on each of these left sides.
+/// Whether a local stands on the left side of that number, or a field of an outer object that keeps.
+fn is_known_at(known: Known<'_, '_>, row: Row<'_>, index: usize) -> bool
+    ensures { result ≡ (is_some (local_at (known_view known.entry) (row_view row.entry) index)
+        || is_outer_at (known_view known.entry) (row_view row.entry) index) }
+{
+    local_at(known, row, index).is_some() || is_outer_at(known, row, index)
+}
+
+/// Whether a local stands on each of these left sides, or a field of an outer object that keeps.
 pub fn are_locals(known: Known<'_, '_>, row: Row<'_>, gives: &[CancelResult]) -> bool
     ensures { result ≡ are_locals (known_view known.entry) (row_view row.entry) (map cancel_result_view gives.now) }
 {
     for given in gives {
-        if local_at(known, row, given.position).is_none() {
+        if !is_known_at(known, row, given.position) {
             return false;
         }
     }

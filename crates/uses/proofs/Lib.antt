@@ -1,3 +1,4 @@
+pub mod FieldFaults
 pub mod HiddenLefts
 pub mod LeftSides
 pub mod NamedResults

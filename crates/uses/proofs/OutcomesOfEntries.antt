@@ -3,7 +3,7 @@ use Rattle.std.proofs.Common.{◌≡◌, ℕ, List, [], Option, Some, None, opti
 use Rattle.tracked.specs.LocalViews.{SeenLocal, entry_of, tracked_kind_of_entry}
 use Rattle.uses.specs.OutcomeViews.{binding_outcome_of, mention_outcome_of, row_outcome_of, role_outcome_of}
 use Rattle.meaning.specs.FunctionFacts.{VariableKind, CancelResult}
-use Rattle.meaning.specs.Mentions.{BodyPlace, Row, Role, elsewhere, exposed, found_nil, found_error, called, called_in_brackets, argument, returned, left, names_type, new_literal, parameter_pointer, Mention}
+use Rattle.meaning.specs.Mentions.{BodyPlace, Row, Role, elsewhere, as_key, exposed, pointed_to, found_nil, found_error, called, called_in_brackets, argument, returned, left, names_type, new_literal, parameter_pointer, Mention}
 use Rattle.meaning.specs.Tracked.{LocalRole, parameter, receiver, variadic, result, in_block, Local}
 use Rattle.meaning.specs.BodyEvents.{handed_at, handed_there}
 use Rattle.meaning.specs.Uses.{Seen, Binding, tracked_kind, kind_of, binding_at, binding_outcome, mention_outcome, row_outcome, role_outcome, local_outcome}
@@ -31,7 +31,9 @@ module _ (s : Seen) (l : Local) (bs : List BodyPlace) (m : Mention) where
   role_same : (r : Role) → role_outcome_of s (entry_of s l) bs m r ≡ role_outcome s l bs m r
   role_same (left k row) = row_same (kind_of s (Some l)) row (binding_at s row k)
   role_same elsewhere = mention_same (tracked_kind s (Some l))
+  role_same as_key = mention_same (tracked_kind s (Some l))
   role_same exposed = mention_same (tracked_kind s (Some l))
+  role_same pointed_to = mention_same (tracked_kind s (Some l))
   role_same (found_nil nil) = mention_same (tracked_kind s (Some l))
   role_same (found_error nil row) = mention_same (tracked_kind s (Some l))
   role_same (called c) = mention_same (tracked_kind s (Some l))
@@ -63,3 +65,11 @@ pub handed_nothing : (s : Seen) (k : ℕ) (gives : List CancelResult) (o : Optio
     → None ≡ option_map (entry_of s) o → [] ≡ handed_there s k gives o
 handed_nothing s k gives None is = refl
 handed_nothing s k gives (Some l) is = absurd cc
+
+-- as what the local is tracked
+pub tracked_same : (s : Seen) (e : SeenLocal) (o : Option Local) → Some e ≡ option_map (entry_of s) o
+    → tracked_kind_of_entry e ≡ tracked_kind s o
+tracked_same s e None is = absurd cc
+tracked_same s e (Some l) is =
+    let same : e ≡ entry_of s l = cc in
+    ap tracked_kind_of_entry same

@@ -6,7 +6,7 @@ use Rattle.tree.proofs.Depths.{drop_item}
 use Rattle.mentions.specs.declared.mark.BodyPlace.{BodyPlace as KeptBody}
 use Rattle.mentions.specs.declared.mark.Mark.{Mark as KeptMark}
 use Rattle.mentions.specs.MarkViews.{body_view, mark_view, marks_view}
-use Rattle.meaning.specs.Mentions.{BodyPlace, Mark, mentions, defers_literal, returns, opens, closes}
+use Rattle.meaning.specs.Mentions.{BodyPlace, Mark, mentions, of_fields, defers_literal, returns, opens, closes}
 use Rattle.meaning.specs.Tracked.{placed}
 use Rattle.meaning.specs.Uses.{Seen, is_outside, names_tracked, names_tracked_outside}
 use Rattle.tracked.specs.LocalViews.{bodies_at}
@@ -22,6 +22,7 @@ module _ (s : Seen) where
       || list_any (names_tracked_outside s) (placed (bodies_at bs m) ms))
   unfolding placed
   any-mark bs (mentions m) ms = refl
+  any-mark bs (of_fields site m) ms = refl
   any-mark bs (defers_literal site at) ms = refl
   any-mark bs (returns at es) ms = refl
   any-mark bs (opens b) ms = refl

@@ -10,11 +10,11 @@ use Rattle.tracked_rows.specs.declared.event.Event.{Event as KeptEvent}
 use Rattle.tracked_rows.specs.EventViews.{event_view}
 use Rattle.tracked.specs.LocalViews.{SeenLocal, kind_of_entry, tracked_kind_of_entry}
 use Rattle.tracked_rows.specs.RowViews.{state_view}
-use Rattle.meaning.specs.FunctionFacts.{VariableKind}
-use Rattle.meaning.specs.Mentions.{Row, BodyPlace, Role, left, Mention, Mark, mentions, defers_literal, returns, opens, closes}
-use Rattle.meaning.specs.Tracked.{Known, is_universe, declared_by, body_locals, LocalRole, parameter, receiver, variadic, result, in_block}
-use Rattle.meaning.specs.Uses.{Seen, Binding, obtained, cleared, made, Event, UseCode, recover_used, goto_used, cancel_discarded, cancel_used_otherwise, group_used_otherwise, bound_again, too_many_variables, UseFault, fault_at, otherwise, defer_literal, return_event, body_gives, Outcome, nothing, only_faults, binding_event, error_events, first_faults, type_faults, event_here, use_outcome, kind_use, binding_at, variable_outcome, mention_faults, result_faults}
-use Rattle.meaning.specs.BodyEvents.{handed_on}
+use Rattle.meaning.specs.FunctionFacts.{is_same_type, VariableKind}
+use Rattle.meaning.specs.Mentions.{Standing, ordinary, first_of_for, communication, Row, BodyPlace, Role, left, Mention, FieldLeft, Assigned, Mark, mentions, of_fields, defers_literal, returns, opens, closes}
+use Rattle.tree.specs.Syntax.{Identifier}
+use Rattle.meaning.specs.Tracked.{Known, is_universe, declared_by, row_giving, body_locals, Local, LocalRole, parameter, receiver, variadic, result, in_block}
+use Rattle.meaning.specs.Uses.{Seen, Binding, obtained, cleared, made, Event, UseCode, recover_used, goto_used, cancel_discarded, cancel_used_otherwise, group_used_otherwise, bound_again, too_many_variables, UseFault, fault_at, otherwise, defer_literal, Outcome, nothing, only_faults, binding_event, error_events, first_faults, type_faults, event_here, use_outcome, kind_use, binding_at, variable_outcome, mention_faults, result_faults, if_not, cancel_type_of, type_from, field_left_faults, field_variable, field_faults}
 
 abbrev pub code_view : KeptCode → UseCode
 code_view RecoverUsed = recover_used
@@ -86,11 +86,27 @@ abbrev pub entry_outcome : Seen → List BodyPlace → Mention → Option SeenLo
 entry_outcome seen bodies m None = nothing
 entry_outcome seen bodies m (Some e) = role_outcome_of seen e bodies m m.role
 
+-- Faults of fields of new objects
+
+abbrev pub first_field_faults : Standing → Identifier → List UseFault
+first_field_faults ordinary f = []
+first_field_faults first_of_for f = fault_at f.span.start cancel_used_otherwise f.text
+first_field_faults communication f = []
+
+abbrev pub type_field_faults : Seen → Local → Identifier → Row → ℕ → List UseFault
+type_field_faults seen v f row k =
+    if_not (is_same_type (cancel_type_of seen v) (type_from k (row_giving seen.known row)))
+    (fault_at f.span.start cancel_used_otherwise f.text)
+
+abbrev pub written_faults : Seen → FieldLeft → Assigned → List UseFault
+written_faults seen l a = field_left_faults seen (field_variable seen l.field) l.field a.row a.left_side
+
 -- Faults of marks
 
 -- the faults of a mark but for those that go by the variables of bodies, of `recover` and `goto`
 abbrev pub plain_faults : Seen → List BodyPlace → Mark → List UseFault
 plain_faults seen bodies (mentions m) = mention_faults seen bodies m
+plain_faults seen bodies (of_fields site m) = field_faults seen m
 plain_faults seen bodies (defers_literal site at) = []
 plain_faults seen bodies (returns at es) = []
 plain_faults seen bodies (opens b) = result_faults (body_locals seen.known b)
@@ -98,17 +114,19 @@ plain_faults seen bodies closes = []
 
 -- Events of marks
 
--- those that are no calls behind a row with an error
+-- those that are no calls behind a row with an error, and don't go by what is kept in fields
 abbrev pub plain_events : Seen → List BodyPlace → Mark → List Event
 plain_events seen bodies (mentions m) = (variable_outcome seen bodies m).events
+plain_events seen bodies (of_fields site m) = []
 plain_events seen bodies (defers_literal site at) = defer_literal at ∷ []
-plain_events seen bodies (returns at es) = return_event (handed_on seen (body_gives seen.known bodies) 0 es) ∷ []
+plain_events seen bodies (returns at es) = []
 plain_events seen bodies (opens b) = []
 plain_events seen bodies closes = []
 
 -- those calls
 abbrev pub error_calls : Seen → Mark → List Event
 error_calls seen (mentions m) = error_events seen m m.role
+error_calls seen (of_fields site m) = []
 error_calls seen (defers_literal site at) = []
 error_calls seen (returns at es) = []
 error_calls seen (opens b) = []

@@ -57,7 +57,7 @@ fn add_row_call<'a>(
 /// A call that is an item of a return list.
 fn add_item_call<'a>(
     alloc: Global,
-    at: At<'_, '_, 'a>,
+    at: At<'_, '_, '_, 'a>,
     giving: Giving<'_>,
     item: usize,
     faults: &mut Vec<UseFault<'a>>,
@@ -76,7 +76,7 @@ fn add_item_call<'a>(
 /// A call.
 fn add_call<'a>(
     alloc: Global,
-    at: At<'_, '_, 'a>,
+    at: At<'_, '_, '_, 'a>,
     giving: Giving<'_>,
     place: CallPlace<'_, 'a>,
     faults: &mut Vec<UseFault<'a>>,
@@ -93,6 +93,7 @@ fn add_call<'a>(
         CallPlace::ReturnItem(item) => add_item_call(alloc, at, giving, item, faults),
         CallPlace::Nowhere => add_last(faults, UseCode::CancelUsedOtherwise, named),
         CallPlace::Deferred => add_last(faults, UseCode::CancelUsedOtherwise, named),
+        CallPlace::UnderGo => add_last(faults, UseCode::CancelUsedOtherwise, named),
     }
 }
 
@@ -110,7 +111,7 @@ fn is_only_called(known: Known<'_, '_>, named: Named<'_>) -> bool
 /// A maker or giver in its role. A call of an instance is no call here, so that what it names stands elsewhere.
 fn add_role<'a>(
     alloc: Global,
-    at: At<'_, '_, 'a>,
+    at: At<'_, '_, '_, 'a>,
     giving: Giving<'_>,
     faults: &mut Vec<UseFault<'a>>,
 ) -> Result<(), AllocError>
@@ -139,7 +140,7 @@ fn add_role<'a>(
 /// Memory was refused.
 pub fn add_giving<'a>(
     alloc: Global,
-    at: At<'_, '_, 'a>,
+    at: At<'_, '_, '_, 'a>,
     faults: &mut Vec<UseFault<'a>>,
 ) -> Result<(), AllocError>
     requires { Sees at.seen.now }

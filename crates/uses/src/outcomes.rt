@@ -26,13 +26,13 @@ use tracked_rows::{Callee, Event, Known, callee_of, only_call, row_giving};
 
 /// A local that was found, at a mention of it.
 #[derive(Clone, Copy)]
-struct Found<'s, 'm, 'a> {
-    at: At<'s, 'm, 'a>,
+struct Found<'s, 'k, 'm, 'a> {
+    at: At<'s, 'k, 'm, 'a>,
     entry: SeenLocal<'a>,
 }
 
 /// The function that is called as the only value of the row.
-fn called_in<'a>(known: Known<'_, 'a>, row: Row<'a>) -> Callee<'a>
+pub fn called_in<'a>(known: Known<'_, 'a>, row: Row<'a>) -> Callee<'a>
     ensures { callee_view result ≡ called_in (known_view known.entry) (only_call (row_view row.entry)
         (row_view row.entry).values) }
 {
@@ -109,7 +109,7 @@ fn add_first<'a>(
 
 /// A binding that obtains from a position of the other type.
 fn add_type<'a>(
-    found: Found<'_, '_, 'a>,
+    found: Found<'_, '_, '_, 'a>,
     row: Row<'a>,
     binding: Binding,
     faults: &mut Vec<UseFault<'a>>,
@@ -140,7 +140,7 @@ fn add_type<'a>(
 
 /// A binding of a variable of that kind.
 fn binding_outcome<'a>(
-    found: Found<'_, '_, 'a>,
+    found: Found<'_, '_, '_, 'a>,
     kind: VariableKind,
     row: Row<'a>,
     binding: Binding,
@@ -220,7 +220,7 @@ fn use_outcome<'a>(
 /// A mention that binds nothing, of what may be tracked as that kind.
 fn mention_outcome<'a>(
     alloc: Global,
-    found: Found<'_, '_, 'a>,
+    found: Found<'_, '_, '_, 'a>,
     faults: &mut Vec<UseFault<'a>>,
 ) -> Result<Option<Event<'a>>, AllocError>
     requires { Sees found.at.seen.now }
@@ -248,7 +248,7 @@ fn mention_outcome<'a>(
 /// A left side.
 fn left_outcome<'a>(
     alloc: Global,
-    found: Found<'_, '_, 'a>,
+    found: Found<'_, '_, '_, 'a>,
     index: usize,
     row: Row<'a>,
     faults: &mut Vec<UseFault<'a>>,
@@ -274,7 +274,7 @@ fn left_outcome<'a>(
 /// A mention of a local that was found.
 fn entry_outcome<'a>(
     alloc: Global,
-    found: Found<'_, '_, 'a>,
+    found: Found<'_, '_, '_, 'a>,
     faults: &mut Vec<UseFault<'a>>,
 ) -> Result<Option<Event<'a>>, AllocError>
     requires { Sees found.at.seen.now }
@@ -296,7 +296,7 @@ fn entry_outcome<'a>(
 /// Memory was refused.
 pub fn variable_outcome<'a>(
     alloc: Global,
-    at: At<'_, '_, 'a>,
+    at: At<'_, '_, '_, 'a>,
     faults: &mut Vec<UseFault<'a>>,
 ) -> Result<Option<Event<'a>>, AllocError>
     requires { Sees at.seen.now }

@@ -24,7 +24,7 @@ use Rattle.verifier.specs.VerifierLaws.{BodiesHaveOwnPlaces, SaysNothing, Claims
 
 -- the body that is checked is that of the paths
 pub is_of : (paths : Paths) (claims : ℕ → Bool) (order : List NodePlace) → IsOf paths (checked paths claims order)
-is_of paths claims order = record { is_graph = refl; are_variables = refl; are_promises = refl }
+is_of paths claims order = record { is_edition = refl; is_graph = refl; are_variables = refl; are_promises = refl }
 
 -- a parameter of a function that is known to call it is claimed of its body
 claimed_so : (flags : Flags) (b : BodyPlace) (name : List ℕ) (k : ℕ) (role : VariableRole) → function_name b ≡ Some name
@@ -74,6 +74,7 @@ module _ (given : Given) (own : Flags) (calls : Callee → ℕ → Bool) (number
       → KeepsCall (paths_in b) v
   keeps_claim keeps b there followed i v is_there is_cancel claimed = record {
     never_open = λ handed t o comes same. refuted b there followed λ c. (kept c).never_open handed t o comes same;
+    never_kept = λ handed t o comes same. refuted b there followed λ c. (kept c).never_kept handed t o comes same;
     never_left = λ handed t o comes left. refuted b there followed λ c. (kept c).never_left handed t o comes left;
   }
     where

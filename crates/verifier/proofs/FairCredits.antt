@@ -12,7 +12,7 @@ use Rattle.meaning.specs.Code.{Occurrence}
 use Rattle.meaning.specs.FunctionFacts.{VariableKind, cancel, group}
 use Rattle.meaning.specs.Lists.{stopped, Reaches}
 use Rattle.meaning.specs.Mentions.{BodyPlace}
-use Rattle.meaning.specs.Uses.{Callee, Seen, Event, other, obtain, clear, call, defer_call, pass, defer_pass, lend, start, try, wait, defer_wait, make, defer_literal, return_event}
+use Rattle.meaning.specs.Uses.{Callee, Seen, Event, other, obtain, obtain_kept, renew, keep, call_kept, defer_kept, give, give_field, clear, call, defer_call, pass, defer_pass, lend, start, try, wait, defer_wait, make, defer_literal, return_event}
 use Rattle.meaning_packages.specs.CallsFlags.{Flags, FileWithCredits}
 use Rattle.meaning_packages.specs.Credits.{Credits, body_at, begun_after, promises_in, no_calls, is_safe, is_live, is_settled, Settles, IsCredited}
 use Rattle.meaning_packages.specs.PathFaults.{paths_of}
@@ -44,6 +44,13 @@ module _ (calls others : Callee → ℕ → Bool) (credits : Credits) (v : ℕ) 
       ≡ change_cancel (record { calls = others; credits = credits }) v e k
   one_change other none k = refl
   one_change (obtain u f n is_declared) none k = refl
+  one_change (obtain_kept u f n x) none k = refl
+  one_change (renew u x) none k = refl
+  one_change (keep u x) none k = refl
+  one_change (call_kept u x) none k = refl
+  one_change (defer_kept u x) none k = refl
+  one_change (give u x) none k = refl
+  one_change (give_field u) none k = refl
   one_change (clear u) none k = refl
   one_change (call u) none k = refl
   one_change (defer_call u) none k = refl
@@ -74,6 +81,13 @@ module _ (calls others : Callee → ℕ → Bool) (credits : Credits) (v : ℕ) 
       ≡ change_group (record { calls = others; credits = credits }) v e k
   group_change other k = refl
   group_change (obtain u f n is_declared) k = refl
+  group_change (obtain_kept u f n x) k = refl
+  group_change (renew u x) k = refl
+  group_change (keep u x) k = refl
+  group_change (call_kept u x) k = refl
+  group_change (defer_kept u x) k = refl
+  group_change (give u x) k = refl
+  group_change (give_field u) k = refl
   group_change (clear u) k = refl
   group_change (call u) k = refl
   group_change (defer_call u) k = refl

@@ -25,6 +25,7 @@ use Rattle.meaning.specs.Uses.{Callee, Event, Seen}
 use Rattle.meaning_packages.specs.CallsFlags.{Flags}
 use Rattle.meaning_packages.specs.Credits.{Credits, promises_in}
 use Rattle.meaning_packages.specs.PathFaults.{Paths, paths_of}
+use Rattle.tree.specs.declared.edition.Edition.{Edition}
 use Rattle.verifier.proofs.OneOrder.{one_order}
 use Rattle.verifier.specs.FoundBodies.{with_table, IsFound}
 use Rattle.verifier.specs.SettledPlaces.{SettlesSome}
@@ -134,16 +135,18 @@ module _ (given : Given) (own : Flags) (calls : Callee → ℕ → Bool) (number
 
 -- the body that is laid out
 module _ (seen : Seen) (b : BodyPlace) (number : ℕ) (told : KeptBody) (tells : TellsBody number seen b told)
-    (kept : KeptGraph) (is : IsOrderedGraph (code_in seen b) kept) (laid : LaidOut) where
-  pub laid_so : LaysOut told.variables.items kept laid → IsLaidOut laid
+    (kept : KeptGraph) (is : IsOrderedGraph (code_in seen b) kept) (laid : LaidOut) (edition : Edition) where
+  pub laid_so : LaysOut edition told.variables.items kept laid → IsLaidOut laid
   laid_so lays = lays.is_laid_out is.same
 
-  pub same_body : LaysOut told.variables.items kept laid
+  pub same_body : LaysOut edition told.variables.items kept laid
+      → edition ≡ seen.known.edition
       → (own : Flags) (calls : Callee → ℕ → Bool) (credits : Credits) (name : Option (List ℕ))
       → name ≡ function_name b
       → body_of laid (promises_in calls credits told.place.at) (flags_of_name own name)
       ≡ checked (paths_of seen (promises_in calls credits b.at) b) (flags_of_body own b) kept.order.items
-  same_body lays own calls credits name is_name = λ i. record {
+  same_body lays is_edition own calls credits name is_name = λ i. record {
+    edition = (lays.is_edition ∙ is_edition) i;
     graph = (ap (λ (k : KeptGraph). events_graph k.graph) lays.is_kept ∙ is.is_graph) i;
     order = ap (λ (k : KeptGraph). k.order.items) lays.is_kept i;
     variables = (ap (map variable_view) lays.are_variables ∙ tells.are_variables) i;

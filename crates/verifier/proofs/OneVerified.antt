@@ -13,7 +13,8 @@ use Rattle.meaning_packages.specs.CallsFlags.{Flags, FileWithCredits, IsClaim, c
 use Rattle.meaning_packages.specs.Credits.{body_at, Credits, begun_after}
 use Rattle.meaning_packages.specs.PathFaults.{paths_of}
 use Rattle.meaning_reports.proofs.OneAnswer.{same_test, one_table_by}
-use Rattle.meaning_reports.specs.Loaded.{LoadedPackage, Tables, imported_flags, means_in, seen_files, seen_from, signatures_of, trees_of}
+use Rattle.meaning_reports.proofs.OneReport.{seen_by}
+use Rattle.meaning_reports.specs.Loaded.{LoadedPackage, Tables, imported_flags, seen_files}
 use Rattle.verifier.specs.Rules.{GivenByPath, IsVerified}
 use Rattle.verifier.specs.FoundBodies.{with_table}
 use Rattle.verifier.specs.Verified.{Given, IsClaimed, AreClaimed, flags_of_body, checked, IsCertified, SettlesBy, IsCreditedBy, AreGivenCredits}
@@ -138,16 +139,6 @@ same_files given own calls n (f ∷ fs) (g ∷ gs) same are too =
     λ i. file i ∷ left i
 
 -- Packages
-
--- what the files of a package are seen with, by the tables of what it imports
-abbrev pub seen_by : List LoadedPackage → LoadedPackage → Tables → List Seen
-seen_by ps p known =
-    seen_from (λ number. record {
-      edition = p.edition;
-      means = means_in ps p number;
-      functions = signatures_of ps p;
-      imported = λ path. (known path).signatures;
-    }) 0 (trees_of p)
 
 pub flags_are_determined : FlagsAreDetermined
 flags_are_determined given ps one other i p flags more is none same first second =

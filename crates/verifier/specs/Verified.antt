@@ -67,6 +67,7 @@ pub record IsOrder (paths : Paths) (order : List NodePlace) : Type 0 where
 
 abbrev pub checked : Paths → (ℕ → Bool) → List NodePlace → CheckedBody
 checked paths claims order = record {
+  edition = paths.edition;
   graph = graph_of paths.code;
   order = order;
   variables = paths.variables;

@@ -54,14 +54,14 @@ fn found_in(
     credits: &Credits,
 ) -> Result<Option<Vec<u32>>, AllocError>
     ensures { IfOk result (λ found. (number : ℕ) (seen : Seen) (b : BodyPlace)
-        → TellsBody number seen b given.entry.body.now
+        → TellsFile seen grounds.entry.told.now → TellsBody number seen b given.entry.body.now
         → IsOrderedGraph (code_in seen b) kept.now
         → unfollowed_faults seen b ≡ []
         → (g : MeantGiven) → g.rows number b.at ≡ Some (rows_of given.entry.rows.now)
         → IsFound g (is_called grounds.entry.calls.own.now) (known_calls grounds.entry.calls) number
         (with_table seen (has credits.now)) b (option_map (λ numbers. numbers.items) found)) }
 {
-    let laid_out = lay_out(alloc, &given.body.variables, kept)?;
+    let laid_out = lay_out(alloc, grounds.told.edition, &given.body.variables, kept)?;
     let reliance = Reliance {
         calls: &grounds.calls,
         credits: &*credits,

@@ -1,6 +1,6 @@
+use Rattle.bodies.specs.Bits.{group_class}
 use Rattle.certificates.proofs.masks.group_mask.Given as goal
 use Rattle.certificates.specs.Rows.{passes, HasBits}
-use Rattle.states.specs.Bits.{group_class}
 
 -- the bits so far
 abbrev pub invariant-loop-bit : goal.invariant-loop-bit

@@ -1,7 +1,7 @@
 use Rattle.std.proofs.Common.{◌≡◌, ◌*◌, ◌%◌, ◌^◌, ◌&&◌, ◌||◌, nat_eq, sym, subst, bit_or}
+use Rattle.bodies.specs.Masks.{is_set}
 use Rattle.certificates.proofs.SetBits.{bit_set, set_below}
 use Rattle.certificates.proofs.masks.with_bit.Goals as goal
-use Rattle.states.specs.Masks.{is_set}
 
 pub returns-then-is_to_be-clause-below : goal.returns-then-is_to_be-clause-below
 returns-then-is_to_be-clause-below c = set_below c.args.mask c.args.bit

@@ -1,8 +1,8 @@
 use Rattle.std.proofs.Common.{◌≤◌, length, map, sym, ap, ◌∙◌, subst}
 use Rattle.std.specs.Prelude.{IfSome, is_some}
 use Rattle.events.specs.VariableViews.{variable_view}
-use Rattle.states.specs.States.{Fit}
-use Rattle.states.specs.declared.state.StateVariables.{StateVariables}
+use Rattle.bodies.specs.States.{Fit}
+use Rattle.bodies.specs.declared.state.StateVariables.{StateVariables}
 use Rattle.checker.specs.Loaded.{AreLoaded}
 use Rattle.checker.proofs.edges.image_of.Goals as goal
 

@@ -8,5 +8,5 @@ use Rattle.checker.proofs.rows.are_rows.Given as goal
 -- the test of those that are left is that of all
 abbrev pub invariant-loop-row : goal.invariant-loop-row
 invariant-loop-row l =
-    list_all (is_row (map variable_view l.variables)) (states_view (drop l.row-index l.states))
-    ≡ list_all (is_row (map variable_view l.variables)) (states_view l.states)
+    list_all (is_row l.edition (map variable_view l.variables)) (states_view (drop l.row-index l.states))
+    ≡ list_all (is_row l.edition (map variable_view l.variables)) (states_view l.states)

@@ -4,7 +4,7 @@ use Rattle.credits.specs.BodyPaths.{TellsPaths}
 use Rattle.credits.specs.CreditViews.{has}
 use Rattle.credits.specs.FoundCredits.{body_paths}
 use Rattle.events.specs.VariableViews.{variable_view}
-use Rattle.maker.specs.Solutions.{cancel_arrives, group_arrives}
+use Rattle.bodies.specs.Solutions.{cancel_arrives, group_arrives}
 use Rattle.credits.proofs.found.settled_with.Goals as goal
 
 pub returns : goal.returns

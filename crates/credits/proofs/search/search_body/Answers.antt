@@ -1,7 +1,7 @@
 use Rattle.std.proofs.lemmas.Result.{IfOk-weaker}
 use Rattle.credits.specs.CreditViews.{has}
 use Rattle.credits.proofs.SearchedPaths.{paths_told, nodes_told}
-use Rattle.maker.specs.Solutions.{cancel_arrives, group_arrives}
+use Rattle.bodies.specs.Solutions.{cancel_arrives, group_arrives}
 use Rattle.credits.proofs.search.search_body.Goals as goal
 
 pub returns-clause-paths : goal.returns-clause-paths

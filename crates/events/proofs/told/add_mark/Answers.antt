@@ -6,9 +6,15 @@ use Rattle.meaning.specs.BodyEvents.{mark_faults, is_site}
 use Rattle.meaning.specs.Uses.{is_body, is_outside}
 use Rattle.uses.specs.OutcomeViews.{fault_view, plain_faults}
 use Rattle.events.specs.ToldViews.{faults_at, events_in, faults_by_variables, if_there}
-use Rattle.events.proofs.MarkEvents.{events_split, then_more}
+use Rattle.events.proofs.MarkEvents.{events_split, three_there}
 use Rattle.events.proofs.VariableFaults.{faults_split}
 use Rattle.events.proofs.told.add_mark.Goals as goal
+
+pub add_kept-requires : goal.add_kept-requires
+add_kept-requires c = record { sees = c.requires.bodies.sees; keeps = c.requires.keeps }
+
+pub add_names-requires : goal.add_names-requires
+add_names-requires c = record { sees = c.requires.bodies.sees; keeps = c.requires.keeps }
 
 pub returns : goal.returns
 returns c =
@@ -29,12 +35,13 @@ returns c =
           ∙ ap (λ fs. faults_at told.faults body ++ if_there (is_body body bodies) fs) fresh;
       events = λ body at.
           let here : Bool = is_body body bodies && is_site mark at in
-          then_more here _ _ _ _ _
+          three_there here _ _ _ _ _ _ _
           (c.in_ok-add_event.ensures body at
           ∙ ap (λ es. events_in told.events body at ++ if_there here es) c.in_ok-event.ensures.1)
-          (c.in_ok-add_error_calls.ensures body at)
+          (c.in_ok-add_error_calls.ensures body at) (c.in_ok-add_kept.ensures body at)
           ∙ ap (λ es. events_in told.events body at ++ if_there here es) (events_split seen bodies mark);
       panics = c.in_ok-add_panic.ensures;
+      keeping = c.in_ok-add_names.ensures;
       opened = opened;
       edition = refl;
     })

@@ -5,7 +5,7 @@ use Rattle.findings.specs.FoundEntries.{known_paths, IsPathEntry, IsFollowedPath
 use Rattle.calls_flags.specs.KnownCalls.{known_calls}
 use Rattle.credits.specs.BodyPaths.{TellsPaths}
 use Rattle.events.specs.VariableViews.{variable_view}
-use Rattle.maker.specs.Solutions.{cancel_arrives, group_arrives}
+use Rattle.bodies.specs.Solutions.{cancel_arrives, group_arrives}
 use Rattle.meaning_packages.specs.Credits.{promises_in}
 use Rattle.meaning_packages.specs.PathFaults.{IsPathFault, paths_of}
 use Rattle.path_faults.specs.FaultViews.{fault_view}

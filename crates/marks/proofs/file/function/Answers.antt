@@ -13,9 +13,9 @@ returns-in_ok-push-in-Some-2 c =
     (adds_function _ _ _ _ _ _ _ _
     (opens_kept _ _ c.in_ok-place-in-Some.place _
     (c.in_ok-place-in-Some.ensures ∙ body_same _ _ _ _ _ _ _ (receiver_same _ _ c.as_deref.ensures.value))
-    (adds_kept _ _ _ (alone_kept _ refl) c.in_ok-push-in-Some.ensures))
+    (adds_kept _ _ _ (alone_kept _ refl refl) c.in_ok-push-in-Some.ensures))
     c.in_ok-function_types-in-Some.ensures
     (adds_same _ _ _ _
     (ap (λ l. statements_marks (statements_syntax l)) (c.deref-in-Some.ensures.value ∙ sym c.deref.ensures.value))
     c.in_ok-statements-in-Some.ensures)
-    (adds_kept _ _ _ (alone_kept _ refl) c.in_ok-push-in-Some-2.ensures))
+    (adds_kept _ _ _ (alone_kept _ refl refl) c.in_ok-push-in-Some-2.ensures))

@@ -1,4 +1,4 @@
-use Rattle.std.proofs.Common.{[], ◌∷◌, ◌++◌, ◌+◌, ◌-◌, drop, refl, sym, ap, ◌∙◌, true, false, Bor, option_map}
+use Rattle.std.proofs.Common.{[], ◌∷◌, ◌++◌, ◌+◌, ◌-◌, drop, refl, sym, ap, ◌∙◌, true, false, Some, None, Bor, option_map}
 use Rattle.tree.specs.declared.expression.Expr.{Expr}
 use Rattle.tree.specs.declared.span.Identifier.{Identifier}
 use Rattle.tree.specs.declared.statement.Block.{out-Block}
@@ -6,13 +6,13 @@ use Rattle.tree.specs.declared.statement.CaseClause.{out-CaseClause}
 use Rattle.tree.specs.View.{identifier_syntax, expression_syntax, expressions_syntax, optional_expression_syntax, parameters_syntax, fields_syntax, statement_syntax, statements_syntax, optional_statement_syntax, cases_syntax, communications_syntax, specs_syntax}
 use Rattle.tree.proofs.Depths.{drop_item, drop_past}
 use Rattle.tree.proofs.Views.{expression_form-Name, expression_form-BasicLit, expression_form-FuncLit, expression_form-CompositeLit, expression_form-LiteralValue, expression_form-KeyValue, expression_form-Paren, expression_form-Selector, expression_form-Index, expression_form-Instance, expression_form-Slice, low_bound_of, high_bound_of, most_bound_of, expression_form-TypeAssert, expression_form-Call, expression_form-Star, expression_form-Unary, expression_form-Binary, expression_form-ArrayType, expression_form-EllipsisArrayType, expression_form-SliceType, expression_form-MapType, expression_form-ChanType, expression_form-FuncType, expression_form-StructType, expression_form-InterfaceType, statement_form-Empty, statement_form-Decl, statement_form-Labeled, statement_form-Expr, statement_form-Send, statement_form-Increment, statement_form-Decrement, statement_form-Assign, statement_form-AssignOp, statement_form-Define, statement_form-Go, statement_form-Defer, statement_form-Return, statement_form-Break, statement_form-Continue, statement_form-Goto, statement_form-Fallthrough, statement_form-Block, statement_form-If, statement_form-For, statement_form-RangeAssign, statement_form-RangeDefine, statement_form-Switch, statement_form-TypeSwitch, statement_form-Select, block_statements-out, parameter_and-Named, parameter_and-Unnamed, parameter_and-NameAlone, field_and-Named, field_and-Embedded, field_and-Element, field_and-Method, spec_and-Value, spec_and-Type}
-use Rattle.mentions.specs.MarkViews.{named_view, place_view, call_view, optional_call, role_view, row_view, spot_view, standing_view, use_view}
+use Rattle.mentions.specs.MarkViews.{named_view, place_view, call_view, optional_call, role_view, row_view, spot_view, standing_view}
 use Rattle.meaning.specs.Scopes.{parameters_named}
-use Rattle.meaning.specs.Mentions.{declared_elsewhere, bare, addressed, as_bare, as_statement, argument, argument_at, argument_or, argument_use, callee_use, deferral, deferred, left, named_or, names_type, place_in, return_item, as_named, select_from, call_of, mention, elsewhere, part_of, whole, expression_marks, form_marks, expressions_marks, optional_marks, arguments_marks, items_marks, lefts_marks, ranged_marks, exposed_or, ordinary, first_row, row_in, behind_row, guard_marks, nil_where, nil_marks, names_type_marks, signature_marks, parameters_marks, fields_marks, statement_marks, statement_form_marks, statements_marks, optional_statement_marks, cases_marks, communications_marks, specs_marks}
+use Rattle.meaning.specs.Mentions.{Spot, declared_elsewhere, bare, addressed, as_bare, as_statement, argument, argument_at, argument_or, arguments_place, argument_spot, argument_taker, as_key, callee_or, deferred, under_go, field_called, field_written, given_to, receiver_given, sent, left, named_or, names_type, place_in, return_item, as_named, select_from, call_of, mention, elsewhere, part_of, whole, expression_marks, form_marks, expressions_marks, optional_marks, arguments_marks, items_marks, lefts_marks, ranged_marks, exposed_or, ordinary, first_row, row_in, behind_row, guard_marks, nil_where, nil_marks, names_type_marks, signature_marks, parameters_marks, fields_marks, statement_marks, statement_form_marks, statements_marks, optional_statement_marks, cases_marks, communications_marks, specs_marks}
 use Rattle.mentions.proofs.Adding.{same_adds as raw_same}
 use Rattle.marks.proofs.AddingBy.{left_names_kept, elsewhere_kept, guard_kept, mention_kept, alone_kept, adds_kept, kept_adds, adds_nothing, adds_same, adds_then, adds_next, adds_all, then_adds, same_adds, three_adds, four_adds, alone_adds}
-use Rattle.marks.proofs.WalkLists.{adds_case, adds_communication, adds_body, opens_kept, block_braces-out, parameters_more, fields_more, specs_more, cases_more, communications_more, literal_marks, guard_same}
-use Rattle.marks.proofs.WalkSteps.{at_spot, all_at_spot, adds_at_spot, named_at_spot, named_adds, call_adds, assigned_row, assignment_adds, defined_row, definition_adds, declared_same, spec_adds, return_adds, no_operator, operator_argument, argument_first, item_first, left_first, ranged_first, statement_first, branch_adds, place_finds, used_at, alone_adds_argument}
+use Rattle.marks.proofs.WalkLists.{adds_case, adds_communication, body_adds, opens_kept, block_braces-out, parameters_more, fields_more, specs_more, cases_more, communications_more, literal_marks, guard_same}
+use Rattle.marks.proofs.WalkSteps.{at_spot, all_at_spot, adds_at_spot, named_at_spot, named_adds, call_adds, assigned_row, assignment_adds, defined_row, definition_adds, declared_same, spec_adds, return_adds, no_operator, operator_argument, argument_first, item_first, left_first, ranged_first, assigned_at, statement_first, branch_adds, place_finds}
 use Rattle.marks.proofs.walk.+marks.Goals as goal
 
 pub expression_form-returns-in-Name : goal.expression_form-returns-in-Name
@@ -49,11 +49,19 @@ expression_form-returns-in-LiteralValue t c =
     (spot_view c.part_of-in-LiteralValue.result) (part_of c.args.spot.site) (expressions_syntax c.deref-in-LiteralValue.result.now)
     c.part_of-in-LiteralValue.ensures c.expressions-in-LiteralValue.ensures)
 
-pub expression_form-returns-in_ok-part-in-KeyValue : goal.expression_form-returns-in_ok-part-in-KeyValue
+pub expression_form-returns-in_ok-named_or-in-KeyValue : goal.expression_form-returns-in_ok-named_or-in-KeyValue
 unfolding form_marks
-expression_form-returns-in_ok-part-in-KeyValue t c =
-    rw (c.in-KeyValue.is, expression_form-KeyValue, ← c.deref-in-KeyValue.ensures, ← c.deref-in-KeyValue-2.ensures)
-    (then_adds _ _ _ _ _ _ c.in_ok-part-in-KeyValue.ensures c.part-in-KeyValue-2.ensures)
+expression_form-returns-in_ok-named_or-in-KeyValue t c =
+    let site = c.args.spot.site in
+    let marks = λ (e : Expr). expression_marks (part_of site) (expression_syntax e) in
+    rw (c.in-KeyValue.is, expression_form-KeyValue, ← c.deref-in-KeyValue.ensures, ← c.deref-in-KeyValue-3.ensures)
+    (then_adds _ _ _ _ _ (marks c.deref-in-KeyValue-3.result.now)
+    (adds_same c.args.walk.now c.named_or.new.walk
+    (named_or (option_map named_view c.as_bare.result) site as_key (marks c.deref-in-KeyValue-2.result.now))
+    (named_or (as_bare (expression_syntax c.deref-in-KeyValue.result.now)) site as_key (marks c.deref-in-KeyValue.result.now))
+    (λ i. named_or (c.as_bare.ensures i) site as_key (marks ((c.deref-in-KeyValue-2.ensures ∙ sym c.deref-in-KeyValue.ensures) i)))
+    c.in_ok-named_or-in-KeyValue.ensures)
+    c.part-in-KeyValue.ensures)
 
 pub expression_form-returns-in-Paren : goal.expression_form-returns-in-Paren
 unfolding form_marks
@@ -65,13 +73,14 @@ pub expression_form-returns-in-Selector : goal.expression_form-returns-in-Select
 unfolding form_marks
 expression_form-returns-in-Selector t c =
     rw (c.in-Selector.is, expression_form-Selector, ← c.deref-in-Selector.ensures)
-    (named_adds c.named_or.result c.args.walk.now c.named_or.new.walk (option_map named_view c.select_from-named.result)
+    (named_adds c.named_or-in-Selector.result c.args.walk.now c.named_or-in-Selector.new.walk
+    (option_map named_view c.select_from-named.result)
     (select_from (as_bare (expression_syntax c.deref-in-Selector.result.now)) (identifier_syntax c.in-Selector.member)) c.args.spot.site
     elsewhere (expression_marks (part_of c.args.spot.site) (expression_syntax c.deref-in-Selector-2.result.now))
     (expression_marks (part_of c.args.spot.site) (expression_syntax c.deref-in-Selector.result.now))
-    (c.select_from-named.ensures ∙ ap (λ n. select_from n (identifier_syntax c.in-Selector.member)) c.as_bare.ensures)
+    (c.select_from-named.ensures ∙ ap (λ n. select_from n (identifier_syntax c.in-Selector.member)) c.as_bare-in-Selector.ensures)
     (ap (λ (e : Expr). expression_marks (part_of c.args.spot.site) (expression_syntax e)) (c.deref-in-Selector-2.ensures ∙ sym c.deref-in-Selector.ensures))
-    c.named_or.ensures)
+    c.named_or-in-Selector.ensures)
 
 pub expression_form-returns-in_ok-part-in-Index : goal.expression_form-returns-in_ok-part-in-Index
 unfolding form_marks
@@ -112,17 +121,30 @@ expression_form-returns-in_ok-part-in-TypeAssert t c =
 pub expression_form-returns-in_ok-callee_or-in-Call : goal.expression_form-returns-in_ok-callee_or-in-Call
 unfolding form_marks
 expression_form-returns-in_ok-callee_or-in-Call t c =
-    rw (c.in-Call.is, expression_form-Call, ← c.deref-in-Call-3.ensures, ← c.deref-in-Call-4.ensures.value)
-    (call_adds c.all_arguments.result c.args.walk.now c.callee_or.new.walk c.all_arguments.new.walk c.args.spot.site
-    (optional_call c.in_ok-call-in-Call.call)
-    (call_of (place_view c.args.spot.place) (expression_syntax c.deref-in-Call-3.result.now)
-    (expressions_syntax c.deref-in-Call-4.result.now) c.in-Call.has_ellipsis)
-    (use_view c.callee_use.result) (callee_use (place_view c.args.spot.place))
-    (expression_syntax c.deref-in-Call-3.result.now) (expressions_syntax c.deref-in-Call-4.result.now)
+    let spot = spot_view c.args.spot in
+    let f = c.in-Call.callee.value in
+    let call = optional_call c.in_ok-call-in-Call.call in
+    let kept = spot_view c.callee_spot.result in
+    rw (c.in-Call.is, expression_form-Call, ← c.deref-in-Call-5.ensures.value)
+    (call_adds c.field_called.result c.args.walk.now c.receiver_given.new.walk c.all_arguments.new.walk c.callee_or.new.walk
+    c.field_called.new.walk spot kept (place_view c.arguments_place-place.result) call
+    (call_of spot.place (expression_syntax f) (expressions_syntax c.deref-in-Call-5.result.now) c.in-Call.has_ellipsis)
+    (expression_syntax f) (expressions_syntax c.deref-in-Call-5.result.now)
     (c.in_ok-call-in-Call.ensures ∙ c.call_of.ensures
-    ∙ (λ i. call_of (place_view c.args.spot.place) (expression_syntax ((c.deref-in-Call.ensures ∙ sym c.deref-in-Call-3.ensures) i))
-    (expressions_syntax ((c.deref-in-Call-2.ensures.value ∙ sym c.deref-in-Call-4.ensures.value) i)) c.in-Call.has_ellipsis))
-    c.callee_use.ensures c.in_ok-callee_or-in-Call.ensures c.all_arguments.ensures)
+    ∙ (λ i. call_of spot.place (expression_syntax (c.deref-in-Call.ensures i))
+    (expressions_syntax ((c.deref-in-Call-2.ensures.value ∙ sym c.deref-in-Call-5.ensures.value) i)) c.in-Call.has_ellipsis))
+    c.callee_spot.ensures
+    (c.arguments_place-place.ensures
+    ∙ ap (λ (x : Expr). arguments_place spot.place (expression_syntax x)) c.deref-in-Call-4.ensures)
+    (adds_same _ _ _ _ (ap (λ (x : Expr). receiver_given spot.place spot.site (expression_syntax x)) c.deref-in-Call-3.ensures)
+    c.in_ok-receiver_given-in-Call.ensures)
+    c.in_ok-all_arguments-in-Call.ensures
+    (adds_same _ _ _ _
+    (ap (λ (x : Expr). callee_or call kept.site (expression_syntax x) (expression_marks kept (expression_syntax x)))
+    c.deref-in-Call-6.ensures)
+    c.in_ok-callee_or-in-Call.ensures)
+    (same_adds _ _ _ _ _ (ap (λ (x : Expr). field_called spot.site (expression_syntax x)) c.deref-in-Call-7.ensures)
+    c.field_called.ensures))
 
 pub expression_form-returns-in-Star : goal.expression_form-returns-in-Star
 unfolding form_marks
@@ -214,39 +236,48 @@ statement_form-returns-in-Expr t c =
     (whole (place_in (standing_view c.args.standing) as_statement) c.args.at) (expression_syntax c.in-Expr.value)
     (c.whole.ensures ∙ ap (λ p. whole p c.args.at) c.place_in-place.ensures) c.expression.ensures)
 
-pub statement_form-returns-in_ok-part-in-Send : goal.statement_form-returns-in_ok-part-in-Send
+pub statement_form-returns-in_ok-part-in-Send-2 : goal.statement_form-returns-in_ok-part-in-Send-2
 unfolding statement_form_marks
-statement_form-returns-in_ok-part-in-Send t c =
+statement_form-returns-in_ok-part-in-Send-2 t c =
     rw (c.in-Send.is, statement_form-Send, ← c.deref-in-Send.ensures, ← c.deref-in-Send-2.ensures)
-    (then_adds _ _ _ _ _ _ c.in_ok-part-in-Send.ensures c.part-in-Send.ensures)
+    (three_adds _ _ _ _ _ _ _ _ c.in_ok-part-in-Send.ensures c.in_ok-part-in-Send-2.ensures
+    (same_adds _ _ _ _ _
+    (ap (λ (x : Expr). sent (standing_view c.args.standing) c.args.at (expression_syntax x))
+    (c.deref-in-Send-3.ensures ∙ sym c.deref-in-Send-2.ensures))
+    c.sent.ensures))
 
 pub statement_form-returns-in-Increment : goal.statement_form-returns-in-Increment
 unfolding statement_form_marks
 statement_form-returns-in-Increment t c =
     rw (c.in-Increment.is, statement_form-Increment)
-    c.exposed_or.ensures
+    c.overwritten.ensures
 
 pub statement_form-returns-in-Decrement : goal.statement_form-returns-in-Decrement
 unfolding statement_form_marks
 statement_form-returns-in-Decrement t c =
     rw (c.in-Decrement.is, statement_form-Decrement)
-    c.exposed_or-in-Decrement.ensures
+    c.overwritten-in-Decrement.ensures
 
-pub statement_form-returns-in_ok-expressions-in-Assign : goal.statement_form-returns-in_ok-expressions-in-Assign
+pub statement_form-returns-in_ok-rights_given-in-Assign : goal.statement_form-returns-in_ok-rights_given-in-Assign
 unfolding statement_form_marks
-statement_form-returns-in_ok-expressions-in-Assign t c =
+statement_form-returns-in_ok-rights_given-in-Assign t c =
     rw (c.in-Assign.is, statement_form-Assign)
-    (assignment_adds _ _ _ _ _ _ _ _ _ _ _ _
+    (assignment_adds _ _ _ _ _ _ _ _ _ _ _ _ _ _ _
     (c.in_ok-row-in-Assign.ensures
     ∙ assigned_row (standing_view c.args.standing) c.args.at _ _ _ _ c.deref-in-Assign.ensures.value c.deref-in-Assign-2.ensures.value)
-    c.deref-in-Assign-3.ensures.value c.deref-in-Assign-4.ensures.value c.value_spot.ensures c.in_ok-expressions-in-Assign.ensures
-    c.lefts.ensures)
+    c.deref-in-Assign-3.ensures.value c.deref-in-Assign-4.ensures.value c.deref-in-Assign-5.ensures.value
+    c.deref-in-Assign-6.ensures.value c.value_spot.ensures c.in_ok-expressions-in-Assign.ensures
+    c.in_ok-rights_given-in-Assign.ensures c.lefts.ensures)
 
-pub statement_form-returns-in_ok-exposed_or-in-AssignOp : goal.statement_form-returns-in_ok-exposed_or-in-AssignOp
+pub statement_form-returns-in_ok-part-in-AssignOp : goal.statement_form-returns-in_ok-part-in-AssignOp
 unfolding statement_form_marks
-statement_form-returns-in_ok-exposed_or-in-AssignOp t c =
+statement_form-returns-in_ok-part-in-AssignOp t c =
     rw (c.in-AssignOp.is, statement_form-AssignOp, ← c.deref-in-AssignOp.ensures, ← c.deref-in-AssignOp-2.ensures)
-    (then_adds _ _ _ _ _ _ c.in_ok-exposed_or-in-AssignOp.ensures c.part-in-AssignOp.ensures)
+    (three_adds _ _ _ _ _ _ _ _ c.in_ok-exposed_or-in-AssignOp.ensures c.in_ok-part-in-AssignOp.ensures
+    (same_adds _ _ _ _ _
+    (ap (λ (x : Expr). field_written c.args.at None (expression_syntax x))
+    (c.deref-in-AssignOp-3.ensures ∙ sym c.deref-in-AssignOp.ensures))
+    c.field_written.ensures))
 
 pub statement_form-returns-in_ok-expressions-in-Define : goal.statement_form-returns-in_ok-expressions-in-Define
 unfolding statement_form_marks
@@ -262,7 +293,8 @@ pub statement_form-returns-in-Go : goal.statement_form-returns-in-Go
 unfolding statement_form_marks
 statement_form-returns-in-Go t c =
     rw (c.in-Go.is, statement_form-Go)
-    c.part-in-Go.ensures
+    (at_spot c.expression-in-Go.result c.args.walk.now c.expression-in-Go.new.walk (spot_view c.whole-in-Go.result)
+    (whole under_go c.args.at) (expression_syntax c.in-Go.call) c.whole-in-Go.ensures c.expression-in-Go.ensures)
 
 pub statement_form-returns-in-Defer : goal.statement_form-returns-in-Defer
 unfolding statement_form_marks
@@ -276,7 +308,7 @@ unfolding statement_form_marks
 statement_form-returns-in_ok-push-in-Return t c =
     rw (c.in-Return.is, statement_form-Return)
     (return_adds _ _ _ _ _ _ _ c.deref-in-Return.ensures.value c.deref-in-Return-2.ensures.value c.in_ok-items-in-Return.ensures
-    (adds_kept _ _ _ (alone_kept _ refl) c.in_ok-push-in-Return.ensures))
+    (adds_kept _ _ _ (alone_kept _ refl refl) c.in_ok-push-in-Return.ensures))
 
 pub statement_form-returns-in-Break : goal.statement_form-returns-in-Break
 unfolding statement_form_marks
@@ -413,36 +445,20 @@ pub named_at-returns-in-None : goal.named_at-returns-in-None
 named_at-returns-in-None t c =
     rw c.in-None.is c.expression.ensures
 
-pub function_literal-returns-in_ok-push-in-DeferredCall : goal.function_literal-returns-in_ok-push-in-DeferredCall
-function_literal-returns-in_ok-push-in-DeferredCall t c =
+pub function_literal-returns : goal.function_literal-returns
+function_literal-returns t c =
     rw (literal_marks, ← c.deref-list.ensures.value)
-    (adds_body c.args.walk.now _ _ _ _ _ _ _ _ (deferral (use_view c.args.spot.literal) c.args.spot.site c.args.span.start)
-    (opens_kept _ _ c.in_ok-body.body _ c.in_ok-body.ensures (adds_kept _ _ _ (alone_kept _ refl) c.in_ok-push.ensures)) c.in_ok-signature.ensures
-    c.in_ok-statements.ensures
-    (adds_kept _ c.push-2.new.self _ (alone_kept _ refl) c.in_ok-push-2.ensures)
-    (adds_same _ _ _ _ (ap (λ u. deferral (use_view u) c.args.spot.site c.args.span.start) (sym c.in-DeferredCall.is)) (adds_kept _ _ _ (alone_kept _ refl) c.in_ok-push-in-DeferredCall.ensures)))
+    (body_adds c.behind_literal.result c.args.walk.now _ _ _ _ c.behind_literal.new.walk _ _ _ _
+    (opens_kept _ _ c.in_ok-body.body _ c.in_ok-body.ensures (adds_kept _ _ _ (alone_kept _ refl refl) c.in_ok-push.ensures))
+    c.in_ok-signature.ensures c.in_ok-statements.ensures
+    (adds_kept _ c.push-2.new.self _ (alone_kept _ refl refl) c.in_ok-push-2.ensures) c.behind_literal.ensures)
 
-pub function_literal-returns-in-Other : goal.function_literal-returns-in-Other
-function_literal-returns-in-Other t c =
-    rw (literal_marks, ← c.deref-list.ensures.value)
-    (adds_body c.args.walk.now _ _ _ _ _ _ _ _ (deferral (use_view c.args.spot.literal) c.args.spot.site c.args.span.start)
-    (opens_kept _ _ c.in_ok-body.body _ c.in_ok-body.ensures (adds_kept _ _ _ (alone_kept _ refl) c.in_ok-push.ensures)) c.in_ok-signature.ensures
-    c.in_ok-statements.ensures
-    (adds_kept _ _ _ (alone_kept _ refl) c.in_ok-push-2.ensures)
-    (adds_same _ _ _ _ (ap (λ u. deferral (use_view u) c.args.spot.site c.args.span.start) (sym c.in-Other.is)) (adds_nothing _)))
-
-pub function_literal-returns-in-StartedBy : goal.function_literal-returns-in-StartedBy
-function_literal-returns-in-StartedBy t c =
-    rw (literal_marks, ← c.deref-list.ensures.value)
-    (adds_body c.args.walk.now _ _ _ _ _ _ _ _ (deferral (use_view c.args.spot.literal) c.args.spot.site c.args.span.start)
-    (opens_kept _ _ c.in_ok-body.body _ c.in_ok-body.ensures (adds_kept _ _ _ (alone_kept _ refl) c.in_ok-push.ensures)) c.in_ok-signature.ensures
-    c.in_ok-statements.ensures
-    (adds_kept _ _ _ (alone_kept _ refl) c.in_ok-push-2.ensures)
-    (adds_same _ _ _ _ (ap (λ u. deferral (use_view u) c.args.spot.site c.args.span.start) (sym c.in-StartedBy.is)) (adds_nothing _)))
+pub overwritten-returns : goal.overwritten-returns
+overwritten-returns t c = then_adds _ _ _ _ _ _ c.in_ok-exposed_or.ensures c.field_written.ensures
 
 pub callee_or-returns-in-Some : goal.callee_or-returns-in-Some
 callee_or-returns-in-Some t c =
-    rw c.in-Some.is (kept_adds _ _ _ _ (alone_kept _ refl) c.mention.ensures)
+    rw c.in-Some.is (kept_adds _ _ _ _ (alone_kept _ refl refl) c.mention.ensures)
 
 pub callee_or-returns-in-None : goal.callee_or-returns-in-None
 callee_or-returns-in-None t c =
@@ -507,7 +523,7 @@ field-returns-in-Named t c = rw (c.in-Named.is, field_and-Named) (alone_adds _ _
 pub field-returns-in-Embedded : goal.field-returns-in-Embedded
 unfolding fields_marks
 field-returns-in-Embedded t c = rw (c.in-Embedded.is, field_and-Embedded) (same_adds _ _ _ _ _ (λ i. mention c.args.site elsewhere (c.embedded.ensures i) ∷ [])
-    (kept_adds _ _ _ _ (alone_kept _ refl) c.mention.ensures))
+    (kept_adds _ _ _ _ (alone_kept _ refl refl) c.mention.ensures))
 
 pub field-returns-in-Element : goal.field-returns-in-Element
 unfolding fields_marks
@@ -530,7 +546,7 @@ pub spec-returns-in_ok-parameters-in-Type : goal.spec-returns-in_ok-parameters-i
 unfolding specs_marks
 spec-returns-in_ok-parameters-in-Type t c =
     rw (c.in-Type.is, spec_and-Type, ← c.deref-in-Type-2.ensures.value, ← c.deref-in-Type-3.ensures)
-    (four_adds _ _ _ _ _ _ _ _ _ _ (adds_kept _ c.declare_elsewhere.new.marks _ (alone_kept _ refl) c.in_ok-declare_elsewhere-in-Type.ensures)
+    (four_adds _ _ _ _ _ _ _ _ _ _ (adds_kept _ c.declare_elsewhere.new.marks _ (alone_kept _ refl refl) c.in_ok-declare_elsewhere-in-Type.ensures)
     (adds_same _ _ _ _
     (ap (λ l. declared_elsewhere c.in-Type.span.start (parameters_named (parameters_syntax l)))
     (c.deref-in-Type.ensures.value ∙ sym c.deref-in-Type-2.ensures.value))
@@ -612,7 +628,9 @@ cases-loop-clause-preserved t c =
     let guard = option_map (λ (n : Bor Identifier). identifier_syntax n.now) c.args.guard in
     let items = drop_item c.args.clauses.now c.loop-clause.clause-index c.clause-item.result c.loop-clause-test.true c.clause-item.is in
     adds_next _ _ _ _ _ _ _ c.loop-clause.invariant (ap (λ l. cases_marks c.args.at guard (cases_syntax l)) items ∙ cases_more c.args.at guard c.clause-item.result _)
-    (adds_case c.args.at guard c.clause-item.result _ _ _ _ _ _ (adds_kept _ _ _ (guard_kept c.args.at guard (out-CaseClause c.clause-item.result).span) c.in_ok-guard_in_clause.ensures) c.deref.ensures.value
+    (adds_case c.args.at guard c.clause-item.result _ _ _ _ _ _ _
+    (adds_kept _ _ _ (guard_kept c.args.at guard (out-CaseClause c.clause-item.result).span) c.in_ok-guard_in_clause.ensures)
+    c.in_ok-guard_renewed.ensures c.deref.ensures.value
     (adds_at_spot _ _ _ _ _ c.part_of.ensures c.in_ok-expressions.ensures) c.deref-in-loop-clause.ensures.value c.in_ok-statements.ensures)
 
 pub cases-returns : goal.cases-returns
@@ -627,7 +645,8 @@ pub communications-loop-clause-preserved : goal.communications-loop-clause-prese
 communications-loop-clause-preserved t c =
     let items = drop_item c.args.clauses.now c.loop-clause.clause-index c.clause-item.result c.loop-clause-test.true c.clause-item.is in
     adds_next _ _ _ _ _ _ _ c.loop-clause.invariant (ap (λ l. communications_marks (communications_syntax l)) items ∙ communications_more c.clause-item.result _)
-    (adds_communication c.clause-item.result _ _ _ _ c.in_ok-optional_statement.ensures c.deref.ensures.value c.in_ok-statements.ensures)
+    (adds_communication c.clause-item.result _ _ _ _ _ c.in_ok-optional_statement.ensures c.in_ok-communication_given.ensures
+    c.deref.ensures.value c.in_ok-statements.ensures)
 
 pub communications-returns : goal.communications-returns
 unfolding communications_marks
@@ -638,24 +657,33 @@ communications-returns t c =
 
 pub all_arguments-loop-index-preserved : goal.all_arguments-loop-index-preserved
 all_arguments-loop-index-preserved t c =
-    let e = c.index-list-index.result in
-    let items = drop_item c.args.list.now c.loop-index.index e c.loop-index-test.true c.index-list-index.is in
+    let item = c.index-list-index.result in
+    let items = drop_item c.args.list.now c.loop-index.index item c.loop-index-test.true c.index-list-index.is in
+    let e = expression_syntax item in
     let rest = expressions_syntax (drop (c.loop-index.index + 1) c.args.list.now) in
+    let place = place_view c.args.place in
     let call = optional_call c.args.call in
+    let index = c.loop-index.index in
+    let last = c.is_last.result in
     adds_next _ _ _ _
-    (argument_at call c.args.site c.loop-index.index c.is_last.result (expression_syntax e)
-    (expression_marks (used_at (argument_use call) c.args.site) (expression_syntax e)))
-    (arguments_marks call c.args.site (c.loop-index.index + 1) rest) _ c.loop-index.invariant
-    (ap (λ l. arguments_marks call c.args.site c.loop-index.index (expressions_syntax l)) items
-    ∙ argument_first call c.args.site c.loop-index.index c.is_last.result (expression_syntax e) rest c.is_last.ensures)
-    c.in_ok-argument.ensures
+    (argument_at call c.args.site index last e (expression_marks (argument_spot place call c.args.site) e)
+    ++ given_to c.args.site (argument_taker place call) e)
+    (arguments_marks place call c.args.site (index + 1) rest) _ c.loop-index.invariant
+    (ap (λ l. arguments_marks place call c.args.site index (expressions_syntax l)) items
+    ∙ argument_first place call c.args.site index last e rest c.is_last.ensures)
+    (adds_then _ _ _ _ _
+    (adds_same _ _ _ _ (ap (λ (s : Spot). argument_at call s.site index last e (expression_marks s e)) c.argument_spot-spot.ensures)
+    c.in_ok-argument.ensures)
+    c.in_ok-argument_given.ensures)
 
 pub all_arguments-returns : goal.all_arguments-returns
 unfolding arguments_marks
 all_arguments-returns t c =
     let nothing = drop_past c.args.list.now c.loop-index.index c.loop-index-test.false in
-    adds_all c.args.walk.now _ _ (arguments_marks (optional_call c.args.call) c.args.site 0 (expressions_syntax c.args.list.now)) c.loop-index.invariant
-    (ap (λ l. arguments_marks (optional_call c.args.call) c.args.site c.loop-index.index (expressions_syntax l)) nothing)
+    let place = place_view c.args.place in
+    let call = optional_call c.args.call in
+    adds_all c.args.walk.now _ _ (arguments_marks place call c.args.site 0 (expressions_syntax c.args.list.now)) c.loop-index.invariant
+    (ap (λ l. arguments_marks place call c.args.site c.loop-index.index (expressions_syntax l)) nothing)
 
 pub items-loop-index-preserved : goal.items-loop-index-preserved
 items-loop-index-preserved t c =
@@ -685,11 +713,12 @@ lefts-loop-index-preserved t c =
     let row = row_view c.args.row.now in
     adds_next _ _ _ _
     (named_or (as_bare (expression_syntax e)) c.args.site (left c.loop-index.index row)
-    (exposed_or c.args.site (expression_syntax e) (expression_marks (part_of c.args.site) (expression_syntax e))))
+    (exposed_or c.args.site (expression_syntax e) (expression_marks (part_of c.args.site) (expression_syntax e)))
+    ++ field_written c.args.site (Some (assigned_at c.loop-index.index row)) (expression_syntax e))
     (lefts_marks row c.args.site (c.loop-index.index + 1) rest) _ c.loop-index.invariant
     (ap (λ l. lefts_marks row c.args.site c.loop-index.index (expressions_syntax l)) items
     ∙ left_first row c.args.site c.loop-index.index (expression_syntax e) rest)
-    c.in_ok-left_side.ensures
+    (adds_then _ _ _ _ _ c.in_ok-left_side.ensures c.in_ok-field_written.ensures)
 
 pub lefts-returns : goal.lefts-returns
 unfolding lefts_marks
@@ -704,10 +733,11 @@ ranged-loop-item-preserved t c =
     let items = drop_item c.args.list.now c.loop-item.item-index e c.loop-item-test.true c.item-item.is in
     let rest = expressions_syntax (drop (c.loop-item.item-index + 1) c.args.list.now) in
     adds_next _ _ _ _
-    (exposed_or c.args.site (expression_syntax e) (expression_marks (part_of c.args.site) (expression_syntax e)))
+    (exposed_or c.args.site (expression_syntax e) (expression_marks (part_of c.args.site) (expression_syntax e))
+    ++ field_written c.args.site None (expression_syntax e))
     (ranged_marks c.args.site rest) _ c.loop-item.invariant
     (ap (λ l. ranged_marks c.args.site (expressions_syntax l)) items ∙ ranged_first c.args.site (expression_syntax e) rest)
-    c.in_ok-exposed_or.ensures
+    c.in_ok-overwritten.ensures
 
 pub ranged-returns : goal.ranged-returns
 unfolding ranged_marks
@@ -721,8 +751,7 @@ left_side-returns-in-Some t c =
     rw (← c.as_bare.ensures, c.in-Some.is) (kept_adds _ _ _ _ (mention_kept _ c.requires _ _) c.mention.ensures)
 
 pub argument-returns-in-None : goal.argument-returns-in-None
-argument-returns-in-None t c =
-    alone_adds_argument _ _ _ _ _ _ _ _ _ (ap optional_call c.in-None.is) c.argument_use.ensures c.expression-in-None.ensures
+argument-returns-in-None t c = rw c.in-None.is c.expression-in-None.ensures
 
 pub argument_of-returns-in-Unary : goal.argument_of-returns-in-Unary
 argument_of-returns-in-Unary t c =

@@ -1,6 +1,6 @@
 use Rattle.std.proofs.Common.{drop, option_map}
 use Rattle.meaning.specs.Mentions.{expressions_marks, arguments_marks, items_marks, lefts_marks, ranged_marks, parameters_marks, fields_marks, statements_marks, cases_marks, communications_marks, specs_marks}
-use Rattle.mentions.specs.MarkViews.{spot_view, optional_call, row_view}
+use Rattle.mentions.specs.MarkViews.{spot_view, place_view, optional_call, row_view}
 use Rattle.tree.specs.View.{identifier_syntax, expressions_syntax, parameters_syntax, fields_syntax, statements_syntax, cases_syntax, communications_syntax, specs_syntax}
 use Rattle.marks.proofs.AddingBy.{Continues}
 use Rattle.marks.proofs.walk.+marks.Given as goal
@@ -13,8 +13,8 @@ invariant-expressions-loop-item l =
 
 abbrev pub invariant-all_arguments-loop-index : goal.invariant-all_arguments-loop-index
 invariant-all_arguments-loop-index l =
-    Continues l.initial.walk l.walk (arguments_marks (optional_call l.call) l.site l.index (expressions_syntax (drop l.index l.list)))
-    (arguments_marks (optional_call l.call) l.site 0 (expressions_syntax l.list))
+    Continues l.initial.walk l.walk (arguments_marks (place_view l.place) (optional_call l.call) l.site l.index (expressions_syntax (drop l.index l.list)))
+    (arguments_marks (place_view l.place) (optional_call l.call) l.site 0 (expressions_syntax l.list))
 
 abbrev pub invariant-items-loop-index : goal.invariant-items-loop-index
 invariant-items-loop-index l =

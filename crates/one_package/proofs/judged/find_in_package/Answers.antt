@@ -1,7 +1,7 @@
 use Rattle.std.proofs.Common.{ℕ, Bool, List, ◌∙◌, ap, map, ◌++◌}
 use Rattle.std.specs.Prelude.{◌&&◌, flat_map}
 use Rattle.calls_flags.specs.declared.told_file.ToldFile.{ToldFile}
-use Rattle.handed_on.proofs.UsedPackages.{is_used_so}
+use Rattle.calls_flags.proofs.UsedPackages.{is_used_so}
 use Rattle.whole_packages.specs.LoadedViews.{numbered_view}
 use Rattle.whole_packages.specs.WholeEntries.{tree_dots, tree_entries}
 use Rattle.report.specs.Entries.{entry_of}

@@ -1,6 +1,9 @@
-use Rattle.std.proofs.Common.{refl}
+use Rattle.std.proofs.Common.{refl, map, sym, ap, subst}
 use Rattle.called_parameters.specs.Called.{is_called}
+use Rattle.meaning_reports.specs.PackageReports.{AreFieldsToTell}
 use Rattle.meaning_reports.specs.PackageTables.{full}
+use Rattle.report.specs.Entries.{entry_of, texts_of}
+use Rattle.one_package.proofs.ToldFields.{told_again}
 use Rattle.one_package.proofs.judged.judge_told.Goals as goal
 
 pub returns-clause-told : goal.returns-clause-told
@@ -23,6 +26,12 @@ returns-clause-judged g c = λ declared ps tables i p is_p tells around not_yes 
           λ h. (c.report_of.ensures.same x).1 ((found.each x).1 h),
         );
       };
+      are_fields = told_again ps tables p (map entry_of c.in_ok-diagnostics.field-0.diagnostics.items)
+          (map entry_of c.report_of.result.diagnostics.items)
+          (texts_of c.in_ok-keeping.keeping.items) (texts_of c.report_of.result.keeping.items)
+          c.report_of.ensures.same (ap texts_of (sym c.report_of.ensures.keeping))
+          (subst (λ ds. AreFieldsToTell ps tables p (map entry_of ds) (texts_of c.in_ok-keeping.keeping.items))
+          c.deref.ensures.value (c.in_ok-keeping.ensures ps tables p _ told));
     }
 
 pub returns-clause-certified : goal.returns-clause-certified

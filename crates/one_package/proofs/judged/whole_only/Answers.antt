@@ -6,5 +6,5 @@ pub returns-clause-told : goal.returns-clause-told
 returns-clause-told c = record {
   is_path = c.report_of.ensures.path;
   are_sources = c.report_of.ensures.sources;
-  is_marked = λ none name f is. absurd (none-some f (sym (c.new.ensures name) ∙ is));
+  is_marked = λ none name f is. absurd (none-some f (sym (c.new-2.ensures name) ∙ is));
 }

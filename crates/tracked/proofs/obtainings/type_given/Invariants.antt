@@ -1,6 +1,6 @@
 use Rattle.std.proofs.Common.{◌≡◌, map, drop}
 use Rattle.facts.specs.FactViews.{cancel_result_view}
-use Rattle.meaning.specs.Uses.{type_given}
+use Rattle.meaning.specs.Tracked.{type_given}
 use Rattle.tracked.proofs.obtainings.type_given.Given as goal
 
 -- what is told of those that are left is told of all

@@ -16,7 +16,7 @@ returns-in_ok-kept-in-None c =
     λ i. rows_at rows (sym tells.is_file i) (sym (ap (λ (p : BodyPlace). p.at) tells.is_place) i) in
     let are_given : g.rows number b.at ≡ Some (rows_of c.in-Some.rows.now) =
     sym (given.are_rows number b.at) ∙ (there ∙ (sym c.at.ensures ∙ ap (option_map (λ r. rows_of r.now)) c.in-Some.is)) in
-    h number seen b tells
+    h number seen b told tells
     (subst (λ (p : BodyPlace). IsOrderedGraph (code_in seen p) c.in_ok-kept-in-None.kept) tells.is_place
     (c.in_ok-kept-in-None.ensures seen told))
     (followed_so seen b (sym tells.unfollowed ∙ c.if-body.false)) g are_given)

@@ -1,0 +1,22 @@
+use Rattle.std.proofs.Common.{◌&&◌, ◌++◌, map, ap, ◌∙◌}
+use Rattle.facts.proofs.FactParts.{on_ok}
+use Rattle.tracked.specs.LocalViews.{seen_view}
+use Rattle.tracked_rows.specs.EventViews.{event_view}
+use Rattle.mentions.specs.MarkViews.{body_view, mark_view}
+use Rattle.meaning.specs.BodyEvents.{is_site}
+use Rattle.meaning.specs.Uses.{is_body}
+use Rattle.kept_events.specs.KeptEventViews.{kept_part}
+use Rattle.events.specs.ToldViews.{events_in, if_there}
+use Rattle.events.proofs.told.add_kept.Goals as goal
+
+pub returns : goal.returns
+returns c =
+    let seen = seen_view c.args.file.seen.now in
+    let bodies = map body_view c.args.bodies.now in
+    let mark = mark_view c.args.mark in
+    on_ok c.add_events.result
+    (λ added body at. added body at
+    ∙ ap (λ es. events_in c.args.events.now body at ++ if_there (is_body body bodies && is_site mark at) es)
+    (c.in_ok-add_mark_events.ensures
+    ∙ ap (λ es. map event_view es ++ kept_part seen bodies mark) c.new-fresh.ensures.items))
+    c.add_events.ensures

@@ -1,2 +1,0 @@
-pub mod FileHands
-pub mod UsedPackages

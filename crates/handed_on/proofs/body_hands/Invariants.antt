@@ -1,7 +1,0 @@
-use Rattle.std.proofs.Common.{◌≡◌, drop}
-use Rattle.handed_on.specs.HandedOn.{body_hands}
-use Rattle.handed_on.proofs.body_hands.Given as goal
-
--- the test of those that are left is that of all
-abbrev pub invariant-loop-event : goal.invariant-loop-event
-invariant-loop-event l = body_hands l.path (drop l.event-index l.events) ≡ body_hands l.path l.events

@@ -1,7 +1,0 @@
-use Rattle.std.proofs.Common.{◌≡◌, drop}
-use Rattle.handed_on.specs.HandedOn.{files_hand}
-use Rattle.handed_on.proofs.files_hand.Given as goal
-
--- the test of those that are left is that of all
-abbrev pub invariant-loop-file : goal.invariant-loop-file
-invariant-loop-file l = files_hand l.path (drop l.file-index l.files) ≡ files_hand l.path l.files

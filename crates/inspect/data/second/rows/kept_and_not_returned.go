@@ -1,0 +1,16 @@
+package a
+
+import "context"
+
+type T struct{ stop func() }
+
+func New(p context.Context, b bool) *T {
+	_, cancel := context.WithCancel(p)
+	t := &T{stop: cancel}
+	if b {
+		/* want LC05 cancel may not have been called at this return */return nil
+	}
+	return t
+}
+
+func (t *T) Close() { t.stop() }

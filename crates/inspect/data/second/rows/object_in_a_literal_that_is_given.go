@@ -1,0 +1,16 @@
+/* want keeping stop */package a
+
+import "context"
+
+type T struct{ stop func() }
+
+func (t *T) Close() { t.stop() }
+
+func f(p context.Context, b bool) *T {
+	_, cancel := context.WithCancel(p)
+	t := &T{stop: cancel}
+	use(func() { t.run() })
+	return nil
+}
+
+func use(f func()) {}

@@ -1,0 +1,10 @@
+pub mod FilesNoted
+pub mod FilledNames
+pub mod KeptFields
+pub mod Keys
+pub mod MarksNoted
+pub mod MethodNotes
+pub mod NamelessNotes
+pub mod PuttingFiles
+pub mod RowValues
+pub mod TextNames

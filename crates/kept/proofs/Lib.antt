@@ -1,0 +1,9 @@
+pub mod AddedParts
+pub mod LiteralForms
+pub mod DeclaredForms
+pub mod GiftForms
+pub mod Gatherings
+pub mod Belonging
+pub mod RowsTogether
+pub mod MarksAsked
+pub mod PlacesGiven

@@ -1,0 +1,5 @@
+use Rattle.meaning_runs.proofs.FieldWrites.{field_writes_are_marked}
+use Rattle.meaning_runs.proofs.field_writes_are_marked.Goals as goal
+
+pub returns : goal.returns
+returns c = field_writes_are_marked

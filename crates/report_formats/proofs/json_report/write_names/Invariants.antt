@@ -1,0 +1,10 @@
+use Rattle.std.proofs.Common.{◌≡◌, false, map, drop}
+use Rattle.report_formats.specs.JsonText.{name_value}
+use Rattle.report_formats.specs.Pieces.{listed}
+use Rattle.report_formats.proofs.Steps.{Goes}
+use Rattle.report_formats.proofs.json_report.write_names.Given as goal
+
+abbrev pub invariant-loop-name : goal.invariant-loop-name
+invariant-loop-name g l =
+    Goes (listed false (map name_value l.names)) (g.S.Sink.taken l.initial.sink) (g.S.Sink.taken l.sink) (listed l.is_later (map name_value (drop l.name-index l.names)))
+    × (g.S.Sink.refusals l.sink ≡ g.S.Sink.refusals l.initial.sink)

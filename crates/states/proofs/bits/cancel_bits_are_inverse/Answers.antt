@@ -1,5 +1,0 @@
-use Rattle.states.proofs.ClassNumbers.{cancel_inverse}
-use Rattle.states.proofs.bits.cancel_bits_are_inverse.Goals as goal
-
-pub returns : goal.returns
-returns c = cancel_inverse

@@ -1,5 +1,0 @@
-use Rattle.states.proofs.ClassNumbers.{group_inverse}
-use Rattle.states.proofs.bits.group_bits_are_inverse.Goals as goal
-
-pub returns : goal.returns
-returns c = group_inverse

@@ -1,6 +1,0 @@
-use Rattle.states.proofs.MaskImages.{ImageSoFar}
-use Rattle.states.proofs.images.image_of.Given as goal
-
--- the bits so far were taken
-abbrev pub invariant-loop-bit : goal.invariant-loop-bit
-invariant-loop-bit g l = ImageSoFar l.count (g.S.Step.step l.steps) l.mask l.image l.bit
