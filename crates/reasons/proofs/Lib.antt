@@ -1,0 +1,2 @@
+pub mod AddedBranches
+pub mod SilentStatements

@@ -1,0 +1,15 @@
+//! The words with which a report says why a line stands there, and the statements that branch. Nothing here knows of
+//! ways: what is asked is where the next occurrence of one stands. The tables are those of `specs/Words.antt`,
+//! `specs/Branches.antt` and `specs/Reasons.antt`.
+#![tactic(auto)]
+
+mod branches;
+mod reasons;
+mod silent;
+mod taken;
+mod words;
+
+pub use branches::{Branch, BranchForm, branches_of};
+pub use reasons::{KnownCallee, Pointer, Reason, Told, reason_of};
+pub use taken::{place_at, word_at};
+pub use words::Word;

@@ -1,0 +1,4 @@
+-- What a search finds.
+pub mod Searched
+-- How it goes on.
+pub mod Searching

@@ -1,0 +1,9 @@
+pub mod AskedWays
+pub mod BestWays
+pub mod ClassesCarried
+pub mod FaultEnds
+pub mod FaultLists
+pub mod FirstOnes
+pub mod SearchedLists
+pub mod WalksTo
+pub mod WaysFound
