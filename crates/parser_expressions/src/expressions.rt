@@ -229,6 +229,8 @@ pub fn value_of<F: Fn(Wanted, TokenPlace) -> Read<Expr>, S: Fn(TokenPlace) -> Re
 /// # Errors
 ///
 /// Where another token stands, where it is too deep, and out of memory.
+// Kept out of what reads a node: with it there, lexing and parsing take one of 100 instructions more.
+#[inline(never)]
 #[tactic(auto, unfolding(tree_reader::specs::Reader::read_type_of))]
 pub fn type_of<F: Fn(Wanted, TokenPlace) -> Read<Expr>>(
     source: SourceTokens<'_>,
