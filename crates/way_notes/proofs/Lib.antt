@@ -1,0 +1,2 @@
+pub mod BackwardNotes
+pub mod NodesShown

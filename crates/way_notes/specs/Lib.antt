@@ -1,0 +1,4 @@
+-- What is told of a way.
+pub mod Notes
+-- What only serves proofs.
+pub mod NoteViews
