@@ -3,7 +3,7 @@
 #![tactic(auto)]
 
 mod branches;
-mod events;
+mod event_notes;
 mod note;
 mod notes;
 

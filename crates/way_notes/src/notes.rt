@@ -7,7 +7,7 @@ ghost use Rattle.way_notes.specs.Notes.{binds_there, node_notes, notes_of_way, o
 ghost use Rattle.way_notes.specs.NoteViews.{note_view, told_view};
 
 use crate::branches::branch_note;
-use crate::events::{event_note, is_binding};
+use crate::event_notes::{event_note, is_binding};
 use crate::note::{Note, Told};
 use bodies::NodeEvent;
 use flow::Graph;
