@@ -2,9 +2,10 @@
 share.
 
 Such a run has a folder of its own with copies of crates, which stands for a repository. So it takes nothing from the
-checkout and leaves nothing in it; and what it proves is kept where the toolchain keeps what the gate passed, by the
-sums of all that a proof reads. There the gate finds it, and a later run here.
+checkout and leaves nothing in it. Where the toolchain keeps what the gate passed (`rattle-kit-13f` does), what it proves
+is kept there, by the sums of all that a proof reads. There the gate finds it, and a later run here.
 """
+import errno
 import os
 import re
 import shutil
@@ -16,6 +17,10 @@ ROOT = os.path.dirname(os.path.dirname(os.path.abspath(__file__)))
 # What a proof reads of a crate, and what else its run reads.
 PROVED = ("src", "specs", "proofs")
 RUN_ON = ("args", "data", "status", "stdin", "stdout")
+# Seconds that a proof takes which docs/GATE.md doesn't know.
+USUAL_COST = 90
+# A chain of crates is nearly the longest where it takes nine tenths of that one's time.
+NEARLY = 0.9
 
 
 def listed():
@@ -69,11 +74,41 @@ def copy(names, room):
             shutil.copy(path, to)
 
 
+def costs():
+    """The processor seconds of each crate's proof, as the table of docs/GATE.md has them."""
+    try:
+        with open(f"{ROOT}/docs/GATE.md", encoding="utf-8") as lines:
+            rows = re.findall(r"^(\w+) +(\d+)(?: +\d+){4}", lines.read(), re.M)
+    except OSError:
+        rows = []
+    return {name: int(seconds) for name, seconds in rows}
+
+
+def on_long_chains():
+    """The crates of those chains, each on the one before, whose proofs take nearly as long as those of the longest."""
+    crates, known = listed(), costs()
+    cost = {name: known.get(name, 0) or USUAL_COST for name in crates}
+    to, after = dict(cost), dict(cost)
+    for name, needs in crates.items():
+        to[name] += max((to[one] for one in needs if one in to), default=0)
+    for name in reversed(crates):
+        for one in crates[name]:
+            if one in after:
+                after[one] = max(after[one], cost[one] + after[name])
+    longest = max(to.values(), default=0)
+    return {name for name in crates if to[name] + after[name] - cost[name] >= NEARLY * longest}
+
+
+def processors():
+    """How many processors there are for this run."""
+    return len(os.sched_getaffinity(0))
+
+
 def jobs():
     """As many checks side by side as there are processors, where each finds 4 GB of memory."""
     with open("/proc/meminfo", encoding="utf-8") as lines:
         free = next(int(line.split()[1]) for line in lines if line.startswith("MemAvailable:"))
-    return max(1, min(len(os.sched_getaffinity(0)), free // 4_000_000))
+    return max(1, min(processors(), free // 4_000_000))
 
 
 def start(room, thrifty):
@@ -84,8 +119,10 @@ def start(room, thrifty):
     a check is given what others leave idle, so the longest chain of crates takes less time on the clock: a check in
     several jobs reads the libraries below it several times, which costs a sixth more.
     """
+    if not shutil.which("rt"):
+        raise FileNotFoundError(errno.ENOENT, os.strerror(errno.ENOENT), "rt")
     return subprocess.Popen(
-        ["rt", "ci"],
+        [f"{ROOT}/scripts/rt-ci"],
         cwd=room,
         env=dict(os.environ, RT_JOBS=str(jobs()) if thrifty else ""),
         stdin=subprocess.DEVNULL,
