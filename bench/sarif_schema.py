@@ -38,7 +38,14 @@ PLACE = {
     **struct("", {"artifactLocation": FILE, "region": REGION}, "address contextRegion"),
     "anyOf": [{"required": ["address"]}, {"required": ["artifactLocation"]}],
 }
-LOCATION = struct("", {"physicalLocation": PLACE}, "id logicalLocations message annotations relationships")
+LOCATION = struct("", {"physicalLocation": PLACE, "message": MESSAGE}, "id logicalLocations annotations relationships")
+STEP = struct(
+    "",
+    {"location": LOCATION},
+    "index stack kinds taxa module state nestingLevel executionOrder executionTimeUtc importance webRequest webResponse",
+)
+THREAD_FLOW = struct("locations", {"locations": each(STEP, minItems=1)}, "id message initialState immutableState")
+CODE_FLOW = struct("threadFlows", {"threadFlows": each(THREAD_FLOW, minItems=1)}, "message")
 RESULT = struct(
     "message",
     {
@@ -47,9 +54,11 @@ RESULT = struct(
         "level": one_of("none", "note", "warning", "error"),
         "message": MESSAGE,
         "locations": each(LOCATION, uniqueItems=False),
+        "codeFlows": each(CODE_FLOW, uniqueItems=False),
+        "relatedLocations": each(LOCATION, uniqueItems=True),
     },
-    "rule kind analysisTarget guid correlationGuid occurrenceCount partialFingerprints fingerprints stacks codeFlows graphs"
-    " graphTraversals relatedLocations suppressions baselineState rank attachments hostedViewerUri workItemUris provenance"
+    "rule kind analysisTarget guid correlationGuid occurrenceCount partialFingerprints fingerprints stacks graphs"
+    " graphTraversals suppressions baselineState rank attachments hostedViewerUri workItemUris provenance"
     " fixes taxa webRequest webResponse",
 )
 RULE = struct(

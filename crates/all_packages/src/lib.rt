@@ -9,4 +9,4 @@ mod reports;
 
 pub use packages::{check_by_rules, judge_left};
 pub use progress::Progress;
-pub use reports::{Counts, Report, report_from, told};
+pub use reports::{Counts, Report, Text, report_from, told};

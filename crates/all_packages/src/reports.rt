@@ -25,11 +25,11 @@ fn reports_of<'a>(
     Ok(reports)
 }
 
-/// A text that grows in memory.
+/// A text that grows in memory, and how often memory was refused to it.
 #[derive(Drop)]
-struct Text {
-    bytes: Vec<u8>,
-    refusals: u64,
+pub struct Text {
+    pub bytes: Vec<u8>,
+    pub refusals: u64,
 }
 
 impl Sink for Text {

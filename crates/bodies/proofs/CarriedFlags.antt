@@ -11,7 +11,7 @@ use Rattle.bodies.specs.Carried.{IsReached, starts, goes, carried, WalkTo, is_th
 
 module _ {E : Type 0} (g : Graph E) where
   -- a walk goes on to a node that can follow
-  further : (n m s : ℕ) (o : Occurrence E) (ms : List ℕ) (t : List (Occurrence E))
+  pub further : (n m s : ℕ) (o : Occurrence E) (ms : List ℕ) (t : List (Occurrence E))
       → slice_get g.nodes n ≡ Some o
       → slice_get g.next n ≡ Some ms
       → Contains ms m
@@ -20,7 +20,7 @@ module _ {E : Type 0} (g : Graph E) where
   further n m s o ms t a b c is_there = passes a b c is_there
   further n m s o ms t a b c (passes {k = k} {t = u} d e f w) = passes d e f (further n m k o ms u a b c w)
 
-  to_walk : (n s : ℕ) (o : Occurrence E) (t : List (Occurrence E))
+  pub to_walk : (n s : ℕ) (o : Occurrence E) (t : List (Occurrence E))
       → slice_get g.nodes n ≡ Some o
       → WalkTo g n s t
       → Walk g s (t ++ o ∷ [])
@@ -63,7 +63,7 @@ module _ {E : Type 0} (g : Graph E) where
   -- What is carried
 
   module _ {K : Type 0} (step : E → K → K) (entries : List K) where
-    carried_more : (t : List (Occurrence E)) (o : Occurrence E) (k : K)
+    pub carried_more : (t : List (Occurrence E)) (o : Occurrence E) (k : K)
         → carried step (t ++ o ∷ []) k ≡ step o.event (carried step t k)
     carried_more [] o k = refl
     carried_more (p ∷ t) o k = carried_more t o (step p.event k)

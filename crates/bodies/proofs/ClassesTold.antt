@@ -66,7 +66,7 @@ module _ {K : Type 0}
 
   module _ (width : ℕ) (numbered : IsNumbered width) where
     -- what a list makes of the number of a class is the number of what it makes of the class
-    carried_class : (t : List (Occurrence Event)) (k : K) (i : ℕ)
+    pub carried_class : (t : List (Occurrence Event)) (k : K) (i : ℕ)
         → AreNodes c t
         → flag_of k ≡ Some i
         → flag_of (after k t) ≡ Some (carried step t i)

@@ -4,13 +4,13 @@ use Rattle.command_line.specs.Words.{named_by, IsAsked, IsCommand}
 use Rattle.command_line.specs.KeptWords.{named_of, AreKept, IsAskedBy}
 use Rattle.command_line.specs.declared.kept.Kept.{Kept}
 use Rattle.command_line.specs.declared.words.Asked.{Asked}
-use Rattle.command_line.specs.declared.words.Asked.TheVariants.{Check, Certify, Verify, Help, Wrong}
+use Rattle.command_line.specs.declared.words.Asked.TheVariants.{Check, Explain, Certify, Verify, Help, Wrong}
 
 module _ (words rest : List (List ℕ)) (command : List ℕ) (kept : Kept) (is : words ≡ command ∷ rest)
     (are : AreKept rest kept) where
   -- what is kept is what the words behind the command name
   are_named : named_of kept ≡ named_by rest
-  are_named = rw (are.files, are.facts, are.lists, are.formats, are.editions, are.numbers, are.packages) refl
+  are_named = rw (are.files, are.facts, are.lists, are.formats, are.editions, are.numbers, are.whys, are.packages) refl
 
   is_command : (meant : List ℕ) → command ≡ meant → IsCommand meant words (named_of kept)
   is_command meant is_meant = record {
@@ -24,25 +24,37 @@ module _ (words rest : List (List ℕ)) (command : List ℕ) (kept : Kept) (is :
     named = named_of kept;
     is_command = is_command (codes "check") by.0;
     no_file = by.1;
-    are_sources = by.2;
-    is_format = by.3;
-    are_workers = by.4;
+    no_why = by.2;
+    are_sources = by.3.0;
+    is_format = by.3.1;
+    are_workers = by.3.2;
+  }
+  is_asked (Explain asked) by = record {
+    named = named_of kept;
+    is_command = is_command (codes "check") by.0;
+    no_file = by.1;
+    one_why = by.2;
+    are_sources = by.3.0;
+    is_format = by.3.1;
+    are_workers = by.3.2;
   }
   is_asked (Certify asked) by = record {
     named = named_of kept;
     is_command = is_command (codes "check") by.0;
     is_file = by.1;
-    are_sources = by.2;
-    is_format = by.3;
-    are_workers = by.4;
+    no_why = by.2;
+    are_sources = by.3;
+    is_format = by.4;
+    are_workers = by.5;
   }
   is_asked (Verify asked) by = record {
     named = named_of kept;
     is_command = is_command (codes "verify") by.0;
     is_file = by.1;
-    are_sources = by.2;
-    is_format = by.3;
-    no_number = by.4;
+    no_why = by.2;
+    are_sources = by.3;
+    is_format = by.4;
+    no_number = by.5;
   }
   is_asked (Help text) by = absurd by
   is_asked (Wrong text) by = tt

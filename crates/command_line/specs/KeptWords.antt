@@ -1,12 +1,13 @@
 -- What is kept of the words behind a command, and what the command then asks for.
-use Rattle.std.specs.Prelude.{◌≡◌, ⊤, ℕ, List, [], ◌∷◌, ◌++◌, Bool, false, codes, Option, Some, None}
+use Rattle.std.specs.Prelude.{◌≡◌, ⊤, ℕ, List, [], ◌∷◌, ◌++◌, Bool, false, codes, length, Option, Some, None}
 use Rattle.std.specs.Str.{bytes_eq}
 use Rattle.workers.specs.Counts.{count_of}
 use Rattle.command_line.specs.Words.{named_by, texts_of, AreFormat, AreSources, AreWorkers, Named}
 use Rattle.command_line.specs.declared.kept.Kept.{Kept}
 use Rattle.command_line.specs.declared.options.ValueOption.{ValueOption}
 use Rattle.command_line.specs.declared.words.Asked.{Asked}
-use Rattle.command_line.specs.declared.words.Asked.TheVariants.{Check, Certify, Verify, Help, Wrong}
+use Rattle.command_line.specs.declared.words.CheckWords.{CheckWords}
+use Rattle.command_line.specs.declared.words.Asked.TheVariants.{Check, Explain, Certify, Verify, Help, Wrong}
 
 -- what is named by the words that are kept
 abbrev pub named_of : Kept → Named
@@ -17,6 +18,7 @@ named_of kept = record {
   formats = texts_of kept.formats.items;
   editions = texts_of kept.editions.items;
   numbers = texts_of kept.numbers.items;
+  whys = texts_of kept.whys.items;
   packages = texts_of kept.packages.items;
 }
 
@@ -28,6 +30,7 @@ pub record AreKept (words : List (List ℕ)) (kept : Kept) : Type 0 where
   pub formats : texts_of kept.formats.items ≡ (named_by words).formats
   pub editions : texts_of kept.editions.items ≡ (named_by words).editions
   pub numbers : texts_of kept.numbers.items ≡ (named_by words).numbers
+  pub whys : texts_of kept.whys.items ≡ (named_by words).whys
   pub packages : texts_of kept.packages.items ≡ (named_by words).packages
 
 -- behind this word no word is an option; the value of an option is no such word
@@ -43,25 +46,39 @@ pub record IsKeptSo (kept : Kept) (left all : Named) : Type 0 where
   pub formats : texts_of kept.formats.items ++ left.formats ≡ all.formats
   pub editions : texts_of kept.editions.items ++ left.editions ≡ all.editions
   pub numbers : texts_of kept.numbers.items ++ left.numbers ≡ all.numbers
+  pub whys : texts_of kept.whys.items ++ left.whys ≡ all.whys
   pub packages : texts_of kept.packages.items ++ left.packages ≡ all.packages
+
+-- what `check` asks for in each of its forms
+abbrev pub AreCheckWords : Named → CheckWords → Type 0
+AreCheckWords named asked =
+    AreSources named asked.sources
+    × AreFormat named.formats asked.format
+    × AreWorkers named.numbers (count_of asked.workers)
 
 -- what a command, with words behind it that name this, asks for
 abbrev pub IsAskedBy : List ℕ → Named → Asked → Type 0
 IsAskedBy command named (Check asked) =
     (command ≡ codes "check")
     × (named.files ≡ [])
-    × AreSources named asked.sources
-    × AreFormat named.formats asked.format
-    × AreWorkers named.numbers (count_of asked.workers)
+    × (named.whys ≡ [])
+    × AreCheckWords named asked
+IsAskedBy command named (Explain asked) =
+    (command ≡ codes "check")
+    × (named.files ≡ [])
+    × (length named.whys ≡ 1)
+    × AreCheckWords named asked
 IsAskedBy command named (Certify asked) =
     (command ≡ codes "check")
     × (named.files ≡ asked.file.now ∷ [])
+    × (named.whys ≡ [])
     × AreSources named asked.sources
     × AreFormat named.formats asked.format
     × AreWorkers named.numbers (count_of asked.workers)
 IsAskedBy command named (Verify asked) =
     (command ≡ codes "verify")
     × (named.files ≡ asked.file.now ∷ [])
+    × (named.whys ≡ [])
     × AreSources named asked.sources
     × AreFormat named.formats asked.format
     × (named.numbers ≡ [])

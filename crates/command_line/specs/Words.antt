@@ -1,7 +1,7 @@
 -- What the words of the command line, those after the program's name, ask for.
 -- (The documentation of clap: `-h`, `--help`, `help`, `-V` and `--version` ask for help or the version; the value of an
 -- option is the word after it, or stands in its own word behind `=`; and behind `--` no word is an option.)
-use Rattle.std.specs.Prelude.{◌≡◌, ◌⊎◌, ⊤, ℕ, if◌then◌else◌, nat_eq, List, [], ◌∷◌, Option, Some, None, is_some, Contains, codes, drop, length, map, option_map}
+use Rattle.std.specs.Prelude.{◌≡◌, ◌⊎◌, ⊤, ℕ, if◌then◌else◌, nat_eq, List, [], ◌∷◌, Bool, Option, Some, None, is_some, Contains, codes, drop, length, map, option_map}
 use Rattle.std.specs.Borrow.{Bor}
 use Rattle.std.specs.List.{starts_with}
 use Rattle.std.specs.Str.{bytes_eq}
@@ -14,7 +14,7 @@ use Rattle.workers.specs.Counts.{count_of}
 use Rattle.command_line.specs.declared.options.ValueOption.{ValueOption}
 use Rattle.command_line.specs.declared.options.ValueOption.TheVariants.{Certificates, Facts, PackageList, ReportFormat, EditionNumber, WorkerCount}
 use Rattle.command_line.specs.declared.words.Asked.{Asked}
-use Rattle.command_line.specs.declared.words.Asked.TheVariants.{Check, Certify, Verify, Help, Wrong}
+use Rattle.command_line.specs.declared.words.Asked.TheVariants.{Check, Explain, Certify, Verify, Help, Wrong}
 use Rattle.command_line.specs.declared.words.CheckWords.{CheckWords}
 use Rattle.command_line.specs.declared.words.CertifyWords.{CertifyWords}
 use Rattle.command_line.specs.declared.words.Sources.{Sources}
@@ -67,8 +67,13 @@ option_in word =
     else if starts_with nat_eq word (codes "--facts=") then Some (Facts, behind (codes "--facts=") word)
     else run_option_in word
 
+-- the word says that the report tells why each finding stands there; it has no value
+abbrev pub is_why : List ℕ → Bool
+is_why word = bytes_eq word (codes "--why")
+
 -- what words behind a command name: files of certificates by `--cert`, files of declared facts by `--facts`, lists of
--- packages by `--packages`, formats by `--format`, editions by `--edition`, numbers by `-j`, and packages
+-- packages by `--packages`, formats by `--format`, editions by `--edition`, numbers by `-j`, the words `--why`, and
+-- packages
 pub record Named : Type 0 where
   pub files : List (List ℕ)
   pub facts : List (List ℕ)
@@ -76,6 +81,7 @@ pub record Named : Type 0 where
   pub formats : List (List ℕ)
   pub editions : List (List ℕ)
   pub numbers : List (List ℕ)
+  pub whys : List (List ℕ)
   pub packages : List (List ℕ)
 
 abbrev pub only_packages : List (List ℕ) → Named
@@ -86,6 +92,7 @@ only_packages words = record {
   formats = [];
   editions = [];
   numbers = [];
+  whys = [];
   packages = words;
 }
 
@@ -97,6 +104,9 @@ with_value PackageList file named = record named { lists = file ∷ named.lists 
 with_value ReportFormat format named = record named { formats = format ∷ named.formats }
 with_value EditionNumber number named = record named { editions = number ∷ named.editions }
 with_value WorkerCount number named = record named { numbers = number ∷ named.numbers }
+
+abbrev pub with_why : List ℕ → Named → Named
+with_why word named = record named { whys = word ∷ named.whys }
 
 abbrev pub with_package : List ℕ → Named → Named
 with_package word named = record named { packages = word ∷ named.packages }
@@ -114,6 +124,7 @@ named_after (Some option) (w ∷ ws) = with_value option w (named_after None ws)
 named_after None (w ∷ ws) =
     if bytes_eq w (codes "--") then only_packages ws
     else if is_some (option_of w) then named_after (option_of w) ws
+    else if is_why w then with_why w (named_after None ws)
     else with_word (option_in w) w (named_after None ws)
 
 abbrev pub named_by : List (List ℕ) → Named
@@ -174,11 +185,22 @@ pub record AreSources (named : Named) (sources : Sources) : Type 0 where
   pub is_edition : AreEdition named.editions sources.edition
   pub are_packages : named.packages ≡ texts_of sources.packages.items
 
--- `check` without a file of certificates
+-- `check` without a file of certificates, and without `--why`
 pub record AsksForCheck (words : List (List ℕ)) (asked : CheckWords) : Type 0 where
   pub named : Named
   pub is_command : IsCommand (codes "check") words named
   pub no_file : named.files ≡ []
+  pub no_why : named.whys ≡ []
+  pub are_sources : AreSources named asked.sources
+  pub is_format : AreFormat named.formats asked.format
+  pub are_workers : AreWorkers named.numbers (count_of asked.workers)
+
+-- `check` with `--why`, which stands there once, and without a file of certificates
+pub record AsksForExplanation (words : List (List ℕ)) (asked : CheckWords) : Type 0 where
+  pub named : Named
+  pub is_command : IsCommand (codes "check") words named
+  pub no_file : named.files ≡ []
+  pub one_why : length named.whys ≡ 1
   pub are_sources : AreSources named asked.sources
   pub is_format : AreFormat named.formats asked.format
   pub are_workers : AreWorkers named.numbers (count_of asked.workers)
@@ -188,6 +210,7 @@ pub record AsksForCertificates (words : List (List ℕ)) (asked : CertifyWords) 
   pub named : Named
   pub is_command : IsCommand (codes "check") words named
   pub is_file : named.files ≡ asked.file.now ∷ []
+  pub no_why : named.whys ≡ []
   pub are_sources : AreSources named asked.sources
   pub is_format : AreFormat named.formats asked.format
   pub are_workers : AreWorkers named.numbers (count_of asked.workers)
@@ -197,6 +220,7 @@ pub record AsksForVerification (words : List (List ℕ)) (asked : VerifyWords) :
   pub named : Named
   pub is_command : IsCommand (codes "verify") words named
   pub is_file : named.files ≡ asked.file.now ∷ []
+  pub no_why : named.whys ≡ []
   pub are_sources : AreSources named asked.sources
   pub is_format : AreFormat named.formats asked.format
   pub no_number : named.numbers ≡ []
@@ -204,6 +228,7 @@ pub record AsksForVerification (words : List (List ℕ)) (asked : VerifyWords) :
 -- Help is given where a word asks for it. Words may be wrong for any reason.
 abbrev pub IsAsked : List (List ℕ) → Asked → Type 0
 IsAsked words (Check asked) = AsksForCheck words asked
+IsAsked words (Explain asked) = AsksForExplanation words asked
 IsAsked words (Certify asked) = AsksForCertificates words asked
 IsAsked words (Verify asked) = AsksForVerification words asked
 IsAsked words (Help text) = AsksForHelp words

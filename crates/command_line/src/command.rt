@@ -58,6 +58,8 @@ const LIST: &str =
 
 const FORMAT: &str = "The form of the report: text, json or sarif [default: text]";
 
+const WHY: &str = "Tells below each finding why it stands there";
+
 const FORMATS: &[&str] = &[TEXT_WORD, JSON_WORD, SARIF_WORD];
 
 const EDITION: &str =
@@ -77,6 +79,9 @@ const VERSION: &str = "0.1.0";
 /// The name of the option for a list, by which it is told that words of packages may be left out.
 const LIST_ID: &str = "packages";
 
+/// The name of the option for certificates, by which it is told what does not go with it.
+const CERT_ID: &str = "cert";
+
 /// The words that the program understands.
 fn command<'a>(alloc: Global) -> Result<Command<'a>, AllocError> {
     let check = Command::new(alloc, CHECK_WORD)
@@ -84,6 +89,7 @@ fn command<'a>(alloc: Global) -> Result<Command<'a>, AllocError> {
         .after_help(AFTER_CHECK)
         .arg(workers_option(alloc))?
         .arg(file(alloc).value_name("OUT").help(OUT))?
+        .arg(why_option(alloc)?)?
         .arg(facts_option(alloc))?
         .arg(list_option(alloc))?
         .arg(format_option(alloc))?
@@ -122,7 +128,18 @@ fn workers_option<'a>(alloc: Global) -> Arg<'a> {
 
 /// The option that names a file of certificates.
 fn file<'a>(alloc: Global) -> Arg<'a> {
-    Arg::new(alloc, "cert").long("cert").action(ArgAction::Set)
+    Arg::new(alloc, CERT_ID)
+        .long(CERT_ID)
+        .action(ArgAction::Set)
+}
+
+/// The option by which the report says why, which does not go with certificates.
+fn why_option<'a>(alloc: Global) -> Result<Arg<'a>, AllocError> {
+    Arg::new(alloc, "why")
+        .long("why")
+        .help(WHY)
+        .action(ArgAction::SetTrue)
+        .conflicts_with(CERT_ID)
 }
 
 /// The option that names a file of declared facts.

@@ -5,14 +5,14 @@ ghost use Rattle.std.specs.Str.{bytes_eq};
 ghost use Rattle.command_line.specs.Words.{named_after, named_by, texts_of, with_value, Named};
 ghost use Rattle.command_line.specs.KeptWords.{ends_options, AreKept, IsKeptSo};
 
-use crate::options::{ValueOption, option_in, option_of};
+use crate::options::{ValueOption, is_why, option_in, option_of};
 use std::alloc::{AllocError, Global};
 use std::convert::AsStr;
 
 /// Behind this word no word is an option.
 const ESCAPE: &str = "--";
 
-/// The values of each option, and the words of packages.
+/// The values of each option, the words `--why`, and the words of packages.
 #[derive(Drop)]
 pub struct Kept<'a> {
     pub files: Vec<&'a str>,
@@ -21,6 +21,7 @@ pub struct Kept<'a> {
     pub formats: Vec<&'a str>,
     pub editions: Vec<&'a str>,
     pub numbers: Vec<&'a str>,
+    pub whys: Vec<&'a str>,
     pub packages: Vec<&'a str>,
 }
 
@@ -39,6 +40,7 @@ pub fn kept_words<'a, S: AsStr>(alloc: Global, words: &'a [S]) -> Result<Kept<'a
         formats: Vec::new(alloc),
         editions: Vec::new(alloc),
         numbers: Vec::new(alloc),
+        whys: Vec::new(alloc),
         packages: Vec::new(alloc),
     };
     let mut awaited = None;
@@ -83,8 +85,8 @@ fn keep_next<'a>(
     }
 }
 
-/// Keeps the word of a package, or the value that stands in a word with its option. It gives the option whose value is
-/// the next word.
+/// Keeps the word of a package, a word `--why`, or the value that stands in a word with its option. It gives the option
+/// whose value is the next word.
 fn keep_word<'a>(word: &'a str, kept: &mut Kept<'a>) -> Result<Option<ValueOption>, AllocError>
     ensures { IfOk result (λ next. bytes_eq word.now (codes "--") ≡ false → (words : List (List ℕ)) (all : Named)
         → IsKeptSo kept.old (named_by (word.now ∷ words)) all
@@ -92,6 +94,10 @@ fn keep_word<'a>(word: &'a str, kept: &mut Kept<'a>) -> Result<Option<ValueOptio
 {
     if let Some(option) = option_of(word) {
         return Ok(Some(option));
+    }
+    if is_why(word) {
+        kept.whys.push(word)?;
+        return Ok(None);
     }
     if let Some((option, value)) = option_in(word) {
         keep_value(option, value, kept)?;

@@ -1,9 +1,9 @@
 //! The options of a command, and the words that have them.
 
 ghost use Rattle.std.specs.Prelude.{◌≡◌, option_map};
-ghost use Rattle.command_line.specs.Words.{number_in, number_option_in, option_in, run_option_in, option_of};
+ghost use Rattle.command_line.specs.Words.{is_why, number_in, number_option_in, option_in, run_option_in, option_of};
 
-/// An option. Each has a value: the word behind it, or what stands behind `=` in its own word.
+/// An option that has a value: the word behind it, or what stands behind `=` in its own word.
 #[derive(Clone, Copy, Debug)]
 pub enum ValueOption {
     /// `--cert`: the file of certificates.
@@ -39,6 +39,13 @@ pub fn option_of(word: &str) -> Option<ValueOption>
     } else {
         None
     }
+}
+
+/// Whether the word is the option `--why`, which has no value: that the report says why each finding stands there.
+pub fn is_why(word: &str) -> bool
+    ensures { result ≡ is_why word.now }
+{
+    word == "--why"
 }
 
 /// The option that the word has with its value in itself, and that value.

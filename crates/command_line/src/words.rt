@@ -1,8 +1,8 @@
 //! What the words of the command line ask for.
 
-ghost use Rattle.std.specs.Prelude.{◌≡◌, ◌↔◌, Any, Contains, IfOk, IfSome, IsTrue, map};
-ghost use Rattle.command_line.specs.Words.{AsksForHelp, IsAsked};
-ghost use Rattle.command_line.specs.KeptWords.{named_of, IsAskedBy};
+ghost use Rattle.std.specs.Prelude.{◌≡◌, ◌↔◌, Any, Contains, IfOk, IfSome, IsTrue, codes, map};
+ghost use Rattle.command_line.specs.Words.{option_texts, AsksForHelp, IsAsked, Named};
+ghost use Rattle.command_line.specs.KeptWords.{named_of, AreCheckWords, IsAskedBy};
 
 use crate::command::understood;
 use crate::kept::{Kept, kept_words};
@@ -60,6 +60,8 @@ pub struct VerifyWords<'a> {
 pub enum Asked<'a> {
     /// To check packages.
     Check(CheckWords<'a>),
+    /// To check packages, and to tell why each finding stands there.
+    Explain(CheckWords<'a>),
     /// To check packages, and to write certificates to the file.
     Certify(CertifyWords<'a>),
     /// To judge packages by the certificates in the file.
@@ -118,11 +120,13 @@ fn understood_command<'a>(command: &str, kept: Kept<'a>) -> Option<Asked<'a>>
         formats,
         editions,
         numbers,
+        whys,
         packages,
     } = kept;
     let file = at_most_one(&files)?;
     let format = format_by(at_most_one(&formats)?)?;
     let number = at_most_one(&numbers)?;
+    let why = at_most_one(&whys)?;
     let sources = Sources {
         facts: at_most_one(&facts)?,
         list: at_most_one(&lists)?,
@@ -130,22 +134,14 @@ fn understood_command<'a>(command: &str, kept: Kept<'a>) -> Option<Asked<'a>>
         packages,
     };
     if command == CHECK_WORD {
-        let workers = workers_by(number)?;
-        return match file {
-            Some(file) => Some(Asked::Certify(CertifyWords {
-                workers,
-                format,
-                file,
-                sources,
-            })),
-            None => Some(Asked::Check(CheckWords {
-                workers,
-                format,
-                sources,
-            })),
+        let asked = CheckWords {
+            workers: workers_by(number)?,
+            format,
+            sources,
         };
+        return check_of(asked, file, why);
     }
-    if command == VERIFY_WORD && number.is_none() {
+    if command == VERIFY_WORD && number.is_none() && why.is_none() {
         return Some(Asked::Verify(VerifyWords {
             format,
             file: file?,
@@ -153,6 +149,31 @@ fn understood_command<'a>(command: &str, kept: Kept<'a>) -> Option<Asked<'a>>
         }));
     }
     None
+}
+
+/// What `check` with these words asks for, where it may have a file for certificates, or a word `--why`, and not both.
+fn check_of<'a>(
+    asked: CheckWords<'a>,
+    file: Option<&'a str>,
+    why: Option<&str>,
+) -> Option<Asked<'a>>
+    ensures { IfSome result (λ told. (named : Named)
+        → AreCheckWords named asked.entry
+        → named.files ≡ option_texts file.entry
+        → named.whys ≡ option_texts why.entry
+        → IsAskedBy (codes "check") named told) }
+{
+    match (file, why) {
+        (None, None) => Some(Asked::Check(asked)),
+        (None, Some(_)) => Some(Asked::Explain(asked)),
+        (Some(file), None) => Some(Asked::Certify(CertifyWords {
+            workers: asked.workers,
+            format: asked.format,
+            file,
+            sources: asked.sources,
+        })),
+        (Some(_), Some(_)) => None,
+    }
 }
 
 /// What the library answers in place of a package. Its help goes to standard output only where one of the

@@ -2,7 +2,7 @@
 
 use crate::real_folders::folder_with;
 use crate::runs::expect_transcript;
-use evidence_rows::{certificate_files, declared_facts, kept_fields, named_folders, packages};
+use evidence_rows::{certificate_files, declared_facts, kept_fields, named_folders, packages, why};
 use std::fs;
 use std::test::Fail;
 
@@ -24,6 +24,13 @@ fn packages_are_judged_together(rt: HostRuntime) -> Result<(), Fail> {
 fn verdicts_tell_of_fields(rt: HostRuntime) -> Result<(), Fail> {
     let folder = folder_with(&rt, "kept", kept_fields::ENTRIES)?;
     expect_transcript(&rt, folder.as_str(), kept_fields::TRANSCRIPT)?;
+    Ok(fs::remove_dir_all(&rt, folder.as_str())?)
+}
+
+#[test]
+fn findings_are_explained(rt: HostRuntime) -> Result<(), Fail> {
+    let folder = folder_with(&rt, "why", why::ENTRIES)?;
+    expect_transcript(&rt, folder.as_str(), why::TRANSCRIPT)?;
     Ok(fs::remove_dir_all(&rt, folder.as_str())?)
 }
 

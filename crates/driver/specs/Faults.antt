@@ -16,7 +16,7 @@ use Rattle.judge.specs.declared.verified.VerifyFault.TheVariants as verify_fault
 use Rattle.folders.specs.Packages.{IsPackageWord}
 use Rattle.folders.specs.declared.fault.Fault.{Fault}
 use Rattle.folders.specs.declared.fault.Fault.TheVariants.{BadPackage, CannotRead, CannotWrite, CannotWriteFile, CertificateNotJson, CertificateWrongShape, CertificateWrongVersion, CertificateTooOld, FactsNotJson, FactsWrongShape, FactsWrongVersion, FactsReserved, FactsNameGiven, ListNotJson, ListWrongShape, ListIncomplete, TwoPackages, TooManyPackages, NoThread, OutOfMemory}
-use Rattle.command_line.specs.Words.{option_texts, texts_of, AsksForCertificates, AsksForCheck, AsksForHelp, AsksForVerification}
+use Rattle.command_line.specs.Words.{option_texts, texts_of, AsksForCertificates, AsksForCheck, AsksForExplanation, AsksForHelp, AsksForVerification}
 use Rattle.command_line.specs.declared.words.CertifyWords.{CertifyWords}
 use Rattle.command_line.specs.declared.words.CheckWords.{CheckWords}
 use Rattle.command_line.specs.declared.words.Sources.{Sources}
@@ -179,10 +179,10 @@ IsVerificationFault sources (TwoPackages path) = IsVerifiedFault sources (TwoPac
 IsVerificationFault sources TooManyPackages = IsVerifiedFault sources TooManyPackages
 IsVerificationFault sources fault = IsReadingFault sources fault
 
--- the words ask to check packages, and it is the fault of this
+-- the words ask to check packages, be it to tell why, and it is the fault of this
 pub record IsFaultOfCheck (words : List (List ℕ)) (fault : Fault) : Type 0 where
   pub asked : CheckWords
-  pub asks : AsksForCheck words asked
+  pub asks : AsksForCheck words asked ⊎ AsksForExplanation words asked
   pub is_fault : IsCheckFault asked.sources (count_of asked.workers) fault
 
 -- the words ask to check packages and to write certificates, and it is the fault of this

@@ -8,7 +8,7 @@ use Rattle.certificate_json.specs.declared.certificates.Certificates.{Certificat
 use Rattle.load.specs.declared.packages.GivenPackage.{GivenPackage}
 use Rattle.declared_json.specs.DeclaredPackages.{packages_of}
 use Rattle.declared_json.specs.declared.outside.DeclaredPackages.{DeclaredPackages}
-use Rattle.command_line.specs.Words.{AsksForCertificates, AsksForCheck, AsksForHelp, AsksForVerification}
+use Rattle.command_line.specs.Words.{AsksForCertificates, AsksForCheck, AsksForExplanation, AsksForHelp, AsksForVerification}
 use Rattle.command_line.specs.declared.words.CertifyWords.{CertifyWords}
 use Rattle.command_line.specs.declared.words.CheckWords.{CheckWords}
 use Rattle.command_line.specs.declared.words.Sources.{Sources}
@@ -17,6 +17,8 @@ use Rattle.report_formats.specs.declared.formats.Format.{Format}
 use Rattle.folders.specs.declared.fault.Fault.{Fault}
 use Rattle.folders.specs.declared.fault.Fault.TheVariants.{CannotWrite, CannotWriteFile}
 use Rattle.judge.specs.Certified.{IsCertifiedReport}
+use Rattle.judge.specs.Explained.{IsExplainedReport}
+use Rattle.judge.specs.declared.explained.ExplainedReport.{ExplainedReport}
 use Rattle.judge.specs.Verified.{IsVerifiedReport}
 use Rattle.judge.specs.Reports.{IsReport, Report}
 use Rattle.driver.specs.Certificates.{StandIn}
@@ -35,6 +37,10 @@ IsWritten old new verdict report = (report.yes ≡ verdict) × Appends old new r
 abbrev pub IsBegun : Option (List ℕ) → Option (List ℕ) → Report → Type 0
 IsBegun old new report = AppendsFront old new report.text.items
 
+-- what is printed of a report with notes: the text that has these, in place of the report's own
+abbrev pub printed : ExplainedReport → Report
+printed told = record told.report { text = told.text }
+
 module _ (sources : Sources) (format : Format) (files : FilesRead) where
   -- this holds of the report, in this form, on the packages of these sources, where these files were read for it
   pub record OfReport (holds : Report → Type 0) : Type 0 where
@@ -44,6 +50,15 @@ module _ (sources : Sources) (format : Format) (files : FilesRead) where
     pub report : Report
     pub is_report : IsReport format (packages_of outside) given report
     pub so : holds report
+
+  -- the same where its text is printed with the notes of each finding
+  pub record OfExplainedReport (holds : Report → Type 0) : Type 0 where
+    pub given : List GivenPackage
+    pub outside : DeclaredPackages
+    pub are_read : AreReadFor sources files outside given
+    pub told : ExplainedReport
+    pub is_report : IsExplainedReport format (packages_of outside) given told
+    pub so : holds (printed told)
 
   -- the same where this is the text of their certificates
   pub record OfCertifiedReport (text : List ℕ) (holds : Report → Type 0) : Type 0 where
@@ -72,6 +87,13 @@ pub record OfCheck (words : List (List ℕ)) (holds : Report → Type 0) : Type 
   pub files : FilesRead
   pub report : OfReport asked.sources asked.format files holds
 
+-- the words ask to check packages and to tell why, and this holds of what is printed
+pub record OfExplain (words : List (List ℕ)) (holds : Report → Type 0) : Type 0 where
+  pub asked : CheckWords
+  pub asks : AsksForExplanation words asked
+  pub files : FilesRead
+  pub report : OfExplainedReport asked.sources asked.format files holds
+
 -- the words ask to check packages and to write certificates, and this holds of the report
 pub record OfCertify (words : List (List ℕ)) (holds : Report → Type 0) : Type 0 where
   pub asked : CertifyWords
@@ -89,7 +111,7 @@ pub record OfVerify (words : List (List ℕ)) (holds : Report → Type 0) : Type
 
 -- this holds of the report for which the words ask
 abbrev pub OfAsked : List (List ℕ) → (Report → Type 0) → Type 0
-OfAsked words holds = OfCheck words holds ⊎ OfCertify words holds ⊎ OfVerify words holds
+OfAsked words holds = OfCheck words holds ⊎ OfExplain words holds ⊎ OfCertify words holds ⊎ OfVerify words holds
 
 -- what a run with these words has written where its fault is that of writing, and where it is that of the file
 abbrev pub LeavesBegun : List (List ℕ) → Fault → Option (List ℕ) → Option (List ℕ) → Type 0

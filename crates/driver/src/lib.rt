@@ -4,6 +4,8 @@
 
 mod certificate_input;
 mod certify;
+mod check;
+mod explain;
 mod facts_input;
 mod input;
 mod list_input;

@@ -1,24 +1,21 @@
 //! The whole program, over two writers.
 
-ghost use Rattle.std.specs.Prelude.{◌≡◌, Bool, IfErr, IfOk, map};
-ghost use Rattle.driver.specs.declared.input.FilesRead.{FilesRead};
-ghost use Rattle.driver.specs.Faults.{IsCheckFault, IsRunFault, LeavesUnwritten};
+ghost use Rattle.std.specs.Prelude.{◌≡◌, IfErr, IfOk, map};
+ghost use Rattle.driver.specs.Faults.{IsRunFault, LeavesUnwritten};
 ghost use Rattle.driver.specs.Printing.{refused_by};
-ghost use Rattle.driver.specs.Statuses.{status_code, status_of};
-ghost use Rattle.driver.specs.WrittenReport.{EndsWith, IsBegun, IsWritten, LeavesBegun, LeavesWhole, OfReport};
-ghost use Rattle.workers.specs.Counts.{count_of};
+ghost use Rattle.driver.specs.Statuses.{status_code};
+ghost use Rattle.driver.specs.WrittenReport.{EndsWith, LeavesBegun, LeavesWhole};
 
 use crate::certify::certify;
-use crate::input::{FilesRead, read_sources};
-use crate::notes::{PROGRAM, note};
+use crate::check::check;
+use crate::explain::explain;
+use crate::notes::PROGRAM;
 use crate::printing::print;
-use crate::reports::report_by_workers;
 use crate::status::Status;
 use crate::verify::verify;
 use crate::writers::Refusals;
-use command_line::{Asked, CheckWords, read_words};
+use command_line::{Asked, read_words};
 use folders::{Fault, Surroundings, fail};
-use judge::Settings;
 use load::{Leave, LetGo};
 use std::convert::AsStr;
 use std::io::Write;
@@ -91,6 +88,10 @@ fn answer<
             let done = check::<R, W, E, L>(rt, &asked, out, err, refusals)?;
             Ok(done.status)
         }
+        Asked::Explain(asked) => {
+            let done = explain::<R, W, E, L>(rt, &asked, out, err, refusals)?;
+            Ok(done.status)
+        }
         Asked::Certify(asked) => {
             let done = certify::<R, W, E, L>(rt, &asked, out, err, refusals)?;
             Ok(done.status)
@@ -110,48 +111,4 @@ fn answer<
             Ok(Status::Faulty)
         }
     }
-}
-
-/// How a check ended, and the files that were read for it beside those of packages.
-#[derive(Debug, Drop)]
-struct Checked<'a> {
-    status: Status,
-    files: FilesRead<'a>,
-}
-
-/// Checks the packages of these words, and prints their report. After it stand the notes.
-fn check<
-    'a,
-    R: Files + Surroundings + AllocGlobal + Threads + Wait + Sync,
-    W: Write,
-    E: Write,
-    L: Leave,
->(
-    rt: &R,
-    asked: &CheckWords<'a>,
-    out: &mut W,
-    err: &mut E,
-    refusals: &mut Refusals,
-) -> Result<Checked<'a>, Fault>
-    ensures written { IfOk result (λ done. (yes : Bool) × (done.status ≡ status_of yes)
-        × OfReport asked.now.sources asked.now.format done.files
-        (IsWritten (W.contents out.old) (W.contents out.new) yes)) }
-    ensures fault { IfErr result (IsCheckFault asked.now.sources (count_of asked.now.workers)) }
-    ensures unwritten { IfErr result (λ fault. LeavesUnwritten fault (W.contents out.old) (W.contents out.new)) }
-    ensures begun { IfErr result (λ fault. fault ≡ Fault.CannotWrite → (files : FilesRead)
-        × OfReport asked.now.sources asked.now.format files (IsBegun (W.contents out.old) (W.contents out.new))) }
-    ensures refused { refusals.new.any ≡ refused_by refusals.old.any result }
-{
-    let input = read_sources(rt, &asked.sources)?;
-    let settings = Settings {
-        workers: asked.workers,
-        format: asked.format,
-    };
-    let report = report_by_workers::<R, L>(rt, input.given, input.outside, settings)?;
-    print(out, &report.text, refusals)?;
-    note(&input.files, &input.empty, report.counts, err);
-    Ok(Checked {
-        status: Status::of_verdict(report.yes),
-        files: input.files,
-    })
 }

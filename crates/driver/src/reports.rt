@@ -3,6 +3,7 @@
 ghost use Rattle.std.specs.Prelude.{◌≡◌, [], IfErr, IfOk, string_bytes};
 ghost use Rattle.driver.specs.Faults.{fault_of_check, fault_of_load, fault_of_verify, IsReportFault, IsSharedReportFault, IsVerdictFault};
 ghost use Rattle.judge.specs.Certified.{IsCertifiedReport};
+ghost use Rattle.judge.specs.Explained.{IsExplainedReport};
 ghost use Rattle.judge.specs.Reports.{IsReport};
 ghost use Rattle.judge.specs.Verified.{IsVerifiedReport};
 ghost use Rattle.declared_json.specs.DeclaredPackages.{packages_of};
@@ -12,7 +13,7 @@ use crate::facts_input::nothing_declared;
 use certificate_json::Certificates;
 use declared_json::DeclaredPackages;
 use folders::Fault;
-use judge::{CertifiedReport, CheckFault, Format, Report, Settings, VerifyFault};
+use judge::{CertifiedReport, CheckFault, ExplainedReport, Format, Report, Settings, VerifyFault};
 use load::{GivenPackage, Leave, LoadFault};
 use std::alloc::Global;
 use std::sync::Wait;
@@ -75,6 +76,27 @@ pub fn report_by_workers<R: AllocGlobal + Threads + Wait + Sync, L: Leave>(
 {
     match judge::report_by_workers::<R, L>(rt, rt.alloc(), given, outside, settings) {
         Ok(report) => Ok(report),
+        Err(fault) => Err(fault_of_check(fault)),
+    }
+}
+
+/// The same report, and its text with the notes of each finding: both are the same for any number of workers. So many
+/// threads read the files, and then judge the packages.
+///
+/// # Errors
+///
+/// As `report_by_workers`.
+pub fn explained_report_by_workers<R: AllocGlobal + Threads + Wait + Sync, L: Leave>(
+    rt: &R,
+    given: Vec<GivenPackage>,
+    outside: DeclaredPackages,
+    settings: Settings,
+) -> Result<ExplainedReport, Fault>
+    ensures report { IfOk result (IsExplainedReport settings.format (packages_of outside) given.items) }
+    ensures fault { IfErr result (IsSharedReportFault (packages_of outside) given.items (count_of settings.workers)) }
+{
+    match judge::explained_report_by_workers::<R, L>(rt, rt.alloc(), given, outside, settings) {
+        Ok(told) => Ok(told),
         Err(fault) => Err(fault_of_check(fault)),
     }
 }

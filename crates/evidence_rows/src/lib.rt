@@ -11,6 +11,7 @@ pub mod memory;
 pub mod named_folders;
 pub mod packages;
 pub mod together;
+pub mod why;
 pub mod words;
 pub mod written_files;
 

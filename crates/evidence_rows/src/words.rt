@@ -22,6 +22,7 @@ pub const LINES: &[Line] = &[
     ("verify --help", 0, "--format <FORMAT>", ""),
     ("check --help", 0, "--edition <N>", ""),
     ("verify --help", 0, "--edition <N>", ""),
+    ("check --help", 0, "--why", ""),
     (
         "--help",
         0,
@@ -145,6 +146,17 @@ pub const LINES: &[Line] = &[
     ),
     ("--format json check a=.", 2, "", "Usage: ctxvet "),
     ("verify --format json a=.", 2, "", "--cert <IN>"),
+    // `--why` has no value, stands there once, and goes with `check` alone, where that writes no certificates.
+    ("check --why", 2, "", "<PATH=DIR>..."),
+    ("check --why --why a=.", 2, "", "--why"),
+    ("check --why=yes a=.", 2, "", "--why"),
+    ("check --wh a=.", 2, "", "Usage: ctxvet "),
+    ("check --why --cert c a=.", 2, "", "--why"),
+    ("check --cert c a=. --why", 2, "", "--why"),
+    ("check --facts --why a=.", 2, "", "--facts <FILE>"),
+    ("verify --why --cert c a=.", 2, "", "--why"),
+    ("verify --cert c a=. --why", 2, "", "--why"),
+    ("--why check a=.", 2, "", "Usage: ctxvet "),
     ("a=.", 2, "", "Usage: ctxvet "),
     // Words that are wrong are told before one that names no package.
     ("check -j 0 a", 2, "", "-j <N>"),
@@ -163,6 +175,7 @@ pub const BAD_PACKAGES: &[(&str, &str)] = &[
     ("--cert", "--cert"),
     ("-j2", "-j2"),
     ("--facts", "--facts"),
+    ("--why", "--why"),
     ("a\nyes b=.", "a\\nyes b=."),
     ("a\x7fé=.", "a\\u{7f}é=."),
 ];

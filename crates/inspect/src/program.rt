@@ -55,6 +55,7 @@ For those who work on ctxvet:
                                        files, and after them the lines of inspect events, graph, certs, facts, tokens
                                        or tree
                          packages      folders, each with the packages of a run of ctxvet check
+                         explained     the same, of ctxvet check --why
                          examples      packages, each with a run of its own
                          counts        files, on all of which inspect count is run
                          Where the element before it is second, they are read by edition 2.

@@ -8,7 +8,7 @@ use crate::output::print;
 use crate::package_rows::{RowKind, shown_otherwise};
 use crate::program::PROGRAM;
 use crate::report_marks::reported_otherwise;
-use crate::transcripts::{show_counts, show_examples, show_runs};
+use crate::transcripts::{Question, show_counts, show_examples, show_runs};
 use folders::{Fault, Surroundings};
 use inspect_packages::Shown;
 use std::alloc::Global;
@@ -34,6 +34,8 @@ enum Cases {
     Compared(Compared),
     /// Each is a folder with the packages of one run.
     Packages,
+    /// The same, of a run that tells why each finding stands there.
+    Explained,
     /// Each is the package of one run.
     Examples,
     /// All are files of one count.
@@ -73,6 +75,7 @@ fn cases_of(name: &str) -> Option<Cases> {
         "trees" => Some(shown_cases(RowKind::Trees)),
         "codes" | "rows" => Some(Cases::Compared(Compared::Report)),
         "packages" => Some(Cases::Packages),
+        "explained" => Some(Cases::Explained),
         "examples" => Some(Cases::Examples),
         "counts" => Some(Cases::Counts),
         _ => None,
@@ -142,8 +145,9 @@ fn show_folder<R: Files + Surroundings + AllocGlobal + Threads + Wait + Sync>(
     let edition = rows.edition;
     match rows.cases {
         Cases::Compared(compared) => return compare_all(rt, edition, folder, compared),
-        Cases::Packages => show_runs(rt, system, edition, folder)?,
-        Cases::Examples => show_examples(rt, system, edition, folder)?,
+        Cases::Packages => show_runs(rt, system, Question::Judged(edition), folder)?,
+        Cases::Explained => show_runs(rt, system, Question::Explained, folder)?,
+        Cases::Examples => show_examples(rt, system, Question::Judged(edition), folder)?,
         Cases::Counts => show_counts(rt, folder)?,
     }
     Ok(true)

@@ -11,12 +11,25 @@ use std::sync::Wait;
 use std::thread::Threads;
 use tree::Edition;
 
-/// The word by which packages are judged by the second edition, and what runs with it begin with.
-const SECOND_EDITION: &str = "--edition=2";
+/// What a run of `ctxvet check` is asked besides its packages.
+#[derive(Clone, Copy)]
+pub enum Question {
+    /// By which edition they are judged.
+    Judged(Edition),
+    /// The same in the first edition, and why each finding stands there.
+    Explained,
+}
 
-const SECOND_CHECK: &str = "./ctxvet check --edition=2";
+/// The word by which that is asked, if it takes one, and what the line of the command begins with.
+fn word_of(question: Question) -> (Option<&'static str>, &'static str) {
+    match question {
+        Question::Judged(Edition::First) => (None, "./ctxvet check"),
+        Question::Judged(Edition::Second) => (Some("--edition=2"), "./ctxvet check --edition=2"),
+        Question::Explained => (Some("--why"), "./ctxvet check --why"),
+    }
+}
 
-/// Runs `ctxvet check`, by an edition, for each folder in this one, on all packages that lie there. `system` is the
+/// Runs `ctxvet check` with this question for each folder in this one, on all packages that lie there. `system` is the
 /// runtime once more, as it is of the program's `run`.
 ///
 /// # Errors
@@ -25,12 +38,12 @@ const SECOND_CHECK: &str = "./ctxvet check --edition=2";
 pub fn show_runs<R: Files + Surroundings + AllocGlobal + Threads + Wait + Sync>(
     rt: &HostRuntime,
     system: &R,
-    edition: Edition,
+    question: Question,
     folder: &str,
 ) -> Result<(), Fault> {
     for name in &entries(rt, folder)? {
         let packages = format!(in rt.alloc(); "{folder}/{name}")?;
-        show_packages(rt, system, edition, &packages)?;
+        show_packages(rt, system, question, &packages)?;
     }
     Ok(())
 }
@@ -39,14 +52,14 @@ pub fn show_runs<R: Files + Surroundings + AllocGlobal + Threads + Wait + Sync>(
 fn show_packages<R: Files + Surroundings + AllocGlobal + Threads + Wait + Sync>(
     rt: &HostRuntime,
     system: &R,
-    edition: Edition,
+    question: Question,
     folder: &str,
 ) -> Result<(), Fault> {
     let mut words = Vec::new(rt.alloc());
     for package in &entries(rt, folder)? {
         words.push(format!(in rt.alloc(); "{package}={folder}/{package}")?)?;
     }
-    show_check(rt, system, edition, &words)
+    show_check(rt, system, question, &words)
 }
 
 /// Runs `ctxvet check` on each package in this folder by itself.
@@ -57,13 +70,13 @@ fn show_packages<R: Files + Surroundings + AllocGlobal + Threads + Wait + Sync>(
 pub fn show_examples<R: Files + Surroundings + AllocGlobal + Threads + Wait + Sync>(
     rt: &HostRuntime,
     system: &R,
-    edition: Edition,
+    question: Question,
     folder: &str,
 ) -> Result<(), Fault> {
     for name in &entries(rt, folder)? {
         let mut words = Vec::new(rt.alloc());
         words.push(format!(in rt.alloc(); "{name}={folder}/{name}")?)?;
-        show_check(rt, system, edition, &words)?;
+        show_check(rt, system, question, &words)?;
     }
     Ok(())
 }
@@ -72,18 +85,15 @@ pub fn show_examples<R: Files + Surroundings + AllocGlobal + Threads + Wait + Sy
 fn show_check<R: Files + Surroundings + AllocGlobal + Threads + Wait + Sync>(
     rt: &HostRuntime,
     system: &R,
-    edition: Edition,
+    question: Question,
     packages: &[String],
 ) -> Result<(), Fault> {
     let mut words = Vec::new(rt.alloc());
     words.push("check")?;
-    let program = match edition {
-        Edition::First => "./ctxvet check",
-        Edition::Second => {
-            words.push(SECOND_EDITION)?;
-            SECOND_CHECK
-        }
-    };
+    let (word, program) = word_of(question);
+    if let Some(word) = word {
+        words.push(word)?;
+    }
     for package in packages {
         words.push(package.as_str())?;
     }

@@ -8,6 +8,7 @@ mod SameTexts
 pub mod OneLoad
 mod OneReport
 mod CertifiedReports
+mod ExplainedReports
 mod VerifiedPlaces
 mod VerifiedReports
 mod OwnGroups

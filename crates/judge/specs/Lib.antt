@@ -7,6 +7,7 @@ pub mod Reports
 pub mod OneReport
 pub mod CheckFaults
 pub mod Certified
+pub mod Explained
 pub mod Verified
 -- To be trusted: where `check` and `verify` agree, of the bytes of files.
 pub mod GivenPackages

@@ -5,6 +5,7 @@
 mod agreement;
 mod certified;
 mod check_fault;
+mod explained;
 mod first;
 mod laws;
 mod mentioned;
@@ -20,6 +21,7 @@ pub use all_certificates::Settings;
 pub use all_packages::{Counts, Report};
 pub use certified::{CertifiedReport, certified_report_by_workers};
 pub use check_fault::CheckFault;
+pub use explained::{ExplainedReport, explained_report_by_workers};
 pub use first::first_with_causes;
 pub use laws::given_packages_have_one_report;
 pub use report_formats::Format;

@@ -97,7 +97,7 @@ told compared = plainly (codes "compared")
 told bound_otherwise = plainly (codes "bound in another way")
 told exposed_to_change = plainly (codes "may get another value here")
 told used_as_type = plainly (codes "used as a type in another way")
-told used_as_value = plainly (codes "stored")
+told used_as_value = plainly (codes "stored, or used as a value")
 
 -- Of other codes
 
@@ -106,7 +106,7 @@ pub data Pointer : Type 0 where
   captured_here : Pointer
   -- LC11: the named result
   result_has_name : Pointer
-  -- LC14: an import on the ring
+  -- LC14: an import that leads on to the ring
   on_the_ring : Pointer
   -- LC15: the first function of the name
   first_of_name : Pointer
@@ -114,5 +114,5 @@ pub data Pointer : Type 0 where
 abbrev pub pointer_text : Pointer → List ℕ
 pointer_text captured_here = codes "captured by this literal"
 pointer_text result_has_name = codes "this result has a name"
-pointer_text on_the_ring = codes "this import is on the ring"
+pointer_text on_the_ring = codes "this import leads on to the ring"
 pointer_text first_of_name = codes "the first function of this name"

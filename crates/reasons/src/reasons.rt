@@ -161,7 +161,7 @@ impl Reason {
             Reason::BoundOtherwise => plainly("bound in another way"),
             Reason::ExposedToChange => plainly("may get another value here"),
             Reason::UsedAsType => plainly("used as a type in another way"),
-            Reason::UsedAsValue => plainly("stored"),
+            Reason::UsedAsValue => plainly("stored, or used as a value"),
         }
     }
 }
@@ -174,7 +174,7 @@ impl Pointer {
         match self {
             Pointer::CapturedHere => "captured by this literal",
             Pointer::ResultHasName => "this result has a name",
-            Pointer::OnTheRing => "this import is on the ring",
+            Pointer::OnTheRing => "this import leads on to the ring",
             Pointer::FirstOfName => "the first function of this name",
         }
     }

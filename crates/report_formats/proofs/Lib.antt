@@ -1,7 +1,12 @@
 pub mod Steps
 pub mod Spelled
+pub mod NoteParts
 pub mod Values
 pub mod JsonPieces
 pub mod SarifPieces
+pub mod ExplainedPieces
 pub mod CodeRules
 pub mod SameTexts
+pub mod PlainTexts
+pub mod NoteLines
+pub mod KeepingLines

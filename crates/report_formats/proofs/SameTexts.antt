@@ -5,17 +5,15 @@ use Rattle.std.specs.Prelude.{codes}
 use Rattle.std.specs.Borrow.{Bor}
 use Rattle.std.specs.List.{concat}
 use Rattle.serde_json.specs.Data.{Data, boolean, string}
-use Rattle.serde_json.specs.Written.{compact_text}
 use Rattle.lexer.specs.declared.source.Source.{Source}
 use Rattle.report.specs.declared.diagnostics.Diagnostic.{Diagnostic}
 use Rattle.report.specs.declared.diagnostics.PackageReport.{PackageReport}
 use Rattle.report.specs.Entries.{Entry, entry_of, texts_of}
 use Rattle.report.specs.ReportText.{diagnostic_line, keeping_line, verdict_of, package_text}
 use Rattle.report_formats.specs.Formats.{text_in}
-use Rattle.report_formats.specs.JsonText.{diagnostic_value, is_yes, name_value, package_value, report_value, json_text}
-use Rattle.report_formats.specs.Objects.{object_of, list_of, whole}
-use Rattle.report_formats.specs.SarifCodes.{rule_codes}
-use Rattle.report_formats.specs.SarifText.{result_value, package_results, only, driver, run_value, log_value, sarif_text}
+use Rattle.report_formats.specs.JsonText.{diagnostic_value, is_yes, name_value, package_value, json_of, json_text}
+use Rattle.report_formats.specs.Objects.{object_of, list_of}
+use Rattle.report_formats.specs.SarifText.{result_value, package_results, sarif_of, sarif_text}
 use Rattle.report_formats.specs.declared.formats.Format.{Format}
 use Rattle.report_formats.specs.declared.formats.Format.TheVariants.{Text, Json, Sarif}
 
@@ -41,7 +39,7 @@ pub record Kept : Type 0 where
   pub keeping : List (List ℕ)
   pub entries : List Entry
 
-abbrev kept_of : PackageReport → Kept
+abbrev pub kept_of : PackageReport → Kept
 kept_of r = record {
   path = r.path.now;
   sources = r.sources.now;
@@ -81,7 +79,7 @@ module _ {Y : Type 0} (told : PackageReport → List Y) (by : Kept → List Y)
 -- Diagnostics by their entries
 
 -- a diagnostic of an entry, whose name stands anywhere
-abbrev diagnostic_of : Entry → Diagnostic
+abbrev pub diagnostic_of : Entry → Diagnostic
 diagnostic_of x = record {
   file = x.file;
   offset = x.offset;
@@ -89,7 +87,7 @@ diagnostic_of x = record {
   name = record { ref_ptr = (0, 0); now = x.name };
 }
 
-of_entries : {X : Type 0} (f : Diagnostic → X) → ((d : Diagnostic) → f d ≡ f (diagnostic_of (entry_of d)))
+pub of_entries : {X : Type 0} (f : Diagnostic → X) → ((d : Diagnostic) → f d ≡ f (diagnostic_of (entry_of d)))
     → (ds : List Diagnostic)
     → map f ds ≡ map (λ x. f (diagnostic_of x)) (map entry_of ds)
 of_entries f same [] = refl
@@ -100,23 +98,23 @@ of_entries f same (d ∷ ds) =
 
 -- As text
 
-lines_by : (sources : List Source) (ds : List Diagnostic)
+pub lines_by : (sources : List Source) (ds : List Diagnostic)
     → flat_map (diagnostic_line sources) ds
     ≡ flat_map (λ (x : Entry). diagnostic_line sources (diagnostic_of x)) (map entry_of ds)
 lines_by sources [] = refl
 lines_by sources (d ∷ ds) = ap (λ (l : List ℕ). diagnostic_line sources d ++ l) (lines_by sources ds)
 
-verdict_by : (ds : List Diagnostic) → verdict_of ds ≡ verdict_of (map diagnostic_of (map entry_of ds))
+pub verdict_by : (ds : List Diagnostic) → verdict_of ds ≡ verdict_of (map diagnostic_of (map entry_of ds))
 verdict_by [] = refl
 verdict_by (d ∷ ds) = refl
 
-abbrev text_by : Kept → List ℕ
+abbrev pub text_by : Kept → List ℕ
 text_by k =
     flat_map (λ (x : Entry). diagnostic_line k.sources (diagnostic_of x)) k.entries
     ++ (keeping_line k.path k.keeping
     ++ concat (verdict_of (map diagnostic_of k.entries) ∷ codes " " ∷ k.path ∷ codes "\n" ∷ []))
 
-package_by : (r : PackageReport) → package_text r ≡ text_by (kept_of r)
+pub package_by : (r : PackageReport) → package_text r ≡ text_by (kept_of r)
 package_by r =
     let lines = lines_by r.sources.now r.diagnostics.items in
     let verdict = verdict_by r.diagnostics.items in
@@ -157,39 +155,18 @@ package_value_by r =
     ∷ [])
 
 same_json : (rs ss : List PackageReport) → SayTheSame rs ss → json_text rs ≡ json_text ss
-same_json rs ss h =
-    let values = same_of_each package_value value_by package_value_by rs ss h in
-    let report : report_value rs ≡ report_value ss =
-    λ i. object_of ((codes "packages", list_of (values i)) ∷ (codes "version", whole 1) ∷ []) in
-    ap (λ (d : Data). compact_text d ++ codes "\n") report
+same_json rs ss h = ap json_of (same_of_each package_value value_by package_value_by rs ss h)
 
 -- As SARIF
 
-abbrev results_by : Kept → List Data
+abbrev pub results_by : Kept → List Data
 results_by k = map (λ (x : Entry). result_value k.sources (diagnostic_of x)) k.entries
 
-package_results_by : (r : PackageReport) → package_results r ≡ results_by (kept_of r)
+pub package_results_by : (r : PackageReport) → package_results r ≡ results_by (kept_of r)
 package_results_by r = of_entries (result_value r.sources.now) (λ d. refl) r.diagnostics.items
 
-same_run : (rs ss : List PackageReport) → SayTheSame rs ss → run_value rule_codes rs ≡ run_value rule_codes ss
-same_run rs ss h =
-    let results = same_joined package_results results_by package_results_by rs ss h in
-    λ i. object_of (
-    (codes "tool", only (codes "driver") (driver rule_codes))
-    ∷ (codes "columnKind", string (codes "unicodeCodePoints"))
-    ∷ (codes "results", list_of (results i))
-    ∷ [])
-
 same_sarif : (rs ss : List PackageReport) → SayTheSame rs ss → sarif_text rs ≡ sarif_text ss
-same_sarif rs ss h =
-    let run = same_run rs ss h in
-    let log : log_value rule_codes rs ≡ log_value rule_codes ss =
-    λ i. object_of (
-    (codes "$schema", string (codes "https://json.schemastore.org/sarif-2.1.0.json"))
-    ∷ (codes "version", string (codes "2.1.0"))
-    ∷ (codes "runs", list_of (run i ∷ []))
-    ∷ []) in
-    ap (λ (d : Data). compact_text d ++ codes "\n") log
+same_sarif rs ss h = ap sarif_of (same_joined package_results results_by package_results_by rs ss h)
 
 -- In each form
 

@@ -40,3 +40,7 @@ last_call {T} {E} text old mid new before g (Err e) h =
 -- what is said of one text is said of the same text
 pub written_as : {T E : Type 0} (text same old new : List ℕ) → text ≡ same → (r : Result T E) → IsWritten same old new r → IsWritten text old new r
 written_as {T} {E} text same old new is r h = subst (λ x. IsWritten {T = T} {E = E} x old new r) (sym is) h
+
+-- a part that comes first is put in two
+pub in_two : (before whole left a b : List ℕ) → before ≡ whole ++ left → whole ≡ a ++ b → before ≡ a ++ (b ++ left)
+in_two before whole left a b is parts = is ∙ (ap (λ t. t ++ left) parts ∙ append_assoc a b left)

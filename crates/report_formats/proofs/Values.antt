@@ -5,9 +5,8 @@ use Rattle.json.specs.Token.{Token}
 use Rattle.json.specs.Print.{escape, quoted, token_text}
 use Rattle.serde_json.specs.Data.{Data, null, boolean, number, string, array, object, Items, no_items, item, Members, no_members, member}
 use Rattle.serde_json.specs.Written.{number_text, comma_if, compact_text, items_text, members_text}
-use Rattle.report.specs.declared.diagnostics.Diagnostic.{Diagnostic}
-use Rattle.report_formats.specs.Objects.{items_of}
-use Rattle.report_formats.specs.Pieces.{listed, after_results}
+use Rattle.report_formats.specs.Objects.{items_of, list_of, members_of, object_of}
+use Rattle.report_formats.specs.Pieces.{listed, members_listed, opened, after_results}
 
 -- texts one behind another, and then the rest
 abbrev pub joined : List (List ℕ) → List ℕ → List ℕ
@@ -59,7 +58,7 @@ mutual
       (append_assoc (compact_text d) (items_text true ds) rest
       ∙ (value_then_is d (items_text true ds ++ rest) ∙ ap (value_then d) (items_then_is true ds rest)))
 
-  members_then_is : (later : Bool) (ms : Members) (rest : List ℕ) → members_text later ms ++ rest ≡ members_then later ms rest
+  pub members_then_is : (later : Bool) (ms : Members) (rest : List ℕ) → members_text later ms ++ rest ≡ members_then later ms rest
   members_then_is later no_members rest = refl
   members_then_is later (member k d ms) rest =
       append_assoc (comma_if later) (quoted k ++ 58 ∷ (compact_text d ++ members_text true ms)) rest
@@ -71,6 +70,33 @@ mutual
 pub value_is : (d : Data) → compact_text d ≡ value_then d []
 value_is d = sym (append-nil (compact_text d)) ∙ value_then_is d []
 
+-- the text of members and the rest
+abbrev pub listed_then : Bool → List (List ℕ × Data) → List ℕ → List ℕ
+listed_then later [] rest = rest
+listed_then later (m ∷ ms) rest =
+    comma_if later ++ (34 ∷ (escape m.0 ++ 34 ∷ 58 ∷ value_then m.1 (listed_then true ms rest)))
+
+pub listed_then_is : (later : Bool) (ms : List (List ℕ × Data)) (rest : List ℕ)
+    → members_listed later ms ++ rest ≡ listed_then later ms rest
+listed_then_is later [] rest = refl
+listed_then_is later (m ∷ ms) rest =
+    append_assoc (comma_if later) (quoted m.0 ++ 58 ∷ (compact_text m.1 ++ members_listed true ms)) rest
+    ∙ ap (λ t. comma_if later ++ t)
+    (member_parts m.0 (compact_text m.1) (members_listed true ms) rest
+    ∙ ap (λ t. 34 ∷ (escape m.0 ++ 34 ∷ 58 ∷ t))
+    (value_then_is m.1 (members_listed true ms ++ rest) ∙ ap (value_then m.1) (listed_then_is true ms rest)))
+
+-- an object without its last brace, and the rest
+pub opened_then : (later : Bool) (ms : List (List ℕ × Data)) (rest : List ℕ)
+    → opened later ms ++ rest ≡ comma_if later ++ 123 ∷ listed_then false ms rest
+opened_then later ms rest =
+    append_assoc (comma_if later) (123 ∷ members_listed false ms) rest
+    ∙ ap (λ t. comma_if later ++ 123 ∷ t) (listed_then_is false ms rest)
+
+-- the same alone
+pub opened_is : (later : Bool) (ms : List (List ℕ × Data)) → opened later ms ≡ comma_if later ++ 123 ∷ listed_then false ms []
+opened_is later ms = sym (append-nil (opened later ms)) ∙ opened_then later ms []
+
 regroup : (a b c d : List ℕ) → a ++ (b ++ (c ++ d)) ≡ (a ++ (b ++ c)) ++ d
 regroup a b c d = sym (append_assoc a (b ++ c) d ∙ ap (λ t. a ++ t) (append_assoc b c d))
 
@@ -80,6 +106,40 @@ items_then_listed later [] rest = refl
 items_then_listed later (d ∷ ds) rest =
     ap (λ t. comma_if later ++ t) (ap (value_then d) (items_then_listed true ds rest) ∙ sym (value_then_is d (listed true ds ++ 93 ∷ rest)))
     ∙ regroup (comma_if later) (compact_text d) (listed true ds) (93 ∷ rest)
+
+after_true : {X : Type 0} (ds : List X) → after_results true ds ≡ true
+after_true [] = refl
+after_true (d ∷ ds) = refl
+
+-- members in two parts
+members_parts : (later : Bool) (ms more : List (List ℕ × Data)) (rest : List ℕ)
+    → members_then later (members_of (ms ++ more)) rest
+    ≡ listed_then later ms (members_then (after_results later ms) (members_of more) rest)
+members_parts later [] more rest = refl
+members_parts later (m ∷ ms) more rest =
+    ap (λ t. comma_if later ++ (34 ∷ (escape m.0 ++ 34 ∷ 58 ∷ value_then m.1 t)))
+    (members_parts true ms more rest
+    ∙ ap (λ b. listed_then true ms (members_then b (members_of more) rest)) (after_true ms))
+
+-- an object behind its comma: the members that are put first, and the rest
+pub object_parts : (later : Bool) (ms more : List (List ℕ × Data))
+    → comma_if later ++ compact_text (object_of (ms ++ more))
+    ≡ opened later ms ++ members_then (after_results false ms) (members_of more) []
+object_parts later ms more =
+    ap (λ t. comma_if later ++ t) (value_is (object_of (ms ++ more)))
+    ∙ (ap (λ t. comma_if later ++ 123 ∷ t) (members_parts false ms more [])
+    ∙ sym (opened_then later ms (members_then (after_results false ms) (members_of more) [])))
+
+-- a last member that is a list
+abbrev pub list_member : List ℕ → List ℕ → List ℕ
+list_member key values = 44 ∷ 34 ∷ (escape key ++ 34 ∷ 58 ∷ 91 ∷ (values ++ 93 ∷ 125 ∷ []))
+
+pub object_with_list : (later : Bool) (m : List ℕ × Data) (ms : List (List ℕ × Data)) (key : List ℕ) (ds : List Data)
+    → comma_if later ++ compact_text (object_of ((m ∷ ms) ++ ((key, list_of ds) ∷ [])))
+    ≡ opened later (m ∷ ms) ++ list_member key (listed false ds)
+object_with_list later m ms key ds =
+    object_parts later (m ∷ ms) ((key, list_of ds) ∷ [])
+    ∙ ap (λ t. opened later (m ∷ ms) ++ 44 ∷ 34 ∷ (escape key ++ 34 ∷ 58 ∷ 91 ∷ t)) (items_then_listed false ds (125 ∷ []))
 
 -- the next value of a list that is seen through f
 pub next_listed : {X : Type 0} (f : X → Data) (later : Bool) (xs : List X) (i : ℕ) (d : X) → i < length xs → listed later (map f (drop i xs)) ≡ (comma_if later ++ compact_text (f (get_or xs i d))) ++ listed true (map f (drop (i + 1) xs))
@@ -92,28 +152,19 @@ pub next_item : {X : Type 0} (f : X → Data) (later : Bool) (xs : List X) (i : 
 next_item f later xs i x inside there =
     next_listed f later xs i x inside ∙ ap (λ y. (comma_if later ++ compact_text (f y)) ++ listed true (map f (drop (i + 1) xs))) (sym there)
 
--- whether values stand before what follows these
-abbrev pub after_values : Bool → List Data → Bool
-after_values later [] = later
-after_values later (d ∷ ds) = true
-
-after_true : (ds : List Data) → after_values true ds ≡ true
-after_true [] = refl
-after_true (d ∷ ds) = refl
-
 -- a list in two parts
-pub listed_append : (later : Bool) (ds es : List Data) → listed later (ds ++ es) ≡ listed later ds ++ listed (after_values later ds) es
+pub listed_append : (later : Bool) (ds es : List Data) → listed later (ds ++ es) ≡ listed later ds ++ listed (after_results later ds) es
 listed_append later [] es = refl
 listed_append later (d ∷ ds) es =
     ap (λ t. comma_if later ++ (compact_text d ++ t)) (listed_append true ds es ∙ ap (λ b. listed true ds ++ listed b es) (after_true ds))
     ∙ regroup (comma_if later) (compact_text d) (listed true ds) (listed true es)
 
-after_mapped : (f : Diagnostic → Data) (later : Bool) (ds : List Diagnostic) → after_values later (map f ds) ≡ after_results later ds
+after_mapped : {X : Type 0} (f : X → Data) (later : Bool) (ds : List X) → after_results later (map f ds) ≡ after_results later ds
 after_mapped f later [] = refl
 after_mapped f later (d ∷ ds) = refl
 
 -- the values of the next element, where each has several, one for each diagnostic
-pub next_values : {X : Type 0} (several : X → List Data) (later : Bool) (xs : List X) (i : ℕ) (x : X) (f : Diagnostic → Data) (ds : List Diagnostic) → i < length xs → x ≡ get_or xs i x → several x ≡ map f ds → listed later (flat_map several (drop i xs)) ≡ listed later (map f ds) ++ listed (after_results later ds) (flat_map several (drop (i + 1) xs))
+pub next_values : {X Y : Type 0} (several : X → List Data) (later : Bool) (xs : List X) (i : ℕ) (x : X) (f : Y → Data) (ds : List Y) → i < length xs → x ≡ get_or xs i x → several x ≡ map f ds → listed later (flat_map several (drop i xs)) ≡ listed later (map f ds) ++ listed (after_results later ds) (flat_map several (drop (i + 1) xs))
 next_values several later xs i x f ds inside there are =
     let rest = flat_map several (drop (i + 1) xs) in
     ap (λ l. listed later (flat_map several l)) (drop_more xs i x inside)

@@ -6,5 +6,10 @@ pub mod SarifCodes
 pub mod CodePoints
 pub mod FileUris
 pub mod Objects
+pub mod Notes
+pub mod ExplainedText
+pub mod ExplainedJson
+pub mod ExplainedSarif
+pub mod PlainReports
 -- What serves the proofs.
 pub mod Pieces

@@ -1,18 +1,20 @@
 -- How bytes of a text are spelled, what the pieces of a line stand for, and lists that are written one by one.
-use Rattle.std.specs.Prelude.{◌≡◌, ℕ, Option, Result, Ok, Err, List, [], ◌∷◌, ◌++◌, Bool, true, false, not, ◌&&◌, ◌==◌, nat_le, flat_map, decimal, codes, ◌≤◌, length, slice_get}
+use Rattle.std.specs.Prelude.{◌≡◌, ℕ, Option, Result, Ok, Err, List, [], ◌∷◌, ◌++◌, Bool, true, false, not, ◌&&◌, ◌==◌, nat_le, map, flat_map, decimal, codes, ◌≤◌, length, slice_get}
 use Rattle.std.specs.Borrow.{Bor}
-use Rattle.json.specs.Print.{escape_byte}
+use Rattle.json.specs.Print.{escape_byte, quoted}
 use Rattle.serde_json.specs.Data.{Data}
 use Rattle.serde_json.specs.Written.{comma_if, compact_text}
 use Rattle.lexer.specs.declared.source.Place.{Place}
 use Rattle.lexer.specs.declared.source.Source.{Source}
-use Rattle.lexer.specs.Place.{line_of}
+use Rattle.lexer.specs.Place.{line_of, column_of}
 use Rattle.report.specs.ReportText.{bytes_of}
 use Rattle.report.specs.Writing.{TakesFront}
 use Rattle.report.specs.declared.cursors.Cursor.{Cursor}
-use Rattle.report.specs.declared.diagnostics.Diagnostic.{Diagnostic}
+use Rattle.report.specs.declared.codes.DiagnosticCode.{DiagnosticCode}
 use Rattle.report_formats.specs.CodePoints.{code_point_column}
 use Rattle.report_formats.specs.FileUris.{is_kept, uri_byte}
+use Rattle.report_formats.specs.SarifCodes.{rule_codes}
+use Rattle.report_formats.specs.SarifText.{rule_value}
 use Rattle.report_formats.specs.declared.strings.Spelling.{Spelling}
 use Rattle.report_formats.specs.declared.strings.Spelling.TheVariants.{InString, InUri}
 use Rattle.report_formats.specs.declared.pieces.FormatPiece.{FormatPiece}
@@ -51,15 +53,57 @@ abbrev pub listed : Bool → List Data → List ℕ
 listed later [] = []
 listed later (d ∷ ds) = comma_if later ++ (compact_text d ++ listed true ds)
 
+-- members of an object, with a comma before each, but before the first only where others stand before it
+abbrev pub members_listed : Bool → List (List ℕ × Data) → List ℕ
+members_listed later [] = []
+members_listed later (m ∷ ms) = comma_if later ++ (quoted m.0 ++ 58 ∷ (compact_text m.1 ++ members_listed true ms))
+
+-- an object behind its comma, but for its last brace
+abbrev pub opened : Bool → List (List ℕ × Data) → List ℕ
+opened later ms = comma_if later ++ 123 ∷ members_listed false ms
+
+-- what a log says before its results, with a rule for each of these codes
+abbrev pub front_for : List DiagnosticCode → List ℕ
+front_for ruled =
+    (codes "{\"$schema\":\"https://json.schemastore.org/sarif-2.1.0.json\",\"version\":\"2.1.0\","
+    ++ codes "\"runs\":[{\"tool\":{\"driver\":{\"name\":\"ctxvet\",\"rules\":[")
+    ++ (listed false (map rule_value ruled) ++ codes "]}},\"columnKind\":\"unicodeCodePoints\",\"results\":[")
+
+abbrev pub log_front : List ℕ
+log_front = front_for rule_codes
+
+-- what stands before the notes of a result and behind them, up to the end of the result
+abbrev pub notes_front : Bool → List ℕ
+notes_front true = codes ",\"codeFlows\":[{\"threadFlows\":[{\"locations\":["
+notes_front false = codes ",\"relatedLocations\":["
+
+abbrev pub notes_end : Bool → List ℕ
+notes_end true = codes "]}]}]}"
+notes_end false = codes "]}"
+
+-- what stands before the place of a note and behind it
+abbrev pub note_front : Bool → List ℕ
+note_front true = codes "{\"location\":"
+note_front false = []
+
+abbrev pub note_end : Bool → List ℕ
+note_end true = codes "}"
+note_end false = []
+
 -- what stands behind the path of a file, up to the end of the file's object
 abbrev pub base_text : Bool → List ℕ
 base_text true = codes "\""
 base_text false = codes "\",\"uriBaseId\":\"%SRCROOT%\""
 
 -- whether results stand before what follows a package with these diagnostics
-abbrev pub after_results : Bool → List Diagnostic → Bool
+abbrev pub after_results : {X : Type 0} → Bool → List X → Bool
 after_results later [] = later
 after_results later (d ∷ ds) = true
+
+-- the place of an offset in a source, with its column in bytes
+pub record IsBytePlace (source : Option Source) (offset : ℕ) (place : Place) : Type 0 where
+  pub line : place.line ≡ line_of (bytes_of source) offset
+  pub column : place.column ≡ column_of (bytes_of source) offset
 
 -- the place of an offset in a source, with its column in code points
 pub record IsPlaceOf (source : Option Source) (offset : ℕ) (place : Place) : Type 0 where

@@ -1,5 +1,5 @@
 -- What SARIF says of codes: the rules, one for each number, and how grave a code is.
-use Rattle.std.specs.Prelude.{ℕ, List, [], ◌∷◌, codes}
+use Rattle.std.specs.Prelude.{ℕ, Bool, true, false, List, [], ◌∷◌, codes}
 use Rattle.report.specs.Codes.{code_text}
 use Rattle.report.specs.declared.codes.DiagnosticCode.{DiagnosticCode}
 use Rattle.report.specs.declared.codes.DiagnosticCode.TheVariants.{Unreadable, LeftOut, Discarded, Overwritten, NotCalled, CancelMisused, GroupIsLive, GroupOverwritten, GroupMisused, LeftToLiveGroup, BoundAgain, TooMany, ImportIsNotYes, ImportHasNoRank, TwoFunctions, NoCertificate}
@@ -47,3 +47,12 @@ level GroupIsLive = codes "error"
 level GroupOverwritten = codes "error"
 level LeftToLiveGroup = codes "error"
 level code = codes "warning"
+
+-- the notes of such a diagnostic are the places of a way through a body
+abbrev pub tells_way : DiagnosticCode → Bool
+tells_way Overwritten = true
+tells_way NotCalled = true
+tells_way GroupIsLive = true
+tells_way GroupOverwritten = true
+tells_way LeftToLiveGroup = true
+tells_way code = false

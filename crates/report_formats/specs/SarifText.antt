@@ -42,26 +42,32 @@ abbrev pub only : List ℕ → Data → Data
 only key value = object_of ((key, value) ∷ [])
 
 -- a place in a file, by the file's name, the line, and the column in code points
-abbrev pub location_at : List ℕ → ℕ → ℕ → Data
-location_at name line column = only (codes "physicalLocation") (object_of (
-    (codes "artifactLocation", artifact name)
-    ∷ (codes "region", object_of ((codes "startLine", whole line) ∷ (codes "startColumn", whole column) ∷ []))
-    ∷ []))
+abbrev pub location_members : List ℕ → ℕ → ℕ → List (List ℕ × Data)
+location_members name line column = (
+  codes "physicalLocation",
+  object_of (
+      (codes "artifactLocation", artifact name)
+      ∷ (codes "region", object_of ((codes "startLine", whole line) ∷ (codes "startColumn", whole column) ∷ []))
+      ∷ []),
+) ∷ []
 
 -- the place of an offset in a source
-abbrev pub location : Option Source → ℕ → Data
-location source offset =
-    location_at (name_of source) (line_of (bytes_of source) offset) (code_point_column (bytes_of source) offset)
+abbrev pub location_of : Option Source → ℕ → List (List ℕ × Data)
+location_of source offset =
+    location_members (name_of source) (line_of (bytes_of source) offset) (code_point_column (bytes_of source) offset)
 
--- a diagnostic and its source
-abbrev pub result_in : Option Source → Diagnostic → Data
-result_in source d = object_of (
+-- what is said of a diagnostic and its source
+abbrev pub result_members : Option Source → Diagnostic → List (List ℕ × Data)
+result_members source d =
     (codes "ruleId", string (code_number d.code))
     ∷ (codes "ruleIndex", whole (rule_index d.code))
     ∷ (codes "level", string (level d.code))
     ∷ (codes "message", only (codes "text") (string (message d)))
-    ∷ (codes "locations", list_of (location source d.offset ∷ []))
-    ∷ [])
+    ∷ (codes "locations", list_of (object_of (location_of source d.offset) ∷ []))
+    ∷ []
+
+abbrev pub result_in : Option Source → Diagnostic → Data
+result_in source d = object_of (result_members source d)
 
 -- a diagnostic of a package with these sources
 abbrev pub result_value : List Source → Diagnostic → Data
@@ -85,20 +91,23 @@ driver ruled = object_of (
     ∷ (codes "rules", list_of (map rule_value ruled))
     ∷ [])
 
-abbrev pub run_value : List DiagnosticCode → List PackageReport → Data
-run_value ruled reports = object_of (
+abbrev pub run_value : List DiagnosticCode → List Data → Data
+run_value ruled results = object_of (
     (codes "tool", only (codes "driver") (driver ruled))
     ∷ (codes "columnKind", string (codes "unicodeCodePoints"))
-    ∷ (codes "results", list_of (flat_map package_results reports))
+    ∷ (codes "results", list_of results)
     ∷ [])
 
-abbrev pub log_value : List DiagnosticCode → List PackageReport → Data
-log_value ruled reports = object_of (
+abbrev pub log_value : List DiagnosticCode → List Data → Data
+log_value ruled results = object_of (
     (codes "$schema", string (codes "https://json.schemastore.org/sarif-2.1.0.json"))
     ∷ (codes "version", string (codes "2.1.0"))
-    ∷ (codes "runs", list_of (run_value ruled reports ∷ []))
+    ∷ (codes "runs", list_of (run_value ruled results ∷ []))
     ∷ [])
 
--- the whole report
+-- the whole report, of these results
+abbrev pub sarif_of : List Data → List ℕ
+sarif_of results = compact_text (log_value rule_codes results) ++ codes "\n"
+
 abbrev pub sarif_text : List PackageReport → List ℕ
-sarif_text reports = compact_text (log_value rule_codes reports) ++ codes "\n"
+sarif_text reports = sarif_of (flat_map package_results reports)

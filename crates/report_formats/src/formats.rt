@@ -2,9 +2,13 @@
 
 ghost use Rattle.std.specs.Prelude.{◌≡◌};
 ghost use Rattle.report.specs.Writing.{refusals_after, IsWritten};
-ghost use Rattle.report_formats.specs.Formats.{text_in};
+ghost use Rattle.report_formats.specs.Formats.{text_in, explained_in};
 
+use crate::explained_json::write_explained_json;
+use crate::explained_sarif::write_explained_sarif;
+use crate::explained_text::write_explained_text;
 use crate::json_report::write_json;
+use crate::notes::ExplainedPackage;
 use crate::sarif::write_sarif;
 use report::{PackageReport, Sink, WriteFault, write_text};
 
@@ -37,5 +41,25 @@ pub fn write_report<S: Sink>(
         Format::Text => write_text(reports, sink),
         Format::Json => write_json(reports, sink),
         Format::Sarif => write_sarif(reports, sink),
+    }
+}
+
+/// Writes the report with its notes, else as `write_report` does. For each note its file is read up to its place.
+///
+/// # Errors
+///
+/// A put failed or took nothing. A beginning of the text is taken then, and not all of it.
+pub fn write_explained<S: Sink>(
+    format: Format,
+    packages: &[ExplainedPackage],
+    sink: &mut S,
+) -> Result<(), WriteFault>
+    ensures taken { IsWritten (explained_in format packages.now) (S.taken sink.old) (S.taken sink.new) result }
+    ensures refusals { S.refusals sink.new ≡ refusals_after (S.refusals sink.old) result }
+{
+    match format {
+        Format::Text => write_explained_text(packages, sink),
+        Format::Json => write_explained_json(packages, sink),
+        Format::Sarif => write_explained_sarif(packages, sink),
     }
 }

@@ -3,11 +3,9 @@
 ghost use Rattle.std.specs.Prelude.{◌≡◌, ◌++◌, false, slice_get, map};
 ghost use Rattle.serde_json.specs.Data.{boolean, string};
 ghost use Rattle.serde_json.specs.Written.{comma_if, compact_text};
-ghost use Rattle.lexer.specs.Place.{line_of, column_of};
-ghost use Rattle.report.specs.ReportText.{bytes_of};
 ghost use Rattle.report.specs.Writing.{refusals_after, IsWritten};
-ghost use Rattle.report_formats.specs.JsonText.{diagnostic_value, is_yes, name_value, package_value, json_text};
-ghost use Rattle.report_formats.specs.Pieces.{listed};
+ghost use Rattle.report_formats.specs.JsonText.{place_members_at, diagnostic_members, diagnostic_value, name_value, package_members, package_value, json_text};
+ghost use Rattle.report_formats.specs.Pieces.{listed, opened, IsBytePlace};
 
 use crate::pieces::FormatPiece::{Number, Plain, Spelled};
 use crate::pieces::{comma, name_of, put_each};
@@ -52,27 +50,49 @@ fn write_package<S: Sink>(
         (S.taken sink.old) (S.taken sink.new) result }
     ensures refusals { S.refusals sink.new ≡ refusals_after (S.refusals sink.old) result }
 {
-    put_each(
-        &[
-            Plain(comma(is_later)),
-            Plain("{\"path\":\""),
-            Spelled(InString, report.path),
-            Plain("\",\"yes\":"),
-            Plain(verdict(report)),
-            Plain(",\"keeping\":["),
-        ],
+    open_package(
+        report.path,
+        report.is_yes(),
+        &report.keeping,
+        is_later,
         sink,
     )?;
-    write_names(&report.keeping, sink)?;
-    put_all(b"],\"diagnostics\":[", sink)?;
+    put_all(b",\"diagnostics\":[", sink)?;
     write_diagnostics(report.sources, &report.diagnostics, sink)?;
     put_all(b"]}", sink)
 }
 
-fn verdict(report: &PackageReport) -> &'static str
-    ensures { result.now ≡ compact_text (boolean (is_yes report.now.diagnostics.items)) }
+/// Writes what is said of a package before its diagnostics.
+pub fn open_package<S: Sink>(
+    path: &str,
+    is_yes: bool,
+    keeping: &[&str],
+    is_later: bool,
+    sink: &mut S,
+) -> Result<(), WriteFault>
+    ensures taken { IsWritten (opened is_later (package_members path.now is_yes keeping.now))
+        (S.taken sink.old) (S.taken sink.new) result }
+    ensures refusals { S.refusals sink.new ≡ refusals_after (S.refusals sink.old) result }
 {
-    if report.is_yes() { "true" } else { "false" }
+    put_each(
+        &[
+            Plain(comma(is_later)),
+            Plain("{\"path\":\""),
+            Spelled(InString, path),
+            Plain("\",\"yes\":"),
+            Plain(verdict(is_yes)),
+            Plain(",\"keeping\":["),
+        ],
+        sink,
+    )?;
+    write_names(keeping, sink)?;
+    put_all(b"]", sink)
+}
+
+fn verdict(is_yes: bool) -> &'static str
+    ensures { result.now ≡ compact_text (boolean is_yes) }
+{
+    if is_yes { "true" } else { "false" }
 }
 
 fn write_names<S: Sink>(names: &[&str], sink: &mut S) -> Result<(), WriteFault>
@@ -117,45 +137,62 @@ fn write_diagnostics<S: Sink>(
     let mut is_later = false;
     for diagnostic in diagnostics {
         cursor = moved(cursor, sources, diagnostic.file, diagnostic.offset as usize);
-        write_diagnostic(sources, diagnostic, cursor.place, is_later, sink)?;
+        open_diagnostic(sources, diagnostic, cursor.place, is_later, sink)?;
+        put_all(b"}", sink)?;
         is_later = true;
     }
     Ok(())
 }
 
-/// Writes a diagnostic, which stands at this place.
-fn write_diagnostic<'a, S: Sink>(
+/// Writes what is said of a diagnostic, which stands at this place.
+pub fn open_diagnostic<'a, S: Sink>(
     sources: &'a [Source],
     diagnostic: &'a Diagnostic<'a>,
     place: Place,
     is_later: bool,
     sink: &mut S,
 ) -> Result<(), WriteFault>
-    requires line { place.line
-        ≡ line_of (bytes_of (slice_get sources.now diagnostic.now.file)) diagnostic.now.offset }
-    requires column { place.column
-        ≡ column_of (bytes_of (slice_get sources.now diagnostic.now.file)) diagnostic.now.offset }
-    ensures taken { IsWritten (comma_if is_later ++ compact_text (diagnostic_value sources.now diagnostic.now))
+    requires { IsBytePlace (slice_get sources.now diagnostic.now.file) diagnostic.now.offset place }
+    ensures taken { IsWritten
+        (opened is_later (diagnostic_members (slice_get sources.now diagnostic.now.file) diagnostic.now))
         (S.taken sink.old) (S.taken sink.new) result }
     ensures refusals { S.refusals sink.new ≡ refusals_after (S.refusals sink.old) result }
 {
-    let Place { line, column } = place;
+    open_place(name_of(sources, diagnostic.file), place, is_later, sink)?;
     put_each(
         &[
-            Plain(comma(is_later)),
-            Plain("{\"file\":\""),
-            Spelled(InString, name_of(sources, diagnostic.file)),
-            Plain("\",\"line\":"),
-            Number(line),
-            Plain(",\"column\":"),
-            Number(column),
             Plain(",\"code\":\""),
             Spelled(InString, diagnostic.code.number()),
             Plain("\",\"name\":\""),
             Spelled(InString, diagnostic.name),
             Plain("\",\"text\":\""),
             Spelled(InString, diagnostic.code.text()),
-            Plain("\"}"),
+            Plain("\""),
+        ],
+        sink,
+    )
+}
+
+/// Writes a file, by its name, and a place in it.
+pub fn open_place<S: Sink>(
+    file: &str,
+    place: Place,
+    is_later: bool,
+    sink: &mut S,
+) -> Result<(), WriteFault>
+    ensures taken { IsWritten (opened is_later (place_members_at file.now place.line place.column))
+        (S.taken sink.old) (S.taken sink.new) result }
+    ensures refusals { S.refusals sink.new ≡ refusals_after (S.refusals sink.old) result }
+{
+    put_each(
+        &[
+            Plain(comma(is_later)),
+            Plain("{\"file\":\""),
+            Spelled(InString, file),
+            Plain("\",\"line\":"),
+            Number(place.line),
+            Plain(",\"column\":"),
+            Number(place.column),
         ],
         sink,
     )

@@ -2,12 +2,19 @@
 #![tactic(auto)]
 
 mod columns;
+mod explained_json;
+mod explained_sarif;
+mod explained_text;
 mod formats;
 mod json_report;
+mod laws;
+mod notes;
 mod pieces;
 mod rules;
 mod sarif;
 mod strings;
 
-pub use formats::{Format, write_report};
+pub use formats::{Format, write_explained, write_report};
+pub use laws::{each_note_begins_with_a_tab, without_notes_it_is_the_report};
+pub use notes::{ExplainedDiagnostic, ExplainedPackage, Note, NoteText};
 pub use rules::each_code_has_its_rule;

@@ -3,7 +3,7 @@
 ghost use Rattle.std.specs.Prelude.{◌≡◌, Some, option_map, slice_get};
 ghost use Rattle.report.specs.Codes.{code_number};
 ghost use Rattle.report.specs.declared.codes.DiagnosticCode.{DiagnosticCode as Code};
-ghost use Rattle.report_formats.specs.SarifCodes.{rule_codes, rule_index, rule_text, level};
+ghost use Rattle.report_formats.specs.SarifCodes.{rule_codes, rule_index, rule_text, level, tells_way};
 
 use report::{DiagnosticCode, TextFault, TreeFault};
 
@@ -82,6 +82,20 @@ pub fn level(code: DiagnosticCode) -> &'static str
         | DiagnosticCode::LeftToLiveGroup => "error",
         _ => "warning",
     }
+}
+
+/// Whether the notes of such a diagnostic are the places of a way through a body.
+pub fn tells_way(code: DiagnosticCode) -> bool
+    ensures { result ≡ tells_way code }
+{
+    matches!(
+        code,
+        DiagnosticCode::NotCalled
+            | DiagnosticCode::Overwritten
+            | DiagnosticCode::GroupIsLive
+            | DiagnosticCode::GroupOverwritten
+            | DiagnosticCode::LeftToLiveGroup
+    )
 }
 
 /// The rule at the place of a code's rule has the code's number.

@@ -4,8 +4,8 @@ ghost use Rattle.std.specs.Prelude.{◌≡◌, ◌++◌, false, slice_get, map, 
 ghost use Rattle.serde_json.specs.Written.{comma_if, compact_text};
 ghost use Rattle.report.specs.Writing.{refusals_after, IsWritten};
 ghost use Rattle.report_formats.specs.FileUris.{is_absolute, uri_scheme};
-ghost use Rattle.report_formats.specs.SarifText.{location_at, name_before, package_results, result_value, rule_value, sarif_text};
-ghost use Rattle.report_formats.specs.Pieces.{base_text, listed, after_results, IsPlaceOf};
+ghost use Rattle.report_formats.specs.SarifText.{location_members, name_before, package_results, result_members, result_value, rule_value, sarif_text};
+ghost use Rattle.report_formats.specs.Pieces.{base_text, listed, opened, log_front, after_results, IsPlaceOf};
 
 use crate::columns::moved_in_code_points;
 use crate::pieces::FormatPiece::{Number, Plain, Spelled};
@@ -25,6 +25,16 @@ pub fn write_sarif<S: Sink>(reports: &[PackageReport], sink: &mut S) -> Result<(
     ensures taken { IsWritten (sarif_text reports.now) (S.taken sink.old) (S.taken sink.new) result }
     ensures refusals { S.refusals sink.new ≡ refusals_after (S.refusals sink.old) result }
 {
+    open_log(sink)?;
+    write_results(reports, sink)?;
+    put_all(b"]}]}\n", sink)
+}
+
+/// Writes what a log says before its results.
+pub fn open_log<S: Sink>(sink: &mut S) -> Result<(), WriteFault>
+    ensures taken { IsWritten log_front (S.taken sink.old) (S.taken sink.new) result }
+    ensures refusals { S.refusals sink.new ≡ refusals_after (S.refusals sink.old) result }
+{
     put_all(
         b"{\"$schema\":\"https://json.schemastore.org/sarif-2.1.0.json\",\"version\":\"2.1.0\",\
         \"runs\":[{\"tool\":{\"driver\":{\"name\":\"ctxvet\",\"rules\":[",
@@ -34,9 +44,7 @@ pub fn write_sarif<S: Sink>(reports: &[PackageReport], sink: &mut S) -> Result<(
     put_all(
         b"]}},\"columnKind\":\"unicodeCodePoints\",\"results\":[",
         sink,
-    )?;
-    write_results(reports, sink)?;
-    put_all(b"]}]}\n", sink)
+    )
 }
 
 fn write_rules<S: Sink>(codes: &[DiagnosticCode], sink: &mut S) -> Result<(), WriteFault>
@@ -105,14 +113,15 @@ fn write_package_results<S: Sink>(
     let mut is_later = others_before;
     for diagnostic in diagnostics {
         cursor = moved_in_code_points(cursor, sources, diagnostic.file, diagnostic.offset as usize);
-        write_result(sources, diagnostic, cursor.place, is_later, sink)?;
+        open_result(sources, diagnostic, cursor.place, is_later, sink)?;
+        put_all(b"}", sink)?;
         is_later = true;
     }
     Ok(())
 }
 
-/// Writes a result, which stands at this place. Its column counts code points.
-fn write_result<'a, S: Sink>(
+/// Writes what is said of a result, which stands at this place. Its column counts code points.
+pub fn open_result<'a, S: Sink>(
     sources: &'a [Source],
     diagnostic: &'a Diagnostic<'a>,
     place: Place,
@@ -120,7 +129,8 @@ fn write_result<'a, S: Sink>(
     sink: &mut S,
 ) -> Result<(), WriteFault>
     requires { IsPlaceOf (slice_get sources.now diagnostic.now.file) diagnostic.now.offset place }
-    ensures taken { IsWritten (comma_if is_later ++ compact_text (result_value sources.now diagnostic.now))
+    ensures taken { IsWritten
+        (opened is_later (result_members (slice_get sources.now diagnostic.now.file) diagnostic.now))
         (S.taken sink.old) (S.taken sink.new) result }
     ensures refusals { S.refusals sink.new ≡ refusals_after (S.refusals sink.old) result }
 {
@@ -143,13 +153,13 @@ fn write_result<'a, S: Sink>(
         ],
         sink,
     )?;
-    write_location(name_of(sources, diagnostic.file), place, sink)?;
-    put_all(b"]}", sink)
+    open_location(name_of(sources, diagnostic.file), place, sink)?;
+    put_all(b"}]", sink)
 }
 
-/// Writes where a result stands: a file, by its name, and a place in it, whose column counts code points.
-fn write_location<S: Sink>(file: &str, place: Place, sink: &mut S) -> Result<(), WriteFault>
-    ensures taken { IsWritten (compact_text (location_at file.now place.line place.column))
+/// Writes where something stands: a file, by its name, and a place in it, whose column counts code points.
+pub fn open_location<S: Sink>(file: &str, place: Place, sink: &mut S) -> Result<(), WriteFault>
+    ensures taken { IsWritten (opened false (location_members file.now place.line place.column))
         (S.taken sink.old) (S.taken sink.new) result }
     ensures refusals { S.refusals sink.new ≡ refusals_after (S.refusals sink.old) result }
 {
@@ -163,7 +173,7 @@ fn write_location<S: Sink>(file: &str, place: Place, sink: &mut S) -> Result<(),
             Number(place.line),
             Plain(",\"startColumn\":"),
             Number(place.column),
-            Plain("}}}"),
+            Plain("}}"),
         ],
         sink,
     )

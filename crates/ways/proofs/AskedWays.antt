@@ -1,7 +1,8 @@
 -- What is found for a body that was told of: its variables, groups and promises are those of the definitions.
-use Rattle.std.proofs.Common.{◌≡◌, ℕ, ◌<◌, Bool, List, length, Option, Some, None, Contains, refl, sym, ap, ◌∙◌, subst, arith}
+use Rattle.std.proofs.Common.{◌≡◌, ℕ, ◌<◌, Bool, List, length, Option, Some, None, Contains, sym, ap, ◌∙◌, subst, arith}
 use Rattle.std.proofs.lemmas.Option.{slice_get-map, slice_get_within}
-use Rattle.std.specs.Prelude.{slice_get, option_map}
+use Rattle.std.specs.Prelude.{slice_get, option_and_then, option_map}
+use Rattle.bodies.specs.Bits.{cancel_class}
 use Rattle.bodies.specs.MemoryLists.{node_view}
 use Rattle.bodies.specs.NodeEvents.{node_event_view, changed, events_graph, IsGraphOf}
 use Rattle.bodies.specs.OwnGroups.{groups_of}
@@ -22,6 +23,7 @@ use Rattle.ways.proofs.WaysFound.{none_found, one_found}
 use Rattle.ways.specs.Asked.{TellsLives}
 use Rattle.ways.specs.ClassSteps.{class_step, class_at_entry}
 use Rattle.ways.specs.Found.{first_from, is_end_step, TellsWayOfVariable}
+use Rattle.ways.specs.Ways.{pending_in, group_told}
 
 -- the node of that number in memory, as the graph of events has it
 pub node_shown : (g : KeptGraph NodeEvent) (n : ℕ) (node : KeptNode NodeEvent)
@@ -71,9 +73,14 @@ module _ (b : Paths) (v : Variable) (of_body : Contains b.variables v) (f : Path
   asked_none e =
       none_found b places v of_body f lives_at tells (graph_view g) is_graph steps its_whole (sym its_first ∙ e)
 
-  pub asked_one : (i : ℕ) (ns : List ℕ)
+  pub asked_one : (i : ℕ) (ns : List ℕ) (told_group : Option ℕ)
       → asked_first ≡ Some i
       → IsTrail steps i ns
-      → TellsWayOfVariable b v f (events_graph g) (Some ns)
-  asked_one i ns e trail =
-      one_found b places v of_body f lives_at tells (graph_view g) is_graph steps its_whole i ns (sym its_first ∙ e) trail
+      → ((there : Step) → slice_get steps i ≡ Some there
+      → told_group ≡ group_told f.code v.number (option_and_then pending_in (cancel_class gs there.class)))
+      → TellsWayOfVariable b v f (events_graph g) (Some record { nodes = ns; number = v.number; group = told_group })
+  asked_one i ns told_group e trail is_group =
+      one_found b places v of_body f lives_at tells (graph_view g) is_graph steps its_whole i ns told_group
+      (sym its_first ∙ e) trail
+      (λ there at. is_group there at
+      ∙ ap (λ hs. group_told f.code v.number (option_and_then pending_in (cancel_class hs there.class))) are_groups)

@@ -1,8 +1,7 @@
 -- What a list makes of the number of a variable's class is the number of what it makes of the class.
-use Rattle.std.proofs.Common.{◌≡◌, ℕ, ◌≤◌, List, [], ◌∷◌, Option, Some, Contains, refl, sym, ap, ◌∙◌, subst}
-use Rattle.std.specs.Prelude.{option_and_then, unwrap_or}
+use Rattle.std.proofs.Common.{◌≡◌, ℕ, List, Option, Some, refl, sym, subst}
 use Rattle.bodies.proofs.ClassNumbers.{cancel_inverse, group_inverse}
-use Rattle.bodies.proofs.ClassesTold.{IsNumbered, AreNodes, list_nodes}
+use Rattle.bodies.proofs.ClassesTold.{IsNumbered, AreNodes, list_nodes, carried_class}
 use Rattle.bodies.proofs.FewVariables.{few_groups}
 use Rattle.bodies.proofs.Numbers.{entry_has, cancels_numbered, groups_numbered}
 use Rattle.bodies.specs.BitSteps.{bit_after}
@@ -24,33 +23,13 @@ use Rattle.ways.specs.ClassSteps.{step_by, class_step, entry_by, class_at_entry}
 module _ {K : Type 0} (c : Code Event) (class_of : ℕ → Option K) (flag_of : K → Option ℕ) (change : Event → K → K)
     (after : K → List (Occurrence Event) → K) (width : ℕ)
     (numbered : IsNumbered c class_of flag_of change after width) where
-  abbrev step : Event → ℕ → ℕ
-  step e = bit_after class_of flag_of (change e)
-
-  stepped : (e : Event) (k : K) (i j : ℕ)
-      → class_of i ≡ Some k
-      → flag_of (change e k) ≡ Some j
-      → step e i ≡ j
-  stepped e k i j is to =
-      ap (λ o. unwrap_or (option_and_then (λ l. flag_of (change e l)) o) i) is ∙ ap (λ o. unwrap_or o i) to
-
-  carried_class : (t : List (Occurrence Event)) (k : K) (i : ℕ)
-      → AreNodes c t
-      → flag_of k ≡ Some i
-      → flag_of (after k t) ≡ Some (carried step t i)
-  carried_class [] k i all e = subst (λ l. flag_of l ≡ Some i) (sym (numbered.none k)) e
-  carried_class (o ∷ t) k i all e =
-      let to = numbered.keeps o k i all.0 e in
-      let is = stepped o.event k i to.0 (numbered.told k i e) to.1 in
-      ap flag_of (numbered.next k o t)
-      ∙ carried_class t (change o.event k) to.0 all.1 to.1
-      ∙ ap (λ j. Some (carried step t j)) (sym is)
-
   pub class_carried : (t : List (Occurrence Event)) (k : K) (i : ℕ)
       → AreNodes c t
       → flag_of k ≡ Some i
-      → class_of (carried step t i) ≡ Some (after k t)
-  class_carried t k i all e = numbered.told (after k t) (carried step t i) (carried_class t k i all e)
+      → class_of (carried (λ e. bit_after class_of flag_of (change e)) t i) ≡ Some (after k t)
+  class_carried t k i all e =
+      numbered.told (after k t) (carried (λ e. bit_after class_of flag_of (change e)) t i)
+      (carried_class c class_of flag_of change after width numbered t k i all e)
 
 -- the number that the list carries of the variable
 abbrev pub number_after : Paths → Variable → List (Occurrence Event) → ℕ

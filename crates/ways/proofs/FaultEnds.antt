@@ -1,8 +1,8 @@
 -- The test of a class at an occurrence is that what a list leaves of the variable is the fault there.
-use Rattle.std.proofs.Common.{◌≡◌, ◌==◌, ℕ, Bool, true, false, not, ◌&&◌, List, Option, Some, Contains, refl, sym, ap, ◌∙◌, subst}
-use Rattle.std.proofs.lemmas.Bool.{false≢true, and_parts, and_from, not-true, not_from_false}
+use Rattle.std.proofs.Common.{◌≡◌, ◌==◌, ℕ, Bool, true, not, ◌&&◌, List, Option, Some, Contains, refl, sym, ap, ◌∙◌, subst}
+use Rattle.std.proofs.lemmas.Bool.{false≢true, and_parts, and_from, not-true}
 use Rattle.std.proofs.lemmas.Slice.Eq.{bytes_eq-Decides}
-use Rattle.std.specs.Prelude.{slice_get}
+use Rattle.std.specs.Prelude.{slice_get, option_and_then}
 use Rattle.std.specs.Str.{bytes_eq}
 use Rattle.bodies.specs.Bits.{cancel_class as class_of_cancel, group_class as class_of_group}
 use Rattle.flow.specs.GraphOfCode.{nodes}
@@ -11,17 +11,16 @@ use Rattle.meaning.specs.BodyEvents.{Variable}
 use Rattle.meaning.specs.Classes.{CancelClass, unset, opened, kept, safe, pending, GroupClass, unmade, in_state, awaited}
 use Rattle.meaning.specs.Code.{Occurrence}
 use Rattle.meaning.specs.FunctionFacts.{VariableKind, cancel, group}
-use Rattle.meaning.specs.Lists.{Reaches}
 use Rattle.meaning.specs.Tracked.{GroupState, live, idle}
 use Rattle.meaning.specs.Uses.{VariableAt, Handed, Event, other, obtain, obtain_kept, renew, keep, call_kept, defer_kept, give, give_field, clear, call, defer_call, pass, defer_pass, lend, start, try, wait, defer_wait, make, defer_literal, return_event, is_cancel, is_group}
 use Rattle.meaning_packages.specs.Credits.{is_live}
 use Rattle.meaning_packages.specs.PathFaults.{PathCode, overwritten, not_called, group_is_live, group_overwritten, left_to_live_group, passed_on, PathFault, Paths, is_declared, is_lost, is_handed, is_handed_kept, cancel_class, group_class, BindsCancel, obtains, obtains_into, clears, OwesCall, LeavesLive, IsLeft}
-use Rattle.path_faults.proofs.Kept.{same_number, is_same, cancel_kind, group_kind, is_cancel_kind, is_group_kind}
+use Rattle.path_faults.proofs.Kept.{same_number, is_same, is_cancel_kind, is_group_kind}
 use Rattle.path_faults.proofs.Places.{place_of, passes_at, any_at}
-use Rattle.path_faults.specs.FoundFaults.{Deed, nothing, binds, makes, returns, deed_of, owes_call}
-use Rattle.ways.specs.Asked.{MayBeLive, TellsLives}
+use Rattle.path_faults.specs.FoundFaults.{binds, makes, returns, deed_of, owes_call}
+use Rattle.ways.specs.Asked.{TellsLives}
 use Rattle.ways.specs.Ends.{is_left, is_open, is_binding_fault, is_return_fault, cancel_ends_at, is_making_fault, is_living_fault, group_ends_at, cancel_ends, group_ends, ends_by, end_of, is_end}
-use Rattle.ways.specs.Ways.{IsFaultAfter, rebinds, remakes, leaves_live, leaves_open, leaves_kept, leaves_pending}
+use Rattle.ways.specs.Ways.{IsFaultAfter, rebinds, remakes, leaves_live, leaves_open, leaves_kept, leaves_pending, pending_in, group_told}
 
 -- Codes
 
@@ -69,6 +68,21 @@ same_fault : (at : ℕ) (code : PathCode) (name : List ℕ) (f : PathFault)
     → name ≡ f.name
     → fault at code name ≡ f
 same_fault at code name f p q r = λ i. fault (p i) (q i) (r i)
+
+-- the group of whose work is told, by a class that is the variable's
+pub fault_group : (b : Paths) (v : Variable) (t : List (Occurrence Event)) (o : Occurrence Event) (class : Option CancelClass)
+    → (v.kind ≡ cancel → class ≡ Some (cancel_class b v t))
+    → (f : PathFault)
+    → IsFaultAfter b v t o f
+    → group_told f.code v.number (option_and_then pending_in class)
+    ≡ group_told f.code v.number (pending_in (cancel_class b v t))
+fault_group b v t o class same f (rebinds u here kind is number lost) = refl
+fault_group b v t o class same f (remakes u s is number live_one) = refl
+fault_group b v t o class same f (leaves_live handed is declared live_one) = refl
+fault_group b v t o class same f (leaves_open handed is owes class_is) = refl
+fault_group b v t o class same f (leaves_kept handed is owes held not_handed) = refl
+fault_group b v t o class same f (leaves_pending handed is owes left) =
+    ap (option_and_then pending_in) (same owes.is_cancel_variable)
 
 module _ (b : Paths) (lives_at : NodePlace → ℕ → Bool) (tells : TellsLives b lives_at)
     (v : Variable) (of_body : Contains b.variables v)
@@ -233,29 +247,29 @@ module _ (b : Paths) (lives_at : NodePlace → ℕ → Bool) (tells : TellsLives
           (same_fault o.at group_is_live v.name f (same_number o.at f.at inner.0) (living_code f.code parts.0) same_name)
           (leaves_live handed is last.0 (leaves last.1))
 
-      group_told : (e : Event) → o.event ≡ e → group_ends_at v f o.at k (deed_of e) ≡ true → Is f
-      group_told (make u s) is h = made u s is h
-      group_told (return_event handed) is h = group_returned handed is h
-      group_told (obtain u g m d) is h = absurd (false≢true h)
-      group_told (obtain_kept u g m x) is h = absurd (false≢true h)
-      group_told (clear u) is h = absurd (false≢true h)
-      group_told other is h = absurd (false≢true h)
-      group_told (renew u x) is h = absurd (false≢true h)
-      group_told (keep u x) is h = absurd (false≢true h)
-      group_told (call_kept u x) is h = absurd (false≢true h)
-      group_told (defer_kept u x) is h = absurd (false≢true h)
-      group_told (give u x) is h = absurd (false≢true h)
-      group_told (give_field u) is h = absurd (false≢true h)
-      group_told (call u) is h = absurd (false≢true h)
-      group_told (defer_call u) is h = absurd (false≢true h)
-      group_told (pass u g m) is h = absurd (false≢true h)
-      group_told (defer_pass u g m) is h = absurd (false≢true h)
-      group_told (lend g m l) is h = absurd (false≢true h)
-      group_told (start g l) is h = absurd (false≢true h)
-      group_told (try g l) is h = absurd (false≢true h)
-      group_told (wait g) is h = absurd (false≢true h)
-      group_told (defer_wait g) is h = absurd (false≢true h)
-      group_told (defer_literal l) is h = absurd (false≢true h)
+      group_fault : (e : Event) → o.event ≡ e → group_ends_at v f o.at k (deed_of e) ≡ true → Is f
+      group_fault (make u s) is h = made u s is h
+      group_fault (return_event handed) is h = group_returned handed is h
+      group_fault (obtain u g m d) is h = absurd (false≢true h)
+      group_fault (obtain_kept u g m x) is h = absurd (false≢true h)
+      group_fault (clear u) is h = absurd (false≢true h)
+      group_fault other is h = absurd (false≢true h)
+      group_fault (renew u x) is h = absurd (false≢true h)
+      group_fault (keep u x) is h = absurd (false≢true h)
+      group_fault (call_kept u x) is h = absurd (false≢true h)
+      group_fault (defer_kept u x) is h = absurd (false≢true h)
+      group_fault (give u x) is h = absurd (false≢true h)
+      group_fault (give_field u) is h = absurd (false≢true h)
+      group_fault (call u) is h = absurd (false≢true h)
+      group_fault (defer_call u) is h = absurd (false≢true h)
+      group_fault (pass u g m) is h = absurd (false≢true h)
+      group_fault (defer_pass u g m) is h = absurd (false≢true h)
+      group_fault (lend g m l) is h = absurd (false≢true h)
+      group_fault (start g l) is h = absurd (false≢true h)
+      group_fault (try g l) is h = absurd (false≢true h)
+      group_fault (wait g) is h = absurd (false≢true h)
+      group_fault (defer_wait g) is h = absurd (false≢true h)
+      group_fault (defer_literal l) is h = absurd (false≢true h)
 
   -- By numbers of classes
 
@@ -269,7 +283,7 @@ module _ (b : Paths) (lives_at : NodePlace → ℕ → Bool) (tells : TellsLives
         cancel_told f name (cancel_class b v t) refl kind o.event refl
         (subst (λ c. cancel_ends vs lives v f o.at c (deed_of o.event) ≡ true) (cancel_is kind) e)
     told_by f name group kind e =
-        group_told f name (group_class b v t) refl kind o.event refl
+        group_fault f name (group_class b v t) refl kind o.event refl
         (subst (λ c. group_ends v f o.at c (deed_of o.event) ≡ true) (group_is kind) e)
 
     pub told : (f : PathFault) → is_end vs groups lives v f o m ≡ true → Is f

@@ -4,8 +4,8 @@ use Rattle.meaning.specs.BodyEvents.{Variable}
 use Rattle.meaning.specs.Code.{Occurrence}
 use Rattle.meaning.specs.Lists.{Reaches}
 use Rattle.meaning.specs.Uses.{Event}
-use Rattle.meaning_packages.specs.PathFaults.{Paths, PathFault, ComesToReturn, IsPathFault, loses_cancel, loses_group, returns_live, returns_open, returns_kept, returns_pending}
-use Rattle.ways.specs.Ways.{IsFaultAfter, rebinds, remakes, leaves_live, leaves_open, leaves_kept, leaves_pending, ComesTo, SomeComesTo, FaultsHaveLists}
+use Rattle.meaning_packages.specs.PathFaults.{Paths, PathFault, IsPathFault, loses_cancel, loses_group, returns_live, returns_open, returns_kept, returns_pending}
+use Rattle.ways.specs.Ways.{IsFaultAfter, rebinds, remakes, leaves_live, leaves_open, leaves_kept, leaves_pending, SomeComesTo, FaultsHaveLists}
 
 comes : (b : Paths) (f : PathFault) (v : Variable) (t : List (Occurrence Event)) (o : Occurrence Event)
     → Reaches b.code t o

@@ -3,39 +3,17 @@ use Rattle.std.proofs.Common.{◌≡◌, ℕ, suc, List, [], ◌∷◌, ◌++◌
 use Rattle.std.proofs.lemmas.List.{length-append}
 use Rattle.std.proofs.lemmas.Option.{same_Some, slice_get-map}
 use Rattle.std.specs.Prelude.{slice_get, option_map}
-use Rattle.bodies.specs.Carried.{carried, WalkTo, is_there as arrived, passes}
+use Rattle.bodies.proofs.CarriedFlags.{further, to_walk, carried_more}
+use Rattle.bodies.specs.Carried.{carried, WalkTo, is_there as arrived}
 use Rattle.bodies.specs.NodeEvents.{changed, changed_graph}
 use Rattle.flow.proofs.WalksOfLists.{graphs_walk}
-use Rattle.flow.specs.Walks.{Graph, graph_of, Walk, arrives, goes_on}
+use Rattle.flow.specs.Walks.{Graph, graph_of, Walk}
 use Rattle.meaning.specs.Code.{Occurrence, Code}
 use Rattle.meaning.specs.Lists.{Reaches}
 use Rattle.meaning.specs.Uses.{Event}
 use Rattle.searches.specs.Searched.{pair_of, Follows, AreSteps, IsDepth, first, then_on, IsTrail, only, longer}
 use Rattle.searches.specs.declared.search.Step.{Step}
 use Rattle.ways.specs.Found.{StandFor, none as no_nodes, more as one_node}
-
-module _ {E : Type 0} (g : Graph E) where
-  -- a walk goes on to a node that can follow
-  further : (n m s : ℕ) (o : Occurrence E) (ms : List ℕ) (t : List (Occurrence E))
-      → slice_get g.nodes n ≡ Some o
-      → slice_get g.next n ≡ Some ms
-      → Contains ms m
-      → WalkTo g n s t
-      → WalkTo g m s (t ++ o ∷ [])
-  further n m s o ms t a b c arrived = passes a b c arrived
-  further n m s o ms t a b c (passes {k = k} {t = u} d e f w) = passes d e f (further n m k o ms u a b c w)
-
-  to_walk : (n s : ℕ) (o : Occurrence E) (t : List (Occurrence E))
-      → slice_get g.nodes n ≡ Some o
-      → WalkTo g n s t
-      → Walk g s (t ++ o ∷ [])
-  to_walk n s o t a arrived = arrives a
-  to_walk n s o t a (passes {k = k} {t = u} d e f w) = goes_on d e f (to_walk n k o u a w)
-
-  carried_more : (step : E → ℕ → ℕ) (t : List (Occurrence E)) (o : Occurrence E) (k : ℕ)
-      → carried step (t ++ o ∷ []) k ≡ step o.event (carried step t k)
-  carried_more step [] o k = refl
-  carried_more step (p ∷ t) o k = carried_more step t o (step p.event k)
 
 one_longer : {X : Type 0} (t : List X) (o : X) → suc (length t) ≡ length (t ++ o ∷ [])
 one_longer t o = let long = length-append t (o ∷ []) in omega (arith, long)
@@ -93,7 +71,7 @@ module _ {E : Type 0} (f : E → Event) (g : Graph E) (step : Event → ℕ → 
         is_start = w.is_start;
         walk = further shown w.there.node s.node w.start o follows.next w.list node follows.are_next follows.leads w.walk;
         stand = subst (λ l. StandFor shown l (w.list ++ o ∷ [])) (sym w.are_nodes) (one_node node w.stand);
-        is_class = carried_more shown step w.list o entry ∙ ap (step o.event) w.is_class ∙ sym follows.is_class;
+        is_class = carried_more shown step (entry ∷ []) w.list o entry ∙ ap (step o.event) w.is_class ∙ sym follows.is_class;
         is_depth = subst (IsDepth steps i) (one_longer w.list o) (then_on there is w.is_depth);
       }
 

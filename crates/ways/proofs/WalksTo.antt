@@ -1,5 +1,5 @@
 -- What a search can find: a list of the code that comes to a node is a walk of as many steps there.
-use Rattle.std.proofs.Common.{◌≡◌, ℕ, zero, suc, ◌+◌, ◌<◌, List, [], ◌∷◌, ◌++◌, length, map, Option, Some, None, Contains, refl, sym, ap, ◌∙◌, subst, inl, inr, arith}
+use Rattle.std.proofs.Common.{◌≡◌, ℕ, suc, ◌+◌, ◌<◌, List, [], ◌∷◌, length, Option, Some, None, refl, sym, ap, ◌∙◌, subst, inl, inr, arith}
 use Rattle.std.proofs.lemmas.List.{length-map}
 use Rattle.std.proofs.lemmas.Option.{none-some, same_Some, slice_get-map, slice_get_within}
 use Rattle.std.specs.Prelude.{slice_get, option_map}
@@ -12,7 +12,7 @@ use Rattle.meaning.proofs.Membership.{contains_here, contains_cases, contains_ni
 use Rattle.meaning.specs.Code.{Occurrence, Code}
 use Rattle.meaning.specs.Lists.{Reaches}
 use Rattle.meaning.specs.Uses.{Event}
-use Rattle.searches.specs.Searched.{Pair, pair_of, IsPair, IsStart, Follows, IsReachedIn, starts, goes}
+use Rattle.searches.specs.Searched.{Pair, IsPair, IsReachedIn, starts, goes}
 use Rattle.searches.specs.declared.carry.TheConstants.{CLASSES}
 
 abbrev pub at : ℕ → ℕ → Pair

@@ -1,8 +1,9 @@
 -- What is found of a search is a shortest way of the variable, and where nothing is found there is none.
-use Rattle.std.proofs.Common.{◌≡◌, ℕ, ◌<◌, ◌≤◌, Bool, true, List, length, Option, Some, None, Contains, refl, sym, ap, ◌∙◌, subst, true≢false, arith}
+use Rattle.std.proofs.Common.{◌≡◌, ℕ, ◌<◌, ◌≤◌, Bool, true, List, length, Option, Some, None, Contains, refl, sym, ap, ◌∙◌, subst, arith}
 use Rattle.std.proofs.lemmas.Bool.{false≢true}
 use Rattle.std.proofs.lemmas.Option.{same_Some}
-use Rattle.std.specs.Prelude.{slice_get}
+use Rattle.std.specs.Prelude.{slice_get, option_and_then}
+use Rattle.bodies.specs.Bits.{cancel_class as class_of_cancel}
 use Rattle.bodies.specs.Carried.{carried}
 use Rattle.bodies.specs.NodeEvents.{node_event_view, changed_graph}
 use Rattle.bodies.specs.OwnGroups.{groups_of}
@@ -17,11 +18,11 @@ use Rattle.meaning.specs.FunctionFacts.{VariableKind, cancel, group}
 use Rattle.meaning.specs.Uses.{Event}
 use Rattle.meaning_packages.specs.PathFaults.{Paths, PathFault}
 use Rattle.searches.proofs.Depths.{depths_rise, searches_find_nearest}
-use Rattle.searches.specs.Searched.{Pair, pair_of, IsReachedIn, IsWholeSearch, IsDepth, IsTrail}
+use Rattle.searches.specs.Searched.{Pair, IsReachedIn, IsWholeSearch, IsDepth, IsTrail}
 use Rattle.searches.specs.declared.carry.TheConstants.{CLASSES}
 use Rattle.searches.specs.declared.search.Step.{Step}
 use Rattle.ways.proofs.ClassesCarried.{cancel_is, group_is}
-use Rattle.ways.proofs.FaultEnds.{told, ends}
+use Rattle.ways.proofs.FaultEnds.{told, ends, fault_group}
 use Rattle.ways.proofs.FirstOnes.{none_passes, first_is}
 use Rattle.ways.proofs.SearchedLists.{stands_for, list_comes}
 use Rattle.ways.proofs.WalksTo.{at, comes_in, reached_below}
@@ -29,7 +30,8 @@ use Rattle.ways.specs.Asked.{TellsLives}
 use Rattle.ways.specs.ClassLaws.{step_within}
 use Rattle.ways.specs.ClassSteps.{class_step, entry_by, class_at_entry}
 use Rattle.ways.specs.Ends.{is_end}
-use Rattle.ways.specs.Found.{first_from, ends_at_node, is_end_step, Tells, ComesToOf, IsWayOf, TellsWayOfVariable}
+use Rattle.ways.specs.Found.{first_from, ends_at_node, is_end_step, ComesToOf, TellsWayOfVariable}
+use Rattle.ways.specs.Ways.{pending_in, group_told}
 
 entry_small : (kind : VariableKind) (role : VariableRole) → entry_by kind role < CLASSES
 entry_small cancel (own_parameter k) = omega arith
@@ -113,11 +115,13 @@ module _ (b : Paths) (places : HavePlaces b.code b.variables) (v : Variable) (of
         let near = passes_near t o comes in
         none_passes test 0 steps e near.number near.there near.is_there near.passes
 
-    pub one_found : (i : ℕ) (ns : List ℕ)
+    pub one_found : (i : ℕ) (ns : List ℕ) (told_group : Option ℕ)
         → first_from test 0 steps ≡ Some i
         → IsTrail steps i ns
-        → TellsWayOfVariable b v f shown (Some ns)
-    one_found i ns e trail =
+        → ((there : Step) → slice_get steps i ≡ Some there
+        → told_group ≡ group_told f.code v.number (option_and_then pending_in (class_of_cancel groups there.class)))
+        → TellsWayOfVariable b v f shown (Some record { nodes = ns; number = v.number; group = told_group })
+    one_found i ns told_group e trail is_group =
         let first = first_is test 0 steps i e in
         let place = first.is_place in
         let same : first.place ≡ i = omega (arith, place) in
@@ -129,6 +133,12 @@ module _ (b : Paths) (places : HavePlaces b.code b.variables) (v : Variable) (of
         let reaches = list_comes node_event_view g step entry steps whole.are_steps b.code is_graph i ns s end.0 end.1 in
         let in_code : slice_get (nodes b.code) s.there.node ≡ Some end.0 =
         subst (λ (h : Graph Event). slice_get h.nodes s.there.node ≡ Some end.0) is_graph end.1 in
+        let is_fault = told b lives_at tells v of_body s.list end.0 s.there.node in_code groups
+        (carried step s.list entry)
+        (cancel_is b places v s.list end.0 reaches) (group_is b places v s.list end.0 reaches) f
+        (subst (λ k. is_end b.variables groups
+        (lives_at record { at = end.0.at; order = end.0.order; node = s.there.node }) v f end.0 k ≡ true)
+        (sym s.is_class) end.2) in
         record {
           node = s.there.node;
           before = s.before;
@@ -138,14 +148,13 @@ module _ (b : Paths) (places : HavePlaces b.code b.variables) (v : Variable) (of
           is_there = end.1;
           stand = s.stand;
           is = record {
-            comes = record {
-              reaches = reaches;
-              is_fault = told b lives_at tells v of_body s.list end.0 s.there.node in_code groups
-                  (carried step s.list entry)
-                  (cancel_is b places v s.list end.0 reaches) (group_is b places v s.list end.0 reaches) f
-                  (subst (λ k. is_end b.variables groups
-                  (lives_at record { at = end.0.at; order = end.0.order; node = s.there.node }) v f end.0 k ≡ true)
-                  (sym s.is_class) end.2);
+            comes = record { reaches = reaches; is_fault = is_fault };
+            is_of = record {
+              is_number = refl;
+              is_group = is_group s.there s.is_there
+                  ∙ fault_group b v s.list end.0 (class_of_cancel groups s.there.class)
+                  (λ kind. ap (class_of_cancel groups) (sym s.is_class) ∙ cancel_is b places v s.list end.0 reaches kind) f
+                  is_fault;
             };
             is_shortest = λ u p comes.
                 let near = passes_near u p comes in

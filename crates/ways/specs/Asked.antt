@@ -13,6 +13,7 @@ use Rattle.meaning.specs.Lists.{Reaches}
 use Rattle.meaning.specs.Uses.{Event}
 use Rattle.meaning_packages.specs.PathFaults.{Paths, LeavesLive}
 use Rattle.ways.specs.declared.way.Asked.{Asked}
+use Rattle.ways.specs.Found.{FoundWay}
 use Rattle.ways.specs.declared.way.Way.{Way}
 
 -- some list that comes to an occurrence of that place leaves the group live
@@ -42,5 +43,5 @@ pub record IsAsked {P L : Type 0}
   pub are_groups : asked.groups.now ≡ groups_of b.variables
   pub tells_lives : TellsLives b (lives_of asked.live.now)
 
-abbrev pub nodes_of : Way → List ℕ
-nodes_of w = w.nodes.items
+abbrev pub way_view : Way → FoundWay
+way_view w = record { nodes = w.nodes.items; number = w.number; group = w.group }

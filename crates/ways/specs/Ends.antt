@@ -1,13 +1,13 @@
 -- When the class of a variable at an occurrence is the fault that is asked for, by tests: of the fault's code and
 -- place, of what happens there, and of the class. Which groups some list leaves live there is asked of a test of their
 -- places in the list of variables.
-use Rattle.std.specs.Prelude.{ℕ, ◌==◌, Bool, true, false, not, ◌&&◌, ◌||◌, List, Option, Some, None}
+use Rattle.std.specs.Prelude.{ℕ, ◌==◌, Bool, true, false, not, ◌&&◌, List, Option, Some, None}
 use Rattle.std.specs.Str.{bytes_eq}
 use Rattle.meaning.specs.BodyEvents.{Variable}
 use Rattle.meaning.specs.Classes.{CancelClass, unset, opened, kept, safe, pending, GroupClass}
 use Rattle.meaning.specs.Code.{Occurrence}
 use Rattle.meaning.specs.FunctionFacts.{VariableKind, cancel, group}
-use Rattle.meaning.specs.Uses.{VariableAt, Handed, Event, is_group}
+use Rattle.meaning.specs.Uses.{Handed, Event, is_group}
 use Rattle.meaning_packages.specs.Credits.{is_live}
 use Rattle.meaning_packages.specs.PathFaults.{PathCode, overwritten, not_called, group_is_live, group_overwritten, left_to_live_group, passed_on, PathFault, is_declared, is_lost, is_handed_kept}
 use Rattle.path_faults.specs.FoundFaults.{any_from, Deed, nothing, binds, makes, returns, deed_of, owes_call}

@@ -6,9 +6,9 @@ use Rattle.meaning.specs.BodyEvents.{Variable}
 use Rattle.meaning.specs.Code.{Occurrence}
 use Rattle.meaning.specs.Lists.{Reaches}
 use Rattle.meaning.specs.Uses.{Event}
-use Rattle.meaning_packages.specs.PathFaults.{Paths, PathFault, IsPathFault}
+use Rattle.meaning_packages.specs.PathFaults.{Paths, PathFault, IsPathFault, cancel_class}
 use Rattle.ways.specs.Ends.{is_end}
-use Rattle.ways.specs.Ways.{IsFaultAfter, IsWay}
+use Rattle.ways.specs.Ways.{IsFaultAfter, IsWay, pending_in, group_told}
 use Rattle.searches.specs.declared.search.Step.{Step}
 
 -- the number of the first that passes the test, where the first of all has the number n
@@ -48,10 +48,29 @@ pub record Tells (g : Graph Event) (nodes : List ℕ) (Is : List (Occurrence Eve
   pub stand : StandFor g before list
   pub is : Is list there
 
+-- what is found of a way: the nodes through which it goes, the last one first, the number of the variable that is the
+-- fault on it, and the group of whose work it tells
+pub record FoundWay : Type 0 where
+  pub nodes : List ℕ
+  pub number : ℕ
+  pub group : Option ℕ
+
+-- the list is found of the variable: the number is its own, and the group is that of whose work the list tells
+pub record IsFoundOf (b : Paths) (f : PathFault) (w : FoundWay) (v : Variable) (t : List (Occurrence Event))
+    : Type 0 where
+  pub is_number : v.number ≡ w.number
+  pub is_group : w.group ≡ group_told f.code v.number (pending_in (cancel_class b v t))
+
+-- the list is a way, and is found of its variable
+pub record IsWayAs (b : Paths) (f : PathFault) (w : FoundWay) (t : List (Occurrence Event)) (o : Occurrence Event)
+    : Type 0 where
+  pub is_way : IsWay b f t o
+  pub is_of : IsFoundOf b f w is_way.comes.variable t
+
 -- a fault of the body has a way, and what is found is one
-abbrev pub TellsWayOf : Paths → PathFault → Graph Event → Option (List ℕ) → Type 0
+abbrev pub TellsWayOf : Paths → PathFault → Graph Event → Option FoundWay → Type 0
 TellsWayOf b f g None = IsPathFault b f → ⊥
-TellsWayOf b f g (Some nodes) = Tells g nodes (IsWay b f)
+TellsWayOf b f g (Some w) = Tells g w.nodes (IsWayAs b f w)
 
 -- Of one variable
 
@@ -60,17 +79,19 @@ pub record ComesToOf (b : Paths) (v : Variable) (f : PathFault) (t : List (Occur
   pub reaches : Reaches b.code t o
   pub is_fault : IsFaultAfter b v t o f
 
-pub record IsWayOf (b : Paths) (v : Variable) (f : PathFault) (t : List (Occurrence Event)) (o : Occurrence Event)
+pub record IsWayOf
+    (b : Paths) (v : Variable) (f : PathFault) (w : FoundWay) (t : List (Occurrence Event)) (o : Occurrence Event)
     : Type 0 where
   pub comes : ComesToOf b v f t o
+  pub is_of : IsFoundOf b f w v t
   pub is_shortest : (u : List (Occurrence Event)) (p : Occurrence Event) → ComesToOf b v f u p → length t ≤ length u
 
-abbrev pub TellsWayOfVariable : Paths → Variable → PathFault → Graph Event → Option (List ℕ) → Type 0
+abbrev pub TellsWayOfVariable : Paths → Variable → PathFault → Graph Event → Option FoundWay → Type 0
 TellsWayOfVariable b v f g None = (t : List (Occurrence Event)) (o : Occurrence Event) → ComesToOf b v f t o → ⊥
-TellsWayOfVariable b v f g (Some nodes) = Tells g nodes (IsWayOf b v f)
+TellsWayOfVariable b v f g (Some w) = Tells g w.nodes (IsWayOf b v f w)
 
 -- the shorter of two, or the one that is there; the first of two that are as long
-abbrev pub shorter : Option (List ℕ) → Option (List ℕ) → Option (List ℕ)
+abbrev pub shorter : Option FoundWay → Option FoundWay → Option FoundWay
 shorter None m = m
-shorter (Some ns) None = Some ns
-shorter (Some ns) (Some ms) = if nat_lt (length ms) (length ns) then Some ms else Some ns
+shorter (Some w) None = Some w
+shorter (Some w) (Some x) = if nat_lt (length x.nodes) (length w.nodes) then Some x else Some w

@@ -12,12 +12,13 @@ ghost use Rattle.bodies.specs.ClassViews.{cancel_class_view, group_class_view};
 ghost use Rattle.tracked_rows.specs.EventViews.{handed_view};
 ghost use Rattle.ways.specs.Ends.{is_left, is_open, is_binding_fault, is_making_fault, is_living_fault, is_return_fault, cancel_ends_at, group_ends_at, end_of, is_end};
 
-use crate::kinds::{is_declared, is_handed_kept, makes_it, owes_call};
 use bodies::{CancelClass, GroupClass, NodeEvent, cancel_class, group_class};
 use events::Variable;
 use facts::VariableKind;
 use flow::NodePlace;
-use path_faults::{Deed, Lives, PathCode, PathFault, deed_of};
+use path_faults::{
+    Deed, Lives, PathCode, PathFault, deed_of, is_declared, is_handed_kept, makes_it, owes_call,
+};
 use tracked_rows::{GroupState, Handed};
 
 /// What is asked of a pair: whether the class of the variable is this fault there.

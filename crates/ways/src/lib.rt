@@ -5,7 +5,7 @@
 ghost use Rattle.ways.specs.Ways.{FaultsHaveLists};
 
 mod ends;
-mod kinds;
+mod told_group;
 mod trails;
 mod variable;
 mod way;

@@ -5,10 +5,11 @@ ghost use Rattle.bodies.specs.NodeEvents.{events_graph};
 ghost use Rattle.events.specs.VariableViews.{variable_view};
 ghost use Rattle.meaning_packages.specs.PathFaults.{Paths};
 ghost use Rattle.path_faults.specs.FaultViews.{fault_view};
-ghost use Rattle.ways.specs.Asked.{nodes_of, IsAsked};
+ghost use Rattle.ways.specs.Asked.{way_view, IsAsked};
 ghost use Rattle.ways.specs.Found.{shorter, TellsWayOf, TellsWayOfVariable};
 
 use crate::ends::End;
+use crate::told_group::group_told;
 use crate::trails::first_end;
 use crate::variable::{VariableClasses, class_at_entry};
 use bodies::{NodeEvent, Promises};
@@ -34,6 +35,10 @@ pub struct Asked<'c, 'e, 'a, P, L> {
 #[derive(Drop)]
 pub struct Way {
     pub nodes: Vec<usize>,
+    /// The number of the variable that is the fault there.
+    pub number: u32,
+    /// The group of whose work the way tells: the variable, if it is a group, or the one to which its call is left.
+    pub group: Option<u32>,
 }
 
 impl<'a, P: Promises, L: Lives> Asked<'_, '_, 'a, P, L> {
@@ -47,7 +52,7 @@ impl<'a, P: Promises, L: Lives> Asked<'_, '_, 'a, P, L> {
         ensures { IfOk result (λ way. (b : Paths) → IsAsked (λ p. P.promises p) (λ l. L.lives l) self.now b
             → Contains b.variables (variable_view variable.entry)
             → TellsWayOfVariable b (variable_view variable.entry) (fault_view fault.entry)
-            (events_graph self.now.graph.now) (option_map nodes_of way)) }
+            (events_graph self.now.graph.now) (option_map way_view way)) }
     {
         let classes = VariableClasses {
             promises: self.promises,
@@ -65,14 +70,20 @@ impl<'a, P: Promises, L: Lives> Asked<'_, '_, 'a, P, L> {
         let Some(last) = first_end(self.graph, &end, &steps) else {
             return Ok(None);
         };
+        let step = steps[last];
+        let group = group_told(fault.code, variable.number, self.groups, step.class);
         let nodes = nodes_back(alloc, &steps, last)?;
-        Ok(Some(Way { nodes }))
+        Ok(Some(Way {
+            nodes,
+            number: variable.number,
+            group,
+        }))
     }
 }
 
 /// The shorter one; the first of two that are as long.
 fn shorter(one: Option<Way>, other: Option<Way>) -> Option<Way>
-    ensures { option_map nodes_of result ≡ shorter (option_map nodes_of one) (option_map nodes_of other) }
+    ensures { option_map way_view result ≡ shorter (option_map way_view one) (option_map way_view other) }
 {
     match (one, other) {
         (Some(one), Some(other)) => {
@@ -99,7 +110,7 @@ pub fn way_to<'a, P: Promises, L: Lives>(
     fault: PathFault<'a>,
 ) -> Result<Option<Way>, AllocError>
     ensures { IfOk result (λ way. (b : Paths) → IsAsked (λ p. P.promises p) (λ l. L.lives l) asked.now b
-        → TellsWayOf b (fault_view fault.entry) (events_graph asked.now.graph.now) (option_map nodes_of way)) }
+        → TellsWayOf b (fault_view fault.entry) (events_graph asked.now.graph.now) (option_map way_view way)) }
 {
     let mut best = None;
     for variable in asked.variables {

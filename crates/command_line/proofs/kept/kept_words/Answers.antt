@@ -47,5 +47,6 @@ returns-then-ends_options g c =
       formats = sym (append-nil (texts_of kept.formats.items)) ∙ so.formats;
       editions = sym (append-nil (texts_of kept.editions.items)) ∙ so.editions;
       numbers = sym (append-nil (texts_of kept.numbers.items)) ∙ so.numbers;
+      whys = sym (append-nil (texts_of kept.whys.items)) ∙ so.whys;
       packages = added ∙ so.packages;
     }

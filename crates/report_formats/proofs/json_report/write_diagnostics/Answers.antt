@@ -1,8 +1,9 @@
 use Rattle.std.proofs.Common.{refl, ◌∙◌, rules}
 use Rattle.std.proofs.lemmas.Result.{err_from_is_err_and}
 use Rattle.report_formats.specs.JsonText.{diagnostic_value}
+use Rattle.report_formats.proofs.JsonPieces.{next_whole}
 use Rattle.report_formats.proofs.Steps.{begins, goes_on, ends, stops}
-use Rattle.report_formats.proofs.Values.{next_listed, none_listed}
+use Rattle.report_formats.proofs.Values.{none_listed}
 use Rattle.report_formats.proofs.json_report.write_diagnostics.Goals as goal
 
 pub loop-diagnostic-init : goal.loop-diagnostic-init
@@ -10,14 +11,22 @@ loop-diagnostic-init g c = (begins _ _, refl, search rules)
 
 pub loop-diagnostic-preserved : goal.loop-diagnostic-preserved
 loop-diagnostic-preserved g c =
-    let next = next_listed (diagnostic_value c.args.sources.now) c.loop-diagnostic.is_later c.args.diagnostics.now c.loop-diagnostic.diagnostic-index _ c.loop-diagnostic-test.true in
-    (goes_on _ _ _ _ _ _ _ next c.loop-diagnostic.invariant.0 c.in_ok-write_diagnostic.ensures.taken, c.in_ok-write_diagnostic.ensures.refusals ∙ c.loop-diagnostic.invariant.1, c.moved-cursor.ensures.at)
+    let parts = next_whole c.loop-diagnostic.is_later c.args.sources.now c.args.diagnostics.now c.loop-diagnostic.diagnostic-index _ c.loop-diagnostic-test.true in
+    let opened = goes_on _ _ _ _ _ _ _ parts c.loop-diagnostic.invariant.0 c.in_ok-open_diagnostic.ensures.taken in
+    (goes_on _ _ _ _ _ _ _ refl opened c.in_ok-put_all.ensures.taken, c.in_ok-put_all.ensures.refusals ∙ c.in_ok-open_diagnostic.ensures.refusals ∙ c.loop-diagnostic.invariant.1, c.moved-cursor.ensures.at)
 
-pub returns-in_err-write_diagnostic-clause-taken : goal.returns-in_err-write_diagnostic-clause-taken
-returns-in_err-write_diagnostic-clause-taken g c =
+pub returns-in_err-open_diagnostic-clause-taken : goal.returns-in_err-open_diagnostic-clause-taken
+returns-in_err-open_diagnostic-clause-taken g c =
     let p = err_from_is_err_and c.from_residual.result c.from_residual.ensures.1 in
-    let next = next_listed (diagnostic_value c.args.sources.now) c.loop-diagnostic.is_later c.args.diagnostics.now c.loop-diagnostic.diagnostic-index _ c.loop-diagnostic-test.true in
-    stops _ _ _ _ _ _ _ next c.loop-diagnostic.invariant.0 c.in_err-write_diagnostic.ensures.taken _ p.0 p.1
+    let parts = next_whole c.loop-diagnostic.is_later c.args.sources.now c.args.diagnostics.now c.loop-diagnostic.diagnostic-index _ c.loop-diagnostic-test.true in
+    stops _ _ _ _ _ _ _ parts c.loop-diagnostic.invariant.0 c.in_err-open_diagnostic.ensures.taken _ p.0 p.1
+
+pub returns-in_err-put_all-clause-taken : goal.returns-in_err-put_all-clause-taken
+returns-in_err-put_all-clause-taken g c =
+    let p = err_from_is_err_and c.from_residual-in_err-put_all.result c.from_residual-in_err-put_all.ensures.1 in
+    let parts = next_whole c.loop-diagnostic.is_later c.args.sources.now c.args.diagnostics.now c.loop-diagnostic.diagnostic-index _ c.loop-diagnostic-test.true in
+    let opened = goes_on _ _ _ _ _ _ _ parts c.loop-diagnostic.invariant.0 c.in_ok-open_diagnostic.ensures.taken in
+    stops _ _ _ _ _ _ _ refl opened c.in_err-put_all.ensures.taken _ p.0 p.1
 
 pub returns-clause-taken : goal.returns-clause-taken
 returns-clause-taken g c = ends _ _ _ _ (none_listed (diagnostic_value c.args.sources.now) _ c.args.diagnostics.now c.loop-diagnostic.diagnostic-index c.loop-diagnostic-test.false) c.loop-diagnostic.invariant.0

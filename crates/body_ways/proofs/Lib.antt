@@ -1,0 +1,3 @@
+pub mod AskedBodies
+pub mod LivePlaces
+pub mod ToldWays

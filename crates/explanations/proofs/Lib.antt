@@ -1,0 +1,2 @@
+mod KnownSoFar
+mod Noted

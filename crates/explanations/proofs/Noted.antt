@@ -1,0 +1,68 @@
+-- Diagnostics that get their notes, one after the other.
+use Rattle.std.proofs.Common.{◌≡◌, ℕ, ◌+◌, ◌<◌, true, inl, inr, List, [], ◌∷◌, ◌++◌, length, drop, get_or, map, Contains, is_some, sym, ap, ◌∙◌, subst}
+use Rattle.std.specs.declared.alloc.Global.{Global}
+use Rattle.std.specs.declared.vec.Vec.{Vec}
+use Rattle.std.proofs.lemmas.List.{append_assoc, drop_more, map-append}
+use Rattle.std.proofs.lemmas.List.Elements.{Contains-append_cases}
+use Rattle.body_ways.specs.BodyWays.{ToldWay}
+use Rattle.explanations.specs.Found.{path_code_of, AreNotesByWays, HasWayNotes}
+use Rattle.report_formats.specs.ExplainedText.{plain_of}
+use Rattle.lexer.specs.declared.source.Source.{Source}
+use Rattle.meaning.proofs.Membership.{contains_nil, contains_cases}
+use Rattle.report.specs.declared.diagnostics.Diagnostic.{Diagnostic}
+use Rattle.report_formats.specs.declared.notes.ExplainedDiagnostic.{ExplainedDiagnostic}
+use Rattle.report_formats.specs.declared.notes.Note.{Note}
+
+module _ (sources : List Source) (ways : List (List ToldWay)) where
+  -- a diagnostic with its notes
+  abbrev pub with_notes : Diagnostic → Vec Note Global → ExplainedDiagnostic
+  with_notes d notes = record { diagnostic = d; notes = notes }
+
+  -- those before a place are explained
+  abbrev pub AreExplainedTo : List Diagnostic → ℕ → List ExplainedDiagnostic → Type 0
+  AreExplainedTo all i explained = (plain_of explained ++ drop i all ≡ all) × AreNotesByWays sources ways explained
+
+  more_plain : (all : List Diagnostic) (i : ℕ) (item : Diagnostic) (notes : Vec Note Global)
+      (before after : List ExplainedDiagnostic)
+      → i < length all
+      → get_or all i item ≡ item
+      → after ≡ before ++ with_notes item notes ∷ []
+      → plain_of before ++ drop i all ≡ all
+      → plain_of after ++ drop (i + 1) all ≡ all
+  more_plain all i item notes before after within is after_is so_far =
+      ap (λ es. plain_of es ++ drop (i + 1) all) after_is
+      ∙ (ap (λ ds. ds ++ drop (i + 1) all)
+      (map-append (λ (e : ExplainedDiagnostic). e.diagnostic) before (with_notes item notes ∷ []))
+      ∙ (append_assoc (plain_of before) (item ∷ []) (drop (i + 1) all)
+      ∙ (ap (λ d. plain_of before ++ d ∷ drop (i + 1) all) (sym is)
+      ∙ (ap (λ ds. plain_of before ++ ds) (sym (drop_more all i item within)) ∙ so_far))))
+
+  more_noted : (item : Diagnostic) (notes : Vec Note Global) (before after : List ExplainedDiagnostic)
+      → after ≡ before ++ with_notes item notes ∷ []
+      → AreNotesByWays sources ways before
+      → (is_some (path_code_of item.code) ≡ true → HasWayNotes sources ways item notes.items)
+      → AreNotesByWays sources ways after
+  more_noted item notes before after after_is noted so d h of_path =
+      elim (Contains-append_cases before (with_notes item notes ∷ []) d (subst (λ ds. Contains ds d) after_is h)) [
+        | inl old ↦ noted d old of_path
+        | inr new ↦ elim (contains_cases (with_notes item notes) d [] new) [
+          | inl same ↦
+              subst (λ (e : ExplainedDiagnostic). is_some (path_code_of e.diagnostic.code) ≡ true
+              → HasWayNotes sources ways e.diagnostic e.notes.items) same so of_path
+          | inr bad ↦ absurd (contains_nil d bad)
+        ]
+      ]
+
+  -- one more is explained
+  pub more_explained : (all : List Diagnostic) (i : ℕ) (item : Diagnostic) (notes : Vec Note Global)
+      (before after : List ExplainedDiagnostic)
+      → i < length all
+      → get_or all i item ≡ item
+      → after ≡ before ++ with_notes item notes ∷ []
+      → AreExplainedTo all i before
+      → (is_some (path_code_of item.code) ≡ true → HasWayNotes sources ways item notes.items)
+      → AreExplainedTo all (i + 1) after
+  more_explained all i item notes before after within is after_is so_far so = (
+    more_plain all i item notes before after within is after_is so_far.0,
+    more_noted item notes before after after_is so_far.1 so,
+  )

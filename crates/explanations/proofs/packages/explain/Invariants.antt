@@ -1,0 +1,8 @@
+use Rattle.std.proofs.Common.{◌≡◌, ◌++◌, drop, map}
+use Rattle.explanations.specs.Plain.{judged_view, plain_view}
+use Rattle.explanations.proofs.packages.explain.Given as goal
+
+-- what was explained, with what is left, is the whole
+abbrev pub invariant-loop-place : goal.invariant-loop-place
+invariant-loop-place l =
+    map plain_view l.explained.items ++ map judged_view (drop l.place l.judged) ≡ map judged_view l.judged

@@ -1,0 +1,7 @@
+package a
+
+import "b"
+
+func F() {
+	b.F()
+}

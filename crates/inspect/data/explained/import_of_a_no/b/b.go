@@ -1,0 +1,7 @@
+package b
+
+import "a"
+
+func g(done bool) {
+	a.F(nil, done)
+}

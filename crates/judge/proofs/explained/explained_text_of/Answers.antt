@@ -1,0 +1,20 @@
+use Rattle.std.proofs.Common.{◌∙◌, map, ap}
+use Rattle.explanations.specs.Plain.{judged_view}
+use Rattle.report_formats.specs.Formats.{explained_in}
+use Rattle.judge.proofs.explained.explained_text_of.Goals as goal
+
+pub returns-clause-explained : goal.returns-clause-explained
+returns-clause-explained g c =
+    let judged = c.in_ok-judged.judged.items in
+    let explained = c.in_ok-explained.explained.items in
+    let same = c.deref.ensures.value in
+    record {
+      tells_report = record {
+        said = judged;
+        are_reports = c.in_ok-judged.ensures.reports;
+        told = c.in_ok-report.ensures;
+      };
+      explained = explained;
+      are_same = c.in_ok-explained.ensures.plain ∙ ap (map judged_view) same;
+      is_text = c.in_ok-text.ensures ∙ ap (explained_in c.args.settings.format) c.deref-2.ensures.value;
+    }

@@ -1,0 +1,33 @@
+-- The report of given packages, and its text with notes: it is the text of packages that say just what the report says
+-- of them.
+use Rattle.std.specs.Prelude.{◌≡◌, List, map}
+use Rattle.all_packages.specs.Reports.{TellsReport}
+use Rattle.declared_json.specs.DeclaredPackages.{PackageEntry}
+use Rattle.explanations.specs.Plain.{judged_view, plain_view}
+use Rattle.judge.specs.Reports.{IsReport}
+use Rattle.judge.specs.declared.explained.ExplainedReport.{ExplainedReport}
+use Rattle.load.specs.declared.packages.GivenPackage.{GivenPackage}
+use Rattle.meaning_reports.specs.Loaded.{Tables}
+use Rattle.report_formats.specs.Formats.{explained_in}
+use Rattle.report_formats.specs.declared.formats.Format.{Format}
+use Rattle.report_formats.specs.declared.notes.ExplainedPackage.{ExplainedPackage}
+use Rattle.whole_packages.specs.declared.loaded_package.LoadedPackage.{LoadedPackage as KeptPackage}
+
+-- It is the report of the given packages in this format, where that is declared of others, and the text is that of the
+-- same packages with notes.
+pub record IsExplainedReport
+    (format : Format) (outside : List PackageEntry) (given : List GivenPackage) (told : ExplainedReport)
+    : Type 0 where
+  pub is_report : IsReport format outside given told.report
+  pub explained : List ExplainedPackage
+  pub are_same : map plain_view explained ≡ map judged_view is_report.said
+  pub is_text : told.text.items ≡ explained_in format explained
+
+-- What serves the proofs: the same of packages in memory
+
+pub record TellsExplained (format : Format) (declared : Tables) (kept : List KeptPackage) (told : ExplainedReport)
+    : Type 0 where
+  pub tells_report : TellsReport format declared kept told.report
+  pub explained : List ExplainedPackage
+  pub are_same : map plain_view explained ≡ map judged_view tells_report.said
+  pub is_text : told.text.items ≡ explained_in format explained

@@ -1,0 +1,22 @@
+use Rattle.std.proofs.Common.{flat_map, refl}
+use Rattle.std.proofs.lemmas.Result.{err_from_is_err_and}
+use Rattle.report_formats.specs.ExplainedSarif.{explained_results}
+use Rattle.report_formats.proofs.SarifPieces.{log_is}
+use Rattle.report_formats.proofs.Steps.{begins, goes_on, stops, last_call}
+use Rattle.report_formats.proofs.explained_sarif.write_explained_sarif.Goals as goal
+
+pub returns-in_err-open_log-clause-taken : goal.returns-in_err-open_log-clause-taken
+returns-in_err-open_log-clause-taken g c =
+    let p = err_from_is_err_and c.from_residual.result c.from_residual.ensures.1 in
+    stops _ _ _ _ _ _ _ (log_is (flat_map explained_results c.args.packages.now)) (begins _ _) c.in_err-open_log.ensures.taken _ p.0 p.1
+
+pub returns-in_err-write_results-clause-taken : goal.returns-in_err-write_results-clause-taken
+returns-in_err-write_results-clause-taken g c =
+    let p = err_from_is_err_and c.from_residual-in_err-write_results.result c.from_residual-in_err-write_results.ensures.1 in
+    let begun = goes_on _ _ _ _ _ _ _ (log_is (flat_map explained_results c.args.packages.now)) (begins _ _) c.in_ok-open_log.ensures.taken in
+    stops _ _ _ _ _ _ _ refl begun c.in_err-write_results.ensures.taken _ p.0 p.1
+
+pub returns-clause-taken : goal.returns-clause-taken
+returns-clause-taken g c =
+    let begun = goes_on _ _ _ _ _ _ _ (log_is (flat_map explained_results c.args.packages.now)) (begins _ _) c.in_ok-open_log.ensures.taken in
+    last_call _ _ _ _ _ (goes_on _ _ _ _ _ _ _ refl begun c.in_ok-write_results.ensures.taken) _ c.put_all.ensures.taken

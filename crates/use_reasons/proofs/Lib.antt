@@ -1,0 +1,2 @@
+pub mod FirstReasons
+pub mod ToldSoFar
