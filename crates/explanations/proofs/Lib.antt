@@ -1,2 +1,11 @@
-mod KnownSoFar
+mod DiagnosticWays
+mod FirstAsked
+mod FirstTold
+mod GivenPlaces
 mod Noted
+mod PackageWays
+mod RightImports
+mod ToldBodies
+mod ToldFiles
+mod UseNotes
+mod UsesOfFiles

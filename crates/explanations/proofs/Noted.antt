@@ -6,6 +6,8 @@ use Rattle.std.proofs.lemmas.List.{append_assoc, drop_more, map-append}
 use Rattle.std.proofs.lemmas.List.Elements.{Contains-append_cases}
 use Rattle.body_ways.specs.BodyWays.{ToldWay}
 use Rattle.explanations.specs.Found.{path_code_of, AreNotesByWays, HasWayNotes}
+use Rattle.explanations.specs.KeptUses.{AreNotesByUses, FileReasons, HasUseNote}
+use Rattle.explanations.specs.Uses.{asked_of}
 use Rattle.report_formats.specs.ExplainedText.{plain_of}
 use Rattle.lexer.specs.declared.source.Source.{Source}
 use Rattle.meaning.proofs.Membership.{contains_nil, contains_cases}
@@ -13,14 +15,40 @@ use Rattle.report.specs.declared.diagnostics.Diagnostic.{Diagnostic}
 use Rattle.report_formats.specs.declared.notes.ExplainedDiagnostic.{ExplainedDiagnostic}
 use Rattle.report_formats.specs.declared.notes.Note.{Note}
 
-module _ (sources : List Source) (ways : List (List ToldWay)) where
-  -- a diagnostic with its notes
-  abbrev pub with_notes : Diagnostic → Vec Note Global → ExplainedDiagnostic
-  with_notes d notes = record { diagnostic = d; notes = notes }
+-- a diagnostic with its notes
+abbrev pub with_notes : Diagnostic → Vec Note Global → ExplainedDiagnostic
+with_notes d notes = record { diagnostic = d; notes = notes }
+
+-- one more has notes of a kind, if all before it have
+module _ (HaveSo : Diagnostic → List Note → Type 0) where
+  more_noted : (item : Diagnostic) (notes : Vec Note Global) (before after : List ExplainedDiagnostic)
+      → after ≡ before ++ with_notes item notes ∷ []
+      → ((d : ExplainedDiagnostic) → Contains before d → HaveSo d.diagnostic d.notes.items)
+      → HaveSo item notes.items
+      → (d : ExplainedDiagnostic)
+      → Contains after d
+      → HaveSo d.diagnostic d.notes.items
+  more_noted item notes before after after_is noted so d h =
+      elim (Contains-append_cases before (with_notes item notes ∷ []) d (subst (λ ds. Contains ds d) after_is h)) [
+        | inl old ↦ noted d old
+        | inr new ↦ elim (contains_cases (with_notes item notes) d [] new) [
+          | inl same ↦ subst (λ (e : ExplainedDiagnostic). HaveSo e.diagnostic e.notes.items) same so
+          | inr bad ↦ absurd (contains_nil d bad)
+        ]
+      ]
+
+module _ (sources : List Source) (ways : List (List ToldWay)) (uses : List FileReasons) where
+  abbrev OfPath : Diagnostic → List Note → Type 0
+  OfPath d notes = is_some (path_code_of d.code) ≡ true → HasWayNotes sources ways d notes
+
+  abbrev OfUse : Diagnostic → List Note → Type 0
+  OfUse d notes = is_some (asked_of d.code) ≡ true → HasUseNote sources uses d notes
 
   -- those before a place are explained
   abbrev pub AreExplainedTo : List Diagnostic → ℕ → List ExplainedDiagnostic → Type 0
-  AreExplainedTo all i explained = (plain_of explained ++ drop i all ≡ all) × AreNotesByWays sources ways explained
+  AreExplainedTo all i explained =
+      (plain_of explained ++ drop i all ≡ all)
+      × (AreNotesByWays sources ways explained × AreNotesByUses sources uses explained)
 
   more_plain : (all : List Diagnostic) (i : ℕ) (item : Diagnostic) (notes : Vec Note Global)
       (before after : List ExplainedDiagnostic)
@@ -37,22 +65,6 @@ module _ (sources : List Source) (ways : List (List ToldWay)) where
       ∙ (ap (λ d. plain_of before ++ d ∷ drop (i + 1) all) (sym is)
       ∙ (ap (λ ds. plain_of before ++ ds) (sym (drop_more all i item within)) ∙ so_far))))
 
-  more_noted : (item : Diagnostic) (notes : Vec Note Global) (before after : List ExplainedDiagnostic)
-      → after ≡ before ++ with_notes item notes ∷ []
-      → AreNotesByWays sources ways before
-      → (is_some (path_code_of item.code) ≡ true → HasWayNotes sources ways item notes.items)
-      → AreNotesByWays sources ways after
-  more_noted item notes before after after_is noted so d h of_path =
-      elim (Contains-append_cases before (with_notes item notes ∷ []) d (subst (λ ds. Contains ds d) after_is h)) [
-        | inl old ↦ noted d old of_path
-        | inr new ↦ elim (contains_cases (with_notes item notes) d [] new) [
-          | inl same ↦
-              subst (λ (e : ExplainedDiagnostic). is_some (path_code_of e.diagnostic.code) ≡ true
-              → HasWayNotes sources ways e.diagnostic e.notes.items) same so of_path
-          | inr bad ↦ absurd (contains_nil d bad)
-        ]
-      ]
-
   -- one more is explained
   pub more_explained : (all : List Diagnostic) (i : ℕ) (item : Diagnostic) (notes : Vec Note Global)
       (before after : List ExplainedDiagnostic)
@@ -60,9 +72,13 @@ module _ (sources : List Source) (ways : List (List ToldWay)) where
       → get_or all i item ≡ item
       → after ≡ before ++ with_notes item notes ∷ []
       → AreExplainedTo all i before
-      → (is_some (path_code_of item.code) ≡ true → HasWayNotes sources ways item notes.items)
+      → OfPath item notes.items
+      → OfUse item notes.items
       → AreExplainedTo all (i + 1) after
-  more_explained all i item notes before after within is after_is so_far so = (
+  more_explained all i item notes before after within is after_is so_far of_path of_use = (
     more_plain all i item notes before after within is after_is so_far.0,
-    more_noted item notes before after after_is so_far.1 so,
+    (
+      more_noted OfPath item notes before after after_is so_far.1.0 of_path,
+      more_noted OfUse item notes before after after_is so_far.1.1 of_use,
+    ),
   )

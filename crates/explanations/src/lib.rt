@@ -2,6 +2,7 @@
 //! said are looked at once more, and each of their diagnostics gets its notes. What is said stays as it was.
 #![tactic(auto)]
 
+mod asked;
 mod copies;
 mod found;
 mod known;

@@ -1,10 +1,13 @@
 //! The notes of each diagnostic of a package.
 
-ghost use Rattle.std.specs.Prelude.{◌≡◌, IfOk, is_some, true};
-ghost use Rattle.explanations.specs.Found.{AreNotesByWays, HasWayNotes, path_code_of};
+ghost use Rattle.std.specs.Prelude.{◌≡◌, IfOk, is_some, map, option_map, option_to_list, true};
+ghost use Rattle.explanations.specs.Found.{AreNotesByWays, HasWayNotes, path_code_of, shown};
+ghost use Rattle.explanations.specs.KeptUses.{uses_view, AreNotesByUses, HasUseNote};
+ghost use Rattle.explanations.specs.Uses.{asked_of};
 ghost use Rattle.report_formats.specs.ExplainedText.{plain_of};
 ghost use Rattle.explanations.specs.ToldViews.{ways_view};
 
+use crate::asked::is_of_use;
 use crate::pointers::{first_finding, first_of_name, on_the_ring};
 use crate::told_uses::{FileUses, use_note};
 use crate::way_of::{is_of_path, way_notes};
@@ -54,7 +57,9 @@ pub struct Explaining<'k, 'a> {
 }
 
 /// One note, or none.
-fn one_or_none<'a>(alloc: Global, note: Option<Note<'a>>) -> Result<Vec<Note<'a>>, AllocError> {
+fn one_or_none<'a>(alloc: Global, note: Option<Note<'a>>) -> Result<Vec<Note<'a>>, AllocError>
+    ensures { IfOk result (λ notes. map shown notes.items ≡ option_to_list (option_map shown note.entry)) }
+{
     let mut notes = Vec::new(alloc);
     if let Some(note) = note {
         notes.push(note)?;
@@ -87,18 +92,13 @@ impl<'a> Explaining<'_, 'a> {
         }
     }
 
-    /// The note of a diagnostic that has one at most.
+    /// The note of a diagnostic that points to the other part of what was found.
     fn other_note(
         &self,
         alloc: Global,
         diagnostic: Diagnostic<'a>,
     ) -> Result<Option<Note<'a>>, AllocError> {
         match diagnostic.code {
-            DiagnosticCode::CancelMisused
-            | DiagnosticCode::GroupMisused
-            | DiagnosticCode::BoundAgain => {
-                Ok(use_note(self.sources, &self.reasons.uses, diagnostic))
-            }
             DiagnosticCode::ImportIsNotYes => Ok(self.of_import(diagnostic.name)),
             DiagnosticCode::ImportHasNoRank => Ok(self.of_ring(diagnostic.name)),
             DiagnosticCode::TwoFunctions => self.of_function(alloc, diagnostic.name),
@@ -114,11 +114,18 @@ impl<'a> Explaining<'_, 'a> {
         alloc: Global,
         diagnostic: Diagnostic<'a>,
     ) -> Result<Vec<Note<'a>>, AllocError>
-        ensures { IfOk result (λ notes. is_some (path_code_of diagnostic.entry.code) ≡ true
+        ensures ways { IfOk result (λ notes. is_some (path_code_of diagnostic.entry.code) ≡ true
             → HasWayNotes self.now.sources.now (ways_view self.now.reasons.ways.items) diagnostic.entry notes.items) }
+        ensures uses { IfOk result (λ notes. is_some (asked_of diagnostic.entry.code) ≡ true
+            → HasUseNote self.now.sources.now (map uses_view self.now.reasons.uses.items) diagnostic.entry
+            notes.items) }
     {
         if is_of_path(diagnostic) {
             return way_notes(alloc, self.sources, &self.reasons.ways, diagnostic);
+        }
+        if is_of_use(diagnostic) {
+            let note = use_note(self.sources, &self.reasons.uses, diagnostic);
+            return one_or_none(alloc, note);
         }
         one_or_none(alloc, self.other_note(alloc, diagnostic)?)
     }
@@ -136,6 +143,8 @@ impl<'a> Explaining<'_, 'a> {
         ensures plain { IfOk result (λ explained. plain_of explained.items ≡ diagnostics.now) }
         ensures ways { IfOk result (λ explained. AreNotesByWays self.now.sources.now
             (ways_view self.now.reasons.ways.items) explained.items) }
+        ensures uses { IfOk result (λ explained. AreNotesByUses self.now.sources.now
+            (map uses_view self.now.reasons.uses.items) explained.items) }
     {
         let mut explained: Vec<ExplainedDiagnostic<'a>> = Vec::new(alloc);
         for diagnostic in diagnostics {

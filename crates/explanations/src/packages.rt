@@ -1,8 +1,18 @@
 //! All packages, one after another.
 
-ghost use Rattle.std.specs.Prelude.{◌≡◌, IfOk, map};
+ghost use Rattle.std.specs.Prelude.{◌≡◌, ℕ, IfOk, List, Some, map, slice_get};
+ghost use Rattle.all_packages.specs.Reports.{AreReports};
+ghost use Rattle.declared_json.specs.DeclaredPackages.{packages_of};
+ghost use Rattle.declared_tables.specs.DeclaredTables.{declared_tables};
+ghost use Rattle.explanations.specs.Explained.{AreExplained, HaveTheirNotes};
 ghost use Rattle.explanations.specs.Plain.{judged_view, plain_view, report_view};
 ghost use Rattle.report_formats.specs.ExplainedText.{plain_of};
+ghost use Rattle.explanations.specs.Right.{AreJudgedBy};
+ghost use Rattle.meaning_reports.specs.Loaded.{LoadedPackage as MeantPackage, Tables};
+ghost use Rattle.meaning_reports.specs.PackageReports.{AreFindingsBy, by_paths};
+ghost use Rattle.one_package.specs.Given.{TellsGiven};
+ghost use Rattle.report.specs.Entries.{entry_of};
+ghost use Rattle.whole_packages.specs.LoadedViews.{HaveDistinctPaths, TellPackages};
 
 use crate::copies::copied;
 use crate::found::package_reasons;
@@ -22,6 +32,11 @@ fn explained_diagnostics<'a>(
     report: &PackageReport<'a>,
 ) -> Result<Vec<ExplainedDiagnostic<'a>>, AllocError>
     ensures plain { IfOk result (λ explained. plain_of explained.items ≡ report.now.diagnostics.items) }
+    ensures notes { IfOk result (λ explained. (declared : Tables) (ps : List MeantPackage) (tables : Tables)
+        (p : MeantPackage) → TellsGiven declared ps all.entry.given.now → HaveDistinctPaths ps
+        → AreJudgedBy declared ps tables all.entry.judged.now → slice_get ps place ≡ Some p
+        → AreFindingsBy (by_paths declared) ps tables place (map entry_of report.now.diagnostics.items)
+        → HaveTheirNotes ps tables place p report.now.sources.now explained.items) }
 {
     let reasons = package_reasons(alloc, all, place, &report.diagnostics)?;
     let explaining = Explaining {
@@ -41,6 +56,11 @@ fn explained_package<'a>(
     report: &PackageReport<'a>,
 ) -> Result<ExplainedPackage<'a>, AllocError>
     ensures plain { IfOk result (λ explained. plain_view explained ≡ report_view report.now) }
+    ensures notes { IfOk result (λ explained. (declared : Tables) (ps : List MeantPackage) (tables : Tables)
+        (p : MeantPackage) → TellsGiven declared ps all.entry.given.now → HaveDistinctPaths ps
+        → AreJudgedBy declared ps tables all.entry.judged.now → slice_get ps place ≡ Some p
+        → AreFindingsBy (by_paths declared) ps tables place (map entry_of report.now.diagnostics.items)
+        → HaveTheirNotes ps tables place p explained.sources.now explained.diagnostics.items) }
 {
     let diagnostics = explained_diagnostics(alloc, all, place, report)?;
     let keeping = copied(alloc, &report.keeping)?;
@@ -53,7 +73,8 @@ fn explained_package<'a>(
 }
 
 /// Each package with the notes of each of its diagnostics, where the packages were judged so, and that is declared of
-/// others. What is said of them stays as it is.
+/// others. What is said of them stays as it is. Where it is right, the notes of a diagnostic of a path tell a shortest
+/// way to its fault.
 ///
 /// # Errors
 ///
@@ -65,6 +86,9 @@ pub fn explain<'a>(
     judged: &[Judged<'a>],
 ) -> Result<Vec<ExplainedPackage<'a>>, AllocError>
     ensures plain { IfOk result (λ explained. map plain_view explained.items ≡ map judged_view judged.now) }
+    ensures notes { IfOk result (λ explained. (ps : List MeantPackage) → TellPackages ps packages.now
+        → HaveDistinctPaths ps → AreReports (declared_tables (packages_of outside.now)) ps packages.now judged.now
+        → AreExplained (declared_tables (packages_of outside.now)) ps explained.items) }
 {
     let given = given_packages(alloc, packages, outside)?;
     let all = AllJudged {

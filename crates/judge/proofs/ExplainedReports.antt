@@ -1,7 +1,7 @@
 -- What is told of loaded packages with notes is so of those that were given.
 use Rattle.std.proofs.Common.{List, refl, subst}
 use Rattle.declared_tables.specs.DeclaredTables.{declared_tables}
-use Rattle.judge.proofs.Loads.{is_report_by}
+use Rattle.judge.proofs.Loads.{tell_loaded, is_report_by}
 use Rattle.judge.specs.Explained.{IsExplainedReport, TellsExplained}
 use Rattle.judge.specs.declared.explained.ExplainedReport.{ExplainedReport}
 use Rattle.load.specs.LoadedBeside.{IsLoadBeside}
@@ -27,6 +27,8 @@ explained_so format outside given loaded told beside tells =
           loaded told.report beside tells.tells_report;
       explained = tells.explained;
       are_same = tells.are_same;
+      are_explained = tells.are_explained beside.load.meant (tell_loaded given loaded.packages.items beside.load)
+          beside.load.distinct;
       is_text = tells.is_text;
     }
 

@@ -4,9 +4,12 @@ use Rattle.std.specs.Prelude.{ℕ, ◌≡◌, ◌↔◌, Bool, true, false, List
 use Rattle.facts.specs.FactViews.{facts_by_name}
 use Rattle.called_parameters.specs.Called.{is_called}
 use Rattle.calls_flags.specs.ToldFiles.{TellAllSeen}
+use Rattle.imports.specs.Views.{text_views}
+use Rattle.keeping.specs.declared.fields.FieldNames.{FieldNames}
+use Rattle.meaning.specs.Tracked.{Fields, these_fields}
 use Rattle.calls_flags.specs.FilesBodies.{HaveBodies, with_all_credits}
 use Rattle.meaning_packages.specs.CallsFlags.{FileWithCredits, AreMost}
-use Rattle.meaning_reports.specs.Loaded.{LoadedPackage, Tables, imported_flags, signatures_of}
+use Rattle.meaning_reports.specs.Loaded.{LoadedPackage, Tables, imported_flags, keeping_in, signatures_of}
 use Rattle.meaning_reports.specs.PackageReports.{Rules, IsFindingBy, SaysByPaths}
 use Rattle.meaning_reports.specs.PackageTables.{tells_of, AreFlagsByPaths}
 use Rattle.meaning_reports.specs.WholeFaults.{IsWholeFault, HasNoWholeFault}
@@ -25,14 +28,19 @@ use Rattle.one_package.specs.declared.judged.FoundPackage.{FoundPackage}
 abbrev pub IsMarked : ToldPackage → Type 0
 IsMarked told = told.gives ≡ false → GiveNone (facts_by_name told.signatures)
 
--- What is kept are the signatures of its functions, whether these have anything that is tracked, and what was told of
--- its files as they were seen. Of files that may be skipped nothing need be told, unless all have to be.
+abbrev pub fields_view : FieldNames → Fields
+fields_view fields = these_fields (text_views fields.keeping.items) (text_views fields.filled.items)
+
+-- What is kept are the signatures of its functions, whether these have anything that is tracked, which of its fields
+-- keep, and what was told of its files as they were seen. Of files that may be skipped nothing need be told, unless all
+-- have to be.
 pub record IsToldPackage
     (ps : List LoadedPackage) (tables : Tables) (p : LoadedPackage) (tells_all : Bool) (told : ToldPackage)
     : Type 0 where
   pub walked : ℕ → Bool
   pub are_signatures : (name : List ℕ) → facts_by_name told.signatures name ≡ signatures_of ps p name
   pub is_told : told.is_told ≡ tells_of ps p
+  pub are_fields : fields_view told.fields ≡ keeping_in ps tables p
   pub are_files : TellAllSeen (walked_files ps tables p walked) told.files.items
   pub skip_silent : SkipsSilent ps tables p walked
   pub all : tells_all ≡ true → (n : ℕ) → walked n ≡ true

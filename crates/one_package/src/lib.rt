@@ -25,5 +25,5 @@ pub use judged::{Around, Judged};
 pub use judging::{around, judge_package};
 pub use known_imports::{KnownImports, NotYes};
 pub use package_names::names_of_packages;
-pub use told_package::ToldPackage;
+pub use told_package::{Tellers, ToldPackage, tell_package};
 pub use verdicts::is_yes;

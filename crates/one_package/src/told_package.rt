@@ -15,7 +15,7 @@ use called_parameters::{Called, ImportedCalls};
 use calls_flags::{FileBodies, Telling, ToldFile};
 use facts::{Table, signatures};
 use files_to_walk::{signs_of_files, walked_files};
-use keeping::keeping_fields;
+use keeping::{FieldNames, keeping_fields};
 use names::Names;
 use std::alloc::Global;
 use tracked_rows::{Fields, Known};
@@ -30,6 +30,8 @@ pub struct ToldPackage<'a> {
     pub gives: bool,
     /// Whether one has a parameter or a result that is tracked.
     pub is_told: bool,
+    /// Which of its fields keep cancel functions.
+    pub fields: FieldNames<'a>,
     /// What was told of its files. Of files without anything to find nothing need be.
     pub files: Vec<ToldFile<'a>>,
 }
@@ -106,6 +108,7 @@ pub fn tell_package<'a, H: Hands>(
         signatures: table,
         gives: signs.gives,
         is_told: signs.is_told,
+        fields,
         files,
     })
 }

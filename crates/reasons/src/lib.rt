@@ -5,11 +5,13 @@
 
 mod branches;
 mod reasons;
+mod roles;
 mod silent;
 mod taken;
 mod words;
 
 pub use branches::{Branch, BranchForm, branches_of};
-pub use reasons::{KnownCallee, Pointer, Reason, Told, reason_of};
+pub use reasons::{KnownCallee, NameTold, Pointer, Reason, Told};
+pub use roles::{cancel_reason, errgroup_reason, giver_reason, group_reason};
 pub use taken::{place_at, word_at};
 pub use words::Word;

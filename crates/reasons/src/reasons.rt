@@ -1,11 +1,8 @@
-//! In which form a name stands whose use no rule allows.
+//! In which form a name stands whose use no rule allows, and how that is told.
 
-ghost use Rattle.std.specs.Prelude.{◌≡◌, option_map};
-ghost use Rattle.mentions.specs.MarkViews.{place_view, role_view};
-ghost use Rattle.reasons.specs.Reasons.{argument_reason, call_reason, callee_reason, place_reason, pointer_text, reason_of, told, plainly, with_name};
-ghost use Rattle.reasons.specs.WordViews.{callee_view, pointer_view, reason_view, told_view};
-
-use mentions::{CallPlace, Role};
+ghost use Rattle.std.specs.Prelude.{◌≡◌};
+ghost use Rattle.reasons.specs.Reasons.{given, named, passed, plainly, pointer_text, told};
+ghost use Rattle.reasons.specs.WordViews.{pointer_view, reason_view, told_view};
 
 /// What is known of the function of which a name is an argument.
 #[derive(Clone, Copy)]
@@ -16,30 +13,58 @@ pub enum KnownCallee {
     Known,
 }
 
-/// In which form the name stands.
+/// In which form the name stands: first that of a variable, then that of one that is passed to a function, and then
+/// that of a method of a group, or of a maker, a giver, or a name of `errgroup`.
 #[derive(Clone, Copy)]
 pub enum Reason {
-    PassedOn,
-    PassedToUnknown,
-    PassedUnderGo,
-    AddressTaken,
-    CalledOtherwise,
-    CalledUnderGo,
-    InBrackets,
-    MethodUsed,
-    ReturnedOtherwise,
+    StoredCancel,
+    StoredGroup,
     Compared,
-    BoundOtherwise,
+    AddressTaken,
     ExposedToChange,
+    BoundInFor,
+    BoundOtherwise,
     UsedAsType,
-    UsedAsValue,
+    InBrackets,
+    CalledUnderGo,
+    CalledWithOthers,
+    CalledOtherwise,
+    CancelReturned,
+    GroupReturned,
+    PassedOn,
+    PassedToNoTaker,
+    PassedToUnknown,
+    PassedInExpression,
+    PassedInLiteral,
+    PassedUnderGo,
+    PassedUnderDefer,
+    NoMethod,
+    NotCalled,
+    NameInBrackets,
+    NameUnderGo,
+    NameUnderDefer,
+    NameInExpression,
+    NameInReturn,
+    NameInLiteral,
+    NameWithVariable,
+    GivenInReturn,
+    GivenToNone,
+    MadeNowhere,
+}
+
+/// Whose name is told: that of the function to which the name is passed, or that of the method, maker or giver itself.
+#[derive(Clone, Copy)]
+pub enum NameTold {
+    NoName,
+    CalleeName,
+    OwnName,
 }
 
 /// How a reason is told. Where it has a name, that of a function or method stands between the two texts.
 #[derive(Clone, Copy)]
 pub struct Told {
     pub before: &'static str,
-    pub has_name: bool,
+    pub name: NameTold,
     pub after: &'static str,
 }
 
@@ -52,92 +77,42 @@ pub enum Pointer {
     FirstOfName,
 }
 
-fn callee_reason(callee: KnownCallee) -> Reason
-    ensures { reason_view result ≡ callee_reason (callee_view callee) }
-{
-    match callee {
-        KnownCallee::Unknown => Reason::PassedToUnknown,
-        KnownCallee::Known => Reason::PassedOn,
-    }
-}
-
-fn argument_reason(callee: KnownCallee, has_address: bool, place: CallPlace<'_, '_>) -> Reason
-    ensures { reason_view result ≡ argument_reason (callee_view callee) has_address (place_view place.entry) }
-{
-    if has_address {
-        return Reason::AddressTaken;
-    }
-    match place {
-        CallPlace::UnderGo => Reason::PassedUnderGo,
-        CallPlace::Nowhere => callee_reason(callee),
-        CallPlace::Statement => callee_reason(callee),
-        CallPlace::OnlyValue(_) => callee_reason(callee),
-        CallPlace::ReturnItem(_) => callee_reason(callee),
-        CallPlace::Deferred => callee_reason(callee),
-    }
-}
-
-fn place_reason(place: CallPlace<'_, '_>) -> Reason
-    ensures { reason_view result ≡ place_reason (place_view place.entry) }
-{
-    match place {
-        CallPlace::UnderGo => Reason::CalledUnderGo,
-        CallPlace::Nowhere => Reason::CalledOtherwise,
-        CallPlace::Statement => Reason::CalledOtherwise,
-        CallPlace::OnlyValue(_) => Reason::CalledOtherwise,
-        CallPlace::ReturnItem(_) => Reason::CalledOtherwise,
-        CallPlace::Deferred => Reason::CalledOtherwise,
-    }
-}
-
-fn call_reason(selected: Option<&str>, place: CallPlace<'_, '_>) -> Reason
-    ensures { reason_view result ≡ call_reason (option_map (λ m. m.now) selected.entry) (place_view place.entry) }
-{
-    match selected {
-        Some(_) => Reason::MethodUsed,
-        None => place_reason(place),
-    }
-}
-
-/// The reason of a mention with that role, where this is known of the function of which it is an argument.
-pub fn reason_of(callee: KnownCallee, selected: Option<&str>, role: Role<'_, '_>) -> Reason
-    ensures { reason_view result ≡ reason_of (callee_view callee) (option_map (λ m. m.now) selected.entry)
-        (role_view role.entry) }
-{
-    match role {
-        Role::Elsewhere => Reason::UsedAsValue,
-        Role::Key => Reason::UsedAsValue,
-        Role::Exposed => Reason::ExposedToChange,
-        Role::PointedTo => Reason::AddressTaken,
-        Role::FoundNil(_) => Reason::Compared,
-        Role::FoundError(_, _) => Reason::Compared,
-        Role::Called(call) => call_reason(selected, call.place),
-        Role::CalledInBrackets => Reason::InBrackets,
-        Role::Argument(has_address, _, call) => argument_reason(callee, has_address, call.place),
-        Role::Returned(_) => Reason::ReturnedOtherwise,
-        Role::Left(_, _) => Reason::BoundOtherwise,
-        Role::NamesType(_) => Reason::UsedAsType,
-        Role::NewLiteral(_) => Reason::UsedAsType,
-        Role::ParameterPointer => Reason::UsedAsType,
-    }
-}
-
 fn plainly(text: &'static str) -> Told
     ensures { told_view result ≡ plainly text.now }
 {
     Told {
         before: text,
-        has_name: false,
+        name: NameTold::NoName,
         after: "",
     }
 }
 
-fn with_name(before: &'static str, after: &'static str) -> Told
-    ensures { told_view result ≡ with_name before.now after.now }
+fn passed(after: &'static str) -> Told
+    ensures { told_view result ≡ passed after.now }
 {
     Told {
-        before,
-        has_name: true,
+        before: "passed to ",
+        name: NameTold::CalleeName,
+        after,
+    }
+}
+
+fn named(after: &'static str) -> Told
+    ensures { told_view result ≡ named after.now }
+{
+    Told {
+        before: "",
+        name: NameTold::OwnName,
+        after,
+    }
+}
+
+fn given(after: &'static str) -> Told
+    ensures { told_view result ≡ given after.now }
+{
+    Told {
+        before: "what ",
+        name: NameTold::OwnName,
         after,
     }
 }
@@ -148,20 +123,47 @@ impl Reason {
         ensures { told_view result ≡ told (reason_view self) }
     {
         match self {
-            Reason::PassedOn => with_name("passed to ", ", which is not known to call it"),
-            Reason::PassedToUnknown => with_name("passed to ", ", of which nothing is known"),
-            Reason::PassedUnderGo => with_name("passed to ", " under go"),
-            Reason::AddressTaken => plainly("its address is taken"),
-            Reason::CalledOtherwise => plainly("called in another way"),
-            Reason::CalledUnderGo => plainly("called under go"),
-            Reason::InBrackets => plainly("called in brackets"),
-            Reason::MethodUsed => with_name("", " is used in another way"),
-            Reason::ReturnedOtherwise => plainly("returned at a position that hands nothing on"),
+            Reason::StoredCancel => plainly(
+                "stored, or used as a value, and whoever has it then may not call it",
+            ),
+            Reason::StoredGroup => plainly(
+                "stored, or used as a value, and whoever has it then may start work in it",
+            ),
             Reason::Compared => plainly("compared"),
-            Reason::BoundOtherwise => plainly("bound in another way"),
+            Reason::AddressTaken => plainly("its address is taken"),
             Reason::ExposedToChange => plainly("may get another value here"),
+            Reason::BoundInFor => plainly("bound in the first statement of a for"),
+            Reason::BoundOtherwise => plainly("bound in another way"),
             Reason::UsedAsType => plainly("used as a type in another way"),
-            Reason::UsedAsValue => plainly("stored, or used as a value"),
+            Reason::InBrackets => plainly("called in brackets"),
+            Reason::CalledUnderGo => plainly("called under go"),
+            Reason::CalledWithOthers => plainly("called with other arguments than it takes"),
+            Reason::CalledOtherwise => plainly("called in another way"),
+            Reason::CancelReturned => plainly("returned at a position that hands nothing on"),
+            Reason::GroupReturned => plainly("returned, which hands no group on"),
+            Reason::PassedOn => passed(", which is not known to call it"),
+            Reason::PassedToNoTaker => passed(", which takes no group there"),
+            Reason::PassedToUnknown => passed(", of which nothing is known"),
+            Reason::PassedInExpression => passed(" within an expression"),
+            Reason::PassedInLiteral => passed(" in a function literal"),
+            Reason::PassedUnderGo => passed(" under go"),
+            Reason::PassedUnderDefer => passed(" under defer"),
+            Reason::NoMethod => named(" is no method that is followed"),
+            Reason::NotCalled => named(" is used without a plain call"),
+            Reason::NameInBrackets => named(" is called in brackets"),
+            Reason::NameUnderGo => named(" is called under go"),
+            Reason::NameUnderDefer => named(" is called under defer"),
+            Reason::NameInExpression => named(" is called within an expression"),
+            Reason::NameInReturn => named(" is called in a return"),
+            Reason::NameInLiteral => named(" is called in a function literal"),
+            Reason::NameWithVariable => named(" is called with a variable that is followed"),
+            Reason::GivenInReturn => given(" gives is returned to callers that are not followed"),
+            Reason::GivenToNone => given(
+                " gives goes elsewhere than into a local variable that is followed, as into a field",
+            ),
+            Reason::MadeNowhere => named(
+                " is named here for no group that is followed, as in the type of a field",
+            ),
         }
     }
 }

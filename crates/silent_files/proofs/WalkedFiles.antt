@@ -1,5 +1,5 @@
 -- What is found in the files that are walked is what is to be said of all of them.
-use Rattle.std.proofs.Common.{◌≡◌, ℕ, zero, suc, ◌+◌, Bool, true, false, inl, inr, List, [], ◌∷◌, Some, Contains, refl, sym, ◌∙◌, subst, arith}
+use Rattle.std.proofs.Common.{◌≡◌, ℕ, zero, suc, ◌+◌, Bool, true, false, inl, inr, List, [], ◌∷◌, Some, Contains, refl, sym, ap, ◌∙◌, subst, arith}
 use Rattle.std.specs.Prelude.{◌↔◌, slice_get}
 use Rattle.std.specs.List.{AllZip}
 use Rattle.std.proofs.lemmas.Option.{same_Some, none-some}
@@ -7,13 +7,13 @@ use Rattle.tree.specs.Syntax.{SourceFile}
 use Rattle.meaning.specs.Tracked.{Known, placed, locals_of}
 use Rattle.meaning.specs.Uses.{Callee, Seen, seen_in}
 use Rattle.meaning.proofs.Membership.{contains_here, contains_there, contains_cases, contains_nil}
-use Rattle.meaning.specs.BodyEvents.{bodies_of, seen_file, variables_of, outer_faults_of, faults_of}
+use Rattle.meaning.specs.BodyEvents.{Variable, bodies_of, seen_file, variables_of, outer_faults_of, faults_of}
 use Rattle.meaning.specs.KeepingFields.{fields_kept}
 use Rattle.meaning_packages.specs.Credits.{Credits, AreFullCredits}
 use Rattle.meaning_packages.specs.CallsFlags.{Flags, FileWithCredits, AreMost, calls_by}
 use Rattle.meaning_reports.specs.Loaded.{LoadedPackage, Tables, trees_of, keeping_in, known_in, imported_flags, seen_from, seen_files}
 use Rattle.meaning_reports.specs.PackageTables.{AreCredited, no_file, file_and, IsJudged}
-use Rattle.meaning_reports.specs.PackageReports.{IsFileFinding, IsKeptIn, SaysByPaths}
+use Rattle.meaning_reports.specs.PackageReports.{IsFileFinding, IsFileOf, IsKeptIn, SaysByPaths}
 use Rattle.meaning_reports.specs.UsedImports.{HandsThere}
 use Rattle.meaning_reports.proofs.OneAnswer.{one_list, one_most}
 use Rattle.report.specs.Entries.{Entry}
@@ -275,6 +275,24 @@ module _ (ps : List LoadedPackage) (tables : Tables) (i : ℕ) (p : LoadedPackag
             said.file x) same said.is_finding));
       }
 
+  same_file : (f g : FileWithCredits) (body : ℕ) (v : Variable) → StandsFor f g
+      → Contains (variables_of f.seen body) v
+      → g ≡ f
+  same_file f _ body v itself is_there = refl
+  same_file f g body v (silent quiet others) is_there = absurd (no_variable_of f.seen quiet body v is_there)
+
+  own_file : (n : ℕ) (file : FileWithCredits) (body : ℕ) (v : Variable) → slice_get files n ≡ Some file
+      → Contains (variables_of file.seen body) v
+      → IsFileOf ps tables i flags n file
+  own_file n file body v is is_there =
+      let s = stands_there files wholes.others wholes.stand n file is in
+      record {
+        loaded = p;
+        files = wholes.others;
+        is_judged = judged;
+        is_file = s.is_there ∙ ap Some (same_file file s.file body v s.stand is_there);
+      }
+
 module _ (ps : List LoadedPackage) (tables : Tables) (p : LoadedPackage) (walked : ℕ → Bool)
     (skip : SkipsSilent ps tables p walked) where
   are_quiet : (k : ℕ) (tree : SourceFile) → slice_get (trees_of p) k ≡ Some tree
@@ -319,4 +337,5 @@ walks_are_enough = record {
   };
   says = λ ps tables i p walked files flags are x.
       (in_file ps tables i p walked files flags are x, of_file ps tables i p walked files flags are x);
+  own = λ ps tables i p walked files flags are. own_file ps tables i p walked files flags are;
 }

@@ -5,12 +5,12 @@ use Rattle.std.specs.Prelude.{ℕ, ◌+◌, ◌≡◌, ◌↔◌, Bool, true, fa
 use Rattle.tree.specs.Syntax.{SourceFile}
 use Rattle.meaning.specs.Tracked.{Known}
 use Rattle.meaning.specs.Uses.{Callee, Seen, seen_in}
-use Rattle.meaning.specs.BodyEvents.{seen_file}
+use Rattle.meaning.specs.BodyEvents.{Variable, seen_file, variables_of}
 use Rattle.meaning.specs.KeepingFields.{fields_kept}
 use Rattle.meaning_packages.specs.CallsFlags.{Flags, FileWithCredits, AreMost, calls_by}
 use Rattle.meaning_reports.specs.Loaded.{LoadedPackage, Tables, trees_of, known_in, imported_flags, seen_files}
 use Rattle.meaning_reports.specs.PackageTables.{AreCredited, AreFlagsByPaths}
-use Rattle.meaning_reports.specs.PackageReports.{IsFileFinding, IsKeptIn, SaysByPaths}
+use Rattle.meaning_reports.specs.PackageReports.{IsFileFinding, IsFileOf, IsKeptIn, SaysByPaths}
 use Rattle.meaning_reports.specs.UsedImports.{HandsThere}
 use Rattle.meaning_reports.specs.WholeFaults.{HasNoWholeFault}
 use Rattle.report.specs.Entries.{Entry}
@@ -94,3 +94,11 @@ pub record WalkedFilesAreEnough : Type 0 where
       → AreWalked ps tables i p walked files flags
       → (x : Entry)
       → IsSaidOf files (calls_by flags (imported_flags p tables)) x ↔ SaysByPaths ps tables i x
+  -- one of a body of which a variable is followed is the package's own
+  pub own : (ps : List LoadedPackage) (tables : Tables) (i : ℕ) (p : LoadedPackage) (walked : ℕ → Bool)
+      (files : List FileWithCredits) (flags : Flags)
+      → AreWalked ps tables i p walked files flags
+      → (n : ℕ) (file : FileWithCredits) (body : ℕ) (v : Variable)
+      → slice_get files n ≡ Some file
+      → Contains (variables_of file.seen body) v
+      → IsFileOf ps tables i flags n file

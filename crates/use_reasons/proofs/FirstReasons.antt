@@ -1,6 +1,6 @@
 -- Tables of reasons of which the first one of a number counts: what is added to them, and what a loop over the marks
 -- of a file puts there.
-use Rattle.std.proofs.Common.{◌≡◌, ℕ, ◌+◌, ◌<◌, ◌≤◌, List, [], ◌∷◌, ◌++◌, length, get_or, drop, map, Option, Some, None, refl, sym, ap, ◌∙◌, append_assoc}
+use Rattle.std.proofs.Common.{◌≡◌, ℕ, ◌+◌, ◌<◌, ◌≤◌, List, [], ◌∷◌, ◌++◌, length, get_or, drop, map, Option, None, refl, sym, ap, ◌∙◌, append_assoc}
 use Rattle.std.proofs.lemmas.List.{at_drop_all, append-nil, map-append}
 use Rattle.tree.proofs.Depths.{drop_item, drop_past}
 use Rattle.tree.specs.declared.expression.Param.{Param}

@@ -9,9 +9,9 @@ use Rattle.use_reasons.specs.declared.reason.ReasonText.TheVariants.{Words, Name
 use Rattle.use_reasons.specs.declared.reason.UseReason.{UseReason as KeptReason}
 use Rattle.use_reasons.specs.declared.table.Reasons.{Reasons}
 use Rattle.use_reasons.specs.declared.uses.AskedOf.{AskedOf as KeptOf}
-use Rattle.use_reasons.specs.declared.uses.AskedOf.TheVariants.{Mention, BoundAgain}
+use Rattle.use_reasons.specs.declared.uses.AskedOf.TheVariants.{OfCancel, OfGroup, BoundAgain}
 use Rattle.use_reasons.specs.declared.uses.Told.{Told}
-use Rattle.use_reasons.specs.UseReasons.{UseReason, AskedOf, of_mention, of_binding, form_by, pointed_by, first_form, first_pointed}
+use Rattle.use_reasons.specs.UseReasons.{UseReason, AskedOf, of_cancel, of_group, of_binding, compared_in, cancel_by, group_by, pointed_by, first_compared, first_cancel, first_group, first_pointed}
 
 abbrev pub text_view : KeptText → List ℕ
 text_view (Words words) = words.now
@@ -21,7 +21,8 @@ abbrev pub reason_view : KeptReason → UseReason
 reason_view r = record { at = r.at; text = text_view r.text }
 
 abbrev pub of_view : KeptOf → AskedOf
-of_view Mention = of_mention
+of_view OfCancel = of_cancel
+of_view OfGroup = of_group
 of_view BoundAgain = of_binding
 
 -- Tables of reasons
@@ -38,10 +39,14 @@ Adds before after f = (n : ℕ) → reason_in after n ≡ or_else (reason_in bef
 
 -- what a mark tells is added
 pub record Finds (known : Known) (bodies : List BodyPlace) (mark : Mark) (before after : Told) : Type 0 where
-  pub forms : Adds before.forms after.forms (λ at. form_by known at bodies mark)
+  pub compared : Adds before.compared after.compared (λ at. compared_in at bodies mark)
+  pub cancels : Adds before.cancels after.cancels (λ at. cancel_by known at bodies mark)
+  pub groups : Adds before.groups after.groups (λ at. group_by known at bodies mark)
   pub pointers : Adds before.pointers after.pointers (λ n. pointed_by known n bodies mark)
 
 -- the tables have what these marks tell
 pub record Has (known : Known) (marks : List Placed) (told : Told) : Type 0 where
-  pub forms : (at : ℕ) → reason_in told.forms at ≡ first_form known at marks
+  pub compared : (at : ℕ) → reason_in told.compared at ≡ first_compared at marks
+  pub cancels : (at : ℕ) → reason_in told.cancels at ≡ first_cancel known at marks
+  pub groups : (at : ℕ) → reason_in told.groups at ≡ first_group known at marks
   pub pointers : (n : ℕ) → reason_in told.pointers n ≡ first_pointed known n marks

@@ -9,7 +9,7 @@ ghost use Rattle.tracked_rows.specs.RowViews.{known_view};
 ghost use Rattle.tree.specs.Syntax.{no_parameter};
 ghost use Rattle.tree.specs.View.{identifier_syntax, parameter_and, parameters_syntax};
 ghost use Rattle.use_reasons.specs.ReasonViews.{reason_view, Adds};
-ghost use Rattle.use_reasons.specs.UseReasons.{captured_by, is_around, pointed_by, pointing, result_named};
+ghost use Rattle.use_reasons.specs.UseReasons.{captured_by, is_around, is_captured, pointed_by, pointing, result_named};
 
 use crate::reason::{ReasonText, UseReason};
 use crate::table::Reasons;
@@ -35,6 +35,16 @@ fn is_around(number: u32, body: BodyPlace<'_>) -> bool
     ensures { result ≡ is_around number (body_view body.entry) }
 {
     body.at <= number && number < body.braces.end
+}
+
+/// Whether the innermost of these bodies is a literal that captures the local of that number.
+pub fn is_captured(number: u32, bodies: &[BodyPlace<'_>]) -> bool
+    ensures { result ≡ is_captured number (map body_view bodies.now) }
+{
+    match bodies.first() {
+        Some(body) => !is_around(number, *body),
+        None => false,
+    }
 }
 
 /// Points at the innermost of these bodies, if the local of that number is declared outside.

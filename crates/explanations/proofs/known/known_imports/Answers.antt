@@ -1,7 +1,7 @@
 use Rattle.std.proofs.Common.{◌+◌, [], refl, drop, get_or}
 use Rattle.std.proofs.lemmas.List.{drop_all, drop_more}
 use Rattle.std.specs.Prelude.{slice_get}
-use Rattle.explanations.proofs.KnownSoFar.{one_more, all_known}
+use Rattle.all_packages.proofs.JudgedImports.{one_more, all_known}
 use Rattle.explanations.proofs.known.known_imports.Goals as goal
 
 pub loop-place-init : goal.loop-place-init

@@ -1,6 +1,6 @@
 use Rattle.std.proofs.Common.{drop}
 use Rattle.std.specs.Prelude.{slice_get}
-use Rattle.explanations.proofs.KnownSoFar.{KnowsSoFar}
+use Rattle.all_packages.proofs.JudgedImports.{KnowsSoFar}
 use Rattle.explanations.proofs.known.known_imports.Given as goal
 
 -- what is known, with what was judged at the places that are left, is the whole

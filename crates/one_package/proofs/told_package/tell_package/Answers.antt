@@ -48,6 +48,7 @@ returns-clause-told g c = λ ps tables i p is_p its around whole means.
           ∙ (ap (λ ts. list_any (has_told facts) (map file_syntax ts)) c.deref-2.ensures.value
           ∙ (told_from facts 0 (map file_syntax c.args.loaded.now.trees.items)
           ∙ λ j. list_any (λ (f : FunctionName). tells (are_facts f.name.text j)) (function_names_from 0 (sym its.are_trees j))));
+      are_fields = keeping;
       are_files = seen_so ps tables p c.args.loaded.now.edition names facts imported
           (sym its.is_edition) means are_facts
           around.are_signatures (is_walked c.deref-8.result.now) _ c.in_ok-files.files.items _

@@ -16,7 +16,9 @@ returns-in-Opens c =
     rw c.in-Opens.is
     (on_ok_weaker c.add_results.result
     (λ adds. record {
-      forms = adds_none (reason_in c.args.told.now.forms) _ (λ n. refl);
+      compared = adds_none (reason_in c.args.told.now.compared) _ (λ n. refl);
+      cancels = adds_none (reason_in c.args.told.now.cancels) _ (λ n. refl);
+      groups = adds_none (reason_in c.args.told.now.groups) _ (λ n. refl);
       pointers = λ n.
           adds n
           ∙ ap
@@ -29,7 +31,9 @@ pub returns-in-OfFields : goal.returns-in-OfFields
 returns-in-OfFields c =
     rw c.in-OfFields.is
     (record {
-      forms = adds_none (reason_in c.args.told.now.forms) _ (λ n. refl);
+      compared = adds_none (reason_in c.args.told.now.compared) _ (λ n. refl);
+      cancels = adds_none (reason_in c.args.told.now.cancels) _ (λ n. refl);
+      groups = adds_none (reason_in c.args.told.now.groups) _ (λ n. refl);
       pointers = adds_none (reason_in c.args.told.now.pointers) _ (λ n. refl);
     })
 
@@ -37,7 +41,9 @@ pub returns-in-DefersLiteral : goal.returns-in-DefersLiteral
 returns-in-DefersLiteral c =
     rw c.in-DefersLiteral.is
     (record {
-      forms = adds_none (reason_in c.args.told.now.forms) _ (λ n. refl);
+      compared = adds_none (reason_in c.args.told.now.compared) _ (λ n. refl);
+      cancels = adds_none (reason_in c.args.told.now.cancels) _ (λ n. refl);
+      groups = adds_none (reason_in c.args.told.now.groups) _ (λ n. refl);
       pointers = adds_none (reason_in c.args.told.now.pointers) _ (λ n. refl);
     })
 
@@ -45,7 +51,9 @@ pub returns-in-Returns : goal.returns-in-Returns
 returns-in-Returns c =
     rw c.in-Returns.is
     (record {
-      forms = adds_none (reason_in c.args.told.now.forms) _ (λ n. refl);
+      compared = adds_none (reason_in c.args.told.now.compared) _ (λ n. refl);
+      cancels = adds_none (reason_in c.args.told.now.cancels) _ (λ n. refl);
+      groups = adds_none (reason_in c.args.told.now.groups) _ (λ n. refl);
       pointers = adds_none (reason_in c.args.told.now.pointers) _ (λ n. refl);
     })
 
@@ -53,6 +61,8 @@ pub returns-in-Closes : goal.returns-in-Closes
 returns-in-Closes c =
     rw c.in-Closes.is
     (record {
-      forms = adds_none (reason_in c.args.told.now.forms) _ (λ n. refl);
+      compared = adds_none (reason_in c.args.told.now.compared) _ (λ n. refl);
+      cancels = adds_none (reason_in c.args.told.now.cancels) _ (λ n. refl);
+      groups = adds_none (reason_in c.args.told.now.groups) _ (λ n. refl);
       pointers = adds_none (reason_in c.args.told.now.pointers) _ (λ n. refl);
     })
