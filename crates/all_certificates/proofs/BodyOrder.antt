@@ -24,7 +24,7 @@ use Rattle.table_json.specs.Tables.{Rise}
 use Rattle.certificate_json.specs.Certificates.{BodyEntry, by_place, place_of}
 use Rattle.all_certificates.specs.CertifiedBodies.{AreOfBody, InTurn, no_item, item_and, AreOfFiles, no_file, file_and}
 use Rattle.all_certificates.specs.CertifiedPackages.{AreOfPackage}
-use Rattle.all_certificates.proofs.RisingLists.{is_less, is_same, all_below, rise_both}
+use Rattle.plain_tables.proofs.RisingLists.{is_less, is_same, all_below, rise_both}
 
 -- Bodies whose places rise
 

@@ -17,7 +17,7 @@ use Rattle.meaning_reports.specs.Loaded.{LoadedPackage, Tables}
 use Rattle.whole_packages.specs.LoadedViews.{HaveDistinctPaths}
 use Rattle.all_certificates.specs.CertifiedPackages.{AreCertificatesOfAll}
 use Rattle.all_certificates.specs.OrderLaws.{AreAllOfTexts, CertificatesAreInOrder, CertificatesReadBack}
-use Rattle.all_certificates.proofs.FactOrder.{facts_in_order}
+use Rattle.plain_tables.proofs.FactOrder.{facts_in_order}
 use Rattle.all_certificates.proofs.BodyOrder.{bodies_in_order}
 
 -- Lists by their places

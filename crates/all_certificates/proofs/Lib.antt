@@ -4,8 +4,6 @@ mod JoinedEntries
 mod SharedJobs
 mod AllCertified
 mod MadeCertificates
-mod RisingLists
-mod FactOrder
 mod BodyOrder
 pub mod InOrder
 mod EntryOfBody

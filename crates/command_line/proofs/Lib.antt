@@ -1,3 +1,6 @@
 mod AskedBy
 mod Given
+mod OwnWords
+mod VetExamples
+mod VetNumbers
 mod WordsKept

@@ -21,7 +21,12 @@ Examples:
   ctxvet check example.org/pool=./pool
   ctxvet check --cert pool.json example.org/pool=./pool
   ctxvet verify --cert pool.json example.org/pool=./pool
-  ctxvet check --facts facts.json example.org/pool=./pool";
+  ctxvet check --facts facts.json example.org/pool=./pool
+
+As a tool of the go command:
+  go vet -vettool=$(command -v ctxvet) ./...
+with the flags -edition=N, -facts=FILE, -json, -c=N, -tests and -why. A package is judged when those
+that it imports were.";
 
 const CHECK: &str = "Checks packages and prints their report";
 
@@ -74,7 +79,8 @@ const LAST_EDITION: u64 = 2;
 const PACKAGE: &str = "A package's import path, `=`, and the folder of its files: \
 each file there is read that ends in .go and not in _test.go";
 
-const VERSION: &str = "0.1.0";
+/// The version of the program.
+pub const VERSION: &str = "0.1.0";
 
 /// The name of the option for a list, by which it is told that words of packages may be left out.
 const LIST_ID: &str = "packages";

@@ -21,6 +21,8 @@ mod together;
 #[cfg(test)]
 mod transcripts;
 #[cfg(test)]
+mod unit_runs;
+#[cfg(test)]
 mod words;
 #[cfg(test)]
 mod writers;

@@ -24,6 +24,7 @@ fn make(rt: &HostRuntime, folder: &str, name: &str, entry: FolderEntry) -> Resul
     let path = format!(in rt.alloc(); "{folder}/{name}")?;
     match entry {
         FolderEntry::Text(text) => fs::write(rt, path, text)?,
+        FolderEntry::Naming(text) => fs::write(rt, path, text.replace(rt.alloc(), "DIR", folder)?)?,
         FolderEntry::Bytes(bytes) => fs::write(rt, path, bytes)?,
         FolderEntry::Sparse(size) => File::create(rt, path)?.set_len(size)?,
         FolderEntry::Folder => fs::create_dir(rt, path)?,

@@ -45,6 +45,10 @@ impl<R> Surroundings for StandIn<R> {
     fn current_folder(&self, _alloc: Global) -> io::Result<String> {
         self.refuse()
     }
+
+    fn own_file(&self, _alloc: Global) -> io::Result<String> {
+        self.refuse()
+    }
 }
 
 impl<R> Files for StandIn<R> {

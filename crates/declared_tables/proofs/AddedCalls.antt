@@ -128,7 +128,7 @@ is_added f facts facts_after calls calls_after text same is kept is_kept params 
 
 -- Functions one after the other
 
-fact_step : {A B : Type 0} (g : A → B) (known : Option B) (t : Bool) (f : A) (rest : Option A)
+pub fact_step : {A B : Type 0} (g : A → B) (known : Option B) (t : Bool) (f : A) (rest : Option A)
     → or_else (or_else known (if t then Some (g f) else None)) (option_map g rest)
     ≡ or_else known (option_map g (if t then Some f else rest))
 fact_step g (Some b) t f rest = refl

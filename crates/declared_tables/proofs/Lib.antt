@@ -1,3 +1,3 @@
-mod AddedCalls
+pub mod AddedCalls
 mod AddedTables
 mod Givers

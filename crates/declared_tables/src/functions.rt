@@ -16,7 +16,11 @@ use std::alloc::{AllocError, Global};
 use table_json::Parameter;
 
 /// Adds the results at these positions, as cancel functions of that type.
-fn add_results(
+///
+/// # Errors
+///
+/// Memory was refused.
+pub fn add_results(
     gives: &mut Vec<CancelResult>,
     cancel_type: CancelType,
     positions: &[u32],
@@ -52,7 +56,15 @@ fn parameter_of(parameter: Parameter) -> TrackedParameter
     }
 }
 
-fn parameters_of(alloc: Global, params: &[Parameter]) -> Result<Vec<TrackedParameter>, AllocError>
+/// The parameters of a function, without whether it is known to call them.
+///
+/// # Errors
+///
+/// Memory was refused.
+pub fn parameters_of(
+    alloc: Global,
+    params: &[Parameter],
+) -> Result<Vec<TrackedParameter>, AllocError>
     ensures { IfOk result (λ found. map parameter_view found.items ≡ map parameter_of params.now) }
 {
     let mut found = Vec::new(alloc);
@@ -114,7 +126,11 @@ fn add_call<'a>(
 }
 
 /// Adds the parameters of the function of that name that are declared to be called.
-fn add_calls<'a>(
+///
+/// # Errors
+///
+/// Memory was refused.
+pub fn add_calls<'a>(
     name: &'a str,
     params: &[Parameter],
     called: &mut Called<'a>,

@@ -5,4 +5,5 @@
 mod functions;
 mod tables;
 
+pub use functions::{add_calls, add_results, parameters_of};
 pub use tables::{DeclaredTables, PackageTable};

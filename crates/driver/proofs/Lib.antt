@@ -3,3 +3,7 @@ mod FaultsOfCommands
 mod ListedPackages
 mod ReadGiven
 mod WrittenParts
+mod UnitFaults
+mod UnitImports
+mod TakenImports
+mod CallFaults

@@ -1,13 +1,15 @@
 -- What a run of the program has written on standard output when it ends, by its status: the whole text of the report
 -- for which its words ask, and nothing besides; or, where a word asks for help, what the library of the command line
--- writes. After a fault that is nothing, or, where the fault is that of writing, a beginning of that text and nothing
--- besides. The file for certificates is written after the report, so where it can't be, all of the report is written.
-use Rattle.std.specs.Prelude.{◌≡◌, ◌⊎◌, ℕ, Bool, true, false, List, Option}
+-- writes; or what a call of the go command asks for. After a fault that is nothing, or, where the fault is that of
+-- writing, a beginning of that text and nothing besides. The file for certificates is written after the report, so
+-- where it can't be, all of the report is written.
+use Rattle.std.specs.Prelude.{◌≡◌, ◌⊎◌, ℕ, Bool, true, false, List, Option, Some, None}
 use Rattle.std.specs.Io.KnownBytes.{Appends}
 use Rattle.certificate_json.specs.declared.certificates.Certificates.{Certificates}
 use Rattle.load.specs.declared.packages.GivenPackage.{GivenPackage}
 use Rattle.declared_json.specs.DeclaredPackages.{packages_of}
 use Rattle.declared_json.specs.declared.outside.DeclaredPackages.{DeclaredPackages}
+use Rattle.command_line.specs.VetWords.{vet_call, VetCall}
 use Rattle.command_line.specs.Words.{AsksForCertificates, AsksForCheck, AsksForExplanation, AsksForHelp, AsksForVerification}
 use Rattle.command_line.specs.declared.words.CertifyWords.{CertifyWords}
 use Rattle.command_line.specs.declared.words.CheckWords.{CheckWords}
@@ -26,6 +28,7 @@ use Rattle.driver.specs.Packages.{AreReadFor}
 use Rattle.driver.specs.declared.input.FilesRead.{FilesRead}
 use Rattle.driver.specs.Faults.{IsRunFault, LeavesUnwritten}
 use Rattle.driver.specs.Printing.{AppendsFront}
+use Rattle.driver.specs.UnitRuns.{DoesCall, FailsByCall}
 use Rattle.driver.specs.declared.status.Status.{Status}
 use Rattle.driver.specs.declared.status.Status.TheVariants.{Fine, Found, Faulty}
 
@@ -122,17 +125,35 @@ LeavesWhole words fault old new = (name : _)
     → fault ≡ CannotWriteFile name
     → (verdict : Bool) × OfCertify words (IsWritten old new verdict)
 
--- a fault of these words ended the run
-pub record EndsInFault (words : List (List ℕ)) (old new : Option (List ℕ)) : Type 0 where
-  pub fault : Fault
+-- a run with these words, which are no call of the go command, ends with this fault
+pub record Fails (words : List (List ℕ)) (old new : Option (List ℕ)) (fault : Fault) : Type 0 where
   pub is_fault : IsRunFault words fault
   pub unwritten : LeavesUnwritten fault old new
   pub begun : LeavesBegun words fault old new
   pub whole : LeavesWhole words fault old new
 
--- What a run with these words has written where it ends with this status. Which words are wrong the library of the
--- command line says.
+-- What it has written where it ends with this status, and no fault. Which words are wrong the library of the command
+-- line says.
+abbrev pub Does : List (List ℕ) → Status → Option (List ℕ) → Option (List ℕ) → Type 0
+Does words Fine old new = AsksForHelp words ⊎ OfAsked words (IsWritten old new true)
+Does words Found old new = OfAsked words (IsWritten old new false)
+Does words Faulty old new = new ≡ old
+
+-- the same for any words: those with which the go command calls its vet tool are no others
+abbrev pub FailsBy : Option VetCall → List (List ℕ) → Option (List ℕ) → Option (List ℕ) → Fault → Type 0
+FailsBy None words old new fault = Fails words old new fault
+FailsBy (Some call) words old new fault = FailsByCall call old new fault
+
+abbrev pub DoesBy : Option VetCall → List (List ℕ) → Status → Option (List ℕ) → Option (List ℕ) → Type 0
+DoesBy None words status old new = Does words status old new
+DoesBy (Some call) words status old new = DoesCall call status old new
+
+-- a fault of these words ended the run
+pub record EndsInFault (words : List (List ℕ)) (status : Status) (old new : Option (List ℕ)) : Type 0 where
+  pub is_status : status ≡ Faulty
+  pub fault : Fault
+  pub fails : FailsBy (vet_call words) words old new fault
+
+-- what a run with these words has written where it ends with this status
 abbrev pub EndsWith : List (List ℕ) → Status → Option (List ℕ) → Option (List ℕ) → Type 0
-EndsWith words Fine old new = AsksForHelp words ⊎ OfAsked words (IsWritten old new true)
-EndsWith words Found old new = OfAsked words (IsWritten old new false)
-EndsWith words Faulty old new = (new ≡ old) ⊎ EndsInFault words old new
+EndsWith words status old new = DoesBy (vet_call words) words status old new ⊎ EndsInFault words status old new

@@ -35,7 +35,7 @@ pub struct Input<'a> {
 }
 
 /// The edition by which packages are judged: the one that is asked for, or else this one.
-fn edition_or(usual: Edition, asked: Option<Edition>) -> Edition
+pub fn edition_or(usual: Edition, asked: Option<Edition>) -> Edition
     ensures { result ≡ edition_or usual asked }
 {
     match asked {

@@ -5,6 +5,7 @@
 mod certificate_input;
 mod certify;
 mod check;
+mod digests;
 mod explain;
 mod facts_input;
 mod input;
@@ -16,7 +17,13 @@ mod printing;
 mod program;
 mod reports;
 mod status;
+mod unit_file;
+mod unit_input;
+mod unit_laws;
+mod unit_report;
 mod verify;
+mod vet;
+mod vetx_input;
 mod writers;
 
 pub use folders::{Fault, Surroundings, words_fault};
@@ -24,3 +31,4 @@ pub use judge::{Counts, Format, Report};
 pub use load::{GivenPackage, Leave, ToTheEnd};
 pub use program::{refuse, run, run_leaving};
 pub use reports::report_of;
+pub use unit_laws::kept_files_read_back;

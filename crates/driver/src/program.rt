@@ -1,10 +1,11 @@
 //! The whole program, over two writers.
 
 ghost use Rattle.std.specs.Prelude.{◌≡◌, IfErr, IfOk, map};
+ghost use Rattle.command_line.specs.VetWords.{vet_call};
 ghost use Rattle.driver.specs.Faults.{IsRunFault, LeavesUnwritten};
 ghost use Rattle.driver.specs.Printing.{refused_by};
 ghost use Rattle.driver.specs.Statuses.{status_code};
-ghost use Rattle.driver.specs.WrittenReport.{EndsWith, LeavesBegun, LeavesWhole};
+ghost use Rattle.driver.specs.WrittenReport.{Does, DoesBy, EndsWith, FailsBy, LeavesBegun, LeavesWhole};
 
 use crate::certify::certify;
 use crate::check::check;
@@ -13,8 +14,9 @@ use crate::notes::PROGRAM;
 use crate::printing::print;
 use crate::status::Status;
 use crate::verify::verify;
+use crate::vet::vet;
 use crate::writers::Refusals;
-use command_line::{Asked, read_words};
+use command_line::{Asked, read_words, vet_words};
 use folders::{Fault, Surroundings, fail};
 use load::{Leave, LetGo};
 use std::convert::AsStr;
@@ -25,8 +27,9 @@ use std::thread::Threads;
 
 /// Runs the program with the words after its name: prints its report or help on `out` and its fault on `err`, and
 /// returns its status. 0: each package is yes, or help or the version was asked for. 1: some package is no. 2: a fault,
-/// which is the first one. What a yes says, and in which runs, `judge::report_of` tells: where a file of facts is
-/// named, in those in which what it declares is true.
+/// which is the first one. Words with which the go command calls its vet tool are answered as it wants. What a yes
+/// says, and in which runs, `judge::report_of` tells: where a file of facts is named, in those in which what it
+/// declares is true.
 pub fn run<
     R: Files + Surroundings + AllocGlobal + Threads + Wait + Sync,
     S: AsStr,
@@ -65,7 +68,8 @@ pub fn refuse<E: Write>(err: &mut E, fault: &Fault) -> u8
     fail(err, PROGRAM, fault)
 }
 
-/// Does what the words ask for. A write on `out` was refused just where the fault is that of writing.
+/// Does what the words ask for, be they those of the go command. A write on `out` was refused just where the fault is
+/// that of writing.
 fn answer<
     R: Files + Surroundings + AllocGlobal + Threads + Wait + Sync,
     S: AsStr,
@@ -73,8 +77,28 @@ fn answer<
     E: Write,
     L: Leave,
 >(rt: &R, words: &[S], out: &mut W, err: &mut E, refusals: &mut Refusals) -> Result<Status, Fault>
+    ensures done { IfOk result (λ status. DoesBy (vet_call (map S.text words.now)) (map S.text words.now) status
+        (W.contents out.old) (W.contents out.new)) }
+    ensures fails { IfErr result (FailsBy (vet_call (map S.text words.now)) (map S.text words.now)
+        (W.contents out.old) (W.contents out.new)) }
+    ensures refused { refusals.new.any ≡ refused_by refusals.old.any result }
+{
+    match vet_words(words) {
+        Some(asked) => vet::<R, W, E, L>(rt, &asked, out, err, refusals),
+        None => answer_words::<R, S, W, E, L>(rt, words, out, err, refusals),
+    }
+}
+
+/// Does what the words ask for, which are no call of the go command.
+fn answer_words<
+    R: Files + Surroundings + AllocGlobal + Threads + Wait + Sync,
+    S: AsStr,
+    W: Write,
+    E: Write,
+    L: Leave,
+>(rt: &R, words: &[S], out: &mut W, err: &mut E, refusals: &mut Refusals) -> Result<Status, Fault>
     ensures written { IfOk result (λ status.
-        EndsWith (map S.text words.now) status (W.contents out.old) (W.contents out.new)) }
+        Does (map S.text words.now) status (W.contents out.old) (W.contents out.new)) }
     ensures fault { IfErr result (IsRunFault (map S.text words.now)) }
     ensures unwritten { IfErr result (λ fault. LeavesUnwritten fault (W.contents out.old) (W.contents out.new)) }
     ensures begun { IfErr result (λ fault.

@@ -20,7 +20,7 @@ use std::sync::Wait;
 use std::thread::Threads;
 
 /// Why packages are not loaded, as the program tells it.
-fn fault_of_load(fault: LoadFault) -> Fault
+pub(crate) fn fault_of_load(fault: LoadFault) -> Fault
     ensures { result ≡ fault_of_load fault }
 {
     match fault {

@@ -4,6 +4,8 @@
 #[derive(Clone, Copy)]
 pub enum FolderEntry {
     Text(&'static str),
+    /// A text in which `DIR` stands for the folder.
+    Naming(&'static str),
     Bytes(&'static [u8]),
     /// So many NUL bytes, which take no room on the disk.
     Sparse(u64),

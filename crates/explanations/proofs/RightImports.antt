@@ -6,6 +6,7 @@ use Rattle.std.proofs.lemmas.List.{length-map}
 use Rattle.std.proofs.lemmas.Option.{slice_get-map, slice_get_within}
 use Rattle.all_packages.specs.Progress.{imports_at}
 use Rattle.all_packages.specs.Reports.{AreReports}
+use Rattle.declared_tables.specs.DeclaredTables.{table_view as kept_view}
 use Rattle.explanations.specs.Right.{AreJudgedBy}
 use Rattle.imports.proofs.GivenImports.{table_imports, imports_table}
 use Rattle.imports.proofs.Membership.{made_of, makes}
@@ -14,9 +15,12 @@ use Rattle.meaning_reports.proofs.ImportsOf.{given_in_lists}
 use Rattle.meaning_reports.specs.Loaded.{LoadedPackage, Tables, import_list}
 use Rattle.one_package.proofs.FirstJudged.{found_at, is_found}
 use Rattle.one_package.proofs.ImportedTables.{tables_so}
+use Rattle.one_package.proofs.NearGiven.{near_given}
+use Rattle.one_package.proofs.ToldImports.{is_told, judged_are_told, was_judged}
 use Rattle.one_package.specs.Given.{TellsGiven}
 use Rattle.one_package.specs.Judgments.{said_view, table_view}
-use Rattle.one_package.specs.Results.{judged_at, AllMarked, HaveTheirTables}
+use Rattle.one_package.specs.Neighbours.{nearby_in}
+use Rattle.one_package.specs.Results.{judged_at, told_by, AllMarked, AreTold, HaveTheirTables, KeptTold}
 use Rattle.one_package.specs.declared.given.Given.{Given}
 use Rattle.one_package.specs.declared.judged.Judged.{Judged}
 use Rattle.path_faults.proofs.Places.{element_at}
@@ -51,7 +55,7 @@ module _ (declared : Tables) (ps : List LoadedPackage) (tables : Tables) (judged
         is_path = (right.each row.0 q.0 j q.1 row.2).is_path;
       }
 
-  pub are_marked : AllMarked js
+  are_marked : AllMarked js
   are_marked j h = let w = was_there j h in right.are_marked w.place j w.is_judged
 
   judged_there : (k : ℕ) (q : LoadedPackage) → slice_get ps k ≡ Some q → (j : Judged) × (slice_get judged k ≡ Some j)
@@ -68,6 +72,15 @@ module _ (declared : Tables) (ps : List LoadedPackage) (tables : Tables) (judged
       is_found js j.0 (makes (slice_get judged) (imports_at ps i) k j.0 (imports_table (import_list ps) i k im) j.1)
       q.path (right.each k q j.0 is j.1).is_path
 
+  pub are_told : AreTold ps i (told_by js)
+  are_told = judged_are_told ps i js (record {
+    of_imports = λ j h.
+        let w = was_there j h in
+        record { place = w.place; imported = w.found; is_there = w.is_there; imports = w.imports; is_path = w.is_path };
+    are_all = λ k q im is rank. in_row k q im is;
+    are_marked = are_marked;
+  })
+
   module _ (distinct : HaveDistinctPaths ps) (p : LoadedPackage) (is_p : slice_get ps i ≡ Some p) (given : Given)
       (tells : TellsGiven declared ps given) where
     own_table : (k : ℕ) (q : LoadedPackage) (j : Judged) → Imports (import_list ps) i k → slice_get ps k ≡ Some q
@@ -79,14 +92,15 @@ module _ (declared : Tables) (ps : List LoadedPackage) (tables : Tables) (judged
         let same : t.place ≡ k = distinct.same t.place k t.found q t.is_there is (sym t.is_path ∙ w.1) in
         sym (right.each k q j is (ap (slice_get judged) (sym same) ∙ t.is_judged)).is_table
 
-    pub have_tables : HaveTheirTables given p tables js
+    pub have_tables : HaveTheirTables (nearby_in given) p tables (told_by js)
     have_tables =
-        tables_so ps i p is_p given declared tells js tables
-        (λ j h.
-        let w = was_there j h in
-        record { place = w.place; imported = w.found; is_there = w.is_there; imports = w.imports; is_path = w.is_path })
-        own_table
-        (λ k q im is none. absurd (false≢true (sym (ap is_some none) ∙ in_row k q im is)))
+        tables_so ps i p is_p (nearby_in given) declared (near_given declared ps given tells p) (told_by js) tables
+        are_told.of_imports
+        (λ k q one im is told.
+        let w = was_judged (judged_at js q.path) one told in
+        own_table k q w.0 im is w.1 ∙ ap (λ (kept : KeptTold). kept_view kept.table) w.2)
+        (λ k q im is none.
+        absurd (false≢true (sym (ap is_some none) ∙ is_told (judged_at js q.path) (in_row k q im is))))
         (λ path none. right.are_tables.of_others path none)
 
 -- What is said right of all packages is right by the tables of the report.

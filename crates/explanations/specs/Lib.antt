@@ -2,6 +2,7 @@
 pub mod Plain
 pub mod Explained
 pub mod Uses
+pub mod Units
 -- What serves the proofs: what is found on the way.
 pub mod Found
 pub mod KeptUses

@@ -61,6 +61,28 @@ fn reasons_around<'a>(
     told_reasons(alloc, telling, diagnostics)
 }
 
+/// By what these diagnostics of a package that was judged by itself are explained, where this is known around it.
+///
+/// # Errors
+///
+/// Memory was refused.
+pub fn unit_reasons<'a>(
+    alloc: Global,
+    loaded: &'a LoadedPackage,
+    around: Around<'_, 'a>,
+    diagnostics: &[Diagnostic<'a>],
+) -> Result<Reasons<'a>, AllocError>
+    ensures { IfOk result (λ reasons. (ps : List MeantPackage) (tables : Tables) (i : ℕ) (p : MeantPackage)
+        → slice_get ps i ≡ Some p → TellsPackage p loaded.now → TellsAround ps tables p around.entry
+        → HasNoWholeFault ps i
+        → ArePackageReasons ps tables i p diagnostics.now reasons) }
+{
+    if !asks_for_files(diagnostics) {
+        return Ok(no_reasons(alloc));
+    }
+    reasons_around(alloc, loaded, around, diagnostics)
+}
+
 /// By what these diagnostics of the package at that place are explained.
 ///
 /// # Errors

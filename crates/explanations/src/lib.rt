@@ -4,6 +4,7 @@
 
 mod asked;
 mod copies;
+mod explained;
 mod found;
 mod known;
 mod notes;
@@ -12,6 +13,8 @@ mod pointers;
 mod told_reasons;
 mod told_uses;
 mod told_ways;
+mod units;
 mod way_of;
 
 pub use packages::explain;
+pub use units::explain_unit;

@@ -17,6 +17,7 @@ use one_package::{Given, Judged};
 use report::{Diagnostic, DiagnosticCode, PackageReport};
 use report_formats::{ExplainedDiagnostic, Note};
 use std::alloc::{AllocError, Global};
+use whole_packages::LoadedPackage;
 
 /// All packages with what was judged of them, place by place.
 #[derive(Clone, Copy)]
@@ -47,11 +48,30 @@ pub struct Reasons<'a> {
     pub uses: Vec<FileUses<'a>>,
 }
 
+/// Where the other part of a finding is looked for.
+#[derive(Clone, Copy)]
+pub struct Elsewhere<'k, 'a> {
+    /// The package itself.
+    pub loaded: Option<&'a LoadedPackage>,
+    /// All packages with what was judged of them, if that is known: of those that a package imports which is judged by
+    /// itself no finding is.
+    pub all: Option<AllJudged<'k, 'a>>,
+}
+
+impl<'k, 'a> Elsewhere<'k, 'a> {
+    /// The report of the first package of that path, if it is known.
+    fn report_of(self, path: &str) -> Option<&'k PackageReport<'a>> {
+        match self.all {
+            Some(all) => all.report_of(path),
+            None => None,
+        }
+    }
+}
+
 /// A package whose diagnostics are explained.
 #[derive(Drop)]
 pub struct Explaining<'k, 'a> {
-    pub all: AllJudged<'k, 'a>,
-    pub place: usize,
+    pub elsewhere: Elsewhere<'k, 'a>,
     pub sources: &'a [Source],
     pub reasons: Reasons<'a>,
 }
@@ -70,7 +90,7 @@ fn one_or_none<'a>(alloc: Global, note: Option<Note<'a>>) -> Result<Vec<Note<'a>
 impl<'a> Explaining<'_, 'a> {
     /// The first finding of the import that is not yes.
     fn of_import(&self, path: &str) -> Option<Note<'a>> {
-        match self.all.report_of(path) {
+        match self.elsewhere.report_of(path) {
             Some(report) => first_finding(report),
             None => None,
         }
@@ -78,7 +98,7 @@ impl<'a> Explaining<'_, 'a> {
 
     /// How the ring goes on from the import that has no rank.
     fn of_ring(&self, path: &str) -> Option<Note<'a>> {
-        match self.all.report_of(path) {
+        match self.elsewhere.report_of(path) {
             Some(report) => on_the_ring(report),
             None => None,
         }
@@ -86,7 +106,7 @@ impl<'a> Explaining<'_, 'a> {
 
     /// The first function of that name.
     fn of_function(&self, alloc: Global, name: &str) -> Result<Option<Note<'a>>, AllocError> {
-        match self.all.given.packages.get(self.place) {
+        match self.elsewhere.loaded {
             Some(loaded) => first_of_name(alloc, loaded, name),
             None => Ok(None),
         }

@@ -1,12 +1,11 @@
 //! All packages, one after another.
 
-ghost use Rattle.std.specs.Prelude.{◌≡◌, ℕ, IfOk, List, Some, map, slice_get};
+ghost use Rattle.std.specs.Prelude.{◌≡◌, IfOk, List, Some, map, slice_get};
 ghost use Rattle.all_packages.specs.Reports.{AreReports};
 ghost use Rattle.declared_json.specs.DeclaredPackages.{packages_of};
 ghost use Rattle.declared_tables.specs.DeclaredTables.{declared_tables};
 ghost use Rattle.explanations.specs.Explained.{AreExplained, HaveTheirNotes};
 ghost use Rattle.explanations.specs.Plain.{judged_view, plain_view, report_view};
-ghost use Rattle.report_formats.specs.ExplainedText.{plain_of};
 ghost use Rattle.explanations.specs.Right.{AreJudgedBy};
 ghost use Rattle.meaning_reports.specs.Loaded.{LoadedPackage as MeantPackage, Tables};
 ghost use Rattle.meaning_reports.specs.PackageReports.{AreFindingsBy, by_paths};
@@ -14,39 +13,15 @@ ghost use Rattle.one_package.specs.Given.{TellsGiven};
 ghost use Rattle.report.specs.Entries.{entry_of};
 ghost use Rattle.whole_packages.specs.LoadedViews.{HaveDistinctPaths, TellPackages};
 
-use crate::copies::copied;
+use crate::explained::explained_report;
 use crate::found::package_reasons;
-use crate::notes::{AllJudged, Explaining};
+use crate::notes::{AllJudged, Elsewhere};
 use declared_json::DeclaredPackages;
 use one_package::{Judged, given_packages};
 use report::PackageReport;
-use report_formats::{ExplainedDiagnostic, ExplainedPackage};
+use report_formats::ExplainedPackage;
 use std::alloc::{AllocError, Global};
 use whole_packages::LoadedPackage;
-
-/// Each diagnostic of the package at that place, of which this is the report, with its notes.
-fn explained_diagnostics<'a>(
-    alloc: Global,
-    all: AllJudged<'_, 'a>,
-    place: usize,
-    report: &PackageReport<'a>,
-) -> Result<Vec<ExplainedDiagnostic<'a>>, AllocError>
-    ensures plain { IfOk result (λ explained. plain_of explained.items ≡ report.now.diagnostics.items) }
-    ensures notes { IfOk result (λ explained. (declared : Tables) (ps : List MeantPackage) (tables : Tables)
-        (p : MeantPackage) → TellsGiven declared ps all.entry.given.now → HaveDistinctPaths ps
-        → AreJudgedBy declared ps tables all.entry.judged.now → slice_get ps place ≡ Some p
-        → AreFindingsBy (by_paths declared) ps tables place (map entry_of report.now.diagnostics.items)
-        → HaveTheirNotes ps tables place p report.now.sources.now explained.items) }
-{
-    let reasons = package_reasons(alloc, all, place, &report.diagnostics)?;
-    let explaining = Explaining {
-        all,
-        place,
-        sources: report.sources,
-        reasons,
-    };
-    explaining.explained(alloc, &report.diagnostics)
-}
 
 /// The package at that place, of which this is the report, with the notes of each diagnostic.
 fn explained_package<'a>(
@@ -62,14 +37,12 @@ fn explained_package<'a>(
         → AreFindingsBy (by_paths declared) ps tables place (map entry_of report.now.diagnostics.items)
         → HaveTheirNotes ps tables place p explained.sources.now explained.diagnostics.items) }
 {
-    let diagnostics = explained_diagnostics(alloc, all, place, report)?;
-    let keeping = copied(alloc, &report.keeping)?;
-    Ok(ExplainedPackage {
-        path: report.path,
-        sources: report.sources,
-        keeping,
-        diagnostics,
-    })
+    let reasons = package_reasons(alloc, all, place, &report.diagnostics)?;
+    let elsewhere = Elsewhere {
+        loaded: all.given.packages.get(place),
+        all: Some(all),
+    };
+    explained_report(alloc, report, reasons, elsewhere)
 }
 
 /// Each package with the notes of each of its diagnostics, where the packages were judged so, and that is declared of

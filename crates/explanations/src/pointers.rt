@@ -3,7 +3,6 @@
 ghost use Rattle.std.specs.Prelude.{◌≡◌, ◌==◌, IfOk, map, option_map};
 ghost use Rattle.explanations.specs.Found.{shown};
 ghost use Rattle.explanations.specs.Pointers.{finding_note, first_in, first_note, first_spot, is_meant, is_of_ring, ring_note, spot_view};
-ghost use Rattle.report.specs.Entries.{entry_of};
 ghost use Rattle.tree.specs.View.{function_syntax, top_level_syntax};
 ghost use Rattle.whole_packages.specs.LoadedViews.{kept_trees, numbered_view};
 

@@ -1,5 +1,11 @@
+mod BaseNames
+mod Cuts
 mod Fronts
 mod GoFiles
 mod ListedFiles
+mod MadeNames
 mod Members
+mod ModuleLines
+mod PickedNames
+mod UnitExamples
 mod Words

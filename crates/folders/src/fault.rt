@@ -17,7 +17,7 @@ pub enum Fault {
     #[error("wrong words: {0} --help says which there are")]
     WrongWords(&'static str),
     /// The word has no `=`, nothing before or after its first one, or a control code before it; or the path of a listed
-    /// package has a control code. Escaped.
+    /// package or of a unit has a control code. Escaped.
     #[error("bad package: {0}")]
     BadPackage(String),
     /// The folder can't be listed, or the file can't be read, or is none where one of a package should be. Escaped.
@@ -65,6 +65,34 @@ pub enum Fault {
     /// The go command could not load the package of this path, or one below it, and says so in its list. Escaped.
     #[error("package list is incomplete: {0}")]
     ListIncomplete(String),
+    /// The file of a unit is not UTF-8, or no JSON.
+    #[error("unit is not JSON")]
+    UnitNotJson,
+    /// The file of a unit is JSON, but tells of no unit as the go command does.
+    #[error("unit has another shape")]
+    UnitWrongShape,
+    /// The file of this name, which should tell of an imported package, is not UTF-8, or no JSON. Escaped.
+    #[error("vetx is not JSON: {0}")]
+    VetxNotJson(String),
+    /// That file is JSON, but tells of no package in a version that is known. Escaped.
+    #[error("vetx has another shape: {0}")]
+    VetxWrongShape(String),
+    /// That file has a version that is not known. Escaped.
+    #[error("vetx version not known: {0}")]
+    VetxWrongVersion(String),
+    /// That file tells of another package than the one that is imported. Escaped.
+    #[error("vetx of another package: {0}")]
+    VetxOfAnotherPackage(String),
+    /// That file tells of a package that was judged by another edition. Escaped.
+    #[error("vetx of another edition: {0}")]
+    VetxOfAnotherEdition(String),
+    /// That file tells of a package that was judged beside other declared facts. Escaped.
+    #[error("vetx of other facts: {0}")]
+    VetxOfOtherFacts(String),
+    /// A number of a function of the package of this path is not below 2^32: a position, or how many results it has. So
+    /// nothing can be kept of it for those that import it. Escaped.
+    #[error("function too large to be kept: {0}")]
+    FunctionTooLarge(String),
     /// Two packages have this path.
     #[error("two packages of one path: {0}")]
     TwoPackages(String),

@@ -4,16 +4,20 @@
 
 mod fault;
 mod files;
+mod go_modules;
 mod listed;
 mod names;
 mod package;
 mod surroundings;
+mod unit_files;
 mod whole_files;
 
 pub use fault::{Fault, fail, words_fault};
 pub use files::read_folder;
+pub use go_modules::module_above;
 pub use listed::{read_files, shown_name};
 pub use names::{escaped, is_printable, push_escaped};
 pub use package::split_word;
-pub use surroundings::{Surroundings, current_folder, read_file_or_input};
+pub use surroundings::{Surroundings, current_folder, own_file, read_file_or_input};
+pub use unit_files::picked_files;
 pub use whole_files::{ReadFile, UnwrittenFile, WrittenFile, read_file, write_file};

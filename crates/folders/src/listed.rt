@@ -31,7 +31,7 @@ fn behind<'n>(front: &str, name: &'n str) -> Option<&'n str>
 }
 
 /// What stands in the name behind that of the folder and a slash.
-fn inside<'n>(folder: &str, name: &'n str) -> Option<&'n str>
+pub(crate) fn inside<'n>(folder: &str, name: &'n str) -> Option<&'n str>
     ensures { option_map (λ rest. rest.now) result ≡ inside folder.now name.now }
 {
     let inner = behind(folder, name)?;

@@ -5,14 +5,14 @@ ghost use Rattle.folders.specs.ReadFaults.{IsReadFault};
 ghost use Rattle.folders.specs.ReadFiles.{name_read};
 ghost use Rattle.folders.specs.declared.fault.Fault.TheVariants.{OutOfMemory};
 
-use crate::fault::Fault;
+use crate::fault::{self, Fault};
 use crate::whole_files::{ReadFile, read_file, read_stream};
 use std::alloc::Global;
 use std::env;
 use std::io::{self, ErrorKind, Read, Stdin};
 use std::rt::Files;
 
-/// A process: its standard input, and the folder in which it runs.
+/// A process: its standard input, the folder in which it runs, and the file of its program.
 pub trait Surroundings {
     type Input: Read + Drop;
 
@@ -24,6 +24,13 @@ pub trait Surroundings {
     ///
     /// The system doesn't tell it, it is not UTF-8, or memory was refused.
     fn current_folder(&self, alloc: Global) -> io::Result<String>;
+
+    /// The absolute name of the program's own file.
+    ///
+    /// # Errors
+    ///
+    /// The system doesn't tell it, it is not UTF-8, or memory was refused.
+    fn own_file(&self, alloc: Global) -> io::Result<String>;
 }
 
 impl Surroundings for HostRuntime {
@@ -35,6 +42,10 @@ impl Surroundings for HostRuntime {
 
     fn current_folder(&self, _alloc: Global) -> io::Result<String> {
         Ok(env::current_dir(self)?.into_string())
+    }
+
+    fn own_file(&self, _alloc: Global) -> io::Result<String> {
+        Ok(env::current_exe(self)?.into_string())
     }
 }
 
@@ -50,6 +61,23 @@ pub fn current_folder<R: AllocGlobal + Surroundings>(rt: &R) -> Result<Option<St
         Ok(name) => Ok(Some(name)),
         Err(error) if error.kind() == ErrorKind::OutOfMemory => Err(Fault::OutOfMemory),
         Err(_) => Ok(None),
+    }
+}
+
+/// The absolute name of the program's own file.
+///
+/// # Errors
+///
+/// The system doesn't tell it, or memory was refused.
+pub fn own_file<R: AllocGlobal + Surroundings>(rt: &R) -> Result<String, Fault>
+    ensures { IfErr result IsReadFault }
+{
+    match rt.own_file(rt.alloc()) {
+        Ok(name) => Ok(name),
+        Err(error) => {
+            let told = String::from_str(rt.alloc(), "the program's own file")?;
+            Err(fault::reading(&error, told))
+        }
     }
 }
 

@@ -24,6 +24,13 @@ pub struct ReadFile<'a> {
 }
 
 impl<'a> ReadFile<'a> {
+    /// Its name.
+    pub fn name(&self) -> &str
+        ensures { result.now ≡ name_read self.now }
+    {
+        self.name
+    }
+
     /// All its bytes.
     pub fn bytes(&self) -> &[u8]
         ensures { result.now ≡ bytes_read self.now }

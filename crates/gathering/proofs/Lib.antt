@@ -1,2 +1,3 @@
 pub mod Gathered
 pub mod Results
+pub mod Units

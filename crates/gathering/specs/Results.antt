@@ -1,11 +1,13 @@
 -- What a result of one package is: what is said of the package, if this is right by any tables that are right below
 -- it. So a result holds no other one, and it is right beside all others, whoever found it and when. A package without a
 -- rank has a fault of the whole package by any tables, so its result asks nothing of them.
-use Rattle.std.specs.Prelude.{ℕ, ◌≡◌, ◌<◌, true, List, length, Option, Some, is_some, slice_get}
+use Rattle.std.specs.Prelude.{ℕ, ◌≡◌, ◌<◌, ◌↔◌, Bool, true, false, not, List, length, Option, Some, option_map, is_some, slice_get}
 use Rattle.imports.specs.Ranks.{Imports, Chain, HasRank}
-use Rattle.meaning_reports.specs.Loaded.{LoadedPackage, Tables, import_list, no_table}
+use Rattle.meaning.specs.OuterBlocks.{has_any}
+use Rattle.meaning_reports.specs.Loaded.{LoadedPackage, PackageTable, Tables, import_list, no_table}
 use Rattle.meaning_reports.specs.PackageTables.{IsTableBy, AreTablesBy}
-use Rattle.meaning_reports.specs.PackageReports.{Rules, AreFindingsBy, AreFieldsToTell, Said}
+use Rattle.meaning_reports.specs.PackageReports.{Rules, IsFindingBy, AreFindingsBy, AreFieldsToTell, Said}
+use Rattle.report.specs.Entries.{Entry}
 
 -- a chain of imports leads from the package `i` to the package `j`, one import at least
 pub record StandsBelow (ps : List LoadedPackage) (i j : ℕ) : Type 0 where
@@ -61,17 +63,44 @@ AreOfRanked ps results = (i : ℕ) → i < length ps → HasRank (import_list ps
 abbrev pub AreOfAll : List LoadedPackage → Results → Type 0
 AreOfAll ps results = (i : ℕ) → i < length ps → is_some (results i) ≡ true
 
--- By results of what a package imports
+-- By what is told of the packages that a package imports
 
--- what the package of the place `i` imports has the tables that the results say, where these are right by the tables.
--- Nothing is known of imports without a rank, and of packages that were not given what is declared.
-pub record HaveResults (rules : Rules) (ps : List LoadedPackage) (tables : Tables) (i : ℕ) (results : Results)
+-- what those that import a package are told of it: its table, and whether there is nothing to say of it
+pub record Told : Type 0 where
+  pub table : PackageTable
+  pub is_yes : Bool
+
+-- what a result tells
+abbrev pub told_of : Said → Told
+told_of said = record { table = said.table; is_yes = not (has_any said.entries) }
+
+-- what is told of packages by their places, as far as something is
+abbrev pub Tellings : Type 0
+Tellings = ℕ → Option Told
+
+abbrev pub tellings_of : Results → Tellings
+tellings_of results i = option_map told_of (results i)
+
+-- something is to be said of the package
+pub record HasFinding (rules : Rules) (ps : List LoadedPackage) (tables : Tables) (i : ℕ) : Type 0 where
+  pub entry : Entry
+  pub is_finding : IsFindingBy rules ps tables i entry
+
+-- the tables have what is told of the package, and by them something is to be said of it, if it isn't told to be yes
+pub record IsToldBy
+    (rules : Rules) (ps : List LoadedPackage) (tables : Tables) (i : ℕ) (p : LoadedPackage) (told : Told)
     : Type 0 where
-  pub of_results : (j : ℕ) (q : LoadedPackage) (said : Said)
+  pub is_table : tables p.path ≡ told.table
+  pub is_verdict : (told.is_yes ≡ false) ↔ HasFinding rules ps tables i
+
+-- what the package of the place `i` imports is by the tables as it is told. Nothing is known of imports without a rank,
+-- and of packages that were not given what is declared.
+pub record HaveTold (rules : Rules) (ps : List LoadedPackage) (tables : Tables) (i : ℕ) (told : Tellings) : Type 0 where
+  pub of_told : (j : ℕ) (q : LoadedPackage) (one : Told)
       → Imports (import_list ps) i j
       → slice_get ps j ≡ Some q
-      → results j ≡ Some said
-      → (tables q.path ≡ said.table) × IsSaidBy rules ps tables j q said
+      → told j ≡ Some one
+      → IsToldBy rules ps tables j q one
   pub of_unranked : (j : ℕ) (q : LoadedPackage)
       → Imports (import_list ps) i j
       → slice_get ps j ≡ Some q
@@ -79,11 +108,20 @@ pub record HaveResults (rules : Rules) (ps : List LoadedPackage) (tables : Table
       → tables q.path ≡ no_table
   pub of_others : (path : List ℕ) → IsNotGiven ps path → tables path ≡ rules.declared path
 
--- by all such tables it is what is to be said of the package: so it follows from these results
-abbrev pub FollowsFrom : Rules → List LoadedPackage → ℕ → LoadedPackage → Results → Said → Type 0
-FollowsFrom rules ps i p results said = (tables : Tables)
-    → HaveResults rules ps tables i results
+-- by all such tables it is what is to be said of the package: so it follows from what was told
+abbrev pub FollowsFromTold : Rules → List LoadedPackage → ℕ → LoadedPackage → Tellings → Said → Type 0
+FollowsFromTold rules ps i p told said = (tables : Tables)
+    → HaveTold rules ps tables i told
     → IsSaidBy rules ps tables i p said
+
+-- By results of these
+
+abbrev pub HaveResults : Rules → List LoadedPackage → Tables → ℕ → Results → Type 0
+HaveResults rules ps tables i results = HaveTold rules ps tables i (tellings_of results)
+
+-- it follows from what these results tell: their tables, and which of them say nothing
+abbrev pub FollowsFrom : Rules → List LoadedPackage → ℕ → LoadedPackage → Results → Said → Type 0
+FollowsFrom rules ps i p results said = FollowsFromTold rules ps i p (tellings_of results) said
 
 -- Together
 

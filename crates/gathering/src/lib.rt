@@ -2,6 +2,7 @@
 #![tactic(auto)]
 
 ghost use Rattle.gathering.specs.ResultLaws.{OneResult, ResultsAreTheReport, ResultsHaveTables, ResultsSayTheTables, ResultsTellYes, WhatFollowsIsAResult};
+ghost use Rattle.gathering.specs.Units.{UnitsAreTheReport};
 
 /// What is found of a package by results of what it imports is a result: it is right by any tables that are right below
 /// the package.
@@ -32,4 +33,10 @@ pub fn results_are_the_report()
 /// A package has one result at most, where all packages that have a rank were judged.
 pub fn one_result()
     ensures { OneResult }
+{}
+
+/// What units say, each run after those of what its package imports, and told what these tell, is the report of all
+/// packages.
+pub fn units_are_the_report()
+    ensures { UnitsAreTheReport }
 {}

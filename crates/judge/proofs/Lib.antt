@@ -29,3 +29,13 @@ mod WrittenNumbers
 mod AlikePackages
 mod GivenReports
 mod SameMentions
+pub mod UnitImports
+pub mod UnitReports
+pub mod UnitTexts
+pub mod UnitFaults
+pub mod UnitTold
+pub mod UnitNames
+pub mod UnitLaws
+pub mod UnitYes
+mod UnitSilence
+mod OneUnit

@@ -53,7 +53,7 @@ of_texts (e ∷ es) (q ∷ qs) (k ∷ ks) h zero p is =
     (text.0, subst (λ edition. IsTreeOf edition text.0 tree) (sym h.0.is_edition) text.1)
 of_texts (e ∷ es) (q ∷ qs) (k ∷ ks) h (suc i) p is = of_texts es qs ks h.1 i p is
 
-no_entry : (ds : List Diagnostic) → says_nothing ds ≡ true → map entry_of ds ≡ []
+pub no_entry : (ds : List Diagnostic) → says_nothing ds ≡ true → map entry_of ds ≡ []
 no_entry [] e = refl
 no_entry (d ∷ ds) e = let bad : false ≡ true = e in cc
 

@@ -9,7 +9,9 @@ mod explained;
 mod first;
 mod laws;
 mod mentioned;
+mod one_unit;
 mod reports;
+mod units;
 mod verified;
 
 pub use agreement::{
@@ -23,7 +25,12 @@ pub use certified::{CertifiedReport, certified_report_by_workers};
 pub use check_fault::CheckFault;
 pub use explained::{ExplainedReport, explained_report_by_workers};
 pub use first::first_with_causes;
-pub use laws::given_packages_have_one_report;
+pub use laws::{
+    given_packages_have_one_report, quiet_given_units, quiet_units, silent_units_are_yes,
+    unit_runs_are_the_report, yes_units_are_quiet,
+};
+pub use one_unit::{UnitReportFault, report_of_unit};
 pub use report_formats::Format;
 pub use reports::{report_by_workers, report_of};
+pub use units::{ImportedUnit, UnitForm, UnitReport, unit_report_of};
 pub use verified::{VerifyFault, verified_report_of};

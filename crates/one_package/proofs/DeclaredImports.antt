@@ -4,41 +4,41 @@ use Rattle.std.specs.List.{list_any}
 use Rattle.std.proofs.lemmas.List.{drop_more}
 use Rattle.std.proofs.lemmas.Option.{none-some}
 use Rattle.std.proofs.lemmas.Slice.Eq.{bytes_eq-Decides}
-use Rattle.imports.specs.Views.{at_path, text_views}
+use Rattle.imports.specs.Views.{text_views}
 use Rattle.meaning.specs.OuterBlocks.{or_else}
-use Rattle.first_values.specs.ValuesByName.{only_at, value_of}
+use Rattle.first_values.specs.ValuesByName.{only_at}
 use Rattle.names.proofs.Adding.{or_else-none}
 use Rattle.declared_tables.specs.declared.tables.PackageTable.{PackageTable as KeptTable}
-use Rattle.one_package.specs.declared.given.Given.{Given}
+use Rattle.one_package.specs.Neighbours.{Nearby}
 use Rattle.one_package.specs.Results.{declared_among, declared_if, declared_outside}
 
-module _ (given : Given) where
+module _ (near : Nearby) where
   -- a path that a package has
-  pub was_given : (path : List ℕ) → is_some (at_path given.places path) ≡ true → declared_outside given path ≡ None
-  was_given path is = ap (λ b. if b then None else value_of given.declared.packages path) is
+  pub was_given : (path : List ℕ) → is_some (near.places path) ≡ true → declared_outside near path ≡ None
+  was_given path is = ap (λ b. if b then None else near.declared path) is
 
   -- one that none has
-  pub is_outside : (path : List ℕ) → is_some (at_path given.places path) ≡ false
-      → declared_outside given path ≡ value_of given.declared.packages path
-  is_outside path is = ap (λ b. if b then None else value_of given.declared.packages path) is
+  pub is_outside : (path : List ℕ) → is_some (near.places path) ≡ false
+      → declared_outside near path ≡ near.declared path
+  is_outside path is = ap (λ b. if b then None else near.declared path) is
 
-  seen_if : (path : List ℕ) (found : Option KeptTable) → declared_outside given path ≡ found → (other : List ℕ)
-      → declared_if given path other ≡ (if bytes_eq path other then found else None)
+  seen_if : (path : List ℕ) (found : Option KeptTable) → declared_outside near path ≡ found → (other : List ℕ)
+      → declared_if near path other ≡ (if bytes_eq path other then found else None)
   seen_if path found is other = by (bytes_eq path other) refl
     where
       by : (b : Bool) → bytes_eq path other ≡ b
-          → (if b then declared_outside given other else None) ≡ (if b then found else None)
-      by true same = ap (declared_outside given) (sym ((bytes_eq-Decides path other).0 same)) ∙ is
+          → (if b then declared_outside near other else None) ≡ (if b then found else None)
+      by true same = ap (declared_outside near) (sym ((bytes_eq-Decides path other).0 same)) ∙ is
       by false same = refl
 
   -- what is declared of one of these paths is declared
-  pub among_is : (paths : List (List ℕ)) (path : List ℕ) (t : KeptTable) → declared_among given paths path ≡ Some t
-      → value_of given.declared.packages path ≡ Some t
-  among_is paths path t = by (list_any (λ q. bytes_eq q path) paths) (is_some (at_path given.places path))
+  pub among_is : (paths : List (List ℕ)) (path : List ℕ) (t : KeptTable) → declared_among near paths path ≡ Some t
+      → near.declared path ≡ Some t
+  among_is paths path t = by (list_any (λ q. bytes_eq q path) paths) (is_some (near.places path))
     where
       by : (among was : Bool)
-          → (if among then (if was then None else value_of given.declared.packages path) else None) ≡ Some t
-          → value_of given.declared.packages path ≡ Some t
+          → (if among then (if was then None else near.declared path) else None) ≡ Some t
+          → near.declared path ≡ Some t
       by true false e = e
       by true true e = absurd (none-some t e)
       by false was e = absurd (none-some t e)
@@ -46,8 +46,8 @@ module _ (given : Given) where
   module _ {V : Type 0} (f : KeptTable → V) where
     -- One path
 
-    pub adds_nothing : (path : List ℕ) → declared_outside given path ≡ None → (now : Option V) (other : List ℕ)
-        → now ≡ or_else now (option_map f (declared_if given path other))
+    pub adds_nothing : (path : List ℕ) → declared_outside near path ≡ None → (now : Option V) (other : List ℕ)
+        → now ≡ or_else now (option_map f (declared_if near path other))
     adds_nothing path none now other =
         sym (or_else-none now)
         ∙ ap (or_else now) (sym (ap (option_map f) (seen_if path None none other) ∙ nothing (bytes_eq path other)))
@@ -56,9 +56,9 @@ module _ (given : Given) where
         nothing true = refl
         nothing false = refl
 
-    pub adds_it : (path : List ℕ) (table : KeptTable) → declared_outside given path ≡ Some table
+    pub adds_it : (path : List ℕ) (table : KeptTable) → declared_outside near path ≡ Some table
         → (now : Option V) (other : List ℕ)
-        → or_else now (only_at path (f table) other) ≡ or_else now (option_map f (declared_if given path other))
+        → or_else now (only_at path (f table) other) ≡ or_else now (option_map f (declared_if near path other))
     adds_it path table is now other =
         ap (or_else now) (sym (ap (option_map f) (seen_if path (Some table) is other) ∙ seen (bytes_eq path other)))
       where
@@ -83,15 +83,15 @@ module _ (given : Given) where
 
     pub one_more : (paths : List (Bor (List ℕ))) (i : ℕ) (x : Bor (List ℕ)) → i < length paths → x ≡ get_or paths i x
         → (now next whole : List ℕ → Option V)
-        → ((path : List ℕ) → next path ≡ or_else (now path) (option_map f (declared_if given x.now path)))
+        → ((path : List ℕ) → next path ≡ or_else (now path) (option_map f (declared_if near x.now path)))
         → ((path : List ℕ)
-        → or_else (now path) (option_map f (declared_among given (text_views (drop i paths)) path)) ≡ whole path)
+        → or_else (now path) (option_map f (declared_among near (text_views (drop i paths)) path)) ≡ whole path)
         → (path : List ℕ)
-        → or_else (next path) (option_map f (declared_among given (text_views (drop (i + 1) paths)) path)) ≡ whole path
+        → or_else (next path) (option_map f (declared_among near (text_views (drop (i + 1) paths)) path)) ≡ whole path
     one_more paths i x within is now next whole added so_far path =
         let left = text_views (drop (i + 1) paths) in
         let split = drop_more paths i x within ∙ ap (λ y. y ∷ drop (i + 1) paths) (sym is) in
-        ap (λ n. or_else n (option_map f (declared_among given left path))) (added path)
-        ∙ (both (now path) (declared_outside given path) (bytes_eq x.now path) (list_any (λ r. bytes_eq r path) left)
-        ∙ (ap (λ xs. or_else (now path) (option_map f (declared_among given (text_views xs) path))) (sym split)
+        ap (λ n. or_else n (option_map f (declared_among near left path))) (added path)
+        ∙ (both (now path) (declared_outside near path) (bytes_eq x.now path) (list_any (λ r. bytes_eq r path) left)
+        ∙ (ap (λ xs. or_else (now path) (option_map f (declared_among near (text_views xs) path))) (sym split)
         ∙ so_far path))

@@ -1,5 +1,5 @@
--- What is known by the first of several that were judged, of each path.
-use Rattle.std.proofs.Common.{◌≡◌, ℕ, Bool, true, false, if◌then◌else◌, inl, inr, List, [], ◌∷◌, ◌++◌, Contains, Option, Some, None, option_map, is_some, bytes_eq, refl, sym, ap, ◌∙◌, subst}
+-- The first of several that were judged that is of a path.
+use Rattle.std.proofs.Common.{◌≡◌, ℕ, Bool, true, false, if◌then◌else◌, inl, inr, List, [], ◌∷◌, ◌++◌, Contains, Option, Some, None, is_some, bytes_eq, refl, sym, ap, ◌∙◌, subst}
 use Rattle.std.proofs.lemmas.Bool.{false≢true}
 use Rattle.std.proofs.lemmas.Option.{none-some, same_Some}
 use Rattle.std.proofs.lemmas.Slice.Eq.{bytes_eq-Decides}
@@ -8,35 +8,20 @@ use Rattle.meaning.specs.OuterBlocks.{or_else}
 use Rattle.first_values.specs.ValuesByName.{only_at}
 use Rattle.names.proofs.Adding.{or_else-none, or_else-assoc}
 use Rattle.one_package.specs.declared.judged.Judged.{Judged}
-use Rattle.one_package.specs.Results.{given_by, first_at, judged_at}
+use Rattle.one_package.specs.Results.{judged_at}
 
 pub some_from : {A : Type 0} (o : Option A) → is_some o ≡ true → (a : A) × (o ≡ Some a)
 some_from None e = absurd (false≢true e)
 some_from (Some a) e = (a, refl)
 
--- One after the other
-
 -- one more comes after these
-pub first_more : {V : Type 0} (f : Judged → V) (js : List Judged) (j : Judged) (path : List ℕ)
-    → or_else (first_at f js path) (only_at j.report.path.now (f j) path) ≡ first_at f (js ++ j ∷ []) path
-first_more f [] j path = sym (or_else-none (only_at j.report.path.now (f j) path))
-first_more f (k ∷ js) j path =
-    or_else-assoc (given_by f (Some k) path) (first_at f js path) (only_at j.report.path.now (f j) path)
-    ∙ ap (or_else (given_by f (Some k) path)) (first_more f js j path)
-
--- By paths
-
--- what it has is what the first of that path has
-pub first_is : {V : Type 0} (f : Judged → V) (js : List Judged) (path : List ℕ)
-    → first_at f js path ≡ option_map f (judged_at js path)
-first_is f [] path = refl
-first_is f (j ∷ js) path = by (bytes_eq j.report.path.now path) (first_is f js path)
-  where
-    by : (b : Bool) → first_at f js path ≡ option_map f (judged_at js path)
-        → or_else (if b then Some (f j) else None) (first_at f js path)
-        ≡ option_map f (or_else (if b then Some j else None) (judged_at js path))
-    by true rest = refl
-    by false rest = rest
+pub judged_more : (js : List Judged) (j : Judged) (path : List ℕ)
+    → judged_at (js ++ j ∷ []) path ≡ or_else (judged_at js path) (only_at j.report.path.now j path)
+judged_more [] j path = or_else-none (only_at j.report.path.now j path)
+judged_more (k ∷ js) j path =
+    let first = only_at k.report.path.now k path in
+    ap (or_else first) (judged_more js j path)
+    ∙ sym (or_else-assoc first (judged_at js path) (only_at j.report.path.now j path))
 
 -- it is one of them, of that path
 pub found_at : (js : List Judged) (path : List ℕ) (j : Judged) → judged_at js path ≡ Some j

@@ -28,7 +28,8 @@ use Rattle.calls_flags.specs.FilesBodies.{with_credits, with_all_credits}
 use Rattle.calls_flags.specs.ToldFiles.{TellAllSeen}
 use Rattle.calls_flags.specs.Claims.{HaveFacts}
 use Rattle.meaning_reports.specs.DotImports.{dot_entry}
-use Rattle.one_package.specs.Judgments.{HasFinding, ArePicked}
+use Rattle.gathering.specs.Results.{HasFinding}
+use Rattle.one_package.specs.Judgments.{ArePicked}
 use Rattle.one_package.proofs.LeftOutDots.{Says, left_out, left_out_found}
 
 -- The files

@@ -1,25 +1,22 @@
 -- Imports with a dot: those that the program finds are those that are left out.
-use Rattle.std.proofs.Common.{◌≡◌, ◌⊎◌, ℕ, inl, inr, Bool, true, false, ◌||◌, if◌then◌else◌, List, [], ◌∷◌, Contains, Option, Some, None, refl, sym, ap, ◌∙◌, subst, arith}
+use Rattle.std.proofs.Common.{◌≡◌, ◌⊎◌, ℕ, inl, inr, Bool, true, false, ◌||◌, if◌then◌else◌, List, [], ◌∷◌, Contains, Option, Some, None, refl, sym, ap, ◌∙◌, subst}
 use Rattle.std.specs.Prelude.{◌↔◌, slice_get, flat_map}
 use Rattle.std.specs.Str.{bytes_eq}
 use Rattle.std.proofs.lemmas.Bool.{false≢true}
-use Rattle.std.proofs.lemmas.Option.{same_Some, slice_get_within, slice_get_cases}
+use Rattle.std.proofs.lemmas.Option.{same_Some}
 use Rattle.std.proofs.lemmas.Slice.Eq.{bytes_eq-Decides}
 use Rattle.tree.specs.Syntax.{Identifier, ImportSpec}
-use Rattle.imports.specs.Settling.{place_from}
-use Rattle.imports.proofs.GivenImports.{first_there}
 use Rattle.meaning.proofs.Membership.{contains_nil, contains_here}
 use Rattle.meaning.specs.Grammar.{dot_text}
 use Rattle.meaning.specs.OuterBlocks.{is_first_path}
 use Rattle.report.specs.Entries.{Entry}
-use Rattle.meaning_reports.specs.Loaded.{LoadedPackage, NumberedTree, Tables, numbered_trees, imports_of, import_list, imported_tables}
+use Rattle.meaning_reports.specs.Loaded.{LoadedPackage, NumberedTree, Tables, numbered_trees, imported_paths, imports_of, imported_tables}
 use Rattle.meaning_reports.specs.DotImports.{SaysSomething, as_library, by_table, by_fault, IsLeftOut, dot_entry}
-use Rattle.meaning_reports.specs.WholeFaults.{IsWholeFault}
-use Rattle.meaning_reports.proofs.ImportsOf.{gives, given_by, given_in_lists, only_one}
+use Rattle.meaning_reports.proofs.ImportsOf.{gives, given_by, only_one}
 use Rattle.whole_packages.specs.declared.loaded_package.LoadedPackage.{LoadedPackage as KeptPackage}
 use Rattle.whole_packages.specs.WholeEntries.{dot_entries, dot_if, spec_dots, tree_dots}
-use Rattle.whole_packages.proofs.FaultyPackages.{faulty_is}
-use Rattle.one_package.specs.Dots.{is_faulty_at, is_faulty_path, is_faulty_there, says_something}
+use Rattle.whole_packages.proofs.ImportedPaths.{spec_path}
+use Rattle.one_package.specs.Dots.{says_something}
 use Rattle.one_package.specs.Judgments.{KnownAround, Surroundings}
 
 pub either_true : (a b : Bool) → (a || b) ≡ true → (a ≡ true) ⊎ (b ≡ true)
@@ -34,99 +31,41 @@ pub second_true : (a b : Bool) → b ≡ true → (a || b) ≡ true
 second_true true b e = refl
 second_true false b e = e
 
--- it tells of which packages a name says something, by what the package imports
+-- of what the package imports it tells of which packages a name says something
 abbrev pub Says : List LoadedPackage → Tables → LoadedPackage → (List ℕ → Bool) → Type 0
-Says ps tables p says = (path : List ℕ) → (says path ≡ true) ↔ SaysSomething ps (imported_tables p tables) path
+Says ps tables p says = (path : List ℕ) → Contains (imported_paths p) path
+    → (says path ≡ true) ↔ SaysSomething ps (imported_tables p tables) path
 
 -- What is known around a package tells it
 
 module _ (ps : List LoadedPackage) (tables : Tables) (p : LoadedPackage) (around : Surroundings)
-    (known : KnownAround ps tables p around) where
-  meant_at : (n : ℕ) (k : KeptPackage) → slice_get around.packages n ≡ Some k
-      → (q : LoadedPackage) × (slice_get ps n ≡ Some q)
-  meant_at n k is = elim (slice_get_cases ps n).1 [
-    | inl w ↦ (w.0, w.2)
-    | inr past ↦
-        let low = slice_get_within around.packages n k is in
-        let long = known.tell.are_as_many in
-        let out = past.0 in
-        absurd (omega (arith, low, long, out))
-  ]
-
-  kept_at : (n : ℕ) (q : LoadedPackage) → slice_get ps n ≡ Some q
-      → (k : KeptPackage) × (slice_get around.packages n ≡ Some k)
-  kept_at n q is = elim (slice_get_cases around.packages n).1 [
-    | inl w ↦ (w.0, w.2)
-    | inr past ↦
-        let low = slice_get_within ps n q is in
-        let long = known.tell.are_as_many in
-        let out = past.0 in
-        absurd (omega (arith, low, long, out))
-  ]
-
-  -- the given package of that path has a fault as a whole
-  pub record HasFault (path : List ℕ) : Type 0 where
-    pub place : ℕ
-    pub entry : Entry
-    pub is_place : place_from path (import_list ps) 0 ≡ Some place
-    pub is_fault : IsWholeFault ps place entry
-
-  pub fault_at : (path : List ℕ) → is_faulty_path around path ≡ true → HasFault path
-  fault_at path e = at (around.unranked path) refl e
-    where
-      there : (n : ℕ) → around.unranked path ≡ Some n → (o : Option KeptPackage) → slice_get around.packages n ≡ o
-          → is_faulty_there around.unranked around.unranked_marks o ≡ true
-          → HasFault path
-      there n place None none f = absurd (false≢true f)
-      there n place (Some k) is f =
-          let q = meant_at n k is in
-          let w = (faulty_is ps n q.0 q.1 around.unranked around.unranked_marks known.is_order k
-          (known.tell.each n q.0 k q.1 is)).0 f in
-          record {
-            place = n;
-            entry = w.0;
-            is_place = sym (known.is_order.are_places path) ∙ place;
-            is_fault = w.1;
-          }
-
-      at : (o : Option ℕ) → around.unranked path ≡ o → is_faulty_at around o ≡ true → HasFault path
-      at None none f = absurd (false≢true f)
-      at (Some n) place f = there n place (slice_get around.packages n) refl f
-
-  pub faulty_path : (path : List ℕ) (j : ℕ) (x : Entry) → place_from path (import_list ps) 0 ≡ Some j → IsWholeFault ps j x
-      → is_faulty_path around path ≡ true
-  faulty_path path j x place fault =
-      let first = first_there (import_list ps) path j place in
-      let q = given_in_lists ps j first.found first.is_found in
-      let k = kept_at j q.0 q.1 in
-      ap (is_faulty_at around) (known.is_order.are_places path ∙ place)
-      ∙ (ap (is_faulty_there around.unranked around.unranked_marks) k.1
-      ∙ (faulty_is ps j q.0 q.1 around.unranked around.unranked_marks known.is_order k.0
-      (known.tell.each j q.0 k.0 q.1 k.1)).1 (x, fault))
-
-  is_said : (path : List ℕ) → says_something around path ≡ true → SaysSomething ps (imported_tables p tables) path
-  is_said path e =
-      elim (either_true (is_first_path path) (around.told path || is_faulty_path around path) e) [
+    (known : KnownAround ps tables p around) (path : List ℕ) (names : Contains (imported_paths p) path) where
+  is_said : says_something around path ≡ true → SaysSomething ps (imported_tables p tables) path
+  is_said e =
+      elim (either_true (is_first_path path) (around.told path || around.faulty path) e) [
         | inl library ↦ as_library library
         | inr rest ↦
-            elim (either_true (around.told path) (is_faulty_path around path) rest) [
+            elim (either_true (around.told path) (around.faulty path) rest) [
               | inl told ↦ by_table (sym (known.are_told path) ∙ told)
               | inr faulty ↦
-                  let w = fault_at path faulty in
+                  let w = (known.are_faulty path names).0 faulty in
                   by_fault w.place w.entry w.is_place w.is_fault
             ]
       ]
 
-  says_so : (path : List ℕ) → SaysSomething ps (imported_tables p tables) path → says_something around path ≡ true
-  says_so path (as_library library) = first_true (is_first_path path) _ library
-  says_so path (by_table told) =
+  says_so : SaysSomething ps (imported_tables p tables) path → says_something around path ≡ true
+  says_so (as_library library) = first_true (is_first_path path) _ library
+  says_so (by_table told) =
       second_true (is_first_path path) _ (first_true (around.told path) _ (known.are_told path ∙ told))
-  says_so path (by_fault j x place fault) =
-      second_true (is_first_path path) _
-      (second_true (around.told path) _ (faulty_path path j x place fault))
+  says_so (by_fault j x place fault) =
+      let faulty = (known.are_faulty path names).1 (record { place = j; entry = x; is_place = place; is_fault = fault }) in
+      second_true (is_first_path path) _ (second_true (around.told path) _ faulty)
 
-  pub around_says : Says ps tables p (says_something around)
-  around_says path = (is_said path, says_so path)
+pub around_says : (ps : List LoadedPackage) (tables : Tables) (p : LoadedPackage) (around : Surroundings)
+    → KnownAround ps tables p around
+    → Says ps tables p (says_something around)
+around_says ps tables p around known path names =
+    (is_said ps tables p around known path names, says_so ps tables p around known path names)
 
 -- The entries
 
@@ -163,7 +102,7 @@ module _ (ps : List LoadedPackage) (tables : Tables) (i : ℕ) (p : LoadedPackag
           is_spec = is_spec;
           is_its = its;
           is_dot = (bytes_eq-Decides dot.text dot_text).0 e;
-          says_something = (are s.path).0 f;
+          says_something = (are s.path (spec_path p t s is_tree is_spec)).0 f;
         };
         is = only_one _ x g;
       }
@@ -185,7 +124,7 @@ module _ (ps : List LoadedPackage) (tables : Tables) (i : ℕ) (p : LoadedPackag
       let is_tree : Contains (numbered_trees p) out.tree =
       subst (λ (r : LoadedPackage). Contains (numbered_trees r) out.tree) same out.is_tree in
       let speaks : says out.spec.path ≡ true =
-      (are out.spec.path).1
+      (are out.spec.path (spec_path p out.tree out.spec is_tree out.is_spec)).1
       (subst (λ (r : LoadedPackage). SaysSomething ps (imported_tables r tables) out.spec.path) same out.says_something) in
       let named : spec_dots says out.tree.file out.spec ≡ dot_entry file dot ∷ [] =
       ap (dot_entries (says out.spec.path) out.tree.file) out.is_its

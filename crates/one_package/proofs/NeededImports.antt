@@ -1,5 +1,5 @@
 -- Of the imports that are not yes those are picked that the package needs to be.
-use Rattle.std.proofs.Common.{◌≡◌, ℕ, inl, inr, Bool, true, ◌&&◌, List, Some, refl, sym, ap, ◌∙◌, subst}
+use Rattle.std.proofs.Common.{◌≡◌, ℕ, inl, inr, Bool, true, ◌&&◌, List, Contains, Some, refl, sym, ap, ◌∙◌, subst}
 use Rattle.std.specs.Prelude.{◌↔◌, slice_get}
 use Rattle.std.proofs.lemmas.Bool.{and_parts, and_from}
 use Rattle.std.proofs.lemmas.Option.{same_Some}
@@ -10,15 +10,15 @@ use Rattle.calls_flags.specs.HandedOn.{files_hand}
 use Rattle.imports.specs.Ranks.{Package, Imports}
 use Rattle.imports.specs.Settling.{place_from}
 use Rattle.imports.proofs.GivenImports.{there_first}
-use Rattle.meaning_reports.specs.Loaded.{LoadedPackage, Tables, import_list}
+use Rattle.meaning_reports.specs.Loaded.{LoadedPackage, Tables, import_list, imported_paths}
 use Rattle.meaning_reports.proofs.ImportsOf.{list_item, in_lists}
 use Rattle.meaning_reports.specs.PackageReports.{Rules}
 use Rattle.meaning_reports.specs.UsedImports.{IsNeeded, in_first, has_whole_fault, is_used, IsUsed}
 use Rattle.meaning_reports.specs.WholeFaults.{IsWholeFault}
-use Rattle.one_package.specs.Dots.{is_faulty_path}
 use Rattle.one_package.specs.Judgments.{KnownAround, Surroundings, AreNotYes, ArePicked}
 use Rattle.one_package.specs.Needed.{is_needed}
-use Rattle.one_package.proofs.LeftOutDots.{either_true, first_true, second_true, fault_at, faulty_path}
+use Rattle.one_package.proofs.ImportedNames.{import_path}
+use Rattle.one_package.proofs.LeftOutDots.{either_true, first_true, second_true}
 
 -- what is imported has the place of its path
 placed : (ps : List LoadedPackage) (i j : ℕ) (q : LoadedPackage) → Imports (import_list ps) i j → slice_get ps j ≡ Some q
@@ -35,43 +35,43 @@ placed ps i j q im at =
 module _ (ps : List LoadedPackage) (tables : Tables) (i : ℕ) (p : LoadedPackage) (is_p : slice_get ps i ≡ Some p)
     (around : Surroundings) (known : KnownAround ps tables p around) (files : List ToldFile)
     (are_used : (path : List ℕ) → (files_hand path files ≡ true) ↔ IsUsed ps tables i path) where
-  needed_so : (edition : Edition) → p.edition ≡ edition → (j : ℕ) (path : List ℕ)
-      → place_from path (import_list ps) 0 ≡ Some j
-      → is_needed edition around files path ≡ true
-      → IsNeeded ps tables i j path
-  needed_so First is j path place e = in_first is_p is
-  needed_so Second is j path place e = elim (either_true (files_hand path files) (is_faulty_path around path) e) [
-    | inl hands ↦ is_used ((are_used path).0 hands)
-    | inr faulty ↦
-        let w = fault_at ps tables p around known path faulty in
-        has_whole_fault (subst (λ k. IsWholeFault ps k w.entry) (same_Some w.place j (sym w.is_place ∙ place)) w.is_fault)
-  ]
+  module _ (j : ℕ) (path : List ℕ) (place : place_from path (import_list ps) 0 ≡ Some j)
+      (names : Contains (imported_paths p) path) where
+    needed_so : (edition : Edition) → p.edition ≡ edition → is_needed edition around files path ≡ true
+        → IsNeeded ps tables i j path
+    needed_so First is e = in_first is_p is
+    needed_so Second is e = elim (either_true (files_hand path files) (around.faulty path) e) [
+      | inl hands ↦ is_used ((are_used path).0 hands)
+      | inr faulty ↦
+          let w = (known.are_faulty path names).0 faulty in
+          has_whole_fault (subst (λ k. IsWholeFault ps k w.entry) (same_Some w.place j (sym w.is_place ∙ place)) w.is_fault)
+    ]
 
-  so_needed : (edition : Edition) → p.edition ≡ edition → (j : ℕ) (path : List ℕ)
-      → place_from path (import_list ps) 0 ≡ Some j
-      → IsNeeded ps tables i j path
-      → is_needed edition around files path ≡ true
-  so_needed First is j path place needed = refl
-  so_needed Second is j path place (in_first is_its first) =
-      let bad : First ≡ Second = sym first ∙ ap (λ (q : LoadedPackage). q.edition) (same_Some _ p (sym is_its ∙ is_p)) ∙ is in
-      cc
-  so_needed Second is j path place (has_whole_fault {x} fault) =
-      second_true (files_hand path files) _ (faulty_path ps tables p around known path j x place fault)
-  so_needed Second is j path place (is_used used) =
-      first_true (files_hand path files) _ ((are_used path).1 used)
+    so_needed : (edition : Edition) → p.edition ≡ edition → IsNeeded ps tables i j path
+        → is_needed edition around files path ≡ true
+    so_needed First is needed = refl
+    so_needed Second is (in_first is_its first) =
+        let bad : First ≡ Second = sym first ∙ ap (λ (q : LoadedPackage). q.edition) (same_Some _ p (sym is_its ∙ is_p)) ∙ is in
+        cc
+    so_needed Second is (has_whole_fault {x} fault) =
+        second_true (files_hand path files) _
+        ((known.are_faulty path names).1 (record { place = j; entry = x; is_place = place; is_fault = fault }))
+    so_needed Second is (is_used used) =
+        first_true (files_hand path files) _ ((are_used path).1 used)
 
   module _ (rules : Rules) (edition : Edition) (is : p.edition ≡ edition) (not_yes : List ℕ → Bool)
       (are : AreNotYes rules ps tables i not_yes) where
     pub picked_so : ArePicked rules ps tables i (λ path. not_yes path && is_needed edition around files path)
     picked_so = record {
       of_imports = λ j q im at.
-          let place = placed ps i j q im at in (
+          let place = placed ps i j q im at in
+          let names = import_path ps i j p q is_p at im in (
             λ e.
                 let both = and_parts (not_yes q.path) (is_needed edition around files q.path) e in
-                ((are.of_imports j q im at).0 both.0, needed_so edition is j q.path place both.1),
+                ((are.of_imports j q im at).0 both.0, needed_so j q.path place names edition is both.1),
             λ h.
                 and_from (not_yes q.path) (is_needed edition around files q.path) ((are.of_imports j q im at).1 h.0)
-                (so_needed edition is j q.path place h.1),
+                (so_needed j q.path place names edition is h.1),
           );
       are_given = λ path e. are.are_given path (and_parts (not_yes path) (is_needed edition around files path) e).0;
     }

@@ -3,7 +3,7 @@
 use Rattle.std.specs.Prelude.{ℕ, ◌≡◌, List, [], map}
 use Rattle.called_parameters.specs.Called.{is_called}
 use Rattle.certificate_json.specs.Certificates.{BodyEntry, body_of}
-use Rattle.gathering.specs.Results.{AreRightBelow, HaveResults, Results}
+use Rattle.gathering.specs.Results.{AreRightBelow, HaveTold, Results, Tellings, tellings_of}
 use Rattle.meaning_packages.specs.CallsFlags.{Flags}
 use Rattle.meaning_reports.specs.Loaded.{LoadedPackage, Tables}
 use Rattle.meaning_reports.specs.PackageReports.{Rules}
@@ -29,12 +29,18 @@ pub record HasCertificates
   pub of_bodies : HasNoWholeFault ps i → rule ps tables p (is_called judged.table.called) (certificates_in judged)
   pub are_none : (x : Entry) → IsWholeFault ps i x → certificates_in judged ≡ []
 
--- they are so by all tables that have what the results say of the package's imports
+-- they are so by all tables that have what is told of the package's imports
+abbrev pub CertificatesFollowTold
+    : Rules → CertificateRule → List LoadedPackage → ℕ → LoadedPackage → Tellings → Judged → Type 0
+CertificatesFollowTold rules rule ps i p told judged = (tables : Tables)
+    → HaveTold rules ps tables i told
+    → HasCertificates rule ps tables i p judged
+
+-- by results of these
 abbrev pub CertificatesFollow
     : Rules → CertificateRule → List LoadedPackage → ℕ → LoadedPackage → Results → Judged → Type 0
-CertificatesFollow rules rule ps i p results judged = (tables : Tables)
-    → HaveResults rules ps tables i results
-    → HasCertificates rule ps tables i p judged
+CertificatesFollow rules rule ps i p results judged =
+    CertificatesFollowTold rules rule ps i p (tellings_of results) judged
 
 -- they are so by all tables that are right below the package
 abbrev pub AreCertified : Rules → CertificateRule → List LoadedPackage → ℕ → LoadedPackage → Judged → Type 0

@@ -1,5 +1,5 @@
 -- What is known of the given packages before one is judged.
-use Rattle.std.specs.Prelude.{ℕ, ◌≡◌, if◌then◌else◌, List, [], ◌∷◌, map, Option, None, string_bytes}
+use Rattle.std.specs.Prelude.{ℕ, ◌≡◌, ◌↔◌, true, if◌then◌else◌, List, [], ◌∷◌, map, Option, None, string_bytes}
 use Rattle.std.specs.Str.{bytes_eq}
 use Rattle.meaning.specs.OuterBlocks.{or_else}
 use Rattle.tree.specs.View.{file_syntax}
@@ -11,9 +11,10 @@ use Rattle.declared_tables.specs.MarkedGivers.{AllMarkGivers}
 use Rattle.names.specs.Answers.{names_by_path}
 use Rattle.whole_packages.specs.declared.loaded_package.LoadedPackage.{LoadedPackage as KeptPackage}
 use Rattle.whole_packages.specs.LoadedViews.{TellPackages}
-use Rattle.whole_packages.specs.WholeEntries.{TellsOrder}
+use Rattle.whole_packages.specs.WholeEntries.{is_marked, IsUnranked}
 use Rattle.meaning_reports.specs.Loaded.{LoadedPackage, Tables, import_list, name_in, package_names}
 use Rattle.one_package.specs.declared.given.Given.{Given}
+use Rattle.one_package.specs.Judgments.{IsFaulty}
 
 -- what is given is those packages, what is known of them, and what is declared of others
 pub record TellsGiven (declared : Tables) (ps : List LoadedPackage) (given : Given) : Type 0 where
@@ -22,7 +23,10 @@ pub record TellsGiven (declared : Tables) (ps : List LoadedPackage) (given : Giv
   pub are_imports : rows_view given.imports.items ≡ given_imports (import_list ps)
   pub is_ranked : IsOrder (import_list ps) (rank_of given.order) (ranked_of given.order)
   pub are_places : (path : List ℕ) → at_path given.places path ≡ place_from path (import_list ps) 0
-  pub is_order : TellsOrder ps (at_path given.places) given.unranked.items
+  pub are_unranked : (path : List ℕ)
+      → (is_marked (at_path given.places) given.unranked.items path ≡ true) ↔ IsUnranked ps path
+  pub are_faulty : (path : List ℕ)
+      → (is_marked (at_path given.places) given.faulty.items path ≡ true) ↔ IsFaulty ps path
   pub are_names : (path : List ℕ) → names_by_path given.names path ≡ package_names ps path
   pub are_declared : (path : List ℕ) → declared_view given.declared path ≡ declared path
   pub are_marked : AllMarkGivers given.declared

@@ -6,21 +6,23 @@ use Rattle.meaning_packages.specs.CallsFlags.{Flags}
 use Rattle.declared_tables.specs.DeclaredTables.{table_view as kept_view}
 use Rattle.declared_tables.specs.MarkedGivers.{MarksGivers}
 use Rattle.facts.specs.FactViews.{facts_by_path}
+use Rattle.gathering.specs.Results.{HasFinding}
 use Rattle.imports.specs.Ranks.{Imports}
+use Rattle.imports.specs.Settling.{place_from}
 use Rattle.imports.specs.Views.{at_path}
 use Rattle.called_parameters.specs.Called.{flags_by_path}
 use Rattle.whole_packages.specs.declared.loaded_package.LoadedPackage.{LoadedPackage as KeptPackage}
-use Rattle.whole_packages.specs.LoadedViews.{TellPackages}
-use Rattle.whole_packages.specs.WholeEntries.{is_set, TellsOrder}
+use Rattle.whole_packages.specs.WholeEntries.{is_marked, is_set, PicksUnranked}
 use Rattle.first_values.specs.ValuesByName.{value_of}
 use Rattle.names.specs.Answers.{names_by_path}
 use Rattle.report.specs.Entries.{Entry, Precedes, entry_of, texts_of}
 use Rattle.report.specs.declared.diagnostics.Diagnostic.{Diagnostic}
 use Rattle.report.specs.declared.diagnostics.PackageReport.{PackageReport}
-use Rattle.meaning_reports.specs.Loaded.{LoadedPackage, PackageTable, Tables, import_list, package_names, imported_tables, imported_signatures, imported_flags}
+use Rattle.meaning_reports.specs.Loaded.{LoadedPackage, PackageTable, Tables, import_list, imported_paths, package_names, imported_tables, imported_signatures, imported_flags}
 use Rattle.meaning_reports.specs.PackageTables.{IsTableBy, IsEmpty}
 use Rattle.meaning_reports.specs.UsedImports.{IsNeeded}
-use Rattle.meaning_reports.specs.PackageReports.{Rules, Said, IsFindingBy, AreFindingsBy, AreFieldsToTell}
+use Rattle.meaning_reports.specs.WholeFaults.{IsWholeFault}
+use Rattle.meaning_reports.specs.PackageReports.{Rules, Said, AreFindingsBy, AreFieldsToTell}
 use Rattle.silent_files.specs.SilentPackages.{GiveNone}
 use Rattle.files_to_walk.specs.Signs.{is_told, may_give}
 use Rattle.one_package.specs.declared.judged.Around.{Around}
@@ -56,49 +58,55 @@ is_yes report = says_nothing report.diagnostics.items
 
 -- What is known around a package
 
+-- the path is that of a given package that has a fault as a whole
+pub record IsFaulty (ps : List LoadedPackage) (path : List ℕ) : Type 0 where
+  pub place : ℕ
+  pub entry : Entry
+  pub is_place : place_from path (import_list ps) 0 ≡ Some place
+  pub is_fault : IsWholeFault ps place entry
+
+-- of the paths that the package imports those are picked that are of such packages
+abbrev pub PicksFaulty : List LoadedPackage → LoadedPackage → (List ℕ → Bool) → Type 0
+PicksFaulty ps p picked = (path : List ℕ)
+    → Contains (imported_paths p) path
+    → (picked path ≡ true) ↔ IsFaulty ps path
+
 -- what is kept of the packages around one
 pub record Surroundings : Type 0 where
-  pub packages : List KeptPackage
   pub names : List ℕ → Option (List ℕ)
   pub signatures : List ℕ → List ℕ → Option FunctionFacts
   pub calls : List ℕ → Flags
   pub givers : List ℕ → Bool
   pub told : List ℕ → Bool
-  pub unranked : List ℕ → Option ℕ
-  pub unranked_marks : List Bool
+  pub unranked : List ℕ → Bool
+  pub faulty : List ℕ → Bool
 
 -- it is what is known of those around the package
 pub record KnownAround (ps : List LoadedPackage) (tables : Tables) (p : LoadedPackage) (around : Surroundings)
     : Type 0 where
-  pub tell : TellPackages ps around.packages
-  pub are_names : (path : List ℕ) → around.names path ≡ package_names ps path
+  pub are_names : (path : List ℕ) → Contains (imported_paths p) path → around.names path ≡ package_names ps path
   pub are_signatures : (path name : List ℕ) → around.signatures path name ≡ imported_signatures p tables path name
   pub are_calls : (path name : List ℕ) (k : ℕ) → around.calls path name k ≡ imported_flags p tables path name k
   pub are_givers : (path : List ℕ) → around.givers path ≡ false → GiveNone (imported_signatures p tables path)
   pub are_told : (path : List ℕ) → around.told path ≡ (imported_tables p tables path).is_told
-  pub is_order : TellsOrder ps around.unranked around.unranked_marks
+  pub are_unranked : PicksUnranked ps p around.unranked
+  pub are_faulty : PicksFaulty ps p around.faulty
 
 abbrev pub around_view : Around → Surroundings
 around_view around = record {
-  packages = around.packages.now;
   names = names_by_path around.names.now;
   signatures = facts_by_path around.signatures.now;
   calls = flags_by_path around.calls.now;
   givers = may_give around.signs.now;
   told = is_told around.signs.now;
-  unranked = at_path around.unranked.places.now;
-  unranked_marks = around.unranked.marks.now;
+  unranked = is_marked (at_path around.unranked.places.now) around.unranked.marks.now;
+  faulty = is_marked (at_path around.faulty.places.now) around.faulty.marks.now;
 }
 
 abbrev pub TellsAround : List LoadedPackage → Tables → LoadedPackage → Around → Type 0
 TellsAround ps tables p around = KnownAround ps tables p (around_view around)
 
 -- Which of its imports are not yes
-
--- something is to be said of the package
-pub record HasFinding (rules : Rules) (ps : List LoadedPackage) (tables : Tables) (i : ℕ) : Type 0 where
-  pub entry : Entry
-  pub is_finding : IsFindingBy rules ps tables i entry
 
 -- the path is that of a package that the package of the place `i` imports
 pub record IsOfImport (ps : List LoadedPackage) (i : ℕ) (path : List ℕ) : Type 0 where

@@ -3,6 +3,8 @@
 -- `meaning_reports/specs/PackageTables.antt`.
 pub mod Given
 pub mod Judgments
+pub mod Neighbours
+pub mod ToldNeighbours
 pub mod Dots
 pub mod Needed
 pub mod ToldPackages

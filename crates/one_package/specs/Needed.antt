@@ -4,10 +4,9 @@ use Rattle.calls_flags.specs.declared.told_file.ToldFile.{ToldFile}
 use Rattle.calls_flags.specs.HandedOn.{files_hand}
 use Rattle.tree.specs.declared.edition.Edition.{Edition}
 use Rattle.tree.specs.declared.edition.Edition.TheVariants.{First, Second}
-use Rattle.one_package.specs.Dots.{is_faulty_path}
 use Rattle.one_package.specs.Judgments.{Surroundings}
 
 -- it hands something to the package of that path, or that has a fault as a whole
 abbrev pub is_needed : Edition → Surroundings → List ToldFile → List ℕ → Bool
 is_needed First around files path = true
-is_needed Second around files path = files_hand path files || is_faulty_path around path
+is_needed Second around files path = files_hand path files || around.faulty path

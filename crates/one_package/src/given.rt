@@ -10,6 +10,7 @@ ghost use Rattle.whole_packages.specs.LoadedViews.{HaveDistinctPaths, TellPackag
 ghost use Rattle.meaning_reports.specs.Loaded.{LoadedPackage as MeantPackage};
 ghost use Rattle.declared_json.specs.DeclaredPackages.{packages_of};
 
+use crate::faulty::faulty_packages;
 use crate::package_names::names_of_packages;
 use declared_json::DeclaredPackages;
 use declared_tables::DeclaredTables;
@@ -18,7 +19,7 @@ use imports::{ImportList, Order, first_places, order};
 use indexmap::IndexMap;
 use names::PackageNames;
 use std::alloc::{AllocError, Global};
-use whole_packages::{LoadedPackage, import_lists, unranked};
+use whole_packages::{LoadedPackage, Marked, import_lists, unranked};
 
 /// The given packages, and what is known of them before one is judged.
 #[derive(Drop)]
@@ -33,6 +34,8 @@ pub struct Given<'a> {
     pub places: IndexMap<&'a str, usize>,
     /// Which of them have no rank.
     pub unranked: Vec<bool>,
+    /// Which of them have a fault as a whole.
+    pub faulty: Vec<bool>,
     pub names: PackageNames<'a>,
     /// What is declared of packages that are not given.
     pub declared: DeclaredTables<'a>,
@@ -62,6 +65,11 @@ pub fn given_packages<'a>(
     let unranked = unranked(alloc, &order, packages.len())?;
     let names = names_of_packages(alloc, packages)?;
     let imports = given_imports(alloc, &lists)?;
+    let marked = Marked {
+        places: &places,
+        marks: &unranked,
+    };
+    let faulty = faulty_packages(alloc, packages, marked)?;
     let declared = DeclaredTables::of(alloc, outside)?;
     Ok(Given {
         packages,
@@ -70,6 +78,7 @@ pub fn given_packages<'a>(
         order,
         places,
         unranked,
+        faulty,
         names,
         declared,
     })

@@ -34,8 +34,6 @@ use whole_packages::{LoadedPackage, Marked, add_imports, numbered_trees};
 /// What is known of the packages around the one that is judged.
 #[derive(Clone, Copy)]
 pub struct Around<'k, 'a> {
-    /// The given packages.
-    pub packages: &'a [LoadedPackage],
     /// The names of the given packages.
     pub names: &'k PackageNames<'a>,
     /// What the signatures of its imports' functions say.
@@ -46,6 +44,8 @@ pub struct Around<'k, 'a> {
     pub signs: &'k KnownSigns<'a>,
     /// The given packages that have no rank.
     pub unranked: Marked<'k, 'a>,
+    /// Those that have a fault as a whole.
+    pub faulty: Marked<'k, 'a>,
     /// Its imports that are not yes.
     pub not_yes: &'k NotYes<'a>,
 }
@@ -157,7 +157,6 @@ fn find_in_package<'a, R: FileRules, H: Hands>(
     } = by.rules.find(alloc, by.hands, loaded, told, around)?;
     let trees = numbered_trees(alloc, loaded)?;
     let needed = Needed {
-        alloc,
         edition: loaded.edition,
         around,
         files: &told.files,
@@ -168,7 +167,7 @@ fn find_in_package<'a, R: FileRules, H: Hands>(
         &trees,
         &mut diagnostics,
     )?;
-    add_left_out(alloc, around, &trees, &mut diagnostics)?;
+    add_left_out(around, &trees, &mut diagnostics)?;
     Ok(FoundPackage {
         diagnostics,
         called,

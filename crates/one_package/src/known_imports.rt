@@ -8,11 +8,13 @@ ghost use Rattle.first_values.specs.ValuesByName.{only_at};
 ghost use Rattle.imports.specs.Views.{text_views};
 ghost use Rattle.meaning.specs.OuterBlocks.{or_else};
 ghost use Rattle.one_package.specs.Judgments.{is_picked, mark_by_path};
-ghost use Rattle.one_package.specs.Results.{declared_among, declared_if, signs_in, KnowsImports, KnowsJudged};
+ghost use Rattle.one_package.specs.Neighbours.{nearby_view};
+ghost use Rattle.one_package.specs.Results.{declared_among, declared_if, signs_in, told_and, KnowsAll, KnowsImports, KnowsJudged, KnowsTold, ToldImports};
 ghost use Rattle.one_package.specs.declared.judged.Judged.{Judged};
 
 use crate::given::Given;
 use crate::judged::Judged;
+use crate::nearby::Neighbours;
 use crate::verdicts::is_yes;
 use called_parameters::ImportedCalls;
 use declared_tables::PackageTable;
@@ -85,7 +87,7 @@ fn signs_in(table: &PackageTable<'_>) -> Signs
 
 /// Adds what is declared of the package of that path, unless it was given, or something is known of its path.
 fn add_declared<'a, 'k>(
-    given: &'k Given<'a>,
+    near: Neighbours<'k, 'a>,
     path: &'a str,
     signatures: &mut Imported<'a, 'k>,
     calls: &mut ImportedCalls<'a, 'k>,
@@ -93,18 +95,18 @@ fn add_declared<'a, 'k>(
 ) -> Result<(), AllocError>
     ensures signatures { OnOk result ((other : List ℕ) → table_by_path signatures.new other
         ≡ or_else (table_by_path signatures.old other)
-        (option_map (λ t. t.signatures) (declared_if given.now path.now other))) }
+        (option_map (λ t. t.signatures) (declared_if (nearby_view near.entry) path.now other))) }
     ensures calls { OnOk result ((other : List ℕ) → called_by_path calls.new other
         ≡ or_else (called_by_path calls.old other)
-        (option_map (λ t. t.called) (declared_if given.now path.now other))) }
+        (option_map (λ t. t.called) (declared_if (nearby_view near.entry) path.now other))) }
     ensures signs { OnOk result ((other : List ℕ) → signs_by_path signs.new other
         ≡ or_else (signs_by_path signs.old other)
-        (option_map signs_in (declared_if given.now path.now other))) }
+        (option_map signs_in (declared_if (nearby_view near.entry) path.now other))) }
 {
-    if given.places.contains_key(path) {
+    if near.places.contains_key(path) {
         return Ok(());
     }
-    match given.declared.get(path) {
+    match near.declared.get(path) {
         Some(table) => {
             signatures.insert(path, &table.signatures)?;
             calls.insert(path, &table.called)?;
@@ -116,7 +118,7 @@ fn add_declared<'a, 'k>(
 
 /// Adds what is declared of the packages of these paths, as far as they were not given, and nothing is known of them.
 fn add_all_declared<'a, 'k>(
-    given: &'k Given<'a>,
+    near: Neighbours<'k, 'a>,
     paths: &[&'a str],
     signatures: &mut Imported<'a, 'k>,
     calls: &mut ImportedCalls<'a, 'k>,
@@ -124,16 +126,16 @@ fn add_all_declared<'a, 'k>(
 ) -> Result<(), AllocError>
     ensures signatures { OnOk result ((other : List ℕ) → table_by_path signatures.new other
         ≡ or_else (table_by_path signatures.old other)
-        (option_map (λ t. t.signatures) (declared_among given.now (text_views paths.now) other))) }
+        (option_map (λ t. t.signatures) (declared_among (nearby_view near.entry) (text_views paths.now) other))) }
     ensures calls { OnOk result ((other : List ℕ) → called_by_path calls.new other
         ≡ or_else (called_by_path calls.old other)
-        (option_map (λ t. t.called) (declared_among given.now (text_views paths.now) other))) }
+        (option_map (λ t. t.called) (declared_among (nearby_view near.entry) (text_views paths.now) other))) }
     ensures signs { OnOk result ((other : List ℕ) → signs_by_path signs.new other
         ≡ or_else (signs_by_path signs.old other)
-        (option_map signs_in (declared_among given.now (text_views paths.now) other))) }
+        (option_map signs_in (declared_among (nearby_view near.entry) (text_views paths.now) other))) }
 {
     for path in paths {
-        add_declared(given, path, signatures, calls, signs)?;
+        add_declared(near, path, signatures, calls, signs)?;
     }
     Ok(())
 }
@@ -151,6 +153,28 @@ impl<'a, 'k> KnownImports<'a, 'k> {
         }
     }
 
+    /// Adds what is told of the package of that path, unless something is known of it: what is known of its functions,
+    /// and whether it is yes.
+    ///
+    /// # Errors
+    ///
+    /// Memory was refused.
+    pub fn add_told(
+        &mut self,
+        path: &'a str,
+        table: &'k PackageTable<'a>,
+        is_yes: bool,
+    ) -> Result<(), AllocError>
+        ensures { OnOk result ((told : ToldImports) → KnowsTold told self.old
+            → KnowsTold (told_and told path.now record { table = table.now; is_yes = is_yes }) self.new) }
+    {
+        self.signatures.insert(path, &table.signatures)?;
+        self.calls.insert(path, &table.called)?;
+        self.signs.insert(path, signs_in(table))?;
+        self.not_yes.insert(path, !is_yes)?;
+        Ok(())
+    }
+
     /// Adds what is said of a package, unless something is known of its path.
     ///
     /// # Errors
@@ -160,11 +184,31 @@ impl<'a, 'k> KnownImports<'a, 'k> {
         ensures { OnOk result ((js : List Judged) → KnowsJudged js self.old
             → KnowsJudged (js ++ one.now ∷ []) self.new) }
     {
-        let path = one.report.path;
-        self.signatures.insert(path, &one.table.signatures)?;
-        self.calls.insert(path, &one.table.called)?;
-        self.signs.insert(path, signs_in(&one.table))?;
-        self.not_yes.insert(path, !is_yes(&one.report))?;
+        self.add_told(one.report.path, &one.table, is_yes(&one.report))?;
+        Ok(())
+    }
+
+    /// Adds what is declared of the packages of these paths, as far as they were not given, and nothing is known of
+    /// them. It comes after all that is told of packages.
+    ///
+    /// # Errors
+    ///
+    /// Memory was refused.
+    pub fn add_others(
+        &mut self,
+        near: Neighbours<'k, 'a>,
+        paths: &[&'a str],
+    ) -> Result<(), AllocError>
+        ensures { OnOk result ((told : ToldImports) → KnowsTold told self.old
+            → KnowsAll (nearby_view near.entry) (text_views paths.now) told self.new) }
+    {
+        add_all_declared(
+            near,
+            paths,
+            &mut self.signatures,
+            &mut self.calls,
+            &mut self.signs,
+        )?;
         Ok(())
     }
 
@@ -178,12 +222,7 @@ impl<'a, 'k> KnownImports<'a, 'k> {
         ensures { OnOk result ((js : List Judged) → KnowsJudged js self.old
             → KnowsImports given.now (text_views paths.now) js self.new) }
     {
-        add_all_declared(
-            given,
-            paths,
-            &mut self.signatures,
-            &mut self.calls,
-            &mut self.signs,
-        )
+        self.add_others(given.neighbours(), paths)?;
+        Ok(())
     }
 }

@@ -4,17 +4,15 @@ ghost use Rattle.std.specs.Prelude.{◌≡◌, ◌&&◌, IfOk};
 ghost use Rattle.one_package.specs.Judgments.{around_view, is_picked};
 ghost use Rattle.one_package.specs.Needed.{is_needed};
 
-use crate::dots::is_faulty_path;
 use crate::judged::Around;
 use calls_flags::{ToldFile, files_hand};
-use std::alloc::{AllocError, Global};
+use std::alloc::AllocError;
 use tree::Edition;
 use whole_packages::Picks;
 
 /// The imports of a package that are not yes, and that it needs to be.
 #[derive(Clone, Copy)]
 pub struct Needed<'n, 'k, 'a> {
-    pub alloc: Global,
     pub edition: Edition,
     pub around: Around<'k, 'a>,
     /// What was told of its files.
@@ -33,7 +31,7 @@ fn is_needed(needed: &Needed<'_, '_, '_>, path: &str) -> Result<bool, AllocError
             if files_hand(needed.files, path) {
                 return Ok(true);
             }
-            is_faulty_path(needed.alloc, needed.around, path)
+            needed.around.faulty.picks(path)
         }
     }
 }

@@ -36,7 +36,10 @@ given_shared κ p =
               search (sendable, map.the_sync, alloc.the_sync, hasher.the_sync, fold.the_sync),
               (
                 search (sendable, vec.the_sync, alloc.the_sync),
-                (search (sendable, names.the_sync), (search (sendable, tables.the_sync), tt)),
+                (
+                  search (sendable, vec.the_sync, alloc.the_sync),
+                  (search (sendable, names.the_sync), (search (sendable, tables.the_sync), tt)),
+                ),
               ),
             ),
           ),

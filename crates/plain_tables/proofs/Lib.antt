@@ -1,2 +1,4 @@
-mod PlainNames
-mod PlainTables
+pub mod PlainNames
+pub mod PlainTables
+pub mod RisingLists
+pub mod FactOrder

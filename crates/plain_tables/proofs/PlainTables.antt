@@ -10,7 +10,7 @@ use Rattle.plain_tables.specs.Tables.{declared_names, IsPlain, TellsNames}
 use Rattle.plain_tables.proofs.PlainNames.{known_is_declared}
 
 -- what its table says is known of what its trees declare
-known_names : (ps : List LoadedPackage) (tables : Tables) (i : ℕ) (p : LoadedPackage) (table : PackageTable)
+pub known_names : (ps : List LoadedPackage) (tables : Tables) (i : ℕ) (p : LoadedPackage) (table : PackageTable)
     → IsTable ps tables i p table
     → (name : List ℕ)
     → is_some (table.signatures name) ≡ true

@@ -4,4 +4,4 @@
 
 mod tables;
 
-pub use tables::package_table;
+pub use tables::{function_of, names_in_order, package_table};

@@ -58,8 +58,12 @@ fn function_names<'a>(alloc: Global, trees: &'a [File]) -> Result<Vec<&'a str>, 
     Ok(names)
 }
 
-/// The same names in the order of their bytes, each once.
-fn names_in_order<'a>(alloc: Global, trees: &'a [File]) -> Result<Vec<&'a str>, AllocError>
+/// The names of the functions and methods of these files, in the order of their bytes, each once.
+///
+/// # Errors
+///
+/// Memory was refused.
+pub fn names_in_order<'a>(alloc: Global, trees: &'a [File]) -> Result<Vec<&'a str>, AllocError>
     ensures { IfOk result (λ names. AreInOrder (declared_names (map file_syntax trees.now)) (text_views names.items)) }
 {
     let mut names = function_names(alloc, trees)?;
@@ -152,8 +156,13 @@ fn parameters_of(
     Ok(parameters)
 }
 
-/// What a table says of the function of that name.
-fn function_of(
+/// What a table says of the function of that name: its results that are cancel functions, and its parameters that are
+/// tracked. A position that is not below 2^32 is left out.
+///
+/// # Errors
+///
+/// Memory was refused.
+pub fn function_of(
     alloc: Global,
     name: &str,
     facts: &FunctionFacts,

@@ -10,3 +10,6 @@ pub mod SameTexts
 pub mod PlainTexts
 pub mod NoteLines
 pub mod KeepingLines
+pub mod ShownLines
+pub mod UnitPieces
+pub mod UnitExamples

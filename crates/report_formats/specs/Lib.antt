@@ -11,5 +11,7 @@ pub mod ExplainedText
 pub mod ExplainedJson
 pub mod ExplainedSarif
 pub mod PlainReports
+pub mod UnitText
+pub mod UnitJson
 -- What serves the proofs.
 pub mod Pieces

@@ -56,7 +56,7 @@ fn write_lines<S: Sink>(
 }
 
 /// Writes the line of a diagnostic, which stands at this place.
-fn write_line<'a, S: Sink>(
+pub(crate) fn write_line<'a, S: Sink>(
     sources: &'a [Source],
     diagnostic: &'a Diagnostic<'a>,
     place: Place,
@@ -89,7 +89,7 @@ fn write_line<'a, S: Sink>(
     )
 }
 
-fn write_notes<S: Sink>(notes: &[Note], sink: &mut S) -> Result<(), WriteFault>
+pub(crate) fn write_notes<S: Sink>(notes: &[Note], sink: &mut S) -> Result<(), WriteFault>
     ensures taken { IsWritten (flat_map note_line notes.now) (S.taken sink.old) (S.taken sink.new) result }
     ensures refusals { S.refusals sink.new ≡ refusals_after (S.refusals sink.old) result }
 {

@@ -18,7 +18,7 @@ module _ {A : Type 0} (value_of : A → Data) where
   not_deep n each [] = omega arith
   not_deep n each (x ∷ xs) = omega (arith, each x, not_deep n each xs)
 
-parameter-has_float : (p : Parameter) → has_float (parameter_value p) ≡ false
+pub parameter-has_float : (p : Parameter) → has_float (parameter_value p) ≡ false
 parameter-has_float (Cancel at calls) = refl
 parameter-has_float (Cause at calls) = refl
 parameter-has_float (Group at) = refl
@@ -33,7 +33,7 @@ function-has_float f =
 pub table-has_float : (table : List Entry) → has_float (table_value table) ≡ false
 table-has_float table = λ i. none_float function_value function-has_float table i || (false || false)
 
-parameter-depth : (p : Parameter) → depth (parameter_value p) ≤ 1
+pub parameter-depth : (p : Parameter) → depth (parameter_value p) ≤ 1
 parameter-depth (Cancel at calls) = omega arith
 parameter-depth (Cause at calls) = omega arith
 parameter-depth (Group at) = omega arith

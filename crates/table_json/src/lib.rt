@@ -18,10 +18,13 @@ mod written;
 pub use fault::TableFault;
 pub use functions::{FunctionLists, FunctionMembers, Texts};
 pub use order::are_distinct;
-pub use positions::{Positions, if_fits};
+pub use parameters::Truths;
+pub use positions::{Positions, fitting, if_fits};
 pub use read::{from_json, known_version};
 pub use table::{Function, OLDER_VERSION, Parameter, Table, VERSION, Version};
-pub use written::{as_written, function_values, to_json};
+pub use written::{
+    as_written, function_values, parameter_values, position_values, says_something, to_json,
+};
 
 /// A table that is in order, and tells something of each of its functions, is written as it stands.
 pub fn tables_in_order_are_written_as_they_stand()

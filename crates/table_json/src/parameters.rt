@@ -55,6 +55,30 @@ fn read_truth(reader: &mut Reader<'_>, depth: usize) -> Result<Option<bool>, Sto
     }
 }
 
+/// Truth values, one by one.
+#[derive(Clone, Copy, Drop)]
+pub struct Truths;
+
+impl ReadItem for Truths {
+    ghost use Rattle.json_reading.specs.Standing.{Refutes};
+    ghost use Rattle.table_json.specs.MembersRead.{IsTruth};
+
+    type Item = bool;
+
+    ghost is_item = { λ _. IsTruth };
+
+    ghost is_none = { λ _. Refutes IsTruth };
+
+    fn read_item(
+        &self,
+        _: Global,
+        reader: &mut Reader<'_>,
+        depth: usize,
+    ) -> Result<Option<bool>, Stop> {
+        read_truth(reader, depth)
+    }
+}
+
 /// What was read of the members of a parameter.
 #[derive(Clone, Copy, Drop)]
 struct ParameterMembers {

@@ -18,7 +18,7 @@ pub fn if_fits(number: usize) -> Option<u32>
 }
 
 /// The number, if it is one of at most 32 bits.
-pub(crate) fn fitting(number: Option<u64>) -> Option<u32>
+pub fn fitting(number: Option<u64>) -> Option<u32>
     ensures { result ≡ option_and_then if_fits number }
 {
     let number = number?;

@@ -16,7 +16,7 @@ use std::alloc::{AllocError, Global};
 // What is written
 
 /// Whether anything is told of the function but its name.
-fn says_something(function: &Function) -> bool
+pub fn says_something(function: &Function) -> bool
     ensures { result ≡ says_something (entry_of function.now) }
 {
     !(function.gives.is_empty() && function.causes.is_empty() && function.params.is_empty())
@@ -107,7 +107,12 @@ pub fn as_written(alloc: Global, table: &Table) -> Result<Table, AllocError>
 
 // As JSON
 
-fn position_values(alloc: Global, positions: &[u32]) -> Result<Vec<Value>, AllocError>
+/// Positions as JSON, as they stand.
+///
+/// # Errors
+///
+/// Memory was refused.
+pub fn position_values(alloc: Global, positions: &[u32]) -> Result<Vec<Value>, AllocError>
     ensures values { IfOk result (λ values. map view values.items ≡ map whole positions.now) }
     ensures fit { IfOk result (λ values. AllFit itself positions.now) }
 {
@@ -133,7 +138,12 @@ fn parameter_value(alloc: Global, parameter: Parameter) -> Result<Value, AllocEr
     }
 }
 
-fn parameter_values(alloc: Global, parameters: &[Parameter]) -> Result<Vec<Value>, AllocError>
+/// Parameters as JSON, as they stand.
+///
+/// # Errors
+///
+/// Memory was refused.
+pub fn parameter_values(alloc: Global, parameters: &[Parameter]) -> Result<Vec<Value>, AllocError>
     ensures values { IfOk result (λ values. map view values.items ≡ map parameter_value parameters.now) }
     ensures fit { IfOk result (λ values. AllFit position_of parameters.now) }
 {

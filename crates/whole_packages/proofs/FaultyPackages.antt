@@ -11,7 +11,7 @@ use Rattle.meaning_reports.specs.Loaded.{LoadedPackage, trees_from}
 use Rattle.meaning_reports.specs.WholeFaults.{IsWholeFault}
 use Rattle.whole_packages.specs.declared.loaded_package.LoadedPackage.{LoadedPackage as KeptPackage}
 use Rattle.whole_packages.specs.LoadedViews.{TellsPackage}
-use Rattle.whole_packages.specs.WholeEntries.{is_faulty, whole_entries, TellsOrder}
+use Rattle.whole_packages.specs.WholeEntries.{is_faulty, is_marked, whole_entries, PicksUnranked}
 use Rattle.whole_packages.proofs.WholeOf.{made_of, whole_are}
 
 some_of : (xs : List Entry) → has_any xs ≡ true → (y : Entry) × Contains xs y
@@ -34,7 +34,7 @@ pub any_if_not_empty : {A : Type 0} (f : A → Entry) (xs : List A) (size : ℕ)
 any_if_not_empty f xs size is_empty e same = ap not (e ∙ ap (λ n. n == 0) (sym same)) ∙ any_not_empty f xs
 
 module _ (ps : List LoadedPackage) (i : ℕ) (p : LoadedPackage) (is_p : slice_get ps i ≡ Some p)
-    (places : List ℕ → Option ℕ) (marks : List Bool) (told : TellsOrder ps places marks) (k : KeptPackage)
+    (places : List ℕ → Option ℕ) (marks : List Bool) (told : PicksUnranked ps p (is_marked places marks)) (k : KeptPackage)
     (tells : TellsPackage p k) where
   abbrev entries : List Entry
   entries = whole_entries places marks (second_function (map file_syntax k.trees.items)) k

@@ -1,4 +1,5 @@
 pub mod FaultyPackages
+pub mod ImportedPaths
 mod KeptPackages
 mod NumberedTrees
 mod SecondPlaces

@@ -1,9 +1,8 @@
 -- The faults of a package as a whole: those that the program finds are those of the definitions.
 use Rattle.std.proofs.Common.{◌≡◌, ℕ, zero, suc, ◌+◌, ◌≤◌, inl, inr, Bool, true, false, if◌then◌else◌, List, [], ◌∷◌, ◌++◌, length, Contains, Option, Some, None, refl, sym, ap, ◌∙◌, subst, arith}
 use Rattle.std.specs.Prelude.{◌↔◌, slice_get, flat_map, codes}
-use Rattle.std.proofs.lemmas.Bool.{false≢true}
 use Rattle.std.proofs.lemmas.List.Elements.{Contains-append_left, Contains-append_right, Contains-append_cases}
-use Rattle.std.proofs.lemmas.Option.{same_Some, none-some, slice_get_within}
+use Rattle.std.proofs.lemmas.Option.{same_Some, none-some}
 use Rattle.tree.specs.Syntax.{SourceFile, ImportSpec}
 use Rattle.meaning.proofs.Membership.{contains_nil, contains_here, contains_there}
 use Rattle.meaning.specs.TwoFunctions.{FunctionName, second_function}
@@ -13,13 +12,14 @@ use Rattle.report.specs.declared.codes.TreeFault.{TreeFault}
 use Rattle.report.specs.Entries.{Entry}
 use Rattle.imports.specs.Ranks.{Package, HasRank}
 use Rattle.imports.proofs.GivenImports.{FirstAt, first_there, there_first}
-use Rattle.meaning_reports.specs.Loaded.{Reading, has_tree, has_text_fault, has_tree_fault, LoadedPackage, NumberedTree, numbered_trees, trees_of, imports_of, import_list}
+use Rattle.meaning_reports.specs.Loaded.{Reading, has_tree, has_text_fault, has_tree_fault, LoadedPackage, NumberedTree, numbered_trees, trees_of, imported_paths, imports_of, import_list}
 use Rattle.meaning_reports.specs.WholeFaults.{import_entry, IsWholeFault, has_no_tokens, has_no_tree, has_two_functions, has_no_rank}
 use Rattle.whole_packages.specs.declared.loaded_package.Reading.{Reading as KeptReading}
 use Rattle.whole_packages.specs.declared.loaded_package.Reading.TheVariants.{Tree, NoTokens, NoTree}
 use Rattle.whole_packages.specs.LoadedViews.{readings_of}
 use Rattle.meaning_reports.proofs.ImportsOf.{gives, given_by, only_one, import_there, first_import, no_rank_above}
-use Rattle.whole_packages.specs.WholeEntries.{failure, failures_from, second_at, second_entries, is_set_at, is_marked, spec_entries, tree_entries, TellsOrder}
+use Rattle.whole_packages.specs.WholeEntries.{failure, failures_from, second_at, second_entries, is_marked, spec_entries, tree_entries, PicksUnranked}
+use Rattle.whole_packages.proofs.ImportedPaths.{spec_path}
 
 from_start : (k : ℕ) → 0 + k ≡ k
 from_start k = omega arith
@@ -154,29 +154,21 @@ tree_found n (NoTokens b w ∷ rs) ts l (suc k) at why is =
 -- A package
 
 module _ (ps : List LoadedPackage) (i : ℕ) (p : LoadedPackage) (is_p : slice_get ps i ≡ Some p)
-    (places : List ℕ → Option ℕ) (marks : List Bool) (told : TellsOrder ps places marks) where
+    (places : List ℕ → Option ℕ) (marks : List Bool) (told : PicksUnranked ps p (is_marked places marks)) where
   abbrev lists : List Package
   lists = import_list ps
 
   -- the path is that of a given package without a rank
-  pub marked_is : (path : List ℕ) → is_marked places marks path ≡ true
+  marked_is : (path : List ℕ) → Contains (imported_paths p) path → is_marked places marks path ≡ true
       → (j : ℕ) × FirstAt path lists j × (HasRank lists j → ⊥)
-  marked_is path e = by (places path) refl
-    where
-      by : (o : Option ℕ) → places path ≡ o → (j : ℕ) × FirstAt path lists j × (HasRank lists j → ⊥)
-      by None n = absurd (false≢true (sym (ap (λ q. is_set_at q marks) n) ∙ e))
-      by (Some j) s = (
-        j,
-        first_there lists path j (sym (told.are_places path) ∙ s),
-        ((told.are_unranked j).0 (sym (ap (λ q. is_set_at q marks) s) ∙ e)).1,
-      )
+  marked_is path names e =
+      let w = (told path names).0 e in (w.place, first_there lists path w.place w.is_place, w.no_rank)
 
-  pub is_marked_there : (path : List ℕ) (j : ℕ) → FirstAt path lists j → (HasRank lists j → ⊥)
-      → (q : LoadedPackage) → slice_get ps j ≡ Some q
+  is_marked_there : (path : List ℕ) (j : ℕ) → Contains (imported_paths p) path → FirstAt path lists j
+      → (HasRank lists j → ⊥)
       → is_marked places marks path ≡ true
-  is_marked_there path j first none q is =
-      ap (λ o. is_set_at o marks) (told.are_places path ∙ there_first lists path j first)
-      ∙ (told.are_unranked j).1 (slice_get_within ps j q is, none)
+  is_marked_there path j names first none =
+      (told path names).1 (record { place = j; is_place = there_first lists path j first; no_rank = none })
 
   module _ (rs : List KeptReading) (ts : List SourceFile) (are_files : p.files ≡ readings_of rs ts)
       (are_as_many : length p.files ≡ length rs) where
@@ -232,7 +224,7 @@ module _ (ps : List LoadedPackage) (i : ℕ) (p : LoadedPackage) (is_p : slice_g
             → Contains (if b then import_entry t.file s ImportHasNoRank ∷ [] else []) x
             → IsWholeFault ps i x
         by true e g =
-            let j = marked_is s.path e in
+            let j = marked_is s.path (spec_path p t s is_tree is_spec) e in
             let im = import_there ps i p is_p t s j.0 is_tree is_spec j.1 in
             subst (IsWholeFault ps i) (only_one _ x g) (has_no_rank j.0 t.file s (no_rank_above ps i p is_p j.0 im.imports j.2) j.2 im)
         by false e g = absurd (contains_nil x g)
@@ -286,8 +278,9 @@ module _ (ps : List LoadedPackage) (i : ℕ) (p : LoadedPackage) (is_p : slice_g
         (subst (λ o. Contains (second_at o f) x) (sym there_here) (contains_here x [])))
     is_found x (has_no_rank j file s none_above none im) =
         let same = same_Some im.importer p (sym im.is_importer ∙ is_p) in
-        let marked = is_marked_there s.path j (first_import ps i p is_p j file s im) none im.imported im.is_imported in
         let is_tree : Contains (numbered_trees p) im.tree = subst (λ (r : LoadedPackage). Contains (numbered_trees r) im.tree) same im.is_tree in
+        let names = spec_path p im.tree s is_tree im.is_spec in
+        let marked = is_marked_there s.path j names (first_import ps i p is_p j file s im) none in
         last_part x (gives (tree_entries (is_marked places marks) ImportHasNoRank) (numbered_trees p) im.tree x is_tree
         (gives (spec_entries (is_marked places marks) ImportHasNoRank im.tree.file) (imports_of im.tree.tree) s x im.is_spec
         (there im.tree s marked (ap (λ m. import_entry m s ImportHasNoRank) im.is_file))))

@@ -1,5 +1,5 @@
 -- What is to be said of a package as a whole, as the program goes over its files.
-use Rattle.std.specs.Prelude.{ℕ, ◌≡◌, ◌↔◌, ◌<◌, ◌+◌, Bool, true, false, if◌then◌else◌, List, [], ◌∷◌, ◌++◌, flat_map, length, map, Option, Some, None, slice_get, codes}
+use Rattle.std.specs.Prelude.{ℕ, ◌≡◌, ◌↔◌, ◌+◌, Bool, true, false, if◌then◌else◌, List, [], ◌∷◌, ◌++◌, flat_map, map, Contains, Option, Some, None, slice_get, codes}
 use Rattle.std.specs.Str.{bytes_eq}
 use Rattle.tree.specs.Syntax.{Identifier, ImportSpec}
 use Rattle.tree.specs.View.{file_syntax, identifier_syntax}
@@ -11,7 +11,7 @@ use Rattle.report.specs.declared.codes.DiagnosticCode.TheVariants.{Unreadable, L
 use Rattle.report.specs.Entries.{Entry}
 use Rattle.imports.specs.Ranks.{HasRank}
 use Rattle.imports.specs.Settling.{place_from}
-use Rattle.meaning_reports.specs.Loaded.{LoadedPackage, NumberedTree, imports_of, import_list}
+use Rattle.meaning_reports.specs.Loaded.{LoadedPackage, NumberedTree, imported_paths, imports_of, import_list}
 use Rattle.meaning_reports.specs.DotImports.{dot_entry}
 use Rattle.meaning_reports.specs.WholeFaults.{import_entry}
 use Rattle.whole_packages.specs.declared.loaded_package.Reading.{Reading as KeptReading}
@@ -98,8 +98,14 @@ is_faulty places marks k = has_any (whole_entries places marks (second_function 
 
 -- Ranks
 
--- the places are those of the given packages, and exactly those are marked that have no rank
-pub record TellsOrder (ps : List LoadedPackage) (places : List ℕ → Option ℕ) (marks : List Bool) : Type 0 where
-  pub are_places : (path : List ℕ) → places path ≡ place_from path (import_list ps) 0
-  pub are_unranked : (j : ℕ)
-      → (is_set (slice_get marks j) ≡ true) ↔ ((j < length ps) × (HasRank (import_list ps) j → ⊥))
+-- the path is that of a given package that has no rank
+pub record IsUnranked (ps : List LoadedPackage) (path : List ℕ) : Type 0 where
+  pub place : ℕ
+  pub is_place : place_from path (import_list ps) 0 ≡ Some place
+  pub no_rank : HasRank (import_list ps) place → ⊥
+
+-- of the paths that the package imports those are picked that are of such packages
+abbrev pub PicksUnranked : List LoadedPackage → LoadedPackage → (List ℕ → Bool) → Type 0
+PicksUnranked ps p picked = (path : List ℕ)
+    → Contains (imported_paths p) path
+    → (picked path ≡ true) ↔ IsUnranked ps path

@@ -3,7 +3,7 @@
 ghost use Rattle.std.specs.Prelude.{◌≡◌, ◌↔◌, ◌++◌, ◌<◌, ℕ, List, IfOk, OnOk, Contains, None, Some, true, length, map, option_map, slice_get};
 ghost use Rattle.imports.specs.Views.{at_path, rank_of};
 ghost use Rattle.whole_packages.specs.LoadedViews.{numbered_view, TellsPackage};
-ghost use Rattle.whole_packages.specs.WholeEntries.{is_faulty, is_set, second_at, second_entries, second_view, whole_entries, TellsOrder};
+ghost use Rattle.whole_packages.specs.WholeEntries.{is_faulty, is_marked, is_set, second_at, second_entries, second_view, whole_entries, PicksUnranked};
 ghost use Rattle.meaning.specs.TwoFunctions.{second_function};
 ghost use Rattle.report.specs.Entries.{Entry, entry_of};
 ghost use Rattle.tree.specs.View.{file_syntax};
@@ -99,7 +99,7 @@ pub fn whole_faults<'a>(
     ensures faults { IfOk result (λ faults. (ps : List MeantPackage) (i : ℕ) (p : MeantPackage)
         → slice_get ps i ≡ Some p → TellsPackage p loaded.now
         → option_map second_view second.entry ≡ second_function (trees_of p)
-        → TellsOrder ps (at_path unranked.entry.places.now) unranked.entry.marks.now
+        → PicksUnranked ps p (is_marked (at_path unranked.entry.places.now) unranked.entry.marks.now)
         → (x : Entry) → Contains (map entry_of faults.items) x ↔ IsWholeFault ps i x) }
 {
     let trees = numbered_trees(alloc, loaded)?;

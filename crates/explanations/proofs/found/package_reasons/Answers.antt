@@ -5,9 +5,9 @@ use Rattle.std.proofs.lemmas.Result.{IfOk-weaker}
 use Rattle.all_packages.proofs.FoundPackages.{imports_so, list_so}
 use Rattle.all_packages.specs.Progress.{imports_at}
 use Rattle.explanations.proofs.GivenPlaces.{package_there, list_there, row_there}
-use Rattle.explanations.proofs.RightImports.{are_marked, have_tables}
+use Rattle.explanations.proofs.RightImports.{are_told, have_tables}
 use Rattle.imports.specs.Views.{text_views}
-use Rattle.one_package.specs.Results.{KnowsImports}
+use Rattle.one_package.specs.Results.{told_by, KnowsImports}
 use Rattle.explanations.proofs.found.package_reasons.Goals as goal
 use Rattle.explanations.proofs.found.package_reasons.Goals.{in_default-via-in-Some+in-Some+in_default, in_default-via-in-Some+in_default, in_default-via-in_default}
 
@@ -40,9 +40,9 @@ returns c =
     (subst (λ places. KnowsImports own (text_views c.deref-3.result.now) (filter_map (slice_get judged) places)
     c.in_ok-imports.imports) same c.in_ok-imports.ensures) in
     so ps tables place p is_p (given.tell.each place p loaded is_p is)
-    (c.around.ensures.known declared ps tables p js given knows
+    (c.around.ensures.known declared ps tables p (told_by js) given knows
     (have_tables declared ps tables judged right place distinct p is_p own given)
-    (are_marked declared ps tables judged right place))
+    (are_told declared ps tables judged right place).are_marked)
     none)
     c.reasons_around.ensures
 

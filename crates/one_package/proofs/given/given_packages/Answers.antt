@@ -1,8 +1,12 @@
-use Rattle.std.proofs.Common.{◌≡◌, ℕ, List, length, sym, ap, ◌∙◌, subst}
+use Rattle.std.proofs.Common.{◌≡◌, ℕ, true, List, length, map, sym, ap, ◌∙◌, subst}
+use Rattle.std.specs.Prelude.{◌↔◌}
 use Rattle.imports.specs.Ranks.{IsOrder}
 use Rattle.imports.specs.Settling.{given_imports, place_from}
 use Rattle.imports.specs.Views.{at_path, packages_view, rank_of, ranked_of}
 use Rattle.meaning_reports.specs.Loaded.{import_list}
+use Rattle.whole_packages.specs.WholeEntries.{is_faulty, is_marked}
+use Rattle.one_package.specs.Judgments.{IsFaulty}
+use Rattle.one_package.proofs.FaultyMarks.{faulty_so}
 use Rattle.one_package.proofs.GivenOrder.{order_so}
 use Rattle.one_package.proofs.given.given_packages.Goals as goal
 
@@ -15,14 +19,20 @@ returns-clause-given c = λ ps tell distinct.
     let order = subst (λ ls. IsOrder ls rank ranked) (ap packages_view c.deref.ensures.value ∙ lists) c.in_ok-order.ensures in
     let are_places : (path : List ℕ) → places path ≡ place_from path (import_list ps) 0 = λ path.
     c.in_ok-places.ensures path ∙ ap (λ ls. place_from path ls 0) (ap packages_view c.deref-2.ensures.value ∙ lists) in
+    let unranked = c.in_ok-unranked.unranked.items in
+    let are_unranked = order_so ps rank ranked order (length c.args.packages.now) (sym tell.are_as_many)
+    unranked c.in_ok-unranked.ensures.marks places are_places in
+    let faulty : c.in_ok-faulty.faulty.items ≡ map (is_faulty places unranked) c.args.packages.now =
+    c.in_ok-faulty.ensures ∙ ap (λ marks. map (is_faulty places marks) c.args.packages.now) c.deref-4.ensures.value in
     record {
       tell = tell;
       are_lists = lists;
       are_imports = c.in_ok-imports.ensures ∙ ap given_imports (ap packages_view c.deref-3.ensures.value ∙ lists);
       is_ranked = order;
       are_places = are_places;
-      is_order = order_so ps rank ranked order (length c.args.packages.now) (sym tell.are_as_many)
-          c.in_ok-unranked.unranked.items c.in_ok-unranked.ensures.marks places are_places;
+      are_unranked = are_unranked;
+      are_faulty = λ path. subst (λ marks. (is_marked places marks path ≡ true) ↔ IsFaulty ps path) (sym faulty)
+          (faulty_so ps c.args.packages.now tell places unranked are_places are_unranked path);
       are_names = c.in_ok-names.ensures ps tell distinct;
       are_declared = c.in_ok-declared.ensures.tables;
       are_marked = c.in_ok-declared.ensures.marks;

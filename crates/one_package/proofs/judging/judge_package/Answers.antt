@@ -1,34 +1,36 @@
-use Rattle.std.proofs.Common.{ap, sym, subst}
+use Rattle.std.proofs.Common.{sym, subst}
 use Rattle.std.proofs.lemmas.Result.{IfOk-weaker}
-use Rattle.whole_packages.specs.WholeEntries.{is_set}
-use Rattle.one_package.specs.Judgments.{is_picked, AreNotYes}
-use Rattle.one_package.proofs.FollowsSo.{if_both, said_so}
-use Rattle.one_package.proofs.ImportedTables.{tables_by_results}
-use Rattle.one_package.proofs.ImportsNotYes.{not_yes_so}
+use Rattle.gathering.specs.Results.{FollowsFromTold}
+use Rattle.meaning_reports.specs.Loaded.{imported_paths}
+use Rattle.one_package.specs.Certified.{CertificatesFollowTold}
+use Rattle.one_package.specs.Judgments.{said_view}
+use Rattle.one_package.specs.Neighbours.{TellsNearby}
+use Rattle.one_package.specs.Results.{told_by, KnowsAll}
+use Rattle.one_package.proofs.NearGiven.{near_given}
+use Rattle.one_package.proofs.ToldImports.{judged_are_told, same_tellings}
 use Rattle.one_package.proofs.judging.judge_package.Goals as goal
 
 pub returns-clause-follows : goal.returns-clause-follows
 returns-clause-follows g c =
-    IfOk-weaker c.judge.result _ _
-    (λ judged both declared ps i p js given is_p tells knows are tables have.
-    let own = c.args.given.now in
+    IfOk-weaker c.judge_beside.result _ _
+    (λ judged follows declared ps i p js given is_p tells knows are.
+    let same = sym c.neighbours.ensures in
     let rules = g.R.FileRules.rules c.args.by.now.rules.now declared in
-    let same = c.are_determined.ensures.declared declared in
-    said_so rules ps tables i p c.args.loaded.now judged tells both.0
-    (both.1 declared ps tables i p is_p tells
-    (c.around.ensures.known declared ps tables p js given knows
-    (tables_by_results ps i p is_p own declared given js tables rules same are have) are.are_marked)
-    (λ none. subst (λ n. AreNotYes rules ps tables i (is_picked n)) (sym c.around.ensures.not_yes)
-    (not_yes_so rules ps i p is_p none js are tables have (is_picked c.args.imports.now.not_yes)
-    (λ path. ap is_set (knows.are_not_yes path))))))
-    (if_both _ _ c.judge.result c.judge.ensures.told c.judge.ensures.judged)
+    subst (λ told. FollowsFromTold rules ps i p told (said_view judged)) (same_tellings ps js)
+    (follows declared ps i p (told_by js)
+    (subst (TellsNearby declared ps p) same (near_given declared ps c.args.given.now given p)) is_p tells
+    (subst (λ near. KnowsAll near (imported_paths p) (told_by js) c.args.imports.now) same knows) (judged_are_told ps i js are)))
+    c.judge_beside.ensures.follows
 
 pub returns-clause-certified : goal.returns-clause-certified
 returns-clause-certified g c =
-    IfOk-weaker c.judge.result _ _
-    (λ judged certified declared ps i p js given is_p tells knows are tables have.
-    certified ps tables i p is_p tells
-    (c.around.ensures.known declared ps tables p js given knows
-    (tables_by_results ps i p is_p c.args.given.now declared given js tables
-    (g.R.FileRules.rules c.args.by.now.rules.now declared) (c.are_determined.ensures.declared declared) are have) are.are_marked))
-    c.judge.ensures.certified
+    IfOk-weaker c.judge_beside.result _ _
+    (λ judged certified declared ps i p js given is_p tells knows are.
+    let same = sym c.neighbours.ensures in
+    let rules = g.R.FileRules.rules c.args.by.now.rules.now declared in
+    let rule = g.R.FileRules.certificates c.args.by.now.rules.now in
+    subst (λ told. CertificatesFollowTold rules rule ps i p told judged) (same_tellings ps js)
+    (certified declared ps i p (told_by js)
+    (subst (TellsNearby declared ps p) same (near_given declared ps c.args.given.now given p)) is_p tells
+    (subst (λ near. KnowsAll near (imported_paths p) (told_by js) c.args.imports.now) same knows) (judged_are_told ps i js are)))
+    c.judge_beside.ensures.certified

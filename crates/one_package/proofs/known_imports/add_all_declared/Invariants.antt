@@ -4,6 +4,7 @@ use Rattle.facts.specs.FactViews.{table_by_path}
 use Rattle.imports.specs.Views.{text_views}
 use Rattle.meaning.specs.OuterBlocks.{or_else}
 use Rattle.files_to_walk.specs.Signs.{signs_by_path}
+use Rattle.one_package.specs.Neighbours.{nearby_view}
 use Rattle.one_package.specs.Results.{declared_among, signs_in}
 use Rattle.one_package.proofs.known_imports.add_all_declared.Given as goal
 
@@ -13,11 +14,11 @@ invariant-loop-path l =
     let left = text_views (drop l.path-index l.paths) in
     let all = text_views l.paths in
     ((path : List ℕ)
-    → or_else (table_by_path l.signatures path) (option_map (λ t. t.signatures) (declared_among l.given left path))
-    ≡ or_else (table_by_path l.initial.signatures path) (option_map (λ t. t.signatures) (declared_among l.given all path)))
+    → or_else (table_by_path l.signatures path) (option_map (λ t. t.signatures) (declared_among (nearby_view l.near) left path))
+    ≡ or_else (table_by_path l.initial.signatures path) (option_map (λ t. t.signatures) (declared_among (nearby_view l.near) all path)))
     × ((path : List ℕ)
-    → or_else (called_by_path l.calls path) (option_map (λ t. t.called) (declared_among l.given left path))
-    ≡ or_else (called_by_path l.initial.calls path) (option_map (λ t. t.called) (declared_among l.given all path)))
+    → or_else (called_by_path l.calls path) (option_map (λ t. t.called) (declared_among (nearby_view l.near) left path))
+    ≡ or_else (called_by_path l.initial.calls path) (option_map (λ t. t.called) (declared_among (nearby_view l.near) all path)))
     × ((path : List ℕ)
-    → or_else (signs_by_path l.signs path) (option_map signs_in (declared_among l.given left path))
-    ≡ or_else (signs_by_path l.initial.signs path) (option_map signs_in (declared_among l.given all path)))
+    → or_else (signs_by_path l.signs path) (option_map signs_in (declared_among (nearby_view l.near) left path))
+    ≡ or_else (signs_by_path l.initial.signs path) (option_map signs_in (declared_among (nearby_view l.near) all path)))

@@ -1,0 +1,49 @@
+//! What the go command is told of the flags of a unit.
+
+ghost use Rattle.std.specs.Prelude.{◌≡◌, IfOk, string_bytes};
+ghost use Rattle.command_line.specs.VetWords.{flag_form, wrong_text};
+
+use crate::vet_flags::VetFlag;
+use crate::vet_told::WrongValue;
+use std::alloc::{AllocError, Global};
+
+/// The flags of a unit, as the go command reads them: a list of JSON.
+pub const VET_FLAGS: &str =
+    "[{\"Name\":\"edition\",\"Bool\":false,\"Usage\":\"judge by this edition of the rules, 1 or 2\"},
+{\"Name\":\"facts\",\"Bool\":false,\"Usage\":\"take this file of declared facts, by its absolute name\"},
+{\"Name\":\"json\",\"Bool\":true,\"Usage\":\"print JSON\"},
+{\"Name\":\"c\",\"Bool\":false,\"Usage\":\"show this many lines around each place\"},
+{\"Name\":\"tests\",\"Bool\":true,\"Usage\":\"read test files too\"},
+{\"Name\":\"why\",\"Bool\":true,\"Usage\":\"tell below each finding why it stands there\"}]
+";
+
+impl VetFlag {
+    /// How it is written with a value.
+    fn form(self) -> &'static str
+        ensures { result.now ≡ flag_form self }
+    {
+        match self {
+            VetFlag::EditionNumber => "-edition=N",
+            VetFlag::Facts => "-facts=FILE",
+            VetFlag::Json => "-json",
+            VetFlag::Lines => "-c=N",
+            VetFlag::Tests => "-tests",
+            VetFlag::Reasons => "-why",
+        }
+    }
+}
+
+/// What is told of a value that its flag can't have, for standard error.
+///
+/// # Errors
+///
+/// Memory was refused.
+pub fn wrong_value_text(alloc: Global, wrong: &WrongValue) -> Result<String, AllocError>
+    ensures { IfOk result (λ text. string_bytes text ≡ wrong_text wrong.now.flag wrong.now.value.now) }
+{
+    let form = wrong.flag.form();
+    let value = wrong.value;
+    format!(in alloc;
+        "error: invalid value '{value}' for '{form}'\n\nFor more information, try '--help'.\n"
+    )
+}

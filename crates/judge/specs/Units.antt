@@ -1,0 +1,163 @@
+-- A package that is judged by itself, in a run of its own: by its files, by what was kept of those that it imports when
+-- they were judged, and by what is declared of others. What is said of it, and what is kept of it in turn.
+use Rattle.std.specs.Prelude.{ℕ, ◌≡◌, ◌↔◌, ⊤, Bool, true, false, List, [], ◌∷◌, map, Contains, Option, Some, None, is_some, slice_get, string_bytes}
+use Rattle.declared_json.specs.DeclaredPackages.{PackageEntry}
+use Rattle.declared_tables.specs.DeclaredTables.{declared_tables}
+use Rattle.explanations.specs.Plain.{judged_view, plain_view}
+use Rattle.explanations.specs.Units.{NotesFollow}
+use Rattle.first_values.specs.ValuesByName.{only_at}
+use Rattle.gathering.specs.Results.{Told, Tellings, FollowsFromTold}
+use Rattle.imports.specs.Ranks.{HasRank}
+use Rattle.imports.specs.Settling.{place_from}
+use Rattle.judge.specs.declared.units.ImportedUnit.{ImportedUnit}
+use Rattle.judge.specs.declared.units.UnitForm.{UnitForm}
+use Rattle.judge.specs.declared.units.UnitForm.TheVariants.{Text, Json, Explained}
+use Rattle.judge.specs.declared.units.UnitReport.{UnitReport}
+use Rattle.meaning.specs.OuterBlocks.{or_else}
+use Rattle.meaning_reports.specs.Loaded.{LoadedPackage, Tables, HaveDistinctPaths, import_list, imported_paths, name_in, package_names, trees_of}
+use Rattle.meaning_reports.specs.PackageReports.{by_paths}
+use Rattle.meaning_reports.specs.PackageTables.{IsTable}
+use Rattle.meaning_reports.specs.WholeFaults.{IsWholeFault}
+use Rattle.one_package.specs.Judgments.{TellsSources, is_yes, said_view, table_view}
+use Rattle.one_package.specs.declared.judged.Judged.{Judged}
+use Rattle.report.specs.Entries.{Entry}
+use Rattle.report_formats.specs.UnitJson.{unit_json}
+use Rattle.report_formats.specs.UnitText.{explained_unit_text, unit_text}
+use Rattle.report_formats.specs.declared.notes.ExplainedPackage.{ExplainedPackage}
+use Rattle.vetx_json.specs.KeptUnits.{VetxEntry, function_of, vetx_of}
+use Rattle.vetx_tables.specs.KeptLaws.{AreKept}
+use Rattle.vetx_tables.specs.KeptTables.{function_fits, table_again}
+use Rattle.vetx_tables.specs.declared.fault.KeptFault.{KeptFault}
+use Rattle.vetx_tables.specs.declared.fault.KeptFault.TheVariants.{TooLarge, OutOfMemory}
+use Rattle.whole_packages.specs.LoadedViews.{TellsPackage}
+use Rattle.whole_packages.specs.declared.loaded_package.LoadedPackage.{LoadedPackage as KeptPackage}
+
+-- What is told of imports
+
+abbrev pub kept_of : ImportedUnit → VetxEntry
+kept_of one = vetx_of one.vetx.now
+
+-- the table that is made of what was kept, and the verdict
+abbrev pub told_by_vetx : VetxEntry → Told
+told_by_vetx v = record { table = table_again v.functions; is_yes = v.is_yes }
+
+-- what is told of the package of that path, by the first that has it
+abbrev pub told_of_path : List ImportedUnit → List ℕ → Option Told
+told_of_path [] path = None
+told_of_path (one ∷ rest) path =
+    or_else (only_at one.path.now (told_by_vetx (kept_of one)) path) (told_of_path rest path)
+
+abbrev pub told_of_package : List ImportedUnit → Option LoadedPackage → Option Told
+told_of_package told None = None
+told_of_package told (Some q) = told_of_path told q.path
+
+-- by the places of packages
+abbrev pub tellings_in : List LoadedPackage → List ImportedUnit → Tellings
+tellings_in ps told j = told_of_package told (slice_get ps j)
+
+-- the name of a package clause; a package without a tree has none, and the empty text is kept of it
+abbrev pub name_if_any : List ℕ → Option (List ℕ)
+name_if_any [] = None
+name_if_any (b ∷ bs) = Some (b ∷ bs)
+
+abbrev pub name_or_empty : Option (List ℕ) → List ℕ
+name_or_empty None = []
+name_or_empty (Some name) = name
+
+-- the package of its path is given, and what is told of its name is right, and whether it has a fault as a whole
+pub record IsRightlyTold (ps : List LoadedPackage) (one : ImportedUnit) : Type 0 where
+  pub place : ℕ
+  pub is_place : place_from one.path.now (import_list ps) 0 ≡ Some place
+  pub is_name : name_if_any (kept_of one).name ≡ package_names ps one.path.now
+  pub is_fault : ((kept_of one).has_whole_fault ≡ true) ↔ ((x : Entry) × IsWholeFault ps place x)
+
+-- so it is of those that the package imports, and each given package that it imports is told of
+pub record AreImportsTold (ps : List LoadedPackage) (p : LoadedPackage) (told : List ImportedUnit) : Type 0 where
+  pub are_right : (one : ImportedUnit)
+      → Contains told one
+      → Contains (imported_paths p) one.path.now
+      → IsRightlyTold ps one
+  pub are_all : (path : List ℕ)
+      → Contains (imported_paths p) path
+      → is_some (place_from path (import_list ps) 0) ≡ true
+      → is_some (told_of_path told path) ≡ true
+
+-- What is said
+
+-- Whichever packages it is among, if it is told of those of them that it imports: what is said of it follows from what
+-- it was told, and where that is declared of others. So it is judged by its files alone, and by what it was told.
+pub record IsJudgedByTold
+    (outside : List PackageEntry) (told : List ImportedUnit) (kept : KeptPackage) (judged : Judged)
+    : Type 0 where
+  pub tells : TellsSources kept judged
+  pub follows : (ps : List LoadedPackage) (i : ℕ) (p : LoadedPackage)
+      → slice_get ps i ≡ Some p
+      → TellsPackage p kept
+      → HasRank (import_list ps) i
+      → AreImportsTold ps p told
+      → FollowsFromTold (by_paths (declared_tables outside)) ps i p (tellings_in ps told) (said_view judged)
+
+-- And so do notes: by all tables that have what it was told, those of a path tell a shortest way, and that of a use the
+-- reason of that use.
+abbrev pub NotesFollowFromTold : List PackageEntry → List ImportedUnit → KeptPackage → ExplainedPackage → Type 0
+NotesFollowFromTold outside told kept explained = (ps : List LoadedPackage) (i : ℕ) (p : LoadedPackage)
+    → slice_get ps i ≡ Some p
+    → TellsPackage p kept
+    → HasRank (import_list ps) i
+    → AreImportsTold ps p told
+    → NotesFollow (declared_tables outside) ps i p (tellings_in ps told) explained
+
+-- it is the text of the same diagnostics with their notes
+pub record IsExplainedText
+    (judged : Judged) (AreNotes : ExplainedPackage → Type 0) (around : Option ℕ) (text : List ℕ)
+    : Type 0 where
+  pub explained : ExplainedPackage
+  pub is_same : plain_view explained ≡ judged_view judged
+  pub are_notes : AreNotes explained
+  pub is_text : text ≡ explained_unit_text around explained
+
+-- the diagnostics in this form, and no verdict
+abbrev pub IsUnitText : UnitForm → Judged → (ExplainedPackage → Type 0) → List ℕ → Type 0
+IsUnitText (Text around) judged AreNotes text = text ≡ unit_text around judged.report
+IsUnitText (Json name) judged AreNotes text = text ≡ unit_json name.now judged.report
+IsUnitText (Explained around) judged AreNotes text = IsExplainedText judged AreNotes around text
+
+-- the package has a fault as a whole, wherever it is given with a rank, if and only if it is marked
+abbrev pub MarksWholeFault : KeptPackage → Bool → Type 0
+MarksWholeFault kept mark = (ps : List LoadedPackage) (i : ℕ) (p : LoadedPackage)
+    → slice_get ps i ≡ Some p
+    → TellsPackage p kept
+    → HaveDistinctPaths ps
+    → HasRank (import_list ps) i
+    → (mark ≡ true) ↔ ((x : Entry) × IsWholeFault ps i x)
+
+-- the report in this form, and what is kept of the package
+pub record IsUnitReport
+    (form : UnitForm) (outside : List PackageEntry) (told : List ImportedUnit) (kept : KeptPackage)
+    (report : UnitReport)
+    : Type 0 where
+  pub judged : Judged
+  pub is_judged : IsJudgedByTold outside told kept judged
+  pub is_text : IsUnitText form judged (NotesFollowFromTold outside told kept) report.text.items
+  -- what is kept of it: its verdict, its name, whether it has a fault as a whole, and its functions
+  pub verdict : report.is_yes ≡ is_yes judged.report
+  pub is_name : (p : LoadedPackage)
+      → TellsPackage p kept
+      → string_bytes report.name ≡ name_or_empty (name_in (trees_of p))
+  pub is_fault : MarksWholeFault kept report.has_whole_fault
+  pub are_kept : (ps : List LoadedPackage) (tables : Tables) (i : ℕ) (p : LoadedPackage)
+      → TellsPackage p kept
+      → IsTable ps tables i p (table_view judged)
+      → AreKept (table_view judged) (map function_of report.functions.items)
+
+-- why there is none: a number of a function of the table that it was judged by is not below 2^32
+pub record HasLargeNumber (outside : List PackageEntry) (told : List ImportedUnit) (kept : KeptPackage) : Type 0 where
+  pub judged : Judged
+  pub is_judged : IsJudgedByTold outside told kept judged
+  pub name : List ℕ
+  pub is_large : function_fits (table_view judged) name ≡ false
+
+-- or memory was refused
+abbrev pub IsUnitFault : List PackageEntry → List ImportedUnit → KeptPackage → KeptFault → Type 0
+IsUnitFault outside told kept TooLarge = HasLargeNumber outside told kept
+IsUnitFault outside told kept OutOfMemory = ⊤

@@ -1,0 +1,17 @@
+use Rattle.std.proofs.Common.{[], sym, ◌∙◌, subst}
+use Rattle.first_values.specs.ValuesByName.{value_of}
+use Rattle.one_package.specs.Neighbours.{TellsNearby}
+use Rattle.one_package.proofs.ToldNear.{told_near}
+use Rattle.one_package.proofs.told_neighbours.ToldNeighbours.beside.Goals as goal
+
+pub returns : goal.returns
+returns c = λ tables ps i p imported keeps is_p rank are declared marked.
+    let others = value_of c.args.declared.now.packages in
+    let faulty = c.deref.ensures.value ∙ keeps.are_faulty in
+    subst (TellsNearby tables ps p) (λ j. record {
+      places = λ path. sym (keeps.are_places path) j;
+      unranked = [];
+      faulty = sym faulty j;
+      names = λ path. sym (keeps.are_names path) j;
+      declared = others;
+    }) (told_near ps i p is_p rank imported are tables others declared marked)
