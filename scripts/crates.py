@@ -19,8 +19,14 @@ PROVED = ("src", "specs", "proofs")
 RUN_ON = ("args", "data", "status", "stdin", "stdout")
 # Seconds that a proof takes which docs/GATE.md doesn't know.
 USUAL_COST = 90
-# A chain of crates is nearly the longest where it takes nine tenths of that one's time.
-NEARLY = 0.9
+# A chain of crates is nearly the longest where it takes 88 of 100 of that one's time: with this the program and its tools,
+# which end the run, count among those.
+NEARLY = 0.88
+# Where a control group's share of the processors stands: so much time, in so much.
+GROUPS = (
+    ("/sys/fs/cgroup/cpu.max",),
+    ("/sys/fs/cgroup/cpu/cpu.cfs_quota_us", "/sys/fs/cgroup/cpu/cpu.cfs_period_us"),
+)
 
 
 def listed():
@@ -75,33 +81,57 @@ def copy(names, room):
 
 
 def costs():
-    """The processor seconds of each crate's proof, as the table of docs/GATE.md has them."""
+    """For each crate the processor seconds of its proof and of its tests, as the table of docs/GATE.md has them."""
     try:
         with open(f"{ROOT}/docs/GATE.md", encoding="utf-8") as lines:
-            rows = re.findall(r"^(\w+) +(\d+)(?: +\d+){4}", lines.read(), re.M)
+            rows = re.findall(r"^(\w+) +(\d+) +(\d+)(?: +\d+){3}", lines.read(), re.M)
     except OSError:
         rows = []
-    return {name: int(seconds) for name, seconds in rows}
+    return {name: (int(proof), int(tests)) for name, proof, tests in rows}
 
 
 def on_long_chains():
-    """The crates of those chains, each on the one before, whose proofs take nearly as long as those of the longest."""
+    """The checks on which the longest chains wait: the crates of those chains, each on the one before, whose proofs take
+    nearly as long as those of the longest, with the tests at its end; and the crates whose tests these are."""
     crates, known = listed(), costs()
-    cost = {name: known.get(name, 0) or USUAL_COST for name in crates}
-    to, after = dict(cost), dict(cost)
+    cost = {name: known.get(name, (0, 0))[0] or USUAL_COST for name in crates}
+    tests = {name: known.get(name, (0, 0))[1] for name in crates}
+    before, after = dict.fromkeys(crates, 0), dict.fromkeys(crates, 0)
     for name, needs in crates.items():
-        to[name] += max((to[one] for one in needs if one in to), default=0)
+        before[name] = max((before[one] + cost[one] for one in needs if one in crates), default=0)
     for name in reversed(crates):
         for one in crates[name]:
-            if one in after:
-                after[one] = max(after[one], cost[one] + after[name])
-    longest = max(to.values(), default=0)
-    return {name for name in crates if to[name] + after[name] - cost[name] >= NEARLY * longest}
+            if one in crates:
+                after[one] = max(after[one], cost[name] + after[name], tests[name])
+    longest = max((before[name] + max(cost[name], tests[name]) for name in crates), default=0)
+    proofs = {name for name in crates if before[name] + cost[name] + after[name] >= NEARLY * longest}
+    return proofs, {name for name in crates if tests[name] and before[name] + tests[name] >= NEARLY * longest}
+
+
+def words_of(path):
+    """The words of a file; none where it can't be read."""
+    try:
+        with open(path, encoding="utf-8") as file:
+            return file.read().split()
+    except OSError:
+        return []
+
+
+def share(quota, period):
+    """How many processors a control group has by these two numbers, or None where it has no bound."""
+    if not quota.isdigit() or not period.isdigit():
+        return None
+    return max(int(quota) // max(int(period), 1), 1)
 
 
 def processors():
-    """How many processors there are for this run."""
-    return len(os.sched_getaffinity(0))
+    """How many processors there are for this run: those that it may run on, or fewer where its control group has less."""
+    found = len(os.sched_getaffinity(0))
+    for paths in GROUPS:
+        words = [word for path in paths for word in words_of(path)]
+        if len(words) == 2:
+            found = min(found, share(*words) or found)
+    return found
 
 
 def jobs():

@@ -2,7 +2,7 @@
 
 use crate::real_folders::folder_with;
 use evidence_rows::written_files::{DISKS, FOLDERS};
-use folders::{UnwrittenFile, write_file};
+use folders::{UnwrittenFile, write_file, write_file_without_sync};
 use std::alloc::{Allocator, Global};
 use std::cell::Cell;
 use std::fs::{self, Metadata, OpenFile, OpenOptions};
@@ -239,5 +239,28 @@ fn a_failed_write_leaves_what_stood_there(rt: HostRuntime) -> Result<(), Fail> {
             assert!(rt; !disk.is_touched.get());
         }
     }
+    Ok(())
+}
+
+/// A disk that takes all and renames, and fails only where somebody waits for it.
+#[test]
+fn a_file_without_sync_waits_for_no_disk(rt: HostRuntime) -> Result<(), Fail> {
+    let disk = Disk {
+        host: rt,
+        failing: Failing {
+            stands: false,
+            room: 9999,
+            syncs: false,
+            renames: true,
+        },
+        has_beside: Cell::new(false),
+        is_replaced: Cell::new(false),
+        is_touched: Cell::new(false),
+    };
+    let file = UnwrittenFile::named(disk.alloc(), "folder/c")?;
+    let text = String::from_str(disk.alloc(), TEXT)?;
+    assert!(rt; write_file_without_sync(&disk, file, text).is_ok());
+    assert!(rt; disk.is_replaced.get());
+    assert!(rt; !disk.has_beside.get());
     Ok(())
 }

@@ -6,7 +6,8 @@ ghost use Rattle.driver.specs.Faults.{IsCertifyFault, LeavesUnwritten};
 ghost use Rattle.driver.specs.Printing.{refused_by};
 ghost use Rattle.driver.specs.Statuses.{status_of};
 ghost use Rattle.driver.specs.WrittenReport.{IsBegun, IsWritten, OfCertifiedReport};
-ghost use Rattle.folders.specs.WrittenFiles.{name_of, text_of};
+ghost use Rattle.folders.specs.declared.whole_files.Reach.TheVariants.{Disk};
+ghost use Rattle.folders.specs.WrittenFiles.{name_of, reach_of, text_of};
 ghost use Rattle.workers.specs.Counts.{count_of};
 
 use crate::input::{FilesRead, read_sources};
@@ -52,6 +53,7 @@ pub fn certify<
         × OfCertifiedReport asked.now.sources asked.now.format done.files
         (text_of done.file) (IsWritten (W.contents out.old) (W.contents out.new) yes)) }
     ensures file { IfOk result (λ done. name_of done.file ≡ asked.now.file.now) }
+    ensures reach { IfOk result (λ done. reach_of done.file ≡ Disk) }
     ensures fault { IfErr result (IsCertifyFault asked.now.sources (count_of asked.now.workers)) }
     ensures unwritten { IfErr result (λ fault. LeavesUnwritten fault (W.contents out.old) (W.contents out.new)) }
     ensures begun { IfErr result (λ fault. fault ≡ Fault.CannotWrite

@@ -17,7 +17,9 @@ use crate::unit_input::read_unit_input;
 use crate::unit_report::{JudgedUnit, judge_unit};
 use crate::writers::Refusals;
 use command_line::{UnitFlags, VERSION, VET_FLAGS, VetAsked, wrong_value_text};
-use folders::{Fault, Surroundings, UnwrittenFile, WrittenFile, own_file, read_file, write_file};
+use folders::{
+    Fault, Surroundings, UnwrittenFile, WrittenFile, own_file, read_file, write_file_without_sync,
+};
 use load::Leave;
 use std::io::Write;
 use std::rt::Files;
@@ -43,7 +45,8 @@ fn keep<'u, R: Files + AllocGlobal>(
 {
     let file = UnwrittenFile::named(rt.alloc(), unit.output.as_str())?;
     let text = to_json(rt.alloc(), kept)?;
-    write_file(rt, file, text)
+    // The go command copies the file at once, and waits for no disk either.
+    write_file_without_sync(rt, file, text)
 }
 
 /// What is printed of a unit: its report, or nothing.

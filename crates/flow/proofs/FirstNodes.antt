@@ -1,5 +1,5 @@
 -- The nodes that can come first, part by part.
-use Rattle.std.proofs.Common.{◌≡◌, ℕ, ◌+◌, ◌<◌, ◌≤◌, List, [], ◌++◌, Option, Some, None, Result, Ok, Err, IfOk, length, get_or, drop, map, refl, sym, ap, ◌∙◌, subst, arith}
+use Rattle.std.proofs.Common.{◌≡◌, ℕ, ◌+◌, ◌<◌, ◌≤◌, List, [], ◌∷◌, ◌++◌, Option, Some, None, Result, Ok, Err, IfOk, length, get_or, drop, map, refl, sym, ap, ◌∙◌, subst, arith}
 use Rattle.std.proofs.lemmas.List.{at_drop_all, append-nil}
 use Rattle.std.specs.declared.alloc.Global.{Global}
 use Rattle.std.specs.declared.vec.Vec.{Vec as VecIn}
@@ -70,6 +70,21 @@ module _ {E : Type 0} where
         rest = skip;
         is_whole = refl;
         leads = record { are_first = λ fits. is; is_past = λ fits. omega arith; stay = refl };
+      }
+
+  pub first_so_far-first : (f behind : ℕ) (c : Code E) (cs : List (Code E)) (next : List ℕ) (e0 e1 : Exits) (first : Vec ℕ) → Firsts f behind c next e0 e1 first → FirstSoFar f behind cs (backward (c ∷ cs) skip) next e0 e1 first
+  first_so_far-first f behind c cs next e0 e1 first of_c =
+      let from : f ≡ f + 0 = omega arith in
+      record {
+        rest = then_code c skip;
+        is_whole = refl;
+        leads = record {
+          are_first = λ fits. of_c.are_first (omega (arith, fits)) ∙ ap (λ n. firsts n c next (leading e0)) from;
+          is_past = λ fits.
+              let there = of_c.is_past (omega (arith, fits)) in
+              omega (arith, there);
+          stay = of_c.stay;
+        };
       }
 
   pub first_so_far-next : (codes : List (KeptCode E)) (i : ℕ) (c : KeptCode E) (f behind after : ℕ) (whole : Code E) (next : List ℕ) (e0 e1 e2 : Exits) (first own : Vec ℕ)

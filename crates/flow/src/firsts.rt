@@ -79,6 +79,7 @@ fn firsts<'a, E: Copy>(
     }
 }
 
+/// The same of codes of which each stands before the one before it in the list.
 #[cycle(firsts)]
 fn firsts_of_sequence<'a, E: Copy>(
     alloc: Global,
@@ -90,8 +91,11 @@ fn firsts_of_sequence<'a, E: Copy>(
     ensures { IfOk result (λ nodes. Firsts behind.old behind.new (backward (map code_view codes.now) skip) next.now
         exits.old exits.new nodes) }
 {
-    let mut nodes = copied(alloc, next)?;
-    for code in codes {
+    let Some((last, others)) = codes.split_first() else {
+        return copied(alloc, next);
+    };
+    let mut nodes = firsts(alloc, behind, last, next, exits)?;
+    for code in others {
         nodes = firsts(alloc, behind, code, &nodes, exits)?;
     }
     Ok(nodes)

@@ -92,6 +92,7 @@ pub fn link<'a, E: Copy>(
     }
 }
 
+/// The same of codes of which each stands before the one before it in the list.
 #[cycle(link)]
 fn link_sequence<'a, E: Copy>(
     alloc: Global,
@@ -103,8 +104,11 @@ fn link_sequence<'a, E: Copy>(
         graph.new.sizes.left.now (Adds (backward (map code_view codes.now) skip) next.now graph.old.exits
         graph.new.exits graph.old.nodes graph.new.nodes first)) }
 {
-    let mut first = copied(alloc, next)?;
-    for code in codes {
+    let Some((last, others)) = codes.split_first() else {
+        return copied(alloc, next);
+    };
+    let mut first = link(alloc, last, next, graph)?;
+    for code in others {
         first = link(alloc, code, &first, graph)?;
     }
     Ok(first)

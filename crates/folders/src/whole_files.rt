@@ -5,7 +5,7 @@ ghost use Rattle.std.specs.Fs.{file_type, IsFile};
 ghost use Rattle.std.specs.Io.KnownBytes.{Appends};
 ghost use Rattle.folders.specs.ReadFaults.{IsReadFault};
 ghost use Rattle.folders.specs.ReadFiles.{bytes_read, name_read};
-ghost use Rattle.folders.specs.WrittenFiles.{HoldsAll};
+ghost use Rattle.folders.specs.WrittenFiles.{reach_of, HoldsAll};
 
 use crate::fault::{self, Fault};
 use crate::names::escaped;
@@ -101,16 +101,26 @@ impl<'a> UnwrittenFile<'a> {
     }
 }
 
-/// A file that was written: its name, and all that it was given. Only `write_file` makes one, so that nobody else can
-/// tell of a file that was not written.
+/// How far a file is brought before it has its name.
+#[derive(Clone, Copy, Debug, Drop, PartialEq, Eq)]
+pub enum Reach {
+    /// Up to the disk: it is there also where the machine stops.
+    Disk,
+    /// To the system alone, which brings it to the disk in its own time. Every program reads all of it at once.
+    System,
+}
+
+/// A file that was written: its name, all that it was given, and how far it was brought. Only `write_file` and
+/// `write_file_without_sync` make one, so that nobody else can tell of a file that was not written.
 #[derive(Debug, Drop)]
 pub struct WrittenFile<'a> {
     name: &'a str,
     text: String,
+    reach: Reach,
 }
 
 /// Writes the file, so that it has this text and nothing else, or leaves what stands under its name as it was. A pipe,
-/// a device or another special file is written as it stands.
+/// a device or another special file is written as it stands. It waits for the disk.
 ///
 /// # Errors
 ///
@@ -121,24 +131,62 @@ pub fn write_file<'a, R: Files + AllocGlobal>(
     text: String,
 ) -> Result<WrittenFile<'a>, Fault>
     ensures written { IfOk result (HoldsAll file.entry text) }
+    ensures reach { IfOk result (λ written. reach_of written ≡ Reach.Disk) }
+    ensures fault { IfErr result (λ fault. fault ≡ Fault.CannotWriteFile file.entry.escaped) }
+{
+    write_up_to(rt, Reach::Disk, file, text)
+}
+
+/// Writes the file as `write_file`, but doesn't wait for the disk. So it is for a file that is read at once, and made
+/// again where it is lost: where the machine stops, it may be there without its text.
+///
+/// # Errors
+///
+/// The file can't be written. A disk that tells only later that it is full is not heard.
+pub fn write_file_without_sync<'a, R: Files + AllocGlobal>(
+    rt: &R,
+    file: UnwrittenFile<'a>,
+    text: String,
+) -> Result<WrittenFile<'a>, Fault>
+    ensures written { IfOk result (HoldsAll file.entry text) }
+    ensures reach { IfOk result (λ written. reach_of written ≡ Reach.System) }
+    ensures fault { IfErr result (λ fault. fault ≡ Fault.CannotWriteFile file.entry.escaped) }
+{
+    write_up_to(rt, Reach::System, file, text)
+}
+
+/// Writes the file, and brings it so far.
+fn write_up_to<'a, R: Files + AllocGlobal>(
+    rt: &R,
+    reach: Reach,
+    file: UnwrittenFile<'a>,
+    text: String,
+) -> Result<WrittenFile<'a>, Fault>
+    ensures written { IfOk result (HoldsAll file.entry text) }
+    ensures reach { IfOk result (λ written. reach_of written ≡ reach) }
     ensures fault { IfErr result (λ fault. fault ≡ Fault.CannotWriteFile file.entry.escaped) }
 {
     let UnwrittenFile { name, escaped } = file;
-    match write_text(rt, name, text.as_bytes()) {
-        Ok(()) => Ok(WrittenFile { name, text }),
+    match write_text(rt, reach, name, text.as_bytes()) {
+        Ok(()) => Ok(WrittenFile { name, text, reach }),
         Err(_) => Err(Fault::CannotWriteFile(escaped)),
     }
 }
 
 /// Writes this text under the name, by what stands there.
-fn write_text<R: Files + AllocGlobal>(rt: &R, name: &str, text: &[u8]) -> io::Result<()> {
+fn write_text<R: Files + AllocGlobal>(
+    rt: &R,
+    reach: Reach,
+    name: &str,
+    text: &[u8],
+) -> io::Result<()> {
     match fs::metadata(rt, name) {
         Ok(stands) if stands.is_file() => {
             let path = behind_links(rt, name)?;
-            replace(rt, path.as_path().as_str(), text)
+            replace(rt, reach, path.as_path().as_str(), text)
         }
         Ok(stands) => write_special(rt, name, &stands, text),
-        Err(error) if error.kind() == ErrorKind::NotFound => replace(rt, name, text),
+        Err(error) if error.kind() == ErrorKind::NotFound => replace(rt, reach, name, text),
         Err(error) => Err(error),
     }
 }
@@ -162,9 +210,14 @@ fn write_special<R: Files>(rt: &R, name: &str, stands: &Metadata, text: &[u8]) -
 
 /// Puts a file with this text in the place of that of the name: it is written beside it, and then has its name. Where
 /// one of these fails, it is removed, and the place is as it was.
-fn replace<R: Files + AllocGlobal>(rt: &R, name: &str, text: &[u8]) -> io::Result<()> {
+fn replace<R: Files + AllocGlobal>(
+    rt: &R,
+    reach: Reach,
+    name: &str,
+    text: &[u8],
+) -> io::Result<()> {
     let Beside { mut file, path } = new_beside(rt, name)?;
-    let placed = match fill(&mut file, text) {
+    let placed = match fill(&mut file, reach, text) {
         Ok(()) => fs::rename(rt, path.as_path(), name),
         Err(error) => Err(error),
     };
@@ -198,12 +251,15 @@ fn new_beside<R: Files + AllocGlobal>(rt: &R, name: &str) -> io::Result<Beside<R
     Err(io::Error::from(ErrorKind::AlreadyExists))
 }
 
-/// Writes the text to the open file, up to the disk.
-fn fill<F: Write + OpenFile>(file: &mut F, text: &[u8]) -> io::Result<()>
+/// Writes the text to the open file, and brings it so far.
+fn fill<F: Write + OpenFile>(file: &mut F, reach: Reach, text: &[u8]) -> io::Result<()>
     ensures { OnOk result (Appends (F.contents file.old) (F.contents file.new) text.now) }
 {
     put(file, text)?;
-    file.sync_all()
+    match reach {
+        Reach::Disk => file.sync_all(),
+        Reach::System => Ok(()),
+    }
 }
 
 /// Writes the text to the open file.

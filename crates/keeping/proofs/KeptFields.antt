@@ -22,7 +22,7 @@ pub any_flat : {X Y : Type 0} (t : Y → Bool) (h : X → List Y) (xs : List X)
 any_flat t h [] = refl
 any_flat t h (x ∷ xs) = list_any-append t (h x) (flat_map h xs) ∙ ap (λ b. list_any t (h x) || b) (any_flat t h xs)
 
-flat_more : {X Y : Type 0} (g : X → List Y) (xs ys : List X) → flat_map g (xs ++ ys) ≡ flat_map g xs ++ flat_map g ys
+pub flat_more : {X Y : Type 0} (g : X → List Y) (xs ys : List X) → flat_map g (xs ++ ys) ≡ flat_map g xs ++ flat_map g ys
 flat_more g [] ys = refl
 flat_more g (x ∷ xs) ys =
     ap (λ l. g x ++ l) (flat_more g xs ys) ∙ sym (append_assoc (g x) (flat_map g xs) (flat_map g ys))
@@ -32,7 +32,7 @@ pub flat_flat : {X Y Z : Type 0} (g : Y → List Z) (h : X → List Y) (xs : Lis
 flat_flat g h [] = refl
 flat_flat g h (x ∷ xs) = flat_more g (h x) (flat_map h xs) ∙ ap (λ l. flat_map g (h x) ++ l) (flat_flat g h xs)
 
-never : {X : Type 0} (t : X → Bool) → ((x : X) → t x ≡ false) → (xs : List X) → list_any t xs ≡ false
+pub never : {X : Type 0} (t : X → Bool) → ((x : X) → t x ≡ false) → (xs : List X) → list_any t xs ≡ false
 never t none [] = refl
 never t none (x ∷ xs) = λ i. none x i || never t none xs i
 
@@ -63,7 +63,7 @@ no_way : (x : Bool) → (x && false) ≡ false
 no_way true = refl
 no_way false = refl
 
-or_nothing : (x : Bool) → (x || false) ≡ x
+pub or_nothing : (x : Bool) → (x || false) ≡ x
 or_nothing true = refl
 or_nothing false = refl
 

@@ -5,6 +5,8 @@ pub mod Keys
 pub mod MarksNoted
 pub mod MethodNotes
 pub mod NamelessNotes
+pub mod OwnCancels
+pub mod PlainFiles
 pub mod PuttingFiles
 pub mod RowValues
 pub mod TextNames

@@ -2,5 +2,7 @@
 -- that those which may be skipped are such.
 pub mod Keeping
 pub mod PuttingFiles
--- What serves the proofs: what each mark says of fields.
+-- What serves the proofs: what each mark says of fields, and files of which the marks alone say so.
 pub mod Notes
+pub mod PlainFiles
+pub mod ToldFiles

@@ -4,6 +4,7 @@ ghost use Rattle.std.specs.Prelude.{◌≡◌, ◌++◌, [], flat_map, IfOk, OnO
 ghost use Rattle.std.specs.List.{list_any};
 ghost use Rattle.keeping.specs.Keeping.{each_known, filled_by, is_among, keeps, kept_by, kept_there, filled_there, methods_by, put_by, some_put, PutNothing};
 ghost use Rattle.keeping.specs.Notes.{note_view, spoils_it};
+ghost use Rattle.keeping.specs.ToldFiles.{told_puts};
 ghost use Rattle.imports.specs.Views.{text_views};
 ghost use Rattle.meaning.specs.KeepingFields.{fields_in_files};
 ghost use Rattle.meaning.specs.Tracked.{these_fields};
@@ -12,7 +13,7 @@ ghost use Rattle.meaning_reports.specs.MethodNames.{but_methods, methods_in};
 ghost use Rattle.silent_files.specs.WalkedFiles.{is_walked};
 ghost use Rattle.tree.specs.View.{file_syntax};
 
-use crate::files::notes_of;
+use crate::files::{Told, notes_of, told_files};
 use crate::note::Note;
 use std::alloc::{AllocError, Global};
 use tracked_rows::Known;
@@ -24,6 +25,27 @@ fn some_put(notes: &[Note<'_>]) -> bool
 {
     for note in notes {
         if let Note::Put(_) = note {
+            return true;
+        }
+    }
+    false
+}
+
+/// Whether a file that was looked at puts one into some field.
+fn told_puts(told: &Told<'_>) -> bool
+    ensures { result ≡ told_puts told.now }
+{
+    match told {
+        Told::Noted(notes) => some_put(notes),
+        Told::Unread { .. } => false,
+    }
+}
+
+fn some_told_puts(files: &[Told<'_>]) -> bool
+    ensures { result ≡ list_any told_puts files.now }
+{
+    for told in files {
+        if told_puts(told) {
             return true;
         }
     }
@@ -174,7 +196,7 @@ fn none<'a>(alloc: Global) -> FieldNames<'a>
     }
 }
 
-/// In the second edition. Where the files that are walked put nothing into fields, no file is looked at again.
+/// In the second edition. Where the files that are walked put nothing into fields, no other file is looked at.
 fn fields_in_second<'a>(
     alloc: Global,
     known: Known<'_, 'a>,
@@ -187,11 +209,11 @@ fn fields_in_second<'a>(
         (fields_in_files (seen_from (each_known known.entry) 0 (map file_syntax files.now)))
         ≡ these_fields (text_views fields.keeping.items) (text_views fields.filled.items)) }
 {
-    let sought = notes_of(alloc, known, files, walked)?;
-    if !some_put(&sought) {
+    let told = told_files(alloc, known, files, walked)?;
+    if !some_told_puts(&told) {
         return Ok(none(alloc));
     }
-    let notes = notes_of(alloc, known, files, &[])?;
+    let notes = notes_of(alloc, known, &told)?;
     let keeping = kept_names(alloc, &notes)?;
     if keeping.is_empty() {
         return Ok(none(alloc));

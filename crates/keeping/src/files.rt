@@ -1,17 +1,23 @@
 //! What the marks of the files of a package say of fields.
 
-ghost use Rattle.std.specs.Prelude.{◌≡◌, ◌++◌, IfOk, OnOk, map};
-ghost use Rattle.keeping.specs.Keeping.{each_known, notes_by, notes_if};
+ghost use Rattle.std.specs.Prelude.{◌≡◌, ◌++◌, IfOk, OnOk, flat_map, map};
+ghost use Rattle.std.specs.List.{list_any};
+ghost use Rattle.keeping.specs.Keeping.{each_known, notes_by, notes_if, some_put};
 ghost use Rattle.keeping.specs.Notes.{note_view, notes_in};
+ghost use Rattle.keeping.specs.ToldFiles.{told_notes, told_puts};
 ghost use Rattle.meaning.specs.BodyEvents.{seen_file};
+ghost use Rattle.meaning_reports.specs.Loaded.{seen_from};
 ghost use Rattle.silent_files.specs.WalkedFiles.{is_walked};
 ghost use Rattle.tracked.specs.LocalViews.{seen_view, Sees};
 ghost use Rattle.tracked_rows.specs.RowViews.{known_view};
 ghost use Rattle.tree.specs.View.{file_syntax};
 
+use crate::may_put::may_put;
 use crate::note::Note;
 use crate::noted::add_notes;
+use crate::plain::add_all_plainly;
 use bumpalo::Bump;
+use marks::file_marks;
 use mentions::BodyPlace;
 use objects::see;
 use std::alloc::{AllocError, Global};
@@ -37,38 +43,6 @@ fn add_all<'a>(
     Ok(())
 }
 
-/// What a file says, which is looked at by that.
-fn add_file<'a>(
-    alloc: Global,
-    known: Known<'_, 'a>,
-    file: &'a File,
-    notes: &mut Vec<Note<'a>>,
-) -> Result<(), AllocError>
-    ensures { OnOk result (map note_view notes.new.items ≡ map note_view notes.old.items
-        ++ notes_in (seen_file (known_view known.entry) (file_syntax file.now))) }
-{
-    let arena = Bump::new(alloc);
-    let seen = see(alloc, &arena, known, file)?;
-    add_all(alloc, &seen, notes)
-}
-
-fn add_if<'a>(
-    alloc: Global,
-    walked: bool,
-    known: Known<'_, 'a>,
-    file: &'a File,
-    notes: &mut Vec<Note<'a>>,
-) -> Result<(), AllocError>
-    ensures { OnOk result (map note_view notes.new.items ≡ map note_view notes.old.items
-        ++ notes_if walked (known_view known.entry) (file_syntax file.now)) }
-{
-    if walked {
-        add_file(alloc, known, file, notes)
-    } else {
-        Ok(())
-    }
-}
-
 /// What is known of the file of that number, where each field is taken for one that keeps.
 fn known_at<'k, 'a>(known: Known<'k, 'a>, number: usize) -> Known<'k, 'a>
     ensures { known_view result ≡ each_known known.entry number }
@@ -84,6 +58,58 @@ fn known_at<'k, 'a>(known: Known<'k, 'a>, number: usize) -> Known<'k, 'a>
     }
 }
 
+/// What a file says. What its locals are is asked only where one of its marks may put a cancel function into a field.
+fn add_file<'a>(
+    alloc: Global,
+    known: Known<'_, 'a>,
+    number: usize,
+    file: &'a File,
+    notes: &mut Vec<Note<'a>>,
+) -> Result<(), AllocError>
+    ensures { OnOk result (map note_view notes.new.items ≡ map note_view notes.old.items
+        ++ notes_in (seen_file (each_known known.entry number) (file_syntax file.now))) }
+{
+    let here = known_at(known, number);
+    let arena = Bump::new(alloc);
+    let marks = file_marks(alloc, &arena, here.edition, true, file)?;
+    let may = may_put(alloc, here, &marks)?;
+    if may {
+        let seen = see(alloc, &arena, here, file)?;
+        return add_all(alloc, &seen, notes);
+    }
+    add_all_plainly(alloc, here, &marks, notes)
+}
+
+/// A file, which was looked at or not.
+#[derive(Drop)]
+pub enum Told<'a> {
+    /// What the file says.
+    Noted(Vec<Note<'a>>),
+    /// A file that wasn't looked at, and its number.
+    Unread { number: usize, file: &'a File },
+}
+
+/// What a file says, if it is walked.
+fn tell<'a>(
+    alloc: Global,
+    known: Known<'_, 'a>,
+    is_walked: bool,
+    number: usize,
+    file: &'a File,
+) -> Result<Told<'a>, AllocError>
+    ensures put { IfOk result (λ told. told_puts told
+        ≡ some_put (notes_if is_walked (each_known known.entry number) (file_syntax file.now))) }
+    ensures notes { IfOk result (λ told. told_notes (each_known known.entry) told
+        ≡ notes_in (seen_file (each_known known.entry number) (file_syntax file.now))) }
+{
+    if !is_walked {
+        return Ok(Told::Unread { number, file });
+    }
+    let mut notes = Vec::new(alloc);
+    add_file(alloc, known, number, file, &mut notes)?;
+    Ok(Told::Noted(notes))
+}
+
 /// Whether the file of that number is walked: where it has no mark, it is.
 fn is_walked(walked: &[bool], number: usize) -> bool
     ensures { result ≡ is_walked walked.now number }
@@ -94,7 +120,57 @@ fn is_walked(walked: &[bool], number: usize) -> bool
     }
 }
 
-/// What those of the files of a package say that are walked, file by file.
+/// The files of a package, in their order, with what those of them say that are walked.
+///
+/// # Errors
+///
+/// Memory was refused.
+pub fn told_files<'a>(
+    alloc: Global,
+    known: Known<'_, 'a>,
+    files: &'a [File],
+    walked: &[bool],
+) -> Result<Vec<Told<'a>>, AllocError>
+    ensures put { IfOk result (λ all. list_any told_puts all.items
+        ≡ some_put (notes_by (is_walked walked.now) (each_known known.entry) 0 (map file_syntax files.now))) }
+    ensures notes { IfOk result (λ all. flat_map (told_notes (each_known known.entry)) all.items
+        ≡ flat_map notes_in (seen_from (each_known known.entry) 0 (map file_syntax files.now))) }
+{
+    let mut all = Vec::new(alloc);
+    for (number, file) in files.iter().enumerate() {
+        let one = tell(alloc, known, is_walked(walked, number), number, file)?;
+        all.push(one)?;
+    }
+    Ok(all)
+}
+
+fn add_again<'a>(again: &[Note<'a>], notes: &mut Vec<Note<'a>>) -> Result<(), AllocError>
+    ensures { OnOk result (map note_view notes.new.items ≡ map note_view notes.old.items
+        ++ map note_view again.now) }
+{
+    for note in again {
+        notes.push(*note)?;
+    }
+    Ok(())
+}
+
+/// What a file says that was looked at, or is looked at now.
+fn add_told<'a>(
+    alloc: Global,
+    known: Known<'_, 'a>,
+    told: &Told<'a>,
+    notes: &mut Vec<Note<'a>>,
+) -> Result<(), AllocError>
+    ensures { OnOk result (map note_view notes.new.items ≡ map note_view notes.old.items
+        ++ told_notes (each_known known.entry) told.now) }
+{
+    match told {
+        Told::Noted(again) => add_again(again, notes),
+        Told::Unread { number, file } => add_file(alloc, known, *number, file, notes),
+    }
+}
+
+/// What all these files say, file by file.
 ///
 /// # Errors
 ///
@@ -102,21 +178,14 @@ fn is_walked(walked: &[bool], number: usize) -> bool
 pub fn notes_of<'a>(
     alloc: Global,
     known: Known<'_, 'a>,
-    files: &'a [File],
-    walked: &[bool],
+    files: &[Told<'a>],
 ) -> Result<Vec<Note<'a>>, AllocError>
     ensures { IfOk result (λ notes. map note_view notes.items
-        ≡ notes_by (is_walked walked.now) (each_known known.entry) 0 (map file_syntax files.now)) }
+        ≡ flat_map (told_notes (each_known known.entry)) files.now) }
 {
     let mut notes = Vec::new(alloc);
-    for (number, file) in files.iter().enumerate() {
-        add_if(
-            alloc,
-            is_walked(walked, number),
-            known_at(known, number),
-            file,
-            &mut notes,
-        )?;
+    for file in files {
+        add_told(alloc, known, file, &mut notes)?;
     }
     Ok(notes)
 }

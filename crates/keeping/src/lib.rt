@@ -2,10 +2,13 @@
 //! get nothing else. The definitions are those of `meaning/specs/KeepingFields.antt`.
 #![tactic(auto)]
 
+mod cancels;
 mod fields;
 mod files;
+mod may_put;
 mod note;
 mod noted;
+mod plain;
 mod putting;
 mod values;
 

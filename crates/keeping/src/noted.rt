@@ -136,7 +136,7 @@ fn written_note<'a>(
 }
 
 /// What is said of a field that is called: that a body does so.
-fn called_note<'a>(bodies: &[BodyPlace<'a>], name: &'a str) -> Option<Note<'a>>
+pub fn called_note<'a>(bodies: &[BodyPlace<'a>], name: &'a str) -> Option<Note<'a>>
     ensures { option_map note_view result ≡ called_note (map body_view bodies.now) name.now }
 {
     if bodies.is_empty() {
@@ -146,7 +146,12 @@ fn called_note<'a>(bodies: &[BodyPlace<'a>], name: &'a str) -> Option<Note<'a>>
     }
 }
 
-fn add_note<'a>(note: Option<Note<'a>>, notes: &mut Vec<Note<'a>>) -> Result<(), AllocError>
+/// Adds what is said, if something is.
+///
+/// # Errors
+///
+/// Memory was refused.
+pub fn add_note<'a>(note: Option<Note<'a>>, notes: &mut Vec<Note<'a>>) -> Result<(), AllocError>
     ensures { OnOk result (map note_view notes.new.items ≡ map note_view notes.old.items
         ++ one_note (option_map note_view note.entry)) }
 {
@@ -182,7 +187,11 @@ fn add_of_field<'a>(
 }
 
 /// A key of an element.
-fn add_key<'a>(mention: Mention<'_, 'a>, notes: &mut Vec<Note<'a>>) -> Result<(), AllocError>
+///
+/// # Errors
+///
+/// Memory was refused.
+pub fn add_key<'a>(mention: Mention<'_, 'a>, notes: &mut Vec<Note<'a>>) -> Result<(), AllocError>
     ensures { OnOk result (map note_view notes.new.items ≡ map note_view notes.old.items
         ++ key_notes (mention_view mention.entry)) }
 {
@@ -196,7 +205,11 @@ fn add_key<'a>(mention: Mention<'_, 'a>, notes: &mut Vec<Note<'a>>) -> Result<()
 }
 
 /// A body of a method tells the method's name.
-fn add_method<'a>(body: BodyPlace<'a>, notes: &mut Vec<Note<'a>>) -> Result<(), AllocError>
+///
+/// # Errors
+///
+/// Memory was refused.
+pub fn add_method<'a>(body: BodyPlace<'a>, notes: &mut Vec<Note<'a>>) -> Result<(), AllocError>
     ensures { OnOk result (map note_view notes.new.items ≡ map note_view notes.old.items
         ++ method_notes (body_view body.entry)) }
 {

@@ -1,6 +1,7 @@
 //! What an assignment gives a field.
 
 ghost use Rattle.std.specs.Prelude.{◌≡◌, codes, map, option_map};
+ghost use Rattle.keeping.specs.PlainFiles.{is_nil_value};
 ghost use Rattle.meaning.specs.FunctionFacts.{means_universe};
 ghost use Rattle.meaning.specs.KeepingFields.{holds_after, is_by_giver, is_own_or_nil, may_keep, value_at};
 ghost use Rattle.meaning.specs.Kept.{some_bare};
@@ -18,7 +19,7 @@ use tracked_rows::{Known, count, giving_of, may_bind, meaning, only_call};
 use tree::Expr;
 
 /// What the row gives its left side of that number, where it has as many values as left sides.
-fn value_at<'a>(row: Row<'a>, index: usize) -> Option<&'a Expr>
+pub fn value_at<'a>(row: Row<'a>, index: usize) -> Option<&'a Expr>
     ensures { option_map (λ e. expression_syntax e.now) result ≡ value_at (row_view row.entry) index }
 {
     if row.values.len() == count(row.form) {
@@ -60,8 +61,18 @@ fn is_nil(known: Known<'_, '_>, value: &Expr) -> bool
     }
 }
 
+/// Whether it is there, and the universe's `nil`.
+pub fn is_nil_value(known: Known<'_, '_>, value: Option<&Expr>) -> bool
+    ensures { result ≡ is_nil_value (known_view known.entry) (option_map (λ e. expression_syntax e.now) value.entry) }
+{
+    match value {
+        Some(value) => is_nil(known, value),
+        None => false,
+    }
+}
+
 /// The name that a bare value is.
-fn bare(value: Option<&Expr>) -> Option<Named<'_>>
+pub fn bare(value: Option<&Expr>) -> Option<Named<'_>>
     ensures { option_map named_view result ≡ some_bare (option_map (λ e. expression_syntax e.now) value.entry) }
 {
     match value {

@@ -1,10 +1,10 @@
 //! The tokens of any source, or its first fault (the Go specification, "Source code representation" and
 //! "Lexical elements").
 
-ghost use Rattle.std.specs.Prelude.{List, ◌≡◌, ◌≢◌, ◌≤◌, ◌<◌, ℕ, length, take, slice_index, IfOk, IfErr, IsErr, IfSome, IfNone};
+ghost use Rattle.std.specs.Prelude.{List, ◌≡◌, ◌≢◌, ◌≤◌, ◌<◌, ℕ, false, length, take, slice_index, IfOk, IfErr, IsErr, IfSome, IfNone};
 ghost use Rattle.std.specs.Str.{IsUtf8, IsCharBoundary};
 ghost use Rattle.lexer.specs.Bytes.{nul};
-ghost use Rattle.lexer.specs.Pieces.{IsWord};
+ghost use Rattle.lexer.specs.Pieces.{IsWord, is_white_space};
 ghost use Rattle.lexer.specs.Cut.{CanBegin, IsLongest};
 ghost use Rattle.lexer.specs.Tokens.{IsTokens, mark_size};
 ghost use Rattle.lexer.specs.Faults.{IsFault, stop_of};
@@ -30,10 +30,11 @@ use std::alloc::Global;
 /// The byte order mark: U+FEFF in UTF-8.
 const BYTE_ORDER_MARK: [u8; 3] = [0xEF, 0xBB, 0xBF];
 
-/// The longest piece that a text begins with where it begins with no word, or `None` where none can.
+/// The longest piece that a text begins with where it begins with no white space and no word, or `None` where none can.
 fn other_piece(text: &[u8]) -> Option<Piece>
     requires nonempty { 0 < length text.now }
     requires utf8 { IsUtf8 text.now }
+    requires no_space { is_white_space (slice_index text.now 0) ≡ false }
     requires no_word { (n : ℕ) → n ≤ length text.now → IsWord (take n text.now) → ⊥ }
     ensures some { IfSome result (λ p. IsLongest p text.now × IsCharBoundary text.now p.size) }
     ensures none { IfNone result ((p : Piece) → CanBegin p text.now → ⊥) }
@@ -42,12 +43,6 @@ fn other_piece(text: &[u8]) -> Option<Piece>
     let second = byte_at(text, 1);
     if starts_number(first, second) {
         return Some(token_piece(TokenKind::Number, number_size(text)));
-    }
-    if is_white_space(first) {
-        return Some(Piece {
-            kind: PieceKind::WhiteSpace,
-            size: 1,
-        });
     }
     if first == b'\n' {
         return Some(Piece {
@@ -72,6 +67,13 @@ fn first_piece(text: &str) -> Option<Piece>
     ensures none { IfNone result ((p : Piece) → CanBegin p text.now → ⊥) }
 {
     let bytes = text.as_bytes();
+    // A third of all pieces is white space.
+    if is_white_space(bytes[0]) {
+        return Some(Piece {
+            kind: PieceKind::WhiteSpace,
+            size: 1,
+        });
+    }
     let size = word_size(text);
     if size > 0 {
         return Some(token_piece(word_kind(&bytes[..size]), size));

@@ -1,20 +1,14 @@
--- The innermost declaration among locals that are ordered: what comes before the offset, and what the links skip.
-use Rattle.std.proofs.Common.{◌≡◌, ℕ, ◌+◌, ◌<◌, ◌≤◌, ◌⊎◌, inl, inr, Bool, true, false, Option, Some, None, List, [], ◌∷◌, ◌++◌, length, length-append, get_or, refl, sym, ap, subst, ◌∙◌, arith, zero, suc}
+-- The innermost declaration among the run of a name: what has begun at the offset, and what the links skip.
+use Rattle.std.proofs.Common.{◌≡◌, ℕ, ◌+◌, ◌<◌, ◌≤◌, ◌⊎◌, inl, inr, Bool, true, false, Option, Some, None, List, [], ◌∷◌, ◌++◌, length, length-append, refl, sym, ap, subst, ◌∙◌, arith, zero, suc}
 use Rattle.std.specs.Prelude.{slice_get, ◌&&◌, nat_le, nat_lt}
 use Rattle.std.specs.Str.{bytes_eq}
-use Rattle.std.specs.Ordering.{nat_cmp}
-use Rattle.std.specs.Cmp.Lexicographic.{slice_cmp}
-use Rattle.std.specs.FinMap.{slice_cmp-IsAntisymmetric, nat_cmp-IsAntisymmetric}
-use Rattle.std.specs.declared.cmp.Ordering.{Ordering}
-use Rattle.std.specs.declared.cmp.Ordering.TheVariants.{Less, Equal, Greater}
-use Rattle.std.proofs.lemmas.Bool.{cond-true, cond-false, cases_Bool, and_parts, false_from_ne_true, leb-true, ltb-true, le-leb, and_from, both_ways, false≢true, cases_lt, lt-ltb}
-use Rattle.std.proofs.lemmas.Cmp.{nat_list_cmp_total, tied_itself}
-use Rattle.std.proofs.lemmas.Option.{get_or_from_slice_get, slice_get_within}
+use Rattle.std.proofs.lemmas.Bool.{cond-true, cond-false, cases_Bool, and_parts, false_from_ne_true, leb-true, ltb-true, le-leb, and_from, cases_lt, lt-ltb}
 use Rattle.std.proofs.lemmas.Slice.Eq.{bytes_eq-Decides}
 use Rattle.meaning.specs.Scopes.{LocalName}
 use Rattle.meaning.specs.Declarations.{innermost, inner_of, covers}
-use Rattle.names.specs.Ordered.{AreOrdered, IsNotAfter, IsLink, AreLinks}
-use Rattle.names.specs.Before.{is_before_by, comes_before, AllBefore, NoneBefore, IsNumberBefore}
+use Rattle.names.specs.declared.order.Run.{Run}
+use Rattle.names.specs.Ordered.{IsLink, AreLinks, IsRun}
+use Rattle.names.specs.Before.{AllBegun, IsNumberBefore}
 
 -- the local has the name and covers the offset
 abbrev pub hits : List ℕ → ℕ → LocalName → Bool
@@ -51,75 +45,11 @@ innermost-some name at (x ∷ ls) (suc k) l is hit later earlier =
       | inr f ↦ cond-false _ _ _ f ∙ rest
     ]
 
--- The order
-
-abbrev Before : List ℕ → ℕ → LocalName → Type 0
-Before name at l = (slice_cmp nat_cmp l.name name ≡ Less) ⊎ ((l.name ≡ name) × (l.block.start ≤ at))
-
-by_cases :
-    (o : Ordering) (b : Bool) → is_before_by o b ≡ true → (o ≡ Less) ⊎ ((o ≡ Equal) × (b ≡ true))
-by_cases Less b e = inl refl
-by_cases Equal b e = inr (refl, e)
-by_cases Greater b e = absurd (false≢true e)
-
-means_before : (name : List ℕ) (at : ℕ) (l : LocalName) → comes_before name at l ≡ true → Before name at l
-means_before name at l e =
-    elim (by_cases _ _ e) [
-      | inl less ↦ inl less
-      | inr p ↦ inr (slice_cmp-IsAntisymmetric nat_cmp-IsAntisymmetric _ _ p.0, leb-true _ _ p.1)
-    ]
-
-from_before : (name : List ℕ) (at : ℕ) (l : LocalName) → Before name at l → comes_before name at l ≡ true
-from_before name at l (inl less) = ap (λ (o : Ordering). is_before_by o (nat_le l.block.start at)) less
-from_before name at l (inr p) =
-    let same : slice_cmp nat_cmp l.name name ≡ Equal =
-    ap (λ (n : List ℕ). slice_cmp nat_cmp n name) p.0 ∙ tied_itself nat_list_cmp_total name in
-    ap (λ (o : Ordering). is_before_by o (nat_le l.block.start at)) same ∙ le-leb _ _ p.1
-
-before_back : (name : List ℕ) (at : ℕ) (l m : LocalName) → IsNotAfter l m → Before name at m → Before name at l
-before_back name at l m (inl a) (inl b) = inl (nat_list_cmp_total.trans l.name m.name name a b)
-before_back name at l m (inl a) (inr b) = inl (subst (λ (n : List ℕ). slice_cmp nat_cmp l.name n ≡ Less) b.0 a)
-before_back name at l m (inr a) (inl b) = inl (subst (λ (n : List ℕ). slice_cmp nat_cmp n name ≡ Less) (sym a.0) b)
-before_back name at l m (inr a) (inr b) = inr (a.0 ∙ b.0, (omega arith))
-
-not_less : (name : List ℕ) → slice_cmp nat_cmp name name ≡ Less → ⊥
-not_less name e = let same = tied_itself nat_list_cmp_total name in cc
-
-in_order :
-    (ls : List LocalName) → AreOrdered ls → (i j : ℕ) (l m : LocalName) → i < j → slice_get ls i ≡ Some l
-    → slice_get ls j ≡ Some m → IsNotAfter l m
-in_order ls ordered i j l m below here there =
-    let pair = ordered i j l below (slice_get_within ls j m there) in
-    subst (λ (x : LocalName). IsNotAfter x m) (get_or_from_slice_get ls i l l here)
-    (subst (λ (x : LocalName). IsNotAfter (get_or ls i l) x) (get_or_from_slice_get ls j m l there) pair)
-
--- where one comes before, all up to it do; where one does not, none from it on
-pub before_below :
-    (name : List ℕ) (at : ℕ) (ls : List LocalName) → AreOrdered ls → (k : ℕ) (m : LocalName) → slice_get ls k ≡ Some m
-    → comes_before name at m ≡ true → AllBefore ls name at (k + 1)
-before_below name at ls ordered k m there before i l w here =
-    elim (cases_lt i k) [
-      | inl below ↦
-          from_before name at l (before_back name at l m (in_order ls ordered i k l m below here there)
-          (means_before name at m before))
-      | inr above ↦
-          let one : i ≡ k = omega arith in
-          let at_k : slice_get ls k ≡ Some l = subst (λ (n : ℕ). slice_get ls n ≡ Some l) one here in
-          let same : l ≡ m = cc in
-          ap (comes_before name at) same ∙ before
-    ]
-
-pub none_above :
-    (name : List ℕ) (at : ℕ) (ls : List LocalName) → AreOrdered ls → (k : ℕ) (l : LocalName) → slice_get ls k ≡ Some l
-    → comes_before name at l ≡ false → NoneBefore ls name at k
-none_above name at ls ordered k l here after i m w there =
-    false_from_ne_true _ (λ before. both_ways _ after (before_below name at ls ordered i m there before k l (omega arith) here))
-
 -- What is left of the locals, while the last of them are passed
 
-pub record Left (ls : List LocalName) (name : List ℕ) (at end : ℕ) : Type 0 where
-  pub within : end ≤ length ls
-  pub before : AllBefore ls name at end
+pub record Left (ls : List LocalName) (name : List ℕ) (run : Run) (at end : ℕ) : Type 0 where
+  pub within : end ≤ run.end
+  pub begun : AllBegun ls run.start end at
   pub missed : NoneHits ls name at end
 
 has_name : (name : List ℕ) (at : ℕ) (l : LocalName) → hits name at l ≡ true → l.name ≡ name
@@ -135,22 +65,26 @@ in_scope name at l h =
     let both = and_parts (nat_le l.from at) (nat_lt at l.block.end) scope.1 in
     (leb-true l.from at both.0, ltb-true at l.block.end both.1)
 
-pub left-all : (ls : List LocalName) (name : List ℕ) (at number : ℕ) → IsNumberBefore ls name at number → Left ls name at number
-left-all ls name at number h = record {
+pub left-all :
+    (ls : List LocalName) (name : List ℕ) (run : Run) (at number : ℕ) → IsRun ls name run → IsNumberBefore ls run at number
+    → Left ls name run at number
+left-all ls name run at number is h = record {
   within = h.within;
-  before = h.before;
-  missed = λ i l w e. false_from_ne_true _ (λ hit. both_ways _ (h.after i l w e)
-      (from_before name at l (inr (has_name name at l hit, has_begun name at l hit))));
+  begun = h.begun;
+  missed = λ i l w e. false_from_ne_true _ (λ hit.
+      let place = is.all i l e (has_name name at l hit) in
+      let later = h.later i l w place.1 e in
+      let begun = has_begun name at l hit in omega arith);
 }
 
 -- no local in a part at the end hits
 fewer :
-    (ls : List LocalName) (name : List ℕ) (at end fewer : ℕ) → Left ls name at end → fewer ≤ end
+    (ls : List LocalName) (name : List ℕ) (run : Run) (at end fewer : ℕ) → Left ls name run at end → fewer ≤ end
     → ((i : ℕ) (l : LocalName) → fewer ≤ i → i < end → slice_get ls i ≡ Some l → hits name at l ≡ true → ⊥)
-    → Left ls name at fewer
-fewer ls name at end less left le none = record {
+    → Left ls name run at fewer
+fewer ls name run at end less left le none = record {
   within = let h = left.within in omega arith;
-  before = λ i l w e. left.before i l (omega arith) e;
+  begun = λ i l w below e. left.begun i l w (omega arith) e;
   missed = λ i l w e. elim (cases_lt i end) [
     | inl below ↦ false_from_ne_true _ (none i l w below e)
     | inr above ↦ left.missed i l above e
@@ -163,20 +97,20 @@ one_of ls i k l m here there one =
 
 -- the scope of the last one has not begun
 pub left-last :
-    (ls : List LocalName) (name : List ℕ) (at end last : ℕ) (m : LocalName) → Left ls name at end → end ≡ last + 1
-    → slice_get ls last ≡ Some m → at < m.from → Left ls name at last
-left-last ls name at end last m left e there later = fewer ls name at end last left (omega arith)
+    (ls : List LocalName) (name : List ℕ) (run : Run) (at end last : ℕ) (m : LocalName) → Left ls name run at end
+    → end ≡ last + 1 → slice_get ls last ≡ Some m → at < m.from → Left ls name run at last
+left-last ls name run at end last m left e there later = fewer ls name run at end last left (omega arith)
     (λ i l w below here hit.
     let same : l ≡ m = one_of ls i last l m here there (omega arith) in
     let from = subst (λ (x : LocalName). x.from ≤ at) same (in_scope name at l hit).0 in omega arith)
 
 -- the block of the last one has ended, and with it those from its link on
 pub left-link :
-    (ls : List LocalName) (name : List ℕ) (at end last link : ℕ) (m : LocalName) → Left ls name at end → end ≡ last + 1
-    → slice_get ls last ≡ Some m → m.block.end ≤ at → IsLink ls last link → Left ls name at link
-left-link ls name at end last link m left e there ended is_link =
+    (ls : List LocalName) (name : List ℕ) (run : Run) (at end last link : ℕ) (m : LocalName) → Left ls name run at end
+    → end ≡ last + 1 → slice_get ls last ≡ Some m → m.block.end ≤ at → IsLink ls last link → Left ls name run at link
+left-link ls name run at end last link m left e there ended is_link =
     let back = is_link.back in
-    fewer ls name at end link left (omega arith)
+    fewer ls name run at end link left (omega arith)
     (λ i l w below here hit.
     let open_yet = (in_scope name at l hit).1 in
     elim (cases_lt i last) [
@@ -186,60 +120,46 @@ left-link ls name at end last link m left e there ended is_link =
           let at_end = subst (λ (x : LocalName). at < x.block.end) same open_yet in omega arith
     ])
 
--- the last one has another name
-pub left-other :
-    (ls : List LocalName) (name : List ℕ) (at end last : ℕ) (m : LocalName) → AreOrdered ls → Left ls name at end
-    → end ≡ last + 1 → slice_get ls last ≡ Some m → (m.name ≡ name → ⊥) → innermost name at ls ≡ None
-left-other ls name at end last m ordered left e there other =
-    innermost-none name at ls (fewer ls name at end 0 left (omega arith) none).missed
-  where
-    none : (i : ℕ) (l : LocalName) → 0 ≤ i → i < end → slice_get ls i ≡ Some l → hits name at l ≡ true → ⊥
-    none i l w below here hit =
-        let named = has_name name at l hit in
-        elim (cases_lt i last) [
-          | inl before ↦ elim (means_before name at m (left.before last m (omega arith) there)) [
-            | inr p ↦ other p.0
-            | inl less ↦ elim (in_order ls ordered i last l m before here there) [
-              | inl lower ↦ not_less name (subst (λ (n : List ℕ). slice_cmp nat_cmp n name ≡ Less) named
-                  (nat_list_cmp_total.trans l.name m.name name lower less))
-              | inr p ↦ other (sym p.0 ∙ named)
-            ]
-          ]
-          | inr above ↦
-              let same : m ≡ l = sym (one_of ls i last l m here there (omega arith)) in
-              other (ap (λ (x : LocalName). x.name) same ∙ named)
-        ]
-
 -- the last one hits
 pub left-hit :
-    (ls : List LocalName) (name : List ℕ) (at end last : ℕ) (m : LocalName) → AreOrdered ls → Left ls name at end
-    → end ≡ last + 1 → slice_get ls last ≡ Some m → m.name ≡ name → m.from ≤ at → at < m.block.end
-    → innermost name at ls ≡ Some m
-left-hit ls name at end last m ordered left e there named begun open_yet =
+    (ls : List LocalName) (name : List ℕ) (run : Run) (at end last : ℕ) (m : LocalName) → IsRun ls name run
+    → Left ls name run at end → end ≡ last + 1 → run.start ≤ last → slice_get ls last ≡ Some m → m.from ≤ at
+    → at < m.block.end → innermost name at ls ≡ Some m
+left-hit ls name run at end last m is left e some there from open_yet =
     innermost-some name at ls last m there hit (λ i l w here. left.missed i l (omega arith) here) earlier
   where
-    started : m.block.start ≤ at
-    started = elim (means_before name at m (left.before last m (omega arith) there)) [
-      | inl less ↦ absurd (not_less name (subst (λ (n : List ℕ). slice_cmp nat_cmp n name ≡ Less) named less))
-      | inr p ↦ p.1
-    ]
+    upto : end ≤ run.end
+    upto = left.within
+
+    begun : m.block.start ≤ at
+    begun = left.begun last m some (omega arith) there
 
     hit : hits name at m ≡ true
-    hit = and_from _ _ ((bytes_eq-Decides m.name name).1 named)
-        (and_from _ _ (le-leb _ _ started) (and_from _ _ (le-leb _ _ begun) (lt-ltb _ _ open_yet)))
+    hit = and_from _ _ ((bytes_eq-Decides m.name name).1 (is.named last m some (omega (arith, upto)) there))
+        (and_from _ _ (le-leb _ _ begun) (and_from _ _ (le-leb _ _ from) (lt-ltb _ _ open_yet)))
 
     earlier : (i : ℕ) (x : LocalName) → i < last → slice_get ls i ≡ Some x → hits name at x ≡ true
         → x.block.start ≤ m.block.start
-    earlier i x below here h = elim (in_order ls ordered i last x m below here there) [
-      | inl lower ↦ absurd (not_less name (subst (λ (n : List ℕ). slice_cmp nat_cmp n name ≡ Less)
-          (has_name name at x h) (subst (λ (n : List ℕ). slice_cmp nat_cmp x.name n ≡ Less) named lower)))
-      | inr p ↦ p.1
-    ]
+    earlier i x below here h =
+        is.by_start i last x m (is.all i x here (has_name name at x h)).0 below (omega (arith, upto)) here there
 
+-- none of the run is left
 pub left-none :
-    (ls : List LocalName) (name : List ℕ) (at end : ℕ) → Left ls name at end → end ≤ 0 → innermost name at ls ≡ None
-left-none ls name at end left none =
-    innermost-none name at ls (λ i l w here. left.missed i l (omega arith) here)
+    (ls : List LocalName) (name : List ℕ) (run : Run) (at end : ℕ) → IsRun ls name run → Left ls name run at end
+    → end ≤ run.start → innermost name at ls ≡ None
+left-none ls name run at end is left none =
+    innermost-none name at ls (fewer ls name run at end 0 left (omega arith) outside).missed
+  where
+    outside : (i : ℕ) (l : LocalName) → 0 ≤ i → i < end → slice_get ls i ≡ Some l → hits name at l ≡ true → ⊥
+    outside i l w below here hit = let place = is.all i l here (has_name name at l hit) in omega (arith, place.0)
+
+-- the name has no local
+pub none-named :
+    (ls : List LocalName) (name : List ℕ) (run : Run) (at : ℕ) → IsRun ls name run → run.end ≤ run.start
+    → innermost name at ls ≡ None
+none-named ls name run at is empty =
+    innermost-none name at ls (λ i l w here. false_from_ne_true _ (λ hit.
+    let place = is.all i l here (has_name name at l hit) in omega (arith, place.0, place.1)))
 
 -- Links
 

@@ -2,6 +2,7 @@ mod FirstLocals
 mod InnermostOf
 mod KeptLocals
 mod LocalOrder
+mod LocalRuns
 pub mod Adding
 pub mod FirstAnswers
 pub mod ImportNames
@@ -9,3 +10,4 @@ pub mod LevelNames
 pub mod PackageAnswers
 pub mod SameInnermost
 pub mod SecondFunctions
+pub mod UseChains

@@ -2,12 +2,12 @@
 use Rattle.std.proofs.Common.{◌≡◌, ℕ, zero, suc, ◌+◌, ◌<◌, ◌≤◌, Bool, List, [], ◌∷◌, ◌++◌, map, length, get_or, take, option_map, refl, sym, ap, ◌∙◌, subst, arith, length-append}
 use Rattle.std.proofs.lemmas.List.{take_more, take_all}
 use Rattle.std.proofs.lemmas.Option.{slice_get-map}
-use Rattle.std.specs.Prelude.{Option, Some, None, slice_get, nat_eq}
-use Rattle.indexmap.specs.IndexMap.{IndexMap, get}
+use Rattle.std.specs.Prelude.{Option, Some, None, slice_get}
 use Rattle.tree.specs.declared.file.File.{File}
 use Rattle.tree.specs.View.{file_syntax}
-use Rattle.names.specs.declared.meanings.NameMeaning.{NameMeaning}
+use Rattle.names.specs.declared.use_meanings.UseMeanings.{UseMeanings}
 use Rattle.names.specs.Answers.{decl_view, answer_in}
+use Rattle.names.specs.KeptMeanings.{kept_at}
 use Rattle.tree.specs.Syntax.{SourceFile}
 use Rattle.meaning.specs.Scopes.{file_names}
 use Rattle.meaning.specs.OuterBlocks.{PackageLevel, PackageNames, package_block, package_meant, specs_of, import_meant}
@@ -46,20 +46,20 @@ one_more f g (x ∷ xs) (y ∷ ys) a b e none last each zero at = each 0 at
 one_more f g (x ∷ xs) (y ∷ ys) a b e none last each (suc k) at = one_more f g xs ys a b (omega arith) none last (λ j. each (suc j)) k at
 
 -- the answers are those of the files that were read, one for each
-pub record AreAnswers {S : Type 0} (files : List SourceFile) (packages : PackageNames) (answers : List (IndexMap ℕ NameMeaning S)) (read : List File) : Type 0 where
+pub record AreAnswers (files : List SourceFile) (packages : PackageNames) (answers : List UseMeanings) (read : List File) : Type 0 where
   pub as_many : length answers ≡ length read
   pub each :
       (k at : ℕ) → answer_in (slice_get answers k) at ≡ meaning_at files packages (option_map file_syntax (slice_get read k)) at
 
-pub no_answers : {S : Type 0} (files : List SourceFile) (packages : PackageNames) (answers : List (IndexMap ℕ NameMeaning S)) → answers ≡ []
+pub no_answers : (files : List SourceFile) (packages : PackageNames) (answers : List UseMeanings) → answers ≡ []
     → AreAnswers files packages answers []
 no_answers files packages answers e = subst (λ l. AreAnswers files packages l []) (sym e) (record { as_many = refl; each = λ k at. refl })
 
-pub more_answers : {S : Type 0} (files : List SourceFile) (packages : PackageNames) (block : List ℕ → Option Bool)
-    (answers new : List (IndexMap ℕ NameMeaning S)) (one : IndexMap ℕ NameMeaning S) (all : List File) (i : ℕ) (file : File)
+pub more_answers : (files : List SourceFile) (packages : PackageNames) (block : List ℕ → Option Bool)
+    (answers new : List UseMeanings) (one : UseMeanings) (all : List File) (i : ℕ) (file : File)
     → i < length all → file ≡ get_or all i file → new ≡ answers ++ (one ∷ [])
     → ((name : List ℕ) → block name ≡ is_function_in (package_block files) name)
-    → ((at : ℕ) → option_map decl_view (get nat_eq one at) ≡ meant_at block packages (file_syntax file) at)
+    → ((at : ℕ) → option_map decl_view (kept_at one at) ≡ meant_at block packages (file_syntax file) at)
     → AreAnswers files packages answers (take i all) → AreAnswers files packages new (take (i + 1) all)
 more_answers files packages block answers new one all i file below item pushed same answered so_far =
     let read = take i all in
@@ -72,7 +72,7 @@ more_answers files packages block answers new one all i file below item pushed s
     subst (λ l. AreAnswers files packages l (take (i + 1) all)) (sym pushed)
     (subst (λ l. AreAnswers files packages (answers ++ (one ∷ [])) l) (sym now_read) now)
 
-pub all_answered : {S : Type 0} (packages : PackageNames) (answers : List (IndexMap ℕ NameMeaning S)) (all : List File) (i : ℕ) → length all ≤ i
+pub all_answered : (packages : PackageNames) (answers : List UseMeanings) (all : List File) (i : ℕ) → length all ≤ i
     → AreAnswers (map file_syntax all) packages answers (take i all)
     → (file at : ℕ) → answer_in (slice_get answers file) at ≡ declaration_of_use (map file_syntax all) packages file at
 all_answered packages answers all i past so_far file at =

@@ -1,7 +1,7 @@
 -- What the answers that the program keeps stand for.
-use Rattle.std.specs.Prelude.{ℕ, Option, Some, None, option_map, List, slice_get, nat_eq}
+use Rattle.std.specs.Prelude.{ℕ, Option, Some, None, option_map, List, slice_get}
 use Rattle.std.specs.Borrow.{Bor}
-use Rattle.indexmap.specs.IndexMap.{IndexMap, get}
+use Rattle.indexmap.specs.IndexMap.{IndexMap}
 pub use Rattle.first_values.specs.ValuesByName.{at_name}
 use Rattle.first_values.specs.ValuesByName.{value_of}
 use Rattle.tree.specs.declared.span.Identifier.{Identifier as KeptIdentifier}
@@ -10,6 +10,8 @@ use Rattle.names.specs.declared.meanings.NameMeaning.{NameMeaning}
 use Rattle.names.specs.declared.meanings.NameMeaning.TheVariants.{Local, Import, Function, PackageLevel, Universe}
 use Rattle.names.specs.declared.package_names.PackageNames.{PackageNames as KeptNames}
 use Rattle.names.specs.declared.resolution.Names.{Names}
+use Rattle.names.specs.declared.use_meanings.UseMeanings.{UseMeanings}
+use Rattle.names.specs.KeptMeanings.{kept_at}
 use Rattle.meaning.specs.Declarations.{Meaning, local_name, import_name, function_name, package_name, universe_name}
 use Rattle.meaning.specs.OuterBlocks.{PackageNames}
 use Rattle.meaning.specs.TwoFunctions.{FunctionName}
@@ -30,9 +32,9 @@ abbrev pub names_by_path : KeptNames → PackageNames
 names_by_path packages path = option_map (λ name. name.now) (value_of packages.names path)
 
 -- what the use means that begins at the offset of that file
-abbrev pub answer_in : {S : Type 0} → Option (IndexMap ℕ NameMeaning S) → ℕ → Option Meaning
+abbrev pub answer_in : Option UseMeanings → ℕ → Option Meaning
 answer_in None at = None
-answer_in (Some answers) at = option_map decl_view (get nat_eq answers at)
+answer_in (Some answers) at = option_map decl_view (kept_at answers at)
 
 abbrev pub declared_at : Names → ℕ → ℕ → Option Meaning
 declared_at names file at = answer_in (slice_get names.files.items file) at

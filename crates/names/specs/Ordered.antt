@@ -1,5 +1,5 @@
--- Locals that count, and their order by name and block.
-use Rattle.std.specs.Prelude.{ℕ, ◌≡◌, ◌≤◌, ◌<◌, ◌⊎◌, Some, List, map, length, slice_get, All, AllPairs}
+-- Locals that count, their order by name and block, and where those of a name stand.
+use Rattle.std.specs.Prelude.{ℕ, ◌≡◌, ◌≤◌, ◌<◌, ◌⊎◌, Option, Some, None, List, map, length, slice_get, All, AllPairs}
 use Rattle.std.specs.Borrow.{Bor}
 use Rattle.std.specs.Ordering.{nat_cmp}
 use Rattle.std.specs.Cmp.Lexicographic.{slice_cmp}
@@ -9,6 +9,7 @@ use Rattle.scopes.specs.declared.naming.LocalName.{LocalName as KeptLocal}
 use Rattle.scopes.specs.Views.{local_view}
 use Rattle.meaning.specs.Scopes.{LocalName}
 use Rattle.meaning.specs.Declarations.{first_locals}
+use Rattle.names.specs.declared.order.Run.{Run}
 
 abbrev pub locals_view : List KeptLocal → List LocalName
 locals_view ls = map local_view ls
@@ -30,6 +31,28 @@ IsNotAfter l m =
 -- each local, and all that stand after it
 abbrev pub AreOrdered : List LocalName → Type 0
 AreOrdered locals = AllPairs IsNotAfter locals
+
+-- of two locals of the run the block of the second begins no earlier
+abbrev pub IsByStart : List LocalName → Run → Type 0
+IsByStart locals run =
+    (i j : ℕ) (l m : LocalName) → run.start ≤ i → i < j → j < run.end → slice_get locals i ≡ Some l
+    → slice_get locals j ≡ Some m → l.block.start ≤ m.block.start
+
+-- the locals of the name are those of the run, by the start of their blocks
+pub record IsRun (locals : List LocalName) (name : List ℕ) (run : Run) : Type 0 where
+  pub in_order : run.start ≤ run.end
+  pub within : run.end ≤ length locals
+  pub named : (i : ℕ) (l : LocalName) → run.start ≤ i → i < run.end → slice_get locals i ≡ Some l → l.name ≡ name
+  pub all : (i : ℕ) (l : LocalName) → slice_get locals i ≡ Some l → l.name ≡ name → (run.start ≤ i) × (i < run.end)
+  pub by_start : IsByStart locals run
+
+-- where no local has the name, its run is empty
+abbrev pub run_or_empty : Option Run → Run
+run_or_empty None = record { start = 0; end = 0 }
+run_or_empty (Some run) = run
+
+pub record AreRuns (locals : List LocalName) (runs : List ℕ → Option Run) : Type 0 where
+  pub each : (name : List ℕ) → IsRun locals name (run_or_empty (runs name))
 
 -- From the link of a local up to the local itself no block ends after its own.
 pub record IsLink (locals : List LocalName) (index link : ℕ) : Type 0 where

@@ -1,21 +1,21 @@
 //! What each use in a file means.
 
-ghost use Rattle.std.specs.Prelude.{◌≡◌, ℕ, List, IfOk, option_map, nat_eq, All};
-ghost use Rattle.indexmap.specs.IndexMap.{get};
+ghost use Rattle.std.specs.Prelude.{◌≡◌, ℕ, List, IfOk, option_map, All};
 ghost use Rattle.names.specs.Answers.{decl_view, at_name, text_at, names_by_path};
-ghost use Rattle.names.specs.Ordered.{AreOrdered, AreLinks, FitsKey, locals_view};
+ghost use Rattle.names.specs.KeptMeanings.{kept_at};
+ghost use Rattle.names.specs.Ordered.{AreLinks, AreRuns, FitsKey, locals_view};
 ghost use Rattle.names.specs.Uses.{from_package, meant_at, IsUseOf};
 ghost use Rattle.meaning.specs.Declarations.{local_or_around, import_or_around, innermost};
 ghost use Rattle.scopes.specs.Views.{naming_view};
 ghost use Rattle.tree.specs.View.{file_syntax};
 
-use crate::first::keep_first;
 use crate::imports::file_imports;
 use crate::innermost::{innermost, links};
 use crate::locals::{FirstLocals, first_locals, is_assigned};
 use crate::meanings::NameMeaning;
-use crate::order::ordered;
+use crate::order::{Run, ordered, runs};
 use crate::package_names::PackageNames;
+use crate::use_meanings::UseMeanings;
 use indexmap::IndexMap;
 use scopes::{LocalName, Naming, file_names};
 use std::alloc::{AllocError, Global};
@@ -26,19 +26,20 @@ use tree::File;
 struct Blocks<'b, 'a> {
     locals: &'b [LocalName<'a>],
     links: &'b [usize],
+    runs: &'b IndexMap<&'a str, Run>,
     imports: &'b IndexMap<&'a str, &'a str>,
     block: &'b IndexMap<&'a str, bool>,
 }
 
 /// What the name means at the offset.
 fn meaning<'a>(blocks: Blocks<'_, 'a>, name: &str, at: u32) -> NameMeaning<'a>
-    requires ordered { AreOrdered (locals_view blocks.locals.now) }
     requires links { AreLinks (locals_view blocks.locals.now) blocks.links.now }
+    requires runs { AreRuns (locals_view blocks.locals.now) (at_name blocks.runs.now) }
     ensures { decl_view result ≡ local_or_around (innermost name.now at (locals_view blocks.entry.locals.now))
         (import_or_around (text_at blocks.entry.imports.now name.now) (from_package
         (at_name blocks.entry.block.now name.now))) }
 {
-    if let Some(local) = innermost(blocks.locals, blocks.links, name, at) {
+    if let Some(local) = innermost(blocks.locals, blocks.links, blocks.runs, name, at) {
         return NameMeaning::Local(local.number, local.kind);
     }
     if let Some(path) = blocks.imports.get(name) {
@@ -73,7 +74,8 @@ fn use_of<'a>(locals: &FirstLocals<'a>, naming: &Naming<'a>) -> Option<(&'a str,
     }
 }
 
-/// By its offset, what each use in the file means.
+/// By its offset, what each use in the file means. Of two uses at one offset the first counts: so the later is kept
+/// before it.
 ///
 /// # Errors
 ///
@@ -83,25 +85,29 @@ pub fn file_answers<'a>(
     packages: &PackageNames<'a>,
     block: &IndexMap<&'a str, bool>,
     file: &'a File,
-) -> Result<IndexMap<u32, NameMeaning<'a>>, AllocError>
-    ensures { IfOk result (λ answers. (at : ℕ) → option_map decl_view (get nat_eq answers at) ≡ meant_at
+) -> Result<UseMeanings<'a>, AllocError>
+    ensures { IfOk result (λ answers. (at : ℕ) → option_map decl_view (kept_at answers at) ≡ meant_at
         (at_name block.now) (names_by_path packages.now) (file_syntax file.now) at) }
 {
     let namings = file_names(alloc, file)?;
     let firsts = first_locals(alloc, &namings)?;
     let locals = ordered(alloc, &firsts)?;
     let links = links(alloc, &locals)?;
+    let runs = runs(alloc, &locals)?;
     let imports = file_imports(alloc, packages, file)?;
     let blocks = Blocks {
         locals: &locals,
         links: &links,
+        runs: &runs,
         imports: &imports,
         block,
     };
-    let mut answers = IndexMap::new(alloc);
-    for naming in &namings {
-        if let Some((name, at)) = use_of(&firsts, naming) {
-            keep_first(&mut answers, at, meaning(blocks, name, at))?;
+    let mut answers = UseMeanings::new(alloc, namings.len(), file.span.end)?;
+    let mut left = namings.len();
+    while left > 0 {
+        left -= 1;
+        if let Some((name, at)) = use_of(&firsts, &namings[left]) {
+            answers.keep(at, meaning(blocks, name, at))?;
         }
     }
     Ok(answers)

@@ -1,14 +1,16 @@
 //! The innermost declaration of a name that covers an offset.
 
-ghost use Rattle.std.specs.Prelude.{◌≡◌, IfOk, option_map};
+ghost use Rattle.std.specs.Prelude.{◌≡◌, ◌≤◌, IfOk, length, option_map};
 ghost use Rattle.meaning.specs.Declarations.{innermost};
-ghost use Rattle.names.specs.Before.{comes_before, IsNumberBefore};
-ghost use Rattle.names.specs.Ordered.{AreOrdered, AreLinks, locals_view};
+ghost use Rattle.names.specs.Answers.{at_name};
+ghost use Rattle.names.specs.Before.{IsNumberBefore};
+ghost use Rattle.names.specs.Ordered.{AreLinks, AreRuns, IsByStart, locals_view};
 ghost use Rattle.scopes.specs.Views.{local_view};
 
+use crate::order::Run;
+use indexmap::IndexMap;
 use scopes::LocalName;
 use std::alloc::{AllocError, Global};
-use std::cmp::Ordering;
 
 /// For each local the number of those before it up to the last one whose block ends after its own: no local between
 /// them covers an offset at which its block has ended.
@@ -30,27 +32,18 @@ pub fn links(alloc: Global, ordered: &[LocalName<'_>]) -> Result<Vec<usize>, All
     Ok(links)
 }
 
-/// Whether the local comes before those of that name whose block begins after the offset.
-fn is_before(local: &LocalName<'_>, name: &str, at: u32) -> bool
-    ensures { result ≡ comes_before name.now at (local_view local.now) }
+/// The number of locals before those of the run whose block begins after the offset.
+fn number_before(ordered: &[LocalName<'_>], run: Run, at: u32) -> usize
+    requires within { run.end ≤ length ordered.now }
+    requires ordered { IsByStart (locals_view ordered.now) run }
+    requires in_order { run.start ≤ run.end }
+    ensures { IsNumberBefore (locals_view ordered.now) run at result }
 {
-    match local.name.cmp(name) {
-        Ordering::Less => true,
-        Ordering::Equal => local.block.start <= at,
-        Ordering::Greater => false,
-    }
-}
-
-/// The number of locals before those of that name whose block begins after the offset.
-fn number_before(ordered: &[LocalName<'_>], name: &str, at: u32) -> usize
-    requires { AreOrdered (locals_view ordered.now) }
-    ensures { IsNumberBefore (locals_view ordered.now) name.now at result }
-{
-    let mut low = 0;
-    let mut high = ordered.len();
+    let mut low = run.start;
+    let mut high = run.end;
     while low < high {
         let middle = low + (high - low) / 2;
-        if is_before(&ordered[middle], name, at) {
+        if ordered[middle].block.start <= at {
             low = middle + 1;
         } else {
             high = middle;
@@ -63,19 +56,20 @@ fn number_before(ordered: &[LocalName<'_>], name: &str, at: u32) -> usize
 pub fn innermost<'b, 'a>(
     ordered: &'b [LocalName<'a>],
     links: &[usize],
+    runs: &IndexMap<&'a str, Run>,
     name: &str,
     at: u32,
 ) -> Option<&'b LocalName<'a>>
-    requires ordered { AreOrdered (locals_view ordered.now) }
     requires links { AreLinks (locals_view ordered.now) links.now }
+    requires runs { AreRuns (locals_view ordered.now) (at_name runs.now) }
     ensures { option_map (λ l. local_view l.now) result ≡ innermost name.now at (locals_view ordered.now) }
 {
-    let mut end = number_before(ordered, name, at);
-    while end > 0 {
+    let Some(run) = runs.get(name) else {
+        return None;
+    };
+    let mut end = number_before(ordered, *run, at);
+    while end > run.start {
         let local = &ordered[end - 1];
-        if local.name != name {
-            return None;
-        }
         if local.block.end <= at {
             end = links[end - 1];
         } else if local.from <= at {

@@ -13,6 +13,7 @@ mod package_block;
 mod package_names;
 mod resolution;
 mod second;
+mod use_meanings;
 
 pub use imports::{CONTEXT, ERRGROUP};
 pub use meanings::{NameFault, NameMeaning};

@@ -12,14 +12,14 @@ use crate::meanings::{NameFault, NameMeaning};
 use crate::package_block::package_block;
 use crate::package_names::PackageNames;
 use crate::second::second_function;
-use indexmap::IndexMap;
+use crate::use_meanings::UseMeanings;
 use std::alloc::{AllocError, Global};
 use tree::File;
 
 /// For each file of a package what each use in it means.
 #[derive(Drop)]
 pub struct Names<'a> {
-    files: Vec<IndexMap<u32, NameMeaning<'a>>>,
+    files: Vec<UseMeanings<'a>>,
 }
 
 impl<'a> Names<'a> {
@@ -29,7 +29,7 @@ impl<'a> Names<'a> {
         ensures { option_map decl_view result ≡ declared_at self.now file at }
     {
         match self.files.get(file) {
-            Some(answers) => answers.get(&at).copied(),
+            Some(answers) => answers.get(at),
             None => None,
         }
     }
@@ -40,7 +40,7 @@ fn all_answers<'a>(
     alloc: Global,
     files: &'a [File],
     packages: &PackageNames<'a>,
-) -> Result<Vec<IndexMap<u32, NameMeaning<'a>>>, AllocError>
+) -> Result<Vec<UseMeanings<'a>>, AllocError>
     ensures { IfOk result (λ answers. (file at : ℕ) → answer_in (slice_get answers.items file) at ≡
         declaration_of_use (map file_syntax files.now) (names_by_path packages.now) file at) }
 {

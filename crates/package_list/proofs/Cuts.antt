@@ -6,11 +6,11 @@ use Rattle.package_list.specs.Pieces.{after_blanks, bracketed_size, is_blank, is
 use Rattle.package_list.specs.declared.cut.Place.TheVariants.{Outside}
 
 module _ {A : Type 0} (x y : A) where
-  if_true : (test : Bool) → test ≡ true → (if test then x else y) ≡ x
+  pub if_true : (test : Bool) → test ≡ true → (if test then x else y) ≡ x
   if_true true e = refl
   if_true false e = absurd (true≢false (sym e))
 
-  if_false : (test : Bool) → test ≡ false → (if test then x else y) ≡ y
+  pub if_false : (test : Bool) → test ≡ false → (if test then x else y) ≡ y
   if_false true e = absurd (true≢false e)
   if_false false e = refl
 

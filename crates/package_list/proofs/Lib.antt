@@ -1,6 +1,7 @@
 -- The pieces of a text, one after another.
 pub mod Cuts
 pub mod CutsShown
+pub mod StringSizes
 -- What is found in values: strings, lists of strings, and the members of a package.
 pub mod StringsRead
 pub mod MembersRead

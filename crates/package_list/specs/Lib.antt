@@ -6,5 +6,6 @@ pub mod ListTexts
 -- Laws of these, which are proved.
 pub mod CutExamples
 pub mod ListLaws
--- What serves the proofs.
+-- What serves the code and the proofs.
+pub mod StringSizes
 pub mod ListRead

@@ -1,8 +1,9 @@
 //! A text, cut into values.
 
 ghost use Rattle.std.specs.Prelude.{◌≡◌, ◌<◌, ◌≤◌, ◌^◌, ◌∷◌, [], length, suc, IfNone, IfSome};
-ghost use Rattle.package_list.specs.Pieces.{bracketed_size, is_over, opened_after, piece_size, pieces, place_after};
-ghost use Rattle.package_list.specs.declared.cut.Place.TheVariants.{Outside};
+ghost use Rattle.package_list.specs.Pieces.{bracketed_size, opened_after, piece_size, pieces, place_after};
+ghost use Rattle.package_list.specs.StringSizes.{is_outside, string_size};
+ghost use Rattle.package_list.specs.declared.cut.Place.TheVariants.{InString, Outside};
 
 use crate::blanks::{after_blanks, is_plain, plain_size};
 
@@ -38,46 +39,65 @@ fn place_after(place: Place, byte: u8) -> Place
     }
 }
 
-/// How many brackets are open after this byte.
-fn opened_after(place: Place, opened: usize, byte: u8) -> usize
+/// How many brackets are open after this byte, which stands in no string.
+fn opened_after(opened: usize, byte: u8) -> usize
     requires { suc opened < 2 ^ 64 }
-    ensures value { result ≡ opened_after place opened byte }
+    ensures value { result ≡ opened_after Outside opened byte }
     ensures most { result ≤ suc opened }
 {
-    match place {
-        Place::Outside => if byte == b'{' || byte == b'[' {
-            opened + 1
-        } else if byte == b'}' || byte == b']' {
-            opened.saturating_sub(1)
-        } else {
-            opened
-        },
-        Place::InString | Place::Taken => opened,
+    if byte == b'{' || byte == b'[' {
+        opened + 1
+    } else if byte == b'}' || byte == b']' {
+        opened.saturating_sub(1)
+    } else {
+        opened
     }
 }
 
-/// Whether neither a bracket nor a string is open.
-fn is_over(place: Place, opened: usize) -> bool
-    ensures { result ≡ is_over place opened }
+/// Whether no string is open.
+fn is_outside(place: Place) -> bool
+    ensures { result ≡ is_outside place }
 {
     match place {
-        Place::Outside => opened == 0,
+        Place::Outside => true,
         Place::InString | Place::Taken => false,
     }
 }
 
-/// How many bytes a text has up to the first after which neither a bracket nor a string is open.
+/// How many bytes a text that begins in a string has up to the quote that ends the string, with it.
+fn string_size(bytes: &[u8]) -> usize
+    ensures value { result ≡ string_size InString bytes.now }
+    ensures fits { result ≤ length bytes.now }
+{
+    let mut place = Place::InString;
+    for (index, byte) in bytes.iter().enumerate() {
+        place = place_after(place, *byte);
+        if is_outside(place) {
+            return index + 1;
+        }
+    }
+    bytes.len()
+}
+
+/// How many bytes a text has up to the first after which neither a bracket nor a string is open. A string is passed at
+/// once: most of a list are strings.
 fn bracketed_size(bytes: &[u8]) -> usize
     ensures value { result ≡ bracketed_size Outside 0 bytes.now }
     ensures fits { result ≤ length bytes.now }
 {
-    let mut place = Place::Outside;
     let mut opened = 0;
-    for (index, byte) in bytes.iter().enumerate() {
-        opened = opened_after(place, opened, *byte);
-        place = place_after(place, *byte);
-        if is_over(place, opened) {
-            return index + 1;
+    let mut index = 0;
+    while index < bytes.len() {
+        let byte = bytes[index];
+        index += 1;
+        if byte == b'"' {
+            let (_, behind) = bytes.split_at(index);
+            index += string_size(behind);
+        } else {
+            opened = opened_after(opened, byte);
+        }
+        if opened == 0 {
+            return index;
         }
     }
     bytes.len()

@@ -15,15 +15,16 @@ use lexer::{Token, TokenKind};
 use std::alloc::Global;
 use tree::{BasicLitKind, BinaryOperator, DeclKeyword, Edition, Span, UnaryOperator};
 
-/// A text, the edition by which it is read, its tokens, how deep the parts of what is read of them may be, and what
-/// allocates the tree. The texts that the tree keeps of tokens are UTF-8.
+/// A text, its tokens, how deep the parts of what is read of them may be, the edition by which the text is read, and
+/// what allocates the tree. The texts that the tree keeps of tokens are UTF-8.
+// The widest fields come first. So a copy, which each call is handed, has no gaps.
 #[derive(Clone, Copy)]
 pub struct SourceTokens<'a> {
     pub alloc: Global,
-    pub edition: Edition,
     pub text: &'a [u8],
     pub tokens: &'a [Token],
     pub below: u32,
+    pub edition: Edition,
     pub ghost words: { HasWords text.now tokens.now },
     pub ghost bounded: { below ≤ MOST_DEPTH },
 }

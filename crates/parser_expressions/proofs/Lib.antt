@@ -1,3 +1,4 @@
 pub mod Operators
 pub mod Suffixes
 pub mod GrownExpressions
+pub mod Alone

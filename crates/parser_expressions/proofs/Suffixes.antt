@@ -14,7 +14,7 @@ use Rattle.parser_base.proofs.Faults.{fails_too}
 use Rattle.parser_expressions.proofs.GrownExpressions.{grown-runs-out, grown-ends, grown-too-deep, grown-fails, grown-goes-on}
 
 -- the tests of a suffix, over any answers to them
-abbrev goes_by : Bool → Bool → Bool → Bool → Bool → Bool → Bool → Bool
+abbrev pub goes_by : Bool → Bool → Bool → Bool → Bool → Bool → Bool → Bool
 goes_by dot guard bracket parenthesis brace header named =
     if dot then not guard else if bracket || parenthesis then true else brace && (not header && named)
 

@@ -13,11 +13,12 @@ ghost use Rattle.parser_base.specs.Places.{cursor, seen, parts_of, go_text};
 ghost use Rattle.tree_reader.specs.Reader.{read_unary, read_operators, read_expression_of, read_value_of, read_type_of, read_signature};
 ghost use Rattle.tree_reader.specs.Reading.{behind, spanned, steps, take};
 
+use crate::lone_operands::{is_lone_expression, literal, lone_literal};
 use crate::primaries::primary;
 use crate::type_names::named_type;
 use lexer::TokenKind;
 use parser_base::cursor::{Begun, Read, SourceTokens, TokenPlace};
-use parser_base::expressions::next_operator;
+use parser_base::expressions::{name, next_operator};
 use parser_base::fault::Stop;
 use parser_base::holding;
 use parser_base::kinds::{PRIMARY_LEVEL, UNARY_LEVEL, operator_level};
@@ -42,8 +43,36 @@ pub struct WantedExpression {
 /// # Errors
 ///
 /// Where another token stands, where it is too deep, and out of memory.
-#[tactic(auto, unfolding(tree_reader::specs::Reader::read_expression_of))]
 pub fn expression_of<F: Fn(Wanted, TokenPlace) -> Read<Expr>, S: Fn(TokenPlace) -> Read<Stmt>>(
+    source: SourceTokens<'_>,
+    parts: &F,
+    statements: &S,
+    wanted: WantedExpression,
+    place: TokenPlace,
+) -> Read<Expr>
+    requires expressions { ReadsExpressions source (F.pre parts.now) (F.post parts.now) }
+    requires statements { ReadsStatements source (S.pre statements.now) (S.post statements.now) }
+    ensures { Gives (seen source.entry expression_syntax) result (read_expression_of (go_text source.entry) (parts_of
+        source.entry) source.entry.below wanted.in_header wanted.least (cursor source.entry place)) }
+{
+    if is_lone_expression(source, wanted.in_header, place) {
+        return name(source, place);
+    }
+    match lone_literal(source, wanted.in_header, place) {
+        Some(kind) => Ok(literal(source, kind, place)),
+        None => longer_expression(source, parts, statements, wanted, place),
+    }
+}
+
+/// An expression of at least this level, read by all its parts.
+///
+/// # Errors
+///
+/// Where another token stands, where it is too deep, and out of memory.
+// Kept out of what reads an operand that stands alone, which needs no memory of this one's.
+#[inline(never)]
+#[tactic(auto, unfolding(tree_reader::specs::Reader::read_expression_of))]
+fn longer_expression<F: Fn(Wanted, TokenPlace) -> Read<Expr>, S: Fn(TokenPlace) -> Read<Stmt>>(
     source: SourceTokens<'_>,
     parts: &F,
     statements: &S,

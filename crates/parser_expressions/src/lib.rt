@@ -2,6 +2,7 @@
 #![tactic(auto)]
 
 pub mod expressions;
+pub mod lone_operands;
 pub mod operands;
 pub mod primaries;
 pub mod type_names;

@@ -9,10 +9,11 @@ ghost use Rattle.parser_base.specs.Places.{cursor, seen, parts_of, go_text};
 ghost use Rattle.tree_reader.specs.Reader.{read_call, read_assertion, read_composite, read_suffix, read_suffixes, read_primary};
 ghost use Rattle.tree_reader.specs.Reading.{Read as read_of, steps};
 
+use crate::lone_operands::{is_lone_primary, literal, lone_primary_literal};
 use crate::operands::operand;
 use lexer::TokenKind;
 use parser_base::cursor::{Begun, Read, SourceTokens, TokenPlace};
-use parser_base::expressions::{goes_on, selector};
+use parser_base::expressions::{goes_on, name, selector};
 use parser_base::fault::Stop;
 use parser_base::holding;
 use parser_base::parts::{Wanted, fits, type_expression};
@@ -27,8 +28,36 @@ use tree_make as make;
 /// # Errors
 ///
 /// Where another token stands, where it is too deep, and out of memory.
-#[tactic(auto, unfolding(tree_reader::specs::Reader::read_primary))]
 pub fn primary<F: Fn(Wanted, TokenPlace) -> Read<Expr>, S: Fn(TokenPlace) -> Read<Stmt>>(
+    source: SourceTokens<'_>,
+    parts: &F,
+    statements: &S,
+    header: bool,
+    place: TokenPlace,
+) -> Read<Expr>
+    requires expressions { ReadsExpressions source (F.pre parts.now) (F.post parts.now) }
+    requires statements { ReadsStatements source (S.pre statements.now) (S.post statements.now) }
+    ensures { Gives (seen source.entry expression_syntax) result (read_primary (go_text source.entry) (parts_of
+        source.entry) source.entry.below header (cursor source.entry place)) }
+{
+    if is_lone_primary(source, header, place) {
+        return name(source, place);
+    }
+    match lone_primary_literal(source, header, place) {
+        Some(kind) => Ok(literal(source, kind, place)),
+        None => operand_and_suffixes(source, parts, statements, header, place),
+    }
+}
+
+/// An operand and all that follows it.
+///
+/// # Errors
+///
+/// Where another token stands, where it is too deep, and out of memory.
+// Kept out of what reads an operand that stands alone, which needs no memory of this one's.
+#[inline(never)]
+#[tactic(auto, unfolding(tree_reader::specs::Reader::read_primary))]
+fn operand_and_suffixes<F: Fn(Wanted, TokenPlace) -> Read<Expr>, S: Fn(TokenPlace) -> Read<Stmt>>(
     source: SourceTokens<'_>,
     parts: &F,
     statements: &S,

@@ -191,8 +191,10 @@ fn role_typed(known: Known<'_, '_>, role: Role<'_, '_>) -> Option<TrackedType>
 pub fn declared_by(known: Known<'_, '_>, mention: Mention<'_, '_>) -> Option<u32>
     ensures { result ≡ declared_by (known_view known.entry) (mention_view mention.entry) }
 {
+    // Most mentions declare nothing, whatever they mean.
+    let number = mention.declares?;
     match meaning(known, mention.named.at) {
-        None => mention.declares,
+        None => Some(number),
         Some(_) => None,
     }
 }

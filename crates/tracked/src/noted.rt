@@ -1,6 +1,6 @@
 //! What the marks of a file do to its locals.
 
-ghost use Rattle.std.specs.Prelude.{◌≡◌, ℕ, OnOk, Some, map};
+ghost use Rattle.std.specs.Prelude.{◌≡◌, ℕ, OnOk, Some, map, unwrap_or};
 ghost use Rattle.tracked.specs.LocalViews.{entry_view, noted_mention, NotesMark};
 ghost use Rattle.mentions.specs.MarkViews.{mention_view, body_view, mark_view};
 ghost use Rattle.meaning.specs.Mentions.{mentions};
@@ -42,23 +42,32 @@ fn is_made(known: Known<'_, '_>, mention: Mention<'_, '_>) -> bool
     }
 }
 
-/// What is known of a local after a mention of it.
+/// What is known of a local after a mention of it, where that is more than before.
 fn noted<'a>(
     known: Known<'_, 'a>,
     bodies: &[BodyPlace<'a>],
     mention: Mention<'_, 'a>,
     entry: SeenLocal<'a>,
-) -> SeenLocal<'a>
+) -> Option<SeenLocal<'a>>
     ensures { (n : ℕ) → variable_of (known_view known.entry) (mention_view mention.entry) ≡ Some n →
-        entry_view result ≡ noted_mention (known_view known.entry) n (map body_view bodies.now)
+        entry_view (unwrap_or result entry.entry) ≡ noted_mention (known_view known.entry) n (map body_view bodies.now)
         (mention_view mention.entry) (entry_view entry.entry) }
 {
-    SeenLocal {
-        local: entry.local,
-        is_obtained: entry.is_obtained || is_obtained(known, mention),
-        is_made: entry.is_made || is_made(known, mention),
-        is_in_literal: entry.is_in_literal || !is_body(entry.local.body, bodies),
+    let is_obtained = entry.is_obtained || is_obtained(known, mention);
+    let is_made = entry.is_made || is_made(known, mention);
+    let is_in_literal = entry.is_in_literal || !is_body(entry.local.body, bodies);
+    if is_obtained == entry.is_obtained
+        && is_made == entry.is_made
+        && is_in_literal == entry.is_in_literal
+    {
+        return None;
     }
+    Some(SeenLocal {
+        local: entry.local,
+        is_obtained,
+        is_made,
+        is_in_literal,
+    })
 }
 
 /// Notes what a mark in these bodies does to the local that it is of.
@@ -94,8 +103,13 @@ fn note_mention<'a>(
         Some(number) => number,
         None => return Ok(()),
     };
-    match entries.entry(number) {
-        Some(entry) => entries.put(number, noted(known, bodies, mention, entry)),
+    let entry = match entries.entry(number) {
+        Some(entry) => entry,
+        None => return Ok(()),
+    };
+    match noted(known, bodies, mention, entry) {
+        Some(more) => entries.put(number, more),
+        // Most mentions say nothing new.
         None => Ok(()),
     }
 }

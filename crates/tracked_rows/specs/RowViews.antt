@@ -1,5 +1,7 @@
 -- What the program keeps of what is known, and of rows, and what it stands for.
 use Rattle.std.specs.Prelude.{ℕ, ◌==◌, Bool, false, if◌then◌else◌, List, [], ◌∷◌, Option, Some, None, length, map, codes}
+use Rattle.std.specs.List.{list_any}
+use Rattle.std.specs.Str.{bytes_eq}
 use Rattle.tracked_rows.specs.declared.known.Known.{Known as KeptKnown}
 use Rattle.tracked_rows.specs.declared.fields.Fields.{Fields as KeptFields}
 use Rattle.tracked_rows.specs.declared.fields.Fields.TheVariants.{Each, These}
@@ -16,8 +18,8 @@ use Rattle.facts.specs.FactViews.{cancel_result_view, facts_by_name, facts_by_pa
 use Rattle.mentions.specs.MarkViews.{named_view}
 use Rattle.tree.specs.Syntax.{Identifier, Expression, Expressions, no_expression, expression_and}
 use Rattle.meaning.specs.Mentions.{Named, Row, Call}
-use Rattle.meaning.specs.FunctionFacts.{errgroup_path, is_of}
-use Rattle.meaning.specs.Tracked.{Fields, each_field, these_fields, ObjectLeft, left_of_outer, left_of_new, Known, Left, blank_left, name_left, field_left, other_left, lefts_of, Giving, GroupState, idle, live, made_by_values}
+use Rattle.meaning.specs.FunctionFacts.{context_path, errgroup_path, is_of, CancelType, plain, with_cause}
+use Rattle.meaning.specs.Tracked.{Fields, each_field, these_fields, ObjectLeft, left_of_outer, left_of_new, Known, Left, blank_left, name_left, field_left, other_left, lefts_of, plain_makers, cause_makers, Giving, facts_giving, maker_giving, GroupState, idle, live, made_by_values}
 use Rattle.meaning.specs.Uses.{clears_by_value}
 
 abbrev pub fields_view : KeptFields → Fields
@@ -56,6 +58,23 @@ field_of (Some n) f = field_left f.span.start
 
 abbrev pub giving_view : KeptGiving → Giving
 giving_view g = record { gives = map cancel_result_view g.gives.now; results = g.results }
+
+-- the type of what the maker of that name in `context` gives
+abbrev pub maker_type : List ℕ → Option CancelType
+maker_type name =
+    if list_any (bytes_eq name) plain_makers then Some plain
+    else if list_any (bytes_eq name) cause_makers then Some with_cause
+    else None
+
+abbrev pub maker_or_giver : Option CancelType → Option Giving → Option Giving
+maker_or_giver None giving = giving
+maker_or_giver (Some t) giving = Some (maker_giving t)
+
+-- what the maker or giver of that name gives in the package of that path
+abbrev pub imported_giving : Known → List ℕ → List ℕ → Option Giving
+imported_giving known path name =
+    maker_or_giver (if bytes_eq path context_path then maker_type name else None)
+    (facts_giving (known.imported path name))
 
 abbrev pub state_view : KeptState → GroupState
 state_view Idle = idle

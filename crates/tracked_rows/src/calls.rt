@@ -1,17 +1,19 @@
 //! Makers and givers, and the call that is the only value of a row.
 
 ghost use Rattle.std.specs.Prelude.{◌≡◌, option_map};
-ghost use Rattle.meaning.specs.Tracked.{is_maker, is_plain_maker, is_cause_maker, maker_giving, giving_of, call_in, only_call, row_giving};
-ghost use Rattle.facts.specs.FactViews.{type_view};
+ghost use Rattle.std.specs.List.{list_any};
+ghost use Rattle.std.specs.Str.{bytes_eq};
+ghost use Rattle.meaning.specs.Tracked.{plain_makers, is_maker, facts_giving, maker_giving, giving_of, call_in, only_call, row_giving};
+ghost use Rattle.facts.specs.FactViews.{facts_view, type_view};
 ghost use Rattle.mentions.specs.MarkViews.{named_view, call_view, row_view};
-ghost use Rattle.tracked_rows.specs.RowViews.{known_view, giving_view, only_value_of};
+ghost use Rattle.tracked_rows.specs.RowViews.{known_view, maker_type, imported_giving, giving_view, only_value_of};
 ghost use Rattle.tree.specs.View.{expression_syntax, expressions_syntax};
 
-use crate::known::{Known, facts_of, is_named};
+use crate::known::{Known, meaning};
 use crate::lefts::{count, may_bind};
-use facts::{CancelResult, CancelType};
+use facts::{CancelResult, CancelType, FunctionFacts, is_import};
 use mentions::{Call, CallPlace, Named, Row, call_of};
-use names::CONTEXT;
+use names::{CONTEXT, NameMeaning};
 use tree::{Expr, ExprKind};
 
 /// The results that are cancel functions, and the number of results.
@@ -33,30 +35,41 @@ const GIVEN_WITH_CAUSE: &[CancelResult] = &[CancelResult {
     cancel_type: CancelType::WithCause,
 }];
 
-/// A maker of `context` whose cancel function is called without a cause: `WithCancel`, `WithTimeout` and
-/// `WithDeadline`, and the last two with a cause, which they take at once.
-fn is_plain_maker(known: Known<'_, '_>, named: Named<'_>) -> bool
-    ensures { result ≡ is_plain_maker (known_view known.entry) (named_view named.entry) }
+/// Whether `context` has a maker of that name whose cancel function is called without a cause: `WithCancel`,
+/// `WithTimeout` and `WithDeadline`, and the last two with a cause, which they take at once.
+fn is_plain_maker(name: &str) -> bool
+    ensures { result ≡ list_any (bytes_eq name.now) plain_makers }
 {
-    is_named(known, CONTEXT, "WithCancel", named)
-        || is_named(known, CONTEXT, "WithTimeout", named)
-        || is_named(known, CONTEXT, "WithDeadline", named)
-        || is_named(known, CONTEXT, "WithTimeoutCause", named)
-        || is_named(known, CONTEXT, "WithDeadlineCause", named)
+    name == "WithCancel"
+        || name == "WithTimeout"
+        || name == "WithDeadline"
+        || name == "WithTimeoutCause"
+        || name == "WithDeadlineCause"
 }
 
-/// The maker of `context` whose cancel function is called with a cause.
-fn is_cause_maker(known: Known<'_, '_>, named: Named<'_>) -> bool
-    ensures { result ≡ is_cause_maker (known_view known.entry) (named_view named.entry) }
+/// The type of what the maker of that name in `context` gives. That of `WithCancelCause` is called with a cause.
+fn maker_type(name: &str) -> Option<CancelType>
+    ensures { option_map type_view result ≡ maker_type name.now }
 {
-    is_named(known, CONTEXT, "WithCancelCause", named)
+    if is_plain_maker(name) {
+        return Some(CancelType::Plain);
+    }
+    if name == "WithCancelCause" {
+        return Some(CancelType::WithCause);
+    }
+    None
 }
 
 /// A maker of `context`.
 pub fn is_maker(known: Known<'_, '_>, named: Named<'_>) -> bool
     ensures { result ≡ is_maker (known_view known.entry) (named_view named.entry) }
 {
-    is_plain_maker(known, named) || is_cause_maker(known, named)
+    match named.selected {
+        Some(member) => {
+            maker_type(member).is_some() && is_import(CONTEXT, meaning(known, named.at))
+        }
+        None => false,
+    }
 }
 
 fn maker_giving(cancel_type: CancelType) -> Giving<'static>
@@ -69,28 +82,40 @@ fn maker_giving(cancel_type: CancelType) -> Giving<'static>
     Giving { gives, results: 2 }
 }
 
+/// What a function gives that has these facts.
+fn facts_giving<'k>(facts: Option<&'k FunctionFacts>) -> Option<Giving<'k>>
+    ensures { option_map giving_view result ≡ facts_giving (option_map (λ f. facts_view f.now) facts.entry) }
+{
+    let facts = facts?;
+    if facts.gives.is_empty() {
+        return None;
+    }
+    Some(Giving {
+        gives: &facts.gives,
+        results: facts.results,
+    })
+}
+
+/// What the maker or giver of that name gives in the package of that path.
+fn imported_giving<'k>(known: Known<'k, '_>, path: &str, name: &str) -> Option<Giving<'k>>
+    ensures { option_map giving_view result ≡ imported_giving (known_view known.entry) path.now name.now }
+{
+    if path == CONTEXT {
+        if let Some(cancel_type) = maker_type(name) {
+            return Some(maker_giving(cancel_type));
+        }
+    }
+    facts_giving(known.imported.facts(path, name))
+}
+
 /// What a maker or a giver gives.
 pub fn giving_of<'k>(known: Known<'k, '_>, named: Named<'_>) -> Option<Giving<'k>>
     ensures { option_map giving_view result ≡ giving_of (known_view known.entry) (named_view named.entry) }
 {
-    if is_plain_maker(known, named) {
-        return Some(maker_giving(CancelType::Plain));
-    }
-    if is_cause_maker(known, named) {
-        return Some(maker_giving(CancelType::WithCause));
-    }
-    match facts_of(known, named) {
-        Some(facts) => {
-            if facts.gives.is_empty() {
-                None
-            } else {
-                Some(Giving {
-                    gives: &facts.gives,
-                    results: facts.results,
-                })
-            }
-        }
-        None => None,
+    match (named.selected, meaning(known, named.at)) {
+        (None, Some(NameMeaning::Function)) => facts_giving(known.table.facts(named.name)),
+        (Some(member), Some(NameMeaning::Import(path))) => imported_giving(known, path, member),
+        _ => None,
     }
 }
 

@@ -3,7 +3,7 @@
 ghost use Rattle.std.specs.Prelude.{◌≡◌, ◌&&◌, ◌||◌, ◌==◌, if◌then◌else◌, Some, None, option_map, map, length, is_some};
 ghost use Rattle.facts.specs.FactViews.{cancel_result_view};
 ghost use Rattle.meaning.specs.FunctionFacts.{listed};
-ghost use Rattle.meaning.specs.Tracked.{lefts_of, is_given, local_at, is_outer_at, are_locals, row_obtains, row_makes, idle, is_group_type, is_new_call, made_by_call, made_by_value, made_by_type, made_by_pair, live, if_first};
+ghost use Rattle.meaning.specs.Tracked.{lefts_of, is_given, local_at, is_outer_at, are_locals, row_obtains, may_bind, row_makes, idle, is_group_type, is_new_call, made_by_call, made_by_value, made_by_type, made_by_pair, made_by_form, live, if_first};
 ghost use Rattle.meaning.specs.Uses.{row_clears, is_no_giving, clears_at, clears_by_form, clears_by_type, is_empty_value};
 ghost use Rattle.mentions.specs.MarkViews.{named_view, call_view, row_view};
 ghost use Rattle.tracked_rows.specs.RowViews.{known_view, state_view, made_by_only, makes_with_context, clears_by_only};
@@ -190,11 +190,12 @@ fn made_with_context(known: Known<'_, '_>, call: Option<Call<'_, '_>>) -> Option
     }
 }
 
-/// What the row makes on its left side of that number, by its form, where a local stands there.
-pub fn row_makes(known: Known<'_, '_>, row: Row<'_>, index: usize) -> Option<GroupState>
-    ensures { option_map state_view result ≡ row_makes (known_view known.entry) (row_view row.entry) index }
+/// What a row that may bind makes on its left side of that number, by its form.
+fn made_by_form(known: Known<'_, '_>, row: Row<'_>, index: usize) -> Option<GroupState>
+    ensures { option_map state_view result ≡ if may_bind (row_view row.entry).standing (row_view row.entry).form
+        then made_by_form (known_view known.entry) (row_view row.entry) index (row_view row.entry).form else None }
 {
-    if !may_bind(row) || local_at(known, row, index).is_none() {
+    if !may_bind(row) {
         return None;
     }
     match row.form {
@@ -202,6 +203,19 @@ pub fn row_makes(known: Known<'_, '_>, row: Row<'_>, index: usize) -> Option<Gro
         RowForm::Declares(_, _, None) => made_by_pair(known, row, index),
         RowForm::Defines(_) => made_first(known, row, index),
         RowForm::Assigns(_) => made_first(known, row, index),
+    }
+}
+
+/// What the row makes on its left side of that number, by its form, where a local stands there.
+pub fn row_makes(known: Known<'_, '_>, row: Row<'_>, index: usize) -> Option<GroupState>
+    ensures { option_map state_view result ≡ row_makes (known_view known.entry) (row_view row.entry) index }
+{
+    // Few rows make something: what stands there is asked last, since that is looked up.
+    let made = made_by_form(known, row, index)?;
+    if local_at(known, row, index).is_some() {
+        Some(made)
+    } else {
+        None
     }
 }
 

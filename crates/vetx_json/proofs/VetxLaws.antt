@@ -1,22 +1,22 @@
 -- A text keeps one package at most, which is in order; what is written reads back; and why a text keeps none.
-use Rattle.std.proofs.Common.{◌≡◌, ◌≤◌, inl, inr, ℕ, List, [], ◌∷◌, Some, map, refl, sym, ap, subst, ◌∙◌}
+use Rattle.std.proofs.Common.{◌≡◌, ◌≤◌, ◌⊎◌, inl, inr, ℕ, List, [], ◌∷◌, None, Some, map, refl, sym, ap, subst, ◌∙◌}
 use Rattle.std.proofs.lemmas.List.Sorted.{IsPermutation-refl}
 use Rattle.std.specs.List.{AllByRecursion, AllZip}
 use Rattle.serde_json.specs.Data.{Data, object, depth}
 use Rattle.serde_json.specs.Read.{read}
 use Rattle.json_reading.specs.Keyed.{members_in}
+use Rattle.json_reading.specs.Standing.{Refutes}
 use Rattle.table_json.specs.Tables.{HasOrder}
 use Rattle.table_json.specs.TableTexts.{version_of}
 use Rattle.table_json.specs.TableValues.{function_value as facts_value}
 use Rattle.table_json.proofs.Arranged.{each_permuted}
-use Rattle.table_json.proofs.Readings.{none_some}
 use Rattle.table_json.proofs.TableLaws.{newer_in_order, function_back as facts_back}
 use Rattle.table_json.proofs.ValueParts.{some_same}
 use Rattle.vetx_json.specs.declared.fault.VetxFault.{VetxFault}
-use Rattle.vetx_json.specs.declared.fault.VetxFault.TheVariants.{NotJson, WrongVersion, WrongShape, OutOfMemory}
+use Rattle.vetx_json.specs.declared.fault.VetxFault.TheVariants.{WrongShape, OutOfMemory}
 use Rattle.vetx_json.specs.KeptUnits.{FunctionEntry, UnlessEntry, VetxEntry, facts_of, IsInOrder}
 use Rattle.vetx_json.specs.Parts.{HasFits, HasUnlessFits, HasVersion, HasVetxFits}
-use Rattle.vetx_json.specs.VetxTexts.{HasWrongShape, HasWrongVersion, IsVetxFault, IsVetxText}
+use Rattle.vetx_json.specs.VetxTexts.{IsVetxFault, IsVetxText}
 use Rattle.vetx_json.specs.VetxValues.{function_value, unless_value, vetx_value, IsFunctionValue, IsUnlessValue, IsVetxValue}
 use Rattle.vetx_json.proofs.VetxRead.{one_vetx}
 use Rattle.vetx_json.proofs.Writing.{vetx-depth}
@@ -87,9 +87,6 @@ in_order value v h =
 
 -- A text keeps one package at most
 
-version_there : (value : Data) (v : VetxEntry) → IsVetxValue value v → version_of value ≡ Some 1
-version_there value v h = ap version_of h.is_value
-
 -- the value of a text that keeps a package
 there : (text : List ℕ) (value : Data) → read text ≡ Some value → (v : VetxEntry) → IsVetxText text v
     → IsVetxValue value v
@@ -104,32 +101,16 @@ no_other text value v other e h k = one_vetx value other v (there text value e o
 pub one_of_text : (text : List ℕ) (v w : VetxEntry) → IsVetxText text v → IsVetxText text w → v ≡ w
 one_of_text text v w h k = no_other text k.value w v k.is_json k.is_vetx h
 
--- A text that keeps a package is read, unless memory is refused
+-- A text whose value was refuted keeps no package
 
-not_wrong_version : (value : Data) → version_of value ≡ Some 1 → HasWrongVersion value → ⊥
-not_wrong_version value e h = h.2 (some_same h.0 1 (sym h.1 ∙ e))
+module _ (text : List ℕ) (value : Data) (e : read text ≡ Some value) (none : Refutes IsVetxValue value) where
+  -- so whatever fault is told, there is no package for which it had to be memory
+  pub only_memory : (fault : VetxFault) (v : VetxEntry) → IsVetxText text v → fault ≡ OutOfMemory
+  only_memory fault v k = absurd (none v (there text value e v k))
 
-not_wrong_shape : (value : Data) (v : VetxEntry) → IsVetxValue value v → HasWrongShape value → ⊥
-not_wrong_shape value v h (inl none) = none_some (version_of value) 1 none (version_there value v h)
-not_wrong_shape value v h (inr none) = none.1 v h
-
--- where the text keeps a package, memory was refused
-pub only_memory : (text : List ℕ) (fault : VetxFault) → IsVetxFault text fault → (v : VetxEntry) → IsVetxText text v
-    → fault ≡ OutOfMemory
-only_memory text NotJson h v k = absurd (none_some (read text) k.value h k.is_json)
-only_memory text WrongVersion h v k =
-    absurd (not_wrong_version h.0 (version_there h.0 v (there text h.0 h.1 v k)) h.2)
-only_memory text WrongShape h v k = absurd (not_wrong_shape h.0 v (there text h.0 h.1 v k) h.2)
-only_memory text OutOfMemory h v k = refl
-
--- What came of a version
-
-module _ (text : List ℕ) (version : _) (h : HasVersion text version) where
-  -- the version of its value, whoever reads it
-  version_again : (value : Data) → read text ≡ Some value → version_of value ≡ version
-  version_again value e = ap version_of (some_same value h.0 (sym e ∙ h.1)) ∙ sym h.2
-
-  -- the version is right, and the value is that of no package
-  pub none_kept : version ≡ Some 1 → (value : Data) → read text ≡ Some value → ((v : VetxEntry) → ¬ IsVetxValue value v)
+  -- with the version of this format, or none, its shape is wrong
+  pub wrong_shape : (version : _) → HasVersion text version → (version ≡ None) ⊎ (version ≡ Some 1)
       → IsVetxFault text WrongShape
-  none_kept first value e none = (value, e, inr (version_again value e ∙ first, none))
+  wrong_shape version h (inl missing) = (h.0, h.1, inl (sym h.2 ∙ missing))
+  wrong_shape version h (inr first) =
+      (value, e, inr (ap version_of (some_same value h.0 (sym e ∙ h.1)) ∙ sym h.2 ∙ first, none))

@@ -132,15 +132,15 @@ fn version_of(alloc: Global, text: &str) -> Result<Option<u32>, Stop>
 
 /// What a text keeps of a package, its functions in the order of their names, each with its positions as they rise. In
 /// the text the order of functions, positions and keys is free. Names that no function of Go has, and paths of no
-/// package, are read as others. So what `to_json` writes of what is in order reads back as that. The text is gone over
-/// twice, first for its version.
+/// package, are read as others. So what `to_json` writes of what is in order reads back as that. A text that keeps a
+/// package is gone over once, and other JSON once more, for its version.
 ///
 /// # Errors
 ///
 /// The text is no JSON; its version is missing or no whole number up to 4,294,967,295; it is another than 1; the rest
 /// is not that of a package, as a key is missing or unknown, a value of another kind, a number above 4,294,967,295, as
 /// a function or a position comes twice, or as a position stands in both `gives` and `causes`; or memory was refused.
-/// This is the order in which it is looked for them. A text that keeps a package is refused for want of memory alone.
+/// Of a text's faults the first that holds is told. A text that keeps a package is refused for want of memory alone.
 pub fn from_json(alloc: Global, text: &str) -> Result<Vetx, VetxFault>
     ensures vetx { IfOk result (λ kept. IsVetxText text.now (vetx_of kept)) }
     ensures in_order { IfOk result (λ kept. IsInOrder (vetx_of kept)) }
@@ -149,13 +149,12 @@ pub fn from_json(alloc: Global, text: &str) -> Result<Vetx, VetxFault>
     ensures only_memory { IfErr result
         (λ fault. (kept : VetxEntry) → IsVetxText text.now kept → fault ≡ OutOfMemory) }
 {
-    match version_of(alloc, text)? {
-        Some(VERSION) => {}
-        Some(_) => return Err(VetxFault::WrongVersion),
-        None => return Err(VetxFault::WrongShape),
-    }
     match read_whole(alloc, &Kept, text)? {
         Some(kept) => Ok(kept),
-        None => Err(VetxFault::WrongShape),
+        // Nearly every text keeps a package, so its version is asked for only to tell why it keeps none.
+        None => match version_of(alloc, text)? {
+            None | Some(VERSION) => Err(VetxFault::WrongShape),
+            Some(_) => Err(VetxFault::WrongVersion),
+        },
     }
 }

@@ -2,7 +2,7 @@ use Rattle.std.proofs.Common.{◌++◌, refl, ap, ◌∙◌, subst, arith}
 use Rattle.code.specs.CodeViews.{code_view}
 use Rattle.code.proofs.Codes.{code_view-Skip, code_view-Does, code_view-Leave, code_view-Then, code_view-Sequence, code_view-Choice, code_view-Repeats, code_view-UpTo, code_view-UpToFalls}
 use Rattle.flow.specs.GraphViews.{Firsts}
-use Rattle.flow.proofs.FirstNodes.{if_ok, first_then, first_inside, first_so_far-none, first_so_far-next, first_so_far-all, ways_so_far-none, ways_so_far-next, ways_so_far-all}
+use Rattle.flow.proofs.FirstNodes.{if_ok, first_then, first_inside, first_so_far-none, first_so_far-first, first_so_far-next, first_so_far-all, ways_so_far-none, ways_so_far-next, ways_so_far-all}
 use Rattle.flow.proofs.Falls.{first_inside_falls}
 use Rattle.flow.proofs.firsts.+firsts.Goals as goal
 
@@ -70,17 +70,28 @@ pub firsts_of_choice-returns : goal.firsts_of_choice-returns
 firsts_of_choice-returns g t c =
     ways_so_far-all c.args.codes.now c.loop-code.code-index _ _ _ _ _ _ _ c.loop-code-test.false c.loop-code.invariant
 
+pub firsts_of_sequence-returns-in_default : goal.firsts_of_sequence-returns-in_default
+firsts_of_sequence-returns-in_default g t c =
+    if_ok c.copied.result
+    (λ v h. first_so_far-all c.args.codes.now 0 _ _ _ _ _ _ _ (omega (arith, c.in_default.ensures.cases))
+    (first_so_far-none _ _ _ c.args.exits.now v h))
+    c.copied.ensures
+
 pub firsts_of_sequence-loop-code-init : goal.firsts_of_sequence-loop-code-init
-firsts_of_sequence-loop-code-init g t c = first_so_far-none _ _ _ _ _ c.in_ok-nodes.ensures
+firsts_of_sequence-loop-code-init g t c =
+    rw (c.in-Some.ensures.cases.0)
+    (first_so_far-first _ _ (code_view c.in-Some.last.now) _ _ c.args.exits.now c.firsts.new.exits c.in_ok-nodes.nodes
+    c.in_ok-nodes.ensures)
 
 pub firsts_of_sequence-loop-code-preserved : goal.firsts_of_sequence-loop-code-preserved
 firsts_of_sequence-loop-code-preserved g t c =
-    first_so_far-next c.args.codes.now c.loop-code.code-index c.code-item.result _ c.loop-code.behind
-    c.firsts.new.behind _ _ c.args.exits.now c.loop-code.exits c.firsts.new.exits c.loop-code.nodes
+    first_so_far-next c.in-Some.others.now c.loop-code.code-index c.code-item.result _ c.loop-code.behind
+    c.firsts-in-loop-code.new.behind _ _ c.args.exits.now c.loop-code.exits c.firsts-in-loop-code.new.exits c.loop-code.nodes
     c.in_ok-nodes-2.nodes c.loop-code-test.true c.code-item.is c.loop-code.invariant
-    (subst (λ z. Firsts c.loop-code.behind c.firsts.new.behind (code_view c.code-item.result) z c.loop-code.exits
-    c.firsts.new.exits c.in_ok-nodes-2.nodes) c.deref.ensures.value c.in_ok-nodes-2.ensures)
+    (subst (λ z. Firsts c.loop-code.behind c.firsts-in-loop-code.new.behind (code_view c.code-item.result) z c.loop-code.exits
+    c.firsts-in-loop-code.new.exits c.in_ok-nodes-2.nodes) c.deref.ensures.value c.in_ok-nodes-2.ensures)
 
 pub firsts_of_sequence-returns : goal.firsts_of_sequence-returns
 firsts_of_sequence-returns g t c =
-    first_so_far-all c.args.codes.now c.loop-code.code-index _ _ _ _ _ _ _ c.loop-code-test.false c.loop-code.invariant
+    first_so_far-all c.in-Some.others.now c.loop-code.code-index _ _ _ _ _ _ _ c.loop-code-test.false
+    c.loop-code.invariant

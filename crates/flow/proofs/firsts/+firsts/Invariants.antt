@@ -11,5 +11,5 @@ invariant-firsts_of_choice-loop-code g l =
 
 abbrev pub invariant-firsts_of_sequence-loop-code : goal.invariant-firsts_of_sequence-loop-code
 invariant-firsts_of_sequence-loop-code g l =
-    FirstSoFar l.initial.behind l.behind (map code_view (drop l.code-index l.codes)) (backward (map code_view l.codes) skip)
-    l.next l.initial.exits l.exits l.nodes
+    FirstSoFar l.fn.behind l.behind (map code_view (drop l.code-index l.others)) (backward (map code_view l.codes) skip)
+    l.next l.fn.exits l.exits l.nodes

@@ -1,11 +1,11 @@
-use Rattle.std.proofs.Common.{◌++◌, refl, sym, ap, ◌∙◌, subst}
+use Rattle.std.proofs.Common.{◌++◌, refl, sym, ap, ◌∙◌, subst, arith}
 use Rattle.code.specs.CodeViews.{code_view}
 use Rattle.code.proofs.Codes.{code_view-Skip, code_view-Does, code_view-Leave, code_view-Then, code_view-Sequence, code_view-Choice, code_view-Repeats, code_view-UpTo, code_view-UpToFalls}
 use Rattle.flow.specs.GraphViews.{Adds}
 use Rattle.flow.specs.TurnSizes.{turn_sizes, FirstsOfTurn, Takes}
 use Rattle.flow.proofs.FirstNodes.{if_ok}
 use Rattle.flow.proofs.TurnCounts.{sizes_backward, sizes_one_of}
-use Rattle.flow.proofs.LinkedNodes.{adds_none, adds_one, adds_then, adds_inside, takes_none, takes_on, takes_both, takes_turn, taken_so_far-none, taken_so_far-next, taken_so_far-all, added_so_far-none, added_so_far-next, added_so_far-all, ways_added-none, ways_added-next, ways_added-all}
+use Rattle.flow.proofs.LinkedNodes.{adds_none, adds_one, adds_then, adds_inside, takes_none, takes_on, takes_both, takes_turn, taken_so_far-none, taken_so_far-first, taken_so_far-next, taken_so_far-all, added_so_far-none, added_so_far-first, added_so_far-next, added_so_far-all, ways_added-none, ways_added-next, ways_added-all}
 use Rattle.flow.proofs.Falls.{turn_sizes_falls, adds_inside_falls}
 use Rattle.flow.proofs.link.+link.Goals as goal
 
@@ -100,22 +100,35 @@ link_choice-returns g t c =
     (ways_added-all c.args.codes.now c.loop-code.code-index _ _ _ _ _ _ _ c.loop-code-test.false)
     c.loop-code.invariant
 
+pub link_sequence-returns-in_default : goal.link_sequence-returns-in_default
+link_sequence-returns-in_default g t c =
+    if_ok c.copied.result
+    (λ v h. taken_so_far-all _ c.args.codes.now 0 _ _ (omega (arith, c.in_default.ensures.cases))
+    (added_so_far-all c.args.codes.now 0 _ _ _ _ _ _ _ (omega (arith, c.in_default.ensures.cases)))
+    (taken_so_far-none _ _ (added_so_far-none _ _ c.args.graph.now.exits c.args.graph.now.nodes v h)))
+    c.copied.ensures
+
 pub link_sequence-loop-code-init : goal.link_sequence-loop-code-init
-link_sequence-loop-code-init g t c = taken_so_far-none _ _ (added_so_far-none _ _ _ _ _ c.in_ok-first.ensures)
+link_sequence-loop-code-init g t c =
+    rw (c.in-Some.ensures.cases.0)
+    (taken_so_far-first _ _ _ c.link.new.graph.sizes.left.now
+    (added_so_far-first (code_view c.in-Some.last.now) _ _ c.args.graph.now.exits c.link.new.graph.exits
+    c.args.graph.now.nodes c.link.new.graph.nodes c.in_ok-first.first)
+    c.in_ok-first.ensures)
 
 pub link_sequence-loop-code-preserved : goal.link_sequence-loop-code-preserved
 link_sequence-loop-code-preserved g t c =
-    taken_so_far-next _ c.args.codes.now c.loop-code.code-index c.code-item.result _ c.loop-code.graph.sizes.left.now
-    c.link.new.graph.sizes.left.now c.loop-code-test.true c.code-item.is
-    (λ so_far of_c. added_so_far-next c.args.codes.now c.loop-code.code-index c.code-item.result _ _ c.args.graph.now.exits
-    c.loop-code.graph.exits c.link.new.graph.exits c.args.graph.now.nodes c.loop-code.graph.nodes c.link.new.graph.nodes c.loop-code.first
-    c.in_ok-first-2.first c.loop-code-test.true c.code-item.is so_far
-    (subst (λ z. Adds (code_view c.code-item.result) z c.loop-code.graph.exits c.link.new.graph.exits c.loop-code.graph.nodes
-    c.link.new.graph.nodes c.in_ok-first-2.first) c.deref.ensures.value of_c))
+    taken_so_far-next _ c.in-Some.others.now c.loop-code.code-index c.code-item.result _ c.loop-code.graph.sizes.left.now
+    c.link-in-loop-code.new.graph.sizes.left.now c.loop-code-test.true c.code-item.is
+    (λ so_far of_c. added_so_far-next c.in-Some.others.now c.loop-code.code-index c.code-item.result _ _ c.args.graph.now.exits
+    c.loop-code.graph.exits c.link-in-loop-code.new.graph.exits c.args.graph.now.nodes c.loop-code.graph.nodes c.link-in-loop-code.new.graph.nodes
+    c.loop-code.first c.in_ok-first-2.first c.loop-code-test.true c.code-item.is so_far
+    (subst (λ z. Adds (code_view c.code-item.result) z c.loop-code.graph.exits c.link-in-loop-code.new.graph.exits c.loop-code.graph.nodes
+    c.link-in-loop-code.new.graph.nodes c.in_ok-first-2.first) c.deref.ensures.value of_c))
     c.loop-code.invariant c.in_ok-first-2.ensures
 
 pub link_sequence-returns : goal.link_sequence-returns
 link_sequence-returns g t c =
-    taken_so_far-all _ c.args.codes.now c.loop-code.code-index _ _ c.loop-code-test.false
-    (added_so_far-all c.args.codes.now c.loop-code.code-index _ _ _ _ _ _ _ c.loop-code-test.false)
+    taken_so_far-all _ c.in-Some.others.now c.loop-code.code-index _ _ c.loop-code-test.false
+    (added_so_far-all c.in-Some.others.now c.loop-code.code-index _ _ _ _ _ _ _ c.loop-code-test.false)
     c.loop-code.invariant

@@ -1,12 +1,23 @@
-use Rattle.std.proofs.Common.{◌≡◌, ◌≤◌, List, ℕ, length, take, sym, ap, ◌∙◌, subst, arith}
+use Rattle.std.proofs.Common.{◌≡◌, ◌≤◌, List, ℕ, true, length, take, get_or, sym, ap, ◌∙◌, subst, refl, arith}
 use Rattle.std.specs.Prelude.{IfSome, IfNone}
 use Rattle.std.specs.Str.{IsCharBoundary}
 use Rattle.lexer.specs.declared.pieces.Piece.{Piece}
 use Rattle.lexer.specs.Cut.{CanBegin, IsLongest}
 use Rattle.lexer.specs.Dispatch.{token_piece, keyword_of}
-use Rattle.lexer.specs.Pieces.{IsWord}
-use Rattle.lexer.proofs.Starts.{word_piece, no_word_from, AtMost}
+use Rattle.lexer.specs.Pieces.{IsWord, is_white_space}
+use Rattle.lexer.proofs.Literals.{space_piece}
+use Rattle.lexer.proofs.Starts.{word_piece, no_word_from, plain_bounded, AtMost}
 use Rattle.lexer.proofs.any_text.first_piece.Goals as goal
+
+pub returns-then-is_white_space-clause-some : goal.returns-then-is_white_space-clause-some
+returns-then-is_white_space-clause-some c =
+    let text = c.args.text.now in
+    let space : is_white_space (get_or text 0 0) ≡ true =
+    ap (λ t. is_white_space (get_or t 0 0)) (sym c.as_bytes-bytes.ensures.value) ∙ (sym c.is_white_space.ensures ∙ c.if-is_white_space.true) in
+    plain_bounded text _ c.utf8.text (space_piece text c.requires.nonempty space) refl
+
+pub other_piece-requires-clause-no_space : goal.other_piece-requires-clause-no_space
+other_piece-requires-clause-no_space c = sym c.is_white_space.ensures ∙ c.if-is_white_space.false
 
 pub returns-then-size-gt0-clause-some : goal.returns-then-size-gt0-clause-some
 returns-then-size-gt0-clause-some c =

@@ -6,7 +6,7 @@ use Rattle.lexer.specs.Cut.{IsLongest}
 use Rattle.lexer.specs.Pieces.{starts_number}
 use Rattle.lexer.specs.Dispatch.{operator_of}
 use Rattle.lexer.proofs.Longest.{IsNumberSize, number_longest}
-use Rattle.lexer.proofs.Literals.{space_piece, newline_piece, quote_group}
+use Rattle.lexer.proofs.Literals.{newline_piece, quote_group}
 use Rattle.lexer.proofs.Spelled.{Quotes}
 use Rattle.lexer.proofs.Starts.{Good, plain_good, plain_bounded, comment_good, rest_good, no_slash_in}
 use Rattle.lexer.proofs.any_text.other_piece.Goals as goal
@@ -25,10 +25,6 @@ returns-then-starts_number-clause-some c =
     } in
     let P : Piece → Type 0 = λ p. IsLongest p text × IsCharBoundary text p.size in
     subst P (sym c.token_piece.ensures) (plain_bounded text _ c.requires.utf8 (number_longest text size w) refl)
-
-pub returns-then-is_white_space-clause-some : goal.returns-then-is_white_space-clause-some
-returns-then-is_white_space-clause-some c =
-    plain_bounded c.args.text.now _ c.requires.utf8 (space_piece c.args.text.now c.requires.nonempty (sym c.is_white_space.ensures ∙ c.if-is_white_space.true)) refl
 
 pub returns-then-first-eq10-clause-some : goal.returns-then-first-eq10-clause-some
 returns-then-first-eq10-clause-some c =
@@ -56,7 +52,7 @@ operator_good c =
     let found = c.operator.ensures ∙ (ap (λ b. operator_of (get_or text 0 0) b c.byte_at.result) c.byte_at-second.ensures ∙ ap (operator_of (get_or text 0 0) (get_or text 1 0)) c.byte_at.ensures) in
     rest_good text c.requires.nonempty c.requires.utf8 c.requires.no_word
     (ap (starts_number (get_or text 0 0)) (sym c.byte_at-second.ensures) ∙ (sym c.starts_number.ensures ∙ c.if-starts_number.false))
-    (sym c.is_white_space.ensures ∙ c.if-is_white_space.false)
+    c.requires.no_space
     (ne_eqb _ _ c.if-first-eq10.false)
     (sym c.is_quote.ensures ∙ c.if-is_quote.false)
     (sym c.opens_comment.ensures ∙ c.if-opens_comment.false)

@@ -1,0 +1,23 @@
+use Rattle.std.proofs.Common.{◌++◌, ◌∷◌, List, map, sym, ap, ◌∙◌}
+use Rattle.facts.proofs.FactParts.{on_ok}
+use Rattle.mentions.specs.MarkViews.{assigned_view, body_view, field_left_view, field_mark_view}
+use Rattle.std.specs.Prelude.{option_map}
+use Rattle.tracked_rows.specs.RowViews.{known_view}
+use Rattle.keeping.specs.Notes.{Note, is_filled, note_view, one_note}
+use Rattle.keeping.specs.PlainFiles.{plain_written_note, plain_field_notes}
+use Rattle.keeping.proofs.Keys.{then_noted}
+use Rattle.keeping.proofs.plain.add_plain_field.Goals as goal
+
+pub returns-in_ok-push-in-WritesField : goal.returns-in_ok-push-in-WritesField
+returns-in_ok-push-in-WritesField c =
+    let known = known_view c.args.known in
+    let bodies = map body_view c.args.bodies.now in
+    let notes : List Note = map note_view c.args.notes.now.items in
+    let said : List Note = one_note (plain_written_note known (field_left_view c.in-WritesField.left)
+    (option_map assigned_view c.in-WritesField.assigned)) in
+    on_ok c.add_note-in-WritesField.result
+    (λ h. then_noted c.args.notes.now.items c.push.new.self.items _ _ _ c.in_ok-push-in-WritesField.ensures.items
+    (h ∙ ap (λ n. map note_view c.push.new.self.items ++ one_note n) c.plain_written_note.ensures)
+    ∙ ap (λ name. notes ++ is_filled name ∷ said) c.as_str.ensures
+    ∙ ap (λ m. notes ++ plain_field_notes known bodies (field_mark_view m)) (sym c.in-WritesField.is))
+    c.add_note-in-WritesField.ensures
