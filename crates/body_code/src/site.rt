@@ -30,16 +30,14 @@ fn in_order<'a, E: Copy>(alloc: Global, sites: &Sites<E>, at: u32, events: &[E])
 }
 
 /// One event at an offset.
-fn alone<'a, E: Copy>(alloc: Global, at: u32, event: E) -> Made<'a, E>
+fn alone<'a, E: Copy>(at: u32, event: E) -> Made<'a, E>
     ensures { IsCode result (sequence (event_codes at 0 (event ∷ []))) }
 {
-    let mut codes = Vec::new(alloc);
-    codes.push(Code::Does(Occurrence {
+    Ok(Code::Alone(Occurrence {
         at,
         order: 0,
         event,
-    }))?;
-    Ok(in_sequence(codes))
+    }))
 }
 
 /// The events of a site, or the one that says nothing.
@@ -48,7 +46,7 @@ pub fn site<'a, E: Copy>(alloc: Global, sites: &Sites<E>, at: u32) -> Made<'a, E
 {
     let events = sites.events_at(at);
     if events.is_empty() {
-        alone(alloc, at, sites.other())
+        alone(at, sites.other())
     } else {
         in_order(alloc, sites, at, events)
     }

@@ -7,7 +7,7 @@ use Rattle.std.specs.declared.boxed.Box.{Box}
 use Rattle.std.specs.declared.vec.Vec.{Vec}
 use Rattle.code.specs.declared.code.Way.{Way as KeptWay}
 use Rattle.code.specs.declared.code.Occurrence.{Occurrence as KeptOccurrence}
-use Rattle.code.specs.declared.code.Code.{Code as KeptCode, Skip, Does, Leave, Then, Sequence, Choice, Repeats, UpTo, UpToFalls, Row_of-Code, end_of-Code, more_of-Code, items-the_row-Code, items_hidden-the_row-Code-0}
+use Rattle.code.specs.declared.code.Code.{Code as KeptCode, Skip, Does, Alone, Leave, Then, Sequence, Choice, Repeats, UpTo, UpToFalls, Row_of-Code, end_of-Code, more_of-Code, items-the_row-Code, items_hidden-the_row-Code-0}
 use Rattle.code.specs.declared.code.Code.TheBlock.{hidden-the_row-Code-0}
 use Rattle.meaning.specs.Code.{Code, skip, does, leave, then_code, either, repeats, up_to}
 use Rattle.meaning.specs.StatementCode.{up_to_falls}
@@ -29,6 +29,10 @@ module _ {E : Type 0} where
   pub code_view-Does : (o : KeptOccurrence E) → code_view (Does o) ≡ does (occurrence_view o)
   unfolding code_view
   code_view-Does o = refl
+
+  pub code_view-Alone : (o : KeptOccurrence E) → code_view (Alone o) ≡ then_code (does (occurrence_view o)) skip
+  unfolding code_view
+  code_view-Alone o = refl
 
   pub code_view-Leave : (way : KeptWay) → code_view {E = E} (Leave way) ≡ leave (way_view way)
   unfolding code_view
@@ -100,13 +104,6 @@ module _ {E : Type 0} where
         → r ≡ Ok x → c.value ≡ x → IsCode r a → code_view (UpToFalls falls c) ≡ up_to_falls falls.items a
     made_up_to_falls falls r x c a is held ha =
         code_view-UpToFalls falls c ∙ ap (up_to_falls falls.items) (ap code_view held ∙ code_of r x a is ha)
-
-  pub alone_in : (codes : List (KeptCode E)) (o : KeptOccurrence E) (none : List (KeptCode E))
-      → none ≡ [] → codes ≡ none ++ Does o ∷ []
-      → sequence (codes_view codes) ≡ then_code (does (occurrence_view o)) skip
-  alone_in codes o none empty held =
-      ap (λ l. sequence (codes_view l)) (held ∙ ap (λ l. l ++ Does o ∷ []) empty)
-      ∙ ap (λ x. then_code x skip) (code_view-Does o)
 
   -- Lists that are kept backward
 

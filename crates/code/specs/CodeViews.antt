@@ -4,7 +4,7 @@ use Rattle.std.specs.Borrow.{Bor}
 use Rattle.code.specs.declared.code.Way.{Way as KeptWay}
 use Rattle.code.specs.declared.code.Way.TheVariants.{Returning, Breaking, Continuing, Falling}
 use Rattle.code.specs.declared.code.Occurrence.{Occurrence as KeptOccurrence}
-use Rattle.code.specs.declared.code.Code.{Code as KeptCode, Skip, Does, Leave, Then', Sequence', Choice', Repeats', UpTo', UpToFalls', Row_of-Code, end_of-Code, more_of-Code}
+use Rattle.code.specs.declared.code.Code.{Code as KeptCode, Skip, Does, Alone, Leave, Then', Sequence', Choice', Repeats', UpTo', UpToFalls', Row_of-Code, end_of-Code, more_of-Code}
 use Rattle.code.specs.declared.parts.Jump.{Jump}
 use Rattle.code.specs.declared.parts.Jump.TheVariants.{Break, Continue}
 use Rattle.meaning.specs.Code.{Occurrence, Way, returning, breaking, continuing, falling, Code, skip, does, leave, then_code, either, repeats, up_to}
@@ -77,6 +77,7 @@ module _ {E : Type 0} where
     pub code_view : KeptCode E → Code E
     code_view Skip = skip
     code_view (Does o) = does (occurrence_view o)
+    code_view (Alone o) = then_code (does (occurrence_view o)) skip
     code_view (Leave way) = leave (way_view way)
     code_view (Then' p c q d) = then_code (code_view c) (code_view d)
     code_view (Sequence' shape cs) = backward (row_codes cs) skip

@@ -29,6 +29,8 @@ pub enum Code<'a, E> {
     /// Nothing; what stands after it follows.
     Skip,
     Does(Occurrence<E>),
+    /// The same, as the only one of a sequence: without a list, since most sites have one event.
+    Alone(Occurrence<E>),
     Leave(Way<'a>),
     /// One after the other.
     Then(Box<Code<'a, E>>, Box<Code<'a, E>>),

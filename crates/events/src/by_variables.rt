@@ -56,26 +56,26 @@ fn forbids_recover(file: SeenBodies<'_, '_, '_, '_>, bodies: &[BodyPlace<'_>]) -
 fn is_forbidden(
     file: SeenBodies<'_, '_, '_, '_>,
     bodies: &[BodyPlace<'_>],
-    mention: Mention<'_, '_>,
+    mention: &Mention<'_, '_>,
 ) -> bool
     requires { SeesBodies file.seen.now file.variables.now }
-    ensures { result ≡ (is_recover (seen_view file.entry.seen.now).known (mention_view mention.entry)
+    ensures { result ≡ (is_recover (seen_view file.entry.seen.now).known (mention_view mention.now)
         && forbids_recover (seen_view file.entry.seen.now).known.edition (seen_view file.entry.seen.now)
         (map body_view bodies.now)) }
 {
-    is_recover(file.seen.known, mention) && forbids_recover(file, bodies)
+    is_recover(file.seen.known, *mention) && forbids_recover(file, bodies)
 }
 
 /// Adds the fault of a mention of `recover`, if it is one, and a fault.
 fn add_recover<'a>(
     file: SeenBodies<'_, '_, '_, 'a>,
     bodies: &[BodyPlace<'a>],
-    mention: Mention<'_, 'a>,
+    mention: &Mention<'_, 'a>,
     faults: &mut Vec<UseFault<'a>>,
 ) -> Result<(), AllocError>
     requires { SeesBodies file.seen.now file.variables.now }
     ensures { OnOk result (AddsFaults faults.old.items faults.new.items (recover_there
-        (seen_view file.entry.seen.now) (map body_view bodies.now) (mention_view mention.entry))) }
+        (seen_view file.entry.seen.now) (map body_view bodies.now) (mention_view mention.now))) }
 {
     if is_forbidden(file, bodies, mention) {
         return add_fault(faults, mention.named.at, UseCode::RecoverUsed, "-");
@@ -137,16 +137,16 @@ pub fn add_by_variables<'m, 'a>(
     alloc: Global,
     file: SeenBodies<'_, '_, 'm, 'a>,
     bodies: &[BodyPlace<'a>],
-    mark: Mark<'m, 'a>,
+    mark: &Mark<'m, 'a>,
     faults: &mut Vec<UseFault<'a>>,
 ) -> Result<(), AllocError>
     requires { SeesBodies file.seen.now file.variables.now }
     ensures { OnOk result (AddsFaults faults.old.items faults.new.items (faults_by_variables
-        (seen_view file.entry.seen.now) (map body_view bodies.now) (mark_view mark.entry))) }
+        (seen_view file.entry.seen.now) (map body_view bodies.now) (mark_view mark.now))) }
 {
     match mark {
         Mark::Mentions(mention) => add_recover(file, bodies, mention, faults),
-        Mark::Opens(body) => add_jumps_in(alloc, file, *body, faults),
+        Mark::Opens(body) => add_jumps_in(alloc, file, **body, faults),
         _ => Ok(()),
     }
 }

@@ -44,7 +44,7 @@ fn tell_marks<'s, 'k, 'm, 'a>(
     let mut bodies: Vec<BodyPlace<'a>> = Vec::new(alloc);
     for mark in &seen.marks {
         enter(&mut bodies, *mark)?;
-        add_mark(alloc, file, &bodies, *mark, &mut told)?;
+        add_mark(alloc, file, &bodies, mark, &mut told)?;
     }
     order_by_place(&mut told.opened)?;
     Ok(told)

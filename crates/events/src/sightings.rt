@@ -79,14 +79,14 @@ fn add_mention<'a>(
     alloc: Global,
     seen: &Seen<'_, '_, 'a>,
     bodies: &[BodyPlace<'a>],
-    mention: Mention<'_, 'a>,
+    mention: &Mention<'_, 'a>,
     sightings: &mut Lists<Sighting>,
 ) -> Result<(), AllocError>
     requires { Sees seen.now }
     ensures { OnOk result (AddsSightings (seen_view seen.now) (map body_view bodies.now)
-        (mentions (mention_view mention.entry)) sightings.old sightings.new) }
+        (mentions (mention_view mention.now)) sightings.old sightings.new) }
 {
-    let number = variable_of(seen.known, mention);
+    let number = variable_of(seen.known, *mention);
     match (number, tracked_local(seen, number)) {
         (Some(number), Some(local)) => {
             let noted = NumberedMention {
@@ -105,11 +105,11 @@ fn add_mark<'a>(
     alloc: Global,
     seen: &Seen<'_, '_, 'a>,
     bodies: &[BodyPlace<'a>],
-    mark: Mark<'_, 'a>,
+    mark: &Mark<'_, 'a>,
     sightings: &mut Lists<Sighting>,
 ) -> Result<(), AllocError>
     requires { Sees seen.now }
-    ensures { OnOk result (AddsSightings (seen_view seen.now) (map body_view bodies.now) (mark_view mark.entry)
+    ensures { OnOk result (AddsSightings (seen_view seen.now) (map body_view bodies.now) (mark_view mark.now)
         sightings.old sightings.new) }
 {
     match mark {
@@ -132,7 +132,7 @@ pub fn sightings<'a>(alloc: Global, seen: &Seen<'_, '_, 'a>) -> Result<Lists<Sig
     let mut bodies: Vec<BodyPlace<'a>> = Vec::new(alloc);
     for mark in &seen.marks {
         enter(&mut bodies, *mark)?;
-        add_mark(alloc, seen, &bodies, *mark, &mut sightings)?;
+        add_mark(alloc, seen, &bodies, mark, &mut sightings)?;
     }
     Ok(sightings)
 }

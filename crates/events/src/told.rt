@@ -109,10 +109,10 @@ fn add_outer_faults<'a>(
 }
 
 /// The site of a mark.
-fn site_of(mark: Mark<'_, '_>) -> Option<u32>
-    ensures { (at : ℕ) → is_at result at ≡ is_site (mark_view mark.entry) at }
+fn site_of(mark: &Mark<'_, '_>) -> Option<u32>
+    ensures { (at : ℕ) → is_at result at ≡ is_site (mark_view mark.now) at }
 {
-    match mark {
+    match *mark {
         Mark::Mentions(mention) => Some(mention.site),
         Mark::OfFields(site, _) => Some(site),
         Mark::DefersLiteral(site, _) => Some(site),
@@ -149,11 +149,11 @@ fn add_site_event<'a>(
 fn add_event<'a>(
     alloc: Global,
     bodies: &[BodyPlace<'a>],
-    mark: Mark<'_, 'a>,
+    mark: &Mark<'_, 'a>,
     event: Option<Event<'a>>,
     events: &mut Lists<SiteEvent<'a>>,
 ) -> Result<(), AllocError>
-    ensures { OnOk result (AddsEvent (map body_view bodies.now) (mark_view mark.entry) (events_view event.entry)
+    ensures { OnOk result (AddsEvent (map body_view bodies.now) (mark_view mark.now) (events_view event.entry)
         events.old events.new) }
 {
     match (innermost(bodies), site_of(mark), event) {
@@ -166,11 +166,11 @@ fn add_event<'a>(
 fn add_calls<'a>(
     alloc: Global,
     bodies: &[BodyPlace<'a>],
-    mark: Mark<'_, 'a>,
+    mark: &Mark<'_, 'a>,
     variables: &[u32],
     events: &mut Lists<SiteEvent<'a>>,
 ) -> Result<(), AllocError>
-    ensures { OnOk result (AddsEvent (map body_view bodies.now) (mark_view mark.entry) (map call variables.now)
+    ensures { OnOk result (AddsEvent (map body_view bodies.now) (mark_view mark.now) (map call variables.now)
         events.old events.new) }
 {
     for variable in variables {
@@ -187,12 +187,12 @@ fn add_error_calls<'m, 'a>(
     alloc: Global,
     seen: &Seen<'_, 'm, 'a>,
     bodies: &[BodyPlace<'a>],
-    mark: Mark<'m, 'a>,
+    mark: &Mark<'m, 'a>,
     events: &mut Lists<SiteEvent<'a>>,
 ) -> Result<(), AllocError>
     requires { Sees seen.now }
-    ensures { OnOk result (AddsEvent (map body_view bodies.now) (mark_view mark.entry) (error_calls
-        (seen_view seen.now) (mark_view mark.entry)) events.old events.new) }
+    ensures { OnOk result (AddsEvent (map body_view bodies.now) (mark_view mark.now) (error_calls
+        (seen_view seen.now) (mark_view mark.now)) events.old events.new) }
 {
     let variables = lost_at(alloc, seen, mark)?;
     add_calls(alloc, bodies, mark, &variables, events)
@@ -202,11 +202,11 @@ fn add_error_calls<'m, 'a>(
 fn add_events<'a>(
     alloc: Global,
     bodies: &[BodyPlace<'a>],
-    mark: Mark<'_, 'a>,
+    mark: &Mark<'_, 'a>,
     fresh: Vec<Event<'a>>,
     events: &mut Lists<SiteEvent<'a>>,
 ) -> Result<(), AllocError>
-    ensures { OnOk result (AddsEvent (map body_view bodies.now) (mark_view mark.entry)
+    ensures { OnOk result (AddsEvent (map body_view bodies.now) (mark_view mark.now)
         (map event_view fresh.entry.items) events.old events.new) }
 {
     for event in fresh {
@@ -220,12 +220,12 @@ fn add_kept<'m, 'a>(
     alloc: Global,
     file: FileKept<'_, '_, 'm, 'a>,
     bodies: &[BodyPlace<'a>],
-    mark: Mark<'m, 'a>,
+    mark: &Mark<'m, 'a>,
     events: &mut Lists<SiteEvent<'a>>,
 ) -> Result<(), AllocError>
     requires { KnowsFile file }
-    ensures { OnOk result (AddsEvent (map body_view bodies.now) (mark_view mark.entry) (kept_part
-        (seen_view file.entry.seen.now) (map body_view bodies.now) (mark_view mark.entry)) events.old events.new) }
+    ensures { OnOk result (AddsEvent (map body_view bodies.now) (mark_view mark.now) (kept_part
+        (seen_view file.entry.seen.now) (map body_view bodies.now) (mark_view mark.now)) events.old events.new) }
 {
     let mut fresh: Vec<Event<'a>> = Vec::new(alloc);
     add_mark_events(alloc, file, bodies, mark, &mut fresh)?;
@@ -265,28 +265,28 @@ fn add_site(
 /// Adds the site of a mark, if it panics.
 fn add_panic<'a>(
     alloc: Global,
-    known: Known<'_, 'a>,
+    known: &Known<'_, 'a>,
     bodies: &[BodyPlace<'a>],
-    mark: Mark<'_, 'a>,
+    mark: &Mark<'_, 'a>,
     panics: &mut Lists<u32>,
 ) -> Result<(), AllocError>
-    ensures { OnOk result (AddsPanic (known_view known.entry) (map body_view bodies.now) (mark_view mark.entry)
+    ensures { OnOk result (AddsPanic (known_view known.now) (map body_view bodies.now) (mark_view mark.now)
         panics.old panics.new) }
 {
-    match (innermost(bodies), mark) {
+    match (innermost(bodies), *mark) {
         (Some(body), Mark::Mentions(mention)) => {
-            add_site(alloc, body, mention.site, is_panic(known, mention), panics)
+            add_site(alloc, body, mention.site, is_panic(*known, mention), panics)
         }
         _ => Ok(()),
     }
 }
 
 /// Adds the body that a mark opens.
-fn add_opened<'a>(mark: Mark<'_, 'a>, opened: &mut Vec<BodyPlace<'a>>) -> Result<(), AllocError>
+fn add_opened<'a>(mark: &Mark<'_, 'a>, opened: &mut Vec<BodyPlace<'a>>) -> Result<(), AllocError>
     ensures { OnOk result (map body_view opened.new.items ≡ map body_view opened.old.items
-        ++ opened_by (mark_view mark.entry)) }
+        ++ opened_by (mark_view mark.now)) }
 {
-    if let Mark::Opens(body) = mark {
+    if let Mark::Opens(body) = *mark {
         opened.push(*body)?;
     }
     Ok(())
@@ -301,11 +301,11 @@ pub fn add_mark<'m, 'a>(
     alloc: Global,
     file: SeenBodies<'_, '_, 'm, 'a>,
     bodies: &[BodyPlace<'a>],
-    mark: Mark<'m, 'a>,
+    mark: &Mark<'m, 'a>,
     told: &mut Told<'a>,
 ) -> Result<(), AllocError>
     requires { KnowsBodies file }
-    ensures { OnOk result (AddsMark (seen_view file.entry.seen.now) (map body_view bodies.now) (mark_view mark.entry)
+    ensures { OnOk result (AddsMark (seen_view file.entry.seen.now) (map body_view bodies.now) (mark_view mark.now)
         told.old told.new) }
 {
     let kept = FileKept {
@@ -320,6 +320,6 @@ pub fn add_mark<'m, 'a>(
     add_error_calls(alloc, file.seen, bodies, mark, &mut told.events)?;
     add_kept(alloc, kept, bodies, mark, &mut told.events)?;
     add_names(alloc, kept, bodies, mark, &mut told.keeping)?;
-    add_panic(alloc, file.seen.known, bodies, mark, &mut told.panics)?;
+    add_panic(alloc, &file.seen.known, bodies, mark, &mut told.panics)?;
     add_opened(mark, &mut told.opened)
 }

@@ -5,7 +5,7 @@ use Rattle.std.specs.declared.alloc.Global.{Global}
 use Rattle.std.specs.declared.vec.Vec.{Vec as VecIn}
 use Rattle.tree.proofs.Depths.{drop_item}
 use Rattle.code.specs.declared.code.Code.{Code as KeptCode}
-use Rattle.meaning.specs.Code.{Way, Code, skip, then_code, up_to}
+use Rattle.meaning.specs.Code.{Occurrence, Way, Code, skip, does, then_code, up_to}
 use Rattle.code.specs.CodeViews.{code_view, backward, or_another, one_of}
 use Rattle.flow.specs.declared.exits.Exits.{Exits}
 use Rattle.flow.specs.GraphOfCode.{size, firsts}
@@ -45,6 +45,18 @@ module _ {E : Type 0} where
           let from = of_b.is_past (omega (arith, fits)) in
           let there = of_a.is_past (omega (arith, from, fits)) in
           omega (arith, from, there)
+
+  -- an event, and nothing behind it
+  pub first_alone : (f g : ℕ) (o : Occurrence E) (next : List ℕ) (e : Exits) (first : Vec ℕ)
+      → first.items ≡ f ∷ []
+      → (f + 1 ≤ most → g ≡ f + 1)
+      → Firsts f g (then_code (does o) skip) next e e first
+  first_alone f g o next e first is past =
+      record {
+        are_first = λ fits. is ∙ ap (λ n. n ∷ []) (omega arith);
+        is_past = λ fits. past fits;
+        stay = refl;
+      }
 
   pub first_inside : (f g : ℕ) (w : Way) (a : Code E) (next : List ℕ) (e0 e1 e2 e3 : Exits) (first : Vec ℕ)
       → Enters w next e0 e1

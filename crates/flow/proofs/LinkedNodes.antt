@@ -168,14 +168,6 @@ module _ {E : Type 0} where
   pub taken_so_far-none : {P : Type 0} (cs : List (Code E)) (sizes : List ℕ) → P → TakenSoFar cs cs sizes sizes P
   taken_so_far-none cs sizes p = record { taken = λ others e. (p, e) }
 
-  pub taken_so_far-first : {P Q : Type 0} (c : Code E) (cs : List (Code E)) (s0 s1 : List ℕ) → (P → Q) → Takes (turn_sizes c) s0 s1 P → TakenSoFar (c ∷ cs) cs s0 s1 Q
-  taken_so_far-first c cs s0 s1 f of_c =
-      record {
-        taken = λ others e.
-            let done = of_c.takes (all_turn_sizes cs ++ others) (e ∙ append_assoc (turn_sizes c) (all_turn_sizes cs) others) in
-            (f done.0, done.1);
-      }
-
   pub taken_so_far-next : {P Q R : Type 0} (all : List (Code E)) (codes : List (KeptCode E)) (i : ℕ) (c : KeptCode E) (s0 s1 s2 : List ℕ)
       → i < length codes
       → c ≡ get_or codes i c
@@ -206,22 +198,6 @@ module _ {E : Type 0} where
 
   pub added_so_far-none : (cs : List (Code E)) (next : List ℕ) (e : Exits) (n : Vec (Node E)) (first : Vec ℕ) → first.items ≡ next → AddedSoFar cs (backward cs skip) next e e n n first
   added_so_far-none cs next e n first is = record { rest = skip; is_whole = refl; added = adds_none skip next e n first refl refl is }
-
-  pub added_so_far-first : (c : Code E) (cs : List (Code E)) (next : List ℕ) (e0 e1 : Exits) (n0 n1 : Vec (Node E)) (first : Vec ℕ) → Adds c next e0 e1 n0 n1 first → AddedSoFar cs (backward (c ∷ cs) skip) next e0 e1 n0 n1 first
-  added_so_far-first c cs next e0 e1 n0 n1 first of_c =
-      let f : length n0.items ≡ length n0.items + 0 = omega arith in
-      record {
-        rest = then_code c skip;
-        is_whole = refl;
-        added = record {
-          adds = record {
-            are_nodes = of_c.adds.are_nodes;
-            are_linked = of_c.adds.are_linked ∙ ap (λ n. links_of n0.items ++ links n c next (leading e0)) f;
-            are_first = of_c.adds.are_first ∙ ap (λ n. firsts n c next (leading e0)) f;
-          };
-          stay = of_c.stay;
-        };
-      }
 
   pub added_so_far-next : (codes : List (KeptCode E)) (i : ℕ) (c : KeptCode E) (whole : Code E) (next : List ℕ) (e0 e1 e2 : Exits) (n0 n1 n2 : Vec (Node E)) (first own : Vec ℕ)
       → i < length codes

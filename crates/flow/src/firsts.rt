@@ -1,8 +1,8 @@
 //! Which nodes can come first in a code that is not in the graph yet.
 
-ghost use Rattle.std.specs.Prelude.{None, IfOk, map};
+ghost use Rattle.std.specs.Prelude.{◌≡◌, ◌+◌, ◌≤◌, [], ◌∷◌, None, IfOk, map};
 ghost use Rattle.code.specs.CodeViews.{code_view, backward, one_of};
-ghost use Rattle.flow.specs.GraphViews.{Firsts};
+ghost use Rattle.flow.specs.GraphViews.{most, Firsts};
 ghost use Rattle.flow.specs.TurnSizes.{FirstsOfTurn};
 ghost use Rattle.meaning.specs.Code.{skip};
 
@@ -36,6 +36,16 @@ pub fn firsts_of_turn<'a, E: Copy>(
     firsts(alloc, &mut behind, turn, &[], exits)
 }
 
+/// The node of an event, where `behind` occurrences stand behind it; it is added to that number.
+fn first_node(alloc: Global, behind: &mut usize) -> Result<Vec<usize>, AllocError>
+    ensures node { IfOk result (λ nodes. nodes.items ≡ behind.old ∷ []) }
+    ensures past { behind.old + 1 ≤ most → behind.new ≡ behind.old + 1 }
+{
+    let node = *behind;
+    *behind = node.saturating_add(1);
+    only(alloc, node)
+}
+
 /// The nodes that can come first in the code, where `behind` occurrences stand behind it; its own are added to that
 /// number, as far as it can tell.
 #[cycle(firsts)]
@@ -51,11 +61,8 @@ fn firsts<'a, E: Copy>(
 {
     match code {
         Code::Skip => copied(alloc, next),
-        Code::Does(_) => {
-            let node = *behind;
-            *behind = node.saturating_add(1);
-            only(alloc, node)
-        }
+        Code::Does(_) => first_node(alloc, behind),
+        Code::Alone(_) => first_node(alloc, behind),
         Code::Leave(way) => copied(alloc, exits.at(*way)),
         Code::Then(first, second) => {
             let later = firsts(alloc, behind, second, next, exits)?;

@@ -45,7 +45,7 @@ pub fn build<E: Copy>(alloc: Global, code: &Code<'_, E>) -> Result<Graph<E>, All
         },
         sizes: TurnSizes { left: &counted },
     };
-    let starts = link(alloc, code, &[], &mut graph)?;
+    let starts = link(alloc, code, Vec::new(alloc), &mut graph)?;
     Ok(Graph {
         nodes: graph.nodes,
         starts,

@@ -27,14 +27,13 @@ pub struct GraphSoFar<'a, 's, E> {
 fn add<E: Copy>(
     alloc: Global,
     occurrence: Occurrence<E>,
-    next: &[usize],
+    next: Vec<usize>,
     nodes: &mut Vec<Node<E>>,
 ) -> Result<Vec<usize>, AllocError>
-    ensures { IfOk result (λ first. AddsNode (occurrence_view occurrence) next.now nodes.old.items nodes.new.items
-        first.items) }
+    ensures { IfOk result (λ first. AddsNode (occurrence_view occurrence) next.items nodes.old.items
+        nodes.new.items first.items) }
 {
     let node = nodes.len();
-    let next = copied(alloc, next)?;
     nodes.push(Node { occurrence, next })?;
     only(alloc, node)
 }
@@ -49,23 +48,25 @@ fn add<E: Copy>(
 pub fn link<'a, E: Copy>(
     alloc: Global,
     code: &Code<'a, E>,
-    next: &[usize],
+    next: Vec<usize>,
     graph: &mut GraphSoFar<'a, '_, E>,
 ) -> Result<Vec<usize>, AllocError>
     ensures { IfOk result (λ first. Takes (turn_sizes (code_view code.now)) graph.old.sizes.left.now
         graph.new.sizes.left.now
-        (Adds (code_view code.now) next.now graph.old.exits graph.new.exits graph.old.nodes graph.new.nodes first)) }
+        (Adds (code_view code.now) next.items graph.old.exits graph.new.exits graph.old.nodes graph.new.nodes
+        first)) }
 {
     match code {
-        Code::Skip => copied(alloc, next),
+        Code::Skip => Ok(next),
         Code::Does(occurrence) => add(alloc, *occurrence, next, &mut graph.nodes),
+        Code::Alone(occurrence) => add(alloc, *occurrence, next, &mut graph.nodes),
         Code::Leave(way) => copied(alloc, graph.exits.at(*way)),
         Code::Then(first, second) => {
             let later = link(alloc, second, next, graph)?;
-            link(alloc, first, &later, graph)
+            link(alloc, first, later, graph)
         }
         Code::Sequence(codes) => link_sequence(alloc, codes, next, graph),
-        Code::Choice(codes) => link_choice(alloc, codes, next, graph),
+        Code::Choice(codes) => link_choice(alloc, codes, &next, graph),
         Code::Repeats(turn) => {
             let first = firsts_of_turn(
                 alloc,
@@ -74,17 +75,18 @@ pub fn link<'a, E: Copy>(
                 &mut graph.exits,
                 &mut graph.sizes,
             )?;
-            link(alloc, turn, &first, graph)?;
+            let behind = copied(alloc, &first)?;
+            link(alloc, turn, behind, graph)?;
             Ok(first)
         }
         Code::UpTo(way, inner) => {
-            graph.exits.enter(alloc, *way, next)?;
+            graph.exits.enter(alloc, *way, &next)?;
             let first = link(alloc, inner, next, graph)?;
             graph.exits.leave();
             Ok(first)
         }
         Code::UpToFalls(falls, inner) => {
-            graph.exits.enter_falls(alloc, falls, next)?;
+            graph.exits.enter_falls(alloc, falls, &next)?;
             let first = link(alloc, inner, next, graph)?;
             graph.exits.leave();
             Ok(first)
@@ -97,19 +99,16 @@ pub fn link<'a, E: Copy>(
 fn link_sequence<'a, E: Copy>(
     alloc: Global,
     codes: &[Code<'a, E>],
-    next: &[usize],
+    next: Vec<usize>,
     graph: &mut GraphSoFar<'a, '_, E>,
 ) -> Result<Vec<usize>, AllocError>
     ensures { IfOk result (λ first. Takes (all_turn_sizes (map code_view codes.now)) graph.old.sizes.left.now
-        graph.new.sizes.left.now (Adds (backward (map code_view codes.now) skip) next.now graph.old.exits
+        graph.new.sizes.left.now (Adds (backward (map code_view codes.now) skip) next.items graph.old.exits
         graph.new.exits graph.old.nodes graph.new.nodes first)) }
 {
-    let Some((last, others)) = codes.split_first() else {
-        return copied(alloc, next);
-    };
-    let mut first = link(alloc, last, next, graph)?;
-    for code in others {
-        first = link(alloc, code, &first, graph)?;
+    let mut first = next;
+    for code in codes {
+        first = link(alloc, code, first, graph)?;
     }
     Ok(first)
 }
@@ -127,7 +126,8 @@ fn link_choice<'a, E: Copy>(
 {
     let mut first = Vec::new(alloc);
     for code in codes {
-        let own = link(alloc, code, next, graph)?;
+        let after = copied(alloc, next)?;
+        let own = link(alloc, code, after, graph)?;
         first = joined(own, &first)?;
     }
     Ok(first)

@@ -40,6 +40,7 @@ pub fn begins_with_event<E: Copy>(code: &Code<'_, E>) -> bool
     match code {
         Code::Skip => false,
         Code::Does(_) => true,
+        Code::Alone(_) => true,
         Code::Leave(_) => false,
         Code::Then(first, _) => begins_with_event(first),
         Code::Sequence(codes) => last_begins(codes),
@@ -74,6 +75,7 @@ pub fn count<E: Copy>(code: &Code<'_, E>, sizes: &mut Vec<usize>) -> Result<usiz
     match code {
         Code::Skip => Ok(0),
         Code::Does(_) => Ok(1),
+        Code::Alone(_) => Ok(1),
         Code::Leave(_) => Ok(0),
         Code::Then(first, second) => {
             let behind = count(second, sizes)?;

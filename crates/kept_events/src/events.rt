@@ -134,15 +134,15 @@ fn add_field<'a>(
 fn add_mark<'a>(
     alloc: Global,
     here: Here<'_, '_, '_, 'a>,
-    mark: Mark<'_, 'a>,
+    mark: &Mark<'_, 'a>,
     events: &mut Vec<Event<'a>>,
 ) -> Result<(), AllocError>
     requires { KnowsHere here }
     ensures { OnOk result (AddsEvents events.old.items events.new.items (object_part
         (seen_view here.entry.around.seen.now) (map body_view here.entry.around.bodies.now)
-        (mark_view mark.entry))) }
+        (mark_view mark.now))) }
 {
-    match mark {
+    match *mark {
         Mark::Mentions(mention) => add_mention(alloc, here, mention, events),
         Mark::OfFields(_, field) => add_field(alloc, here, *field, events),
         _ => Ok(()),
@@ -154,12 +154,12 @@ fn add_objects<'s, 'k, 'm, 'a>(
     alloc: Global,
     file: FileKept<'s, 'k, 'm, 'a>,
     bodies: &'s [BodyPlace<'a>],
-    mark: Mark<'_, 'a>,
+    mark: &Mark<'_, 'a>,
     events: &mut Vec<Event<'a>>,
 ) -> Result<(), AllocError>
     requires { KnowsFile file }
     ensures { OnOk result (AddsEvents events.old.items events.new.items (object_part
-        (seen_view file.entry.seen.now) (map body_view bodies.now) (mark_view mark.entry))) }
+        (seen_view file.entry.seen.now) (map body_view bodies.now) (mark_view mark.now))) }
 {
     match file.kept {
         Some(kept) => {
@@ -232,14 +232,14 @@ fn add_return<'s, 'k, 'm, 'a>(
     alloc: Global,
     file: FileKept<'s, 'k, 'm, 'a>,
     bodies: &'s [BodyPlace<'a>],
-    mark: Mark<'_, 'a>,
+    mark: &Mark<'_, 'a>,
     events: &mut Vec<Event<'a>>,
 ) -> Result<(), AllocError>
     requires { KnowsFile file }
     ensures { OnOk result (AddsEvents events.old.items events.new.items (return_part
-        (seen_view file.entry.seen.now) (map body_view bodies.now) (mark_view mark.entry))) }
+        (seen_view file.entry.seen.now) (map body_view bodies.now) (mark_view mark.now))) }
 {
-    if let Mark::Returns(_, values) = mark {
+    if let Mark::Returns(_, values) = *mark {
         let handed = handed_on(alloc, file, bodies, values)?;
         events.push(Event::Return { handed })?;
     }
@@ -255,12 +255,12 @@ pub fn add_mark_events<'s, 'k, 'm, 'a>(
     alloc: Global,
     file: FileKept<'s, 'k, 'm, 'a>,
     bodies: &'s [BodyPlace<'a>],
-    mark: Mark<'_, 'a>,
+    mark: &Mark<'_, 'a>,
     events: &mut Vec<Event<'a>>,
 ) -> Result<(), AllocError>
     requires { KnowsFile file }
     ensures { OnOk result (AddsEvents events.old.items events.new.items (kept_part
-        (seen_view file.entry.seen.now) (map body_view bodies.now) (mark_view mark.entry))) }
+        (seen_view file.entry.seen.now) (map body_view bodies.now) (mark_view mark.now))) }
 {
     add_return(alloc, file, bodies, mark, events)?;
     add_objects(alloc, file, bodies, mark, events)

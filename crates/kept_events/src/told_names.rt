@@ -70,15 +70,15 @@ fn add_all_kept<'a>(
 fn add_keeps<'a>(
     alloc: Global,
     here: Here<'_, '_, '_, 'a>,
-    mark: Mark<'_, 'a>,
+    mark: &Mark<'_, 'a>,
     names: &mut Vec<&'a str>,
 ) -> Result<(), AllocError>
     requires { KnowsHere here }
     ensures { OnOk result (AddsNames names.old.items names.new.items (kept_variables
         (seen_view here.entry.around.seen.now) (map body_view here.entry.around.bodies.now)
-        (mark_view mark.entry))) }
+        (mark_view mark.now))) }
 {
-    let keeps = keeps_there(alloc, here.around, mark)?;
+    let keeps = keeps_there(alloc, here.around, *mark)?;
     add_all_kept(here, &keeps, names)
 }
 
@@ -129,13 +129,13 @@ fn add_field<'a>(
 
 fn add_obtained<'a>(
     here: Here<'_, '_, '_, 'a>,
-    mark: Mark<'_, 'a>,
+    mark: &Mark<'_, 'a>,
     names: &mut Vec<&'a str>,
 ) -> Result<(), AllocError>
     ensures { OnOk result (AddsNames names.old.items names.new.items (obtained_fields
-        (seen_view here.entry.around.seen.now) (mark_view mark.entry))) }
+        (seen_view here.entry.around.seen.now) (mark_view mark.now))) }
 {
-    match mark {
+    match *mark {
         Mark::OfFields(_, field) => add_field(here.around.seen.known, *field, names),
         _ => Ok(()),
     }
@@ -282,15 +282,15 @@ fn add_given<'a>(
 fn add_carried<'a>(
     alloc: Global,
     here: Here<'_, '_, '_, 'a>,
-    mark: Mark<'_, 'a>,
+    mark: &Mark<'_, 'a>,
     names: &mut Vec<&'a str>,
 ) -> Result<(), AllocError>
     requires { KnowsHere here }
     ensures { OnOk result (AddsNames names.old.items names.new.items (carried_fields
         (seen_view here.entry.around.seen.now) (map body_view here.entry.around.bodies.now) (given_elements
-        (seen_view here.entry.around.seen.now) (mark_view mark.entry)))) }
+        (seen_view here.entry.around.seen.now) (mark_view mark.now)))) }
 {
-    match mark {
+    match *mark {
         Mark::OfFields(_, field) => add_given(alloc, here, *field, names),
         Mark::Returns(_, values) => add_values(alloc, here, values, names),
         _ => Ok(()),
@@ -300,13 +300,13 @@ fn add_carried<'a>(
 fn add_here<'a>(
     alloc: Global,
     here: Here<'_, '_, '_, 'a>,
-    mark: Mark<'_, 'a>,
+    mark: &Mark<'_, 'a>,
     names: &mut Vec<&'a str>,
 ) -> Result<(), AllocError>
     requires { KnowsHere here }
     ensures { OnOk result (AddsNames names.old.items names.new.items (fields_kept_there
         (seen_view here.entry.around.seen.now) (map body_view here.entry.around.bodies.now)
-        (mark_view mark.entry))) }
+        (mark_view mark.now))) }
 {
     add_keeps(alloc, here, mark, names)?;
     add_obtained(here, mark, names)?;
@@ -323,12 +323,12 @@ pub fn add_names<'s, 'k, 'm, 'a>(
     alloc: Global,
     file: FileKept<'s, 'k, 'm, 'a>,
     bodies: &'s [BodyPlace<'a>],
-    mark: Mark<'_, 'a>,
+    mark: &Mark<'_, 'a>,
     names: &mut Vec<&'a str>,
 ) -> Result<(), AllocError>
     requires { KnowsFile file }
     ensures { OnOk result (AddsNames names.old.items names.new.items (fields_kept_there
-        (seen_view file.entry.seen.now) (map body_view bodies.now) (mark_view mark.entry))) }
+        (seen_view file.entry.seen.now) (map body_view bodies.now) (mark_view mark.now))) }
 {
     match file.kept {
         Some(kept) => {

@@ -8,5 +8,5 @@ use tracked::Seen;
 pub struct At<'s, 'k, 'm, 'a> {
     pub seen: &'s Seen<'k, 'm, 'a>,
     pub bodies: &'s [BodyPlace<'a>],
-    pub mention: Mention<'m, 'a>,
+    pub mention: &'s Mention<'m, 'a>,
 }

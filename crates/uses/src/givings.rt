@@ -64,7 +64,7 @@ fn add_item_call<'a>(
 ) -> Result<(), AllocError>
     ensures { OnOk result (AddsFaults faults.old.items faults.new.items (if_not (hands_on (body_gives
         (seen_view at.entry.seen.now).known (map body_view at.entry.bodies.now)) item (giving_view giving.entry))
-        (last_fault cancel_used_otherwise (mention_view at.entry.mention).named))) }
+        (last_fault cancel_used_otherwise (mention_view at.entry.mention.now).named))) }
 {
     let gives = body_gives(alloc, at.seen.known, at.bodies)?;
     if hands_on(&gives, item, giving) {
@@ -83,7 +83,7 @@ fn add_call<'a>(
 ) -> Result<(), AllocError>
     requires { Sees at.seen.now }
     ensures { OnOk result (AddsFaults faults.old.items faults.new.items (call_faults (seen_view at.entry.seen.now)
-        (map body_view at.entry.bodies.now) (mention_view at.entry.mention) (giving_view giving.entry)
+        (map body_view at.entry.bodies.now) (mention_view at.entry.mention.now) (giving_view giving.entry)
         (place_view place.entry))) }
 {
     let named = at.mention.named;
@@ -117,8 +117,8 @@ fn add_role<'a>(
 ) -> Result<(), AllocError>
     requires { Sees at.seen.now }
     ensures { OnOk result (AddsFaults faults.old.items faults.new.items (giving_role_faults
-        (seen_view at.entry.seen.now) (map body_view at.entry.bodies.now) (mention_view at.entry.mention)
-        (giving_view giving.entry) (role_view at.entry.mention.role))) }
+        (seen_view at.entry.seen.now) (map body_view at.entry.bodies.now) (mention_view at.entry.mention.now)
+        (giving_view giving.entry) (role_view at.entry.mention.now.role))) }
 {
     let named = at.mention.named;
     match at.mention.role {
@@ -145,8 +145,8 @@ pub fn add_giving<'a>(
 ) -> Result<(), AllocError>
     requires { Sees at.seen.now }
     ensures { OnOk result (AddsFaults faults.old.items faults.new.items (giving_faults (seen_view at.entry.seen.now)
-        (map body_view at.entry.bodies.now) (mention_view at.entry.mention) (giving_of
-        (seen_view at.entry.seen.now).known (named_view at.entry.mention.named)))) }
+        (map body_view at.entry.bodies.now) (mention_view at.entry.mention.now) (giving_of
+        (seen_view at.entry.seen.now).known (named_view at.entry.mention.now.named)))) }
 {
     match giving_of(at.seen.known, at.mention.named) {
         Some(giving) => add_role(alloc, at, giving, faults),

@@ -43,11 +43,11 @@ fn is_making_place(
 fn is_made_or_parameter(
     alloc: Global,
     seen: &Seen<'_, '_, '_>,
-    mention: Mention<'_, '_>,
+    mention: &Mention<'_, '_>,
 ) -> Result<bool, AllocError>
     requires { Sees seen.now }
-    ensures { IfOk result (λ is. is ≡ is_made_or_parameter (seen_view seen.now) (mention_view mention.entry)
-        (role_view mention.entry.role)) }
+    ensures { IfOk result (λ is. is ≡ is_made_or_parameter (seen_view seen.now) (mention_view mention.now)
+        (role_view mention.now.role)) }
 {
     match mention.role {
         Role::ParameterPointer => Ok(is_selected("Group", mention.named)),
@@ -79,12 +79,12 @@ fn is_made_or_parameter(
 pub fn add_errgroup<'a>(
     alloc: Global,
     seen: &Seen<'_, '_, 'a>,
-    mention: Mention<'_, 'a>,
+    mention: &Mention<'_, 'a>,
     faults: &mut Vec<UseFault<'a>>,
 ) -> Result<(), AllocError>
     requires { Sees seen.now }
     ensures { OnOk result (AddsFaults faults.old.items faults.new.items (errgroup_faults (seen_view seen.now)
-        (mention_view mention.entry))) }
+        (mention_view mention.now))) }
 {
     if !is_import(ERRGROUP, meaning(seen.known, mention.named.at)) {
         return Ok(());

@@ -188,12 +188,12 @@ fn lost_to(
 pub fn lost_at(
     alloc: Global,
     seen: &Seen<'_, '_, '_>,
-    mark: Mark<'_, '_>,
+    mark: &Mark<'_, '_>,
 ) -> Result<Vec<u32>, AllocError>
     requires { Sees seen.now }
-    ensures { IfOk result (λ lost. map call lost.items ≡ error_calls (seen_view seen.now) (mark_view mark.entry)) }
+    ensures { IfOk result (λ lost. map call lost.items ≡ error_calls (seen_view seen.now) (mark_view mark.now)) }
 {
-    let mention = match mark {
+    let mention = match *mark {
         Mark::Mentions(mention) => mention,
         _ => return Ok(Vec::new(alloc)),
     };

@@ -31,9 +31,9 @@ fn mention_outcome<'a>(
     requires { Sees at.seen.now }
     ensures { IfOk result (λ event. Gives faults.old.items faults.new.items event record {
       faults = mention_faults (seen_view at.entry.seen.now) (map body_view at.entry.bodies.now)
-          (mention_view at.entry.mention);
+          (mention_view at.entry.mention.now);
       events = (variable_outcome (seen_view at.entry.seen.now) (map body_view at.entry.bodies.now)
-          (mention_view at.entry.mention)).events;
+          (mention_view at.entry.mention.now)).events;
     }) }
 {
     let event = variable_outcome(alloc, at, faults)?;
@@ -101,13 +101,13 @@ fn outcome_there<'m, 'a>(
     alloc: Global,
     seen: &Seen<'_, 'm, 'a>,
     bodies: &[BodyPlace<'a>],
-    mention: Mention<'m, 'a>,
+    mention: &Mention<'m, 'a>,
     faults: &mut Vec<UseFault<'a>>,
 ) -> Result<Option<Event<'a>>, AllocError>
     requires { Sees seen.now }
     ensures { IfOk result (λ event. Gives faults.old.items faults.new.items event record {
-      faults = mention_faults (seen_view seen.now) (map body_view bodies.now) (mention_view mention.entry);
-      events = (variable_outcome (seen_view seen.now) (map body_view bodies.now) (mention_view mention.entry)).events;
+      faults = mention_faults (seen_view seen.now) (map body_view bodies.now) (mention_view mention.now);
+      events = (variable_outcome (seen_view seen.now) (map body_view bodies.now) (mention_view mention.now)).events;
     }) }
 {
     let at = At {
@@ -157,21 +157,21 @@ pub fn mark_outcome<'m, 'a>(
     alloc: Global,
     seen: &Seen<'_, 'm, 'a>,
     bodies: &[BodyPlace<'a>],
-    mark: Mark<'m, 'a>,
+    mark: &Mark<'m, 'a>,
     faults: &mut Vec<UseFault<'a>>,
 ) -> Result<Option<Event<'a>>, AllocError>
     requires { Sees seen.now }
     ensures { IfOk result (λ event. Gives faults.old.items faults.new.items event record {
-      faults = plain_faults (seen_view seen.now) (map body_view bodies.now) (mark_view mark.entry);
-      events = plain_events (seen_view seen.now) (map body_view bodies.now) (mark_view mark.entry);
+      faults = plain_faults (seen_view seen.now) (map body_view bodies.now) (mark_view mark.now);
+      events = plain_events (seen_view seen.now) (map body_view bodies.now) (mark_view mark.now);
     }) }
 {
     match mark {
         Mark::Mentions(mention) => outcome_there(alloc, seen, bodies, mention, faults),
-        Mark::OfFields(_, mark) => field_outcome(seen, *mark, faults),
-        Mark::DefersLiteral(_, at) => Ok(Some(Event::DeferLiteral { literal: at })),
+        Mark::OfFields(_, mark) => field_outcome(seen, **mark, faults),
+        Mark::DefersLiteral(_, at) => Ok(Some(Event::DeferLiteral { literal: *at })),
         Mark::Returns(_, _) => Ok(None),
-        Mark::Opens(body) => body_outcome(alloc, seen.known, *body, faults),
+        Mark::Opens(body) => body_outcome(alloc, seen.known, **body, faults),
         Mark::Closes => Ok(None),
     }
 }

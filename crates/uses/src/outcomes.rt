@@ -49,20 +49,20 @@ pub fn called_in<'a>(known: Known<'_, 'a>, row: Row<'a>) -> Callee<'a>
 fn binding_event<'a>(
     known: Known<'_, 'a>,
     local: Local<'a>,
-    mention: Mention<'_, 'a>,
+    mention: &Mention<'_, 'a>,
     row: Row<'a>,
     binding: Binding,
 ) -> Event<'a>
     ensures { event_view result ≡ binding_event (known_view known.entry) (local_view local.entry)
-        (mention_view mention.entry) (row_view row.entry) (binding_view binding) }
+        (mention_view mention.now) (row_view row.entry) (binding_view binding) }
 {
-    let variable = variable_at(local, mention);
+    let variable = variable_at(local, *mention);
     match binding {
         Binding::Obtained(index) => Event::Obtain {
             variable,
             source: called_in(known, row),
             result: index,
-            is_declared: declared_by(known, mention).is_some(),
+            is_declared: declared_by(known, *mention).is_some(),
         },
         Binding::Cleared => Event::Clear { variable },
         Binding::Made(state) => Event::Make { variable, state },
@@ -73,13 +73,13 @@ fn binding_event<'a>(
 fn add_again<'a>(
     known: Known<'_, 'a>,
     entry: SeenLocal<'a>,
-    mention: Mention<'_, 'a>,
+    mention: &Mention<'_, 'a>,
     faults: &mut Vec<UseFault<'a>>,
 ) -> Result<(), AllocError>
     ensures { OnOk result (AddsFaults faults.old.items faults.new.items (again_of (known_view known.entry)
-        (entry_view entry.entry) (mention_view mention.entry))) }
+        (entry_view entry.entry) (mention_view mention.now))) }
 {
-    if entry.is_in_literal && declared_by(known, mention).is_none() {
+    if entry.is_in_literal && declared_by(known, *mention).is_none() {
         return add_fault(
             faults,
             mention.named.at,
@@ -95,11 +95,11 @@ fn add_first<'a>(
     standing: Standing,
     kind: VariableKind,
     local: Local<'a>,
-    mention: Mention<'_, 'a>,
+    mention: &Mention<'_, 'a>,
     faults: &mut Vec<UseFault<'a>>,
 ) -> Result<(), AllocError>
     ensures { OnOk result (AddsFaults faults.old.items faults.new.items (first_faults (standing_view standing)
-        (kind_view kind) (local_view local.entry) (mention_view mention.entry))) }
+        (kind_view kind) (local_view local.entry) (mention_view mention.now))) }
 {
     match standing {
         Standing::FirstOfFor => add_fault(faults, mention.named.at, otherwise(kind), local.name),
@@ -117,7 +117,7 @@ fn add_type<'a>(
     requires { Sees found.at.seen.now }
     ensures { OnOk result (AddsFaults faults.old.items faults.new.items (type_faults
         (seen_view found.entry.at.seen.now) (local_view found.entry.entry.local)
-        (mention_view found.entry.at.mention) (row_view row.entry) (binding_view binding))) }
+        (mention_view found.entry.at.mention.now) (row_view row.entry) (binding_view binding))) }
 {
     let seen = found.at.seen;
     let local = found.entry.local;
@@ -149,7 +149,7 @@ fn binding_outcome<'a>(
     requires { Sees found.at.seen.now }
     ensures { IfOk result (λ event. Gives faults.old.items faults.new.items event (binding_outcome_of
         (seen_view found.entry.at.seen.now) (entry_view found.entry.entry) (kind_view kind)
-        (map body_view found.entry.at.bodies.now) (mention_view found.entry.at.mention) (row_view row.entry)
+        (map body_view found.entry.at.bodies.now) (mention_view found.entry.at.mention.now) (row_view row.entry)
         (binding_view binding) (local_role_view found.entry.entry.local.role))) }
 {
     let local = found.entry.local;
@@ -184,12 +184,12 @@ fn parameter_bound<'a>(
     known: Known<'_, 'a>,
     entry: SeenLocal<'a>,
     kind: VariableKind,
-    mention: Mention<'_, 'a>,
+    mention: &Mention<'_, 'a>,
     faults: &mut Vec<UseFault<'a>>,
 ) -> Result<Option<Event<'a>>, AllocError>
     ensures { IfOk result (λ event. Gives faults.old.items faults.new.items event (only_faults
-        (fault_at mention.entry.named.at (otherwise (kind_view kind)) entry.entry.local.name.now
-        ++ again_of (known_view known.entry) (entry_view entry.entry) (mention_view mention.entry)))) }
+        (fault_at mention.now.named.at (otherwise (kind_view kind)) entry.entry.local.name.now
+        ++ again_of (known_view known.entry) (entry_view entry.entry) (mention_view mention.now)))) }
 {
     add_fault(faults, mention.named.at, otherwise(kind), entry.local.name)?;
     add_again(known, entry, mention, faults)?;
@@ -200,12 +200,12 @@ fn parameter_bound<'a>(
 fn use_outcome<'a>(
     kind: VariableKind,
     local: Local<'a>,
-    mention: Mention<'_, 'a>,
+    mention: &Mention<'_, 'a>,
     allowed: Use<'a>,
     faults: &mut Vec<UseFault<'a>>,
 ) -> Result<Option<Event<'a>>, AllocError>
     ensures { IfOk result (λ event. Gives faults.old.items faults.new.items event (use_outcome (kind_view kind)
-        (local_view local.entry) (mention_view mention.entry) (use_view allowed.entry))) }
+        (local_view local.entry) (mention_view mention.now) (use_view allowed.entry))) }
 {
     match allowed {
         Use::NotAllowed => {
@@ -227,7 +227,7 @@ fn mention_outcome<'a>(
     ensures { IfOk result (λ event. Gives faults.old.items faults.new.items event (mention_outcome_of
         (seen_view found.entry.at.seen.now) (entry_view found.entry.entry)
         (tracked_kind_of_entry (entry_view found.entry.entry)) (map body_view found.entry.at.bodies.now)
-        (mention_view found.entry.at.mention))) }
+        (mention_view found.entry.at.mention.now))) }
 {
     let local = found.entry.local;
     let mention = found.at.mention;
@@ -236,7 +236,7 @@ fn mention_outcome<'a>(
             let here = LocalMention {
                 local,
                 bodies: found.at.bodies,
-                mention,
+                mention: *mention,
             };
             let allowed = kind_use(alloc, found.at.seen, here, kind)?;
             use_outcome(kind, local, mention, allowed, faults)
@@ -257,7 +257,7 @@ fn left_outcome<'a>(
     ensures { IfOk result (λ event. Gives faults.old.items faults.new.items event (row_outcome_of
         (seen_view found.entry.at.seen.now) (entry_view found.entry.entry)
         (kind_of_entry (entry_view found.entry.entry)) (map body_view found.entry.at.bodies.now)
-        (mention_view found.entry.at.mention) (row_view row.entry)
+        (mention_view found.entry.at.mention.now) (row_view row.entry)
         (binding_at (seen_view found.entry.at.seen.now) (row_view row.entry) index))) }
 {
     let kind = match kind(found.entry) {
@@ -280,8 +280,8 @@ fn entry_outcome<'a>(
     requires { Sees found.at.seen.now }
     ensures { IfOk result (λ event. Gives faults.old.items faults.new.items event (role_outcome_of
         (seen_view found.entry.at.seen.now) (entry_view found.entry.entry)
-        (map body_view found.entry.at.bodies.now) (mention_view found.entry.at.mention)
-        (role_view found.entry.at.mention.role))) }
+        (map body_view found.entry.at.bodies.now) (mention_view found.entry.at.mention.now)
+        (role_view found.entry.at.mention.now.role))) }
 {
     match found.at.mention.role {
         Role::Left(index, row) => left_outcome(alloc, found, index, *row, faults),
@@ -301,9 +301,9 @@ pub fn variable_outcome<'a>(
 ) -> Result<Option<Event<'a>>, AllocError>
     requires { Sees at.seen.now }
     ensures { IfOk result (λ event. Gives faults.old.items faults.new.items event (variable_outcome
-        (seen_view at.entry.seen.now) (map body_view at.entry.bodies.now) (mention_view at.entry.mention))) }
+        (seen_view at.entry.seen.now) (map body_view at.entry.bodies.now) (mention_view at.entry.mention.now))) }
 {
-    match at.seen.entry(variable_of(at.seen.known, at.mention)) {
+    match at.seen.entry(variable_of(at.seen.known, *at.mention)) {
         Some(entry) => entry_outcome(alloc, Found { at, entry }, faults),
         None => Ok(None),
     }

@@ -12,8 +12,8 @@ pub returns-then-is_forbidden : goal.returns-then-is_forbidden
 returns-then-is_forbidden c =
     let seen = seen_view c.args.file.seen.now in
     on_ok c.add_fault.result
-    (adds_if_both c.args.faults.now.items (fault_at c.args.mention.named.at recover_used (codes "-"))
-    (is_recover seen.known (mention_view c.args.mention))
+    (adds_if_both c.args.faults.now.items (fault_at c.args.mention.now.named.at recover_used (codes "-"))
+    (is_recover seen.known (mention_view c.args.mention.now))
     (forbids_recover seen.known.edition seen (map body_view c.args.bodies.now)) _ c.is_forbidden.ensures
     c.if-is_forbidden.true c.add_fault.new.faults.items)
     c.add_fault.ensures
@@ -21,7 +21,7 @@ returns-then-is_forbidden c =
 pub returns : goal.returns
 returns c =
     let seen = seen_view c.args.file.seen.now in
-    adds_unless_both c.args.faults.now.items (fault_at c.args.mention.named.at recover_used (codes "-"))
-    (is_recover seen.known (mention_view c.args.mention))
+    adds_unless_both c.args.faults.now.items (fault_at c.args.mention.now.named.at recover_used (codes "-"))
+    (is_recover seen.known (mention_view c.args.mention.now))
     (forbids_recover seen.known.edition seen (map body_view c.args.bodies.now)) _ c.is_forbidden.ensures
     c.if-is_forbidden.false

@@ -13,7 +13,7 @@ pub returns : goal.returns
 returns c =
     let seen = seen_view c.args.file.seen.now in
     let bodies = map body_view c.args.bodies.now in
-    let mark = mark_view c.args.mark in
+    let mark = mark_view c.args.mark.now in
     on_ok c.add_events.result
     (λ added body at. added body at
     ∙ ap (λ es. events_in c.args.events.now body at ++ if_there (is_body body bodies && is_site mark at) es)

@@ -20,7 +20,7 @@ pub returns : goal.returns
 returns c =
     let seen = seen_view c.args.file.seen.now in
     let bodies = map body_view c.args.bodies.now in
-    let mark = mark_view c.args.mark in
+    let mark = mark_view c.args.mark.now in
     let told = c.args.told.now in
     let fresh : map fault_view c.deref.result.now ≡ mark_faults seen bodies mark =
     ap (map fault_view) c.deref.ensures.value ∙ c.in_ok-add_by_variables.ensures

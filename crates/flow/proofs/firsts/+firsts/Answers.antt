@@ -1,8 +1,8 @@
 use Rattle.std.proofs.Common.{◌++◌, refl, ap, ◌∙◌, subst, arith}
 use Rattle.code.specs.CodeViews.{code_view}
-use Rattle.code.proofs.Codes.{code_view-Skip, code_view-Does, code_view-Leave, code_view-Then, code_view-Sequence, code_view-Choice, code_view-Repeats, code_view-UpTo, code_view-UpToFalls}
+use Rattle.code.proofs.Codes.{code_view-Skip, code_view-Does, code_view-Alone, code_view-Leave, code_view-Then, code_view-Sequence, code_view-Choice, code_view-Repeats, code_view-UpTo, code_view-UpToFalls}
 use Rattle.flow.specs.GraphViews.{Firsts}
-use Rattle.flow.proofs.FirstNodes.{if_ok, first_then, first_inside, first_so_far-none, first_so_far-first, first_so_far-next, first_so_far-all, ways_so_far-none, ways_so_far-next, ways_so_far-all}
+use Rattle.flow.proofs.FirstNodes.{if_ok, first_then, first_alone, first_inside, first_so_far-none, first_so_far-first, first_so_far-next, first_so_far-all, ways_so_far-none, ways_so_far-next, ways_so_far-all}
 use Rattle.flow.proofs.Falls.{first_inside_falls}
 use Rattle.flow.proofs.firsts.+firsts.Goals as goal
 
@@ -14,7 +14,12 @@ firsts-returns-in-Skip g t c =
 pub firsts-returns-in-Does : goal.firsts-returns-in-Does
 firsts-returns-in-Does g t c =
     rw (c.in-Does.is, code_view-Does)
-    (if_ok c.only.result (λ v h. record { are_first = λ fits. h; is_past = λ fits. omega (arith, fits, c.saturating_add.ensures); stay = refl }) c.only.ensures)
+    (if_ok c.first_node.result (λ v h. record { are_first = λ fits. h; is_past = c.first_node.ensures.past; stay = refl }) c.first_node.ensures.node)
+
+pub firsts-returns-in-Alone : goal.firsts-returns-in-Alone
+firsts-returns-in-Alone g t c =
+    rw (c.in-Alone.is, code_view-Alone)
+    (if_ok c.first_node-in-Alone.result (λ v h. first_alone _ _ _ _ c.args.exits.now v h c.first_node-in-Alone.ensures.past) c.first_node-in-Alone.ensures.node)
 
 pub firsts-returns-in-Leave : goal.firsts-returns-in-Leave
 firsts-returns-in-Leave g t c =

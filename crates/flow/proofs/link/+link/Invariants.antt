@@ -13,7 +13,7 @@ invariant-link_choice-loop-code g l =
 
 abbrev pub invariant-link_sequence-loop-code : goal.invariant-link_sequence-loop-code
 invariant-link_sequence-loop-code g l =
-    TakenSoFar (map code_view l.codes) (map code_view (drop l.code-index l.others)) l.fn.graph.sizes.left.now
+    TakenSoFar (map code_view l.codes) (map code_view (drop l.code-index l.codes)) l.initial.graph.sizes.left.now
     l.graph.sizes.left.now
-    (AddedSoFar (map code_view (drop l.code-index l.others)) (backward (map code_view l.codes) skip) l.next
-    l.fn.graph.exits l.graph.exits l.fn.graph.nodes l.graph.nodes l.first)
+    (AddedSoFar (map code_view (drop l.code-index l.codes)) (backward (map code_view l.codes) skip) l.fn.next.items
+    l.initial.graph.exits l.graph.exits l.initial.graph.nodes l.graph.nodes l.first)

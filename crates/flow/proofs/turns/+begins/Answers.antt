@@ -3,7 +3,7 @@ use Rattle.std.proofs.lemmas.Bool.{ne_eqb}
 use Rattle.std.proofs.lemmas.List.{length-map}
 use Rattle.code.specs.CodeViews.{code_view}
 use Rattle.flow.specs.TurnSizes.{last_begins}
-use Rattle.code.proofs.Codes.{code_view-Skip, code_view-Does, code_view-Leave, code_view-Then, code_view-Sequence, code_view-Choice, code_view-Repeats, code_view-UpTo, code_view-UpToFalls}
+use Rattle.code.proofs.Codes.{code_view-Skip, code_view-Does, code_view-Alone, code_view-Leave, code_view-Then, code_view-Sequence, code_view-Choice, code_view-Repeats, code_view-UpTo, code_view-UpToFalls}
 use Rattle.flow.proofs.TurnCounts.{begins_backward, begins_only, begins_more, last_found}
 use Rattle.flow.proofs.Falls.{begins_falls}
 use Rattle.flow.proofs.turns.+begins.Goals as goal
@@ -13,6 +13,9 @@ begins_with_event-returns-in-Skip g t c = rw (c.in-Skip.is, code_view-Skip) refl
 
 pub begins_with_event-returns-in-Does : goal.begins_with_event-returns-in-Does
 begins_with_event-returns-in-Does g t c = rw (c.in-Does.is, code_view-Does) refl
+
+pub begins_with_event-returns-in-Alone : goal.begins_with_event-returns-in-Alone
+begins_with_event-returns-in-Alone g t c = rw (c.in-Alone.is, code_view-Alone) refl
 
 pub begins_with_event-returns-in-Leave : goal.begins_with_event-returns-in-Leave
 begins_with_event-returns-in-Leave g t c = rw (c.in-Leave.is, code_view-Leave) refl

@@ -1,5 +1,5 @@
 use Rattle.std.proofs.Common.{refl}
-use Rattle.code.proofs.Codes.{code_view-Skip, code_view-Does, code_view-Leave, code_view-Then, code_view-Sequence, code_view-Choice, code_view-Repeats, code_view-UpTo, code_view-UpToFalls}
+use Rattle.code.proofs.Codes.{code_view-Skip, code_view-Does, code_view-Alone, code_view-Leave, code_view-Then, code_view-Sequence, code_view-Choice, code_view-Repeats, code_view-UpTo, code_view-UpToFalls}
 use Rattle.flow.proofs.FirstNodes.{if_ok}
 use Rattle.flow.proofs.TurnCounts.{counts_none, counts_then, counts_sequence, counts_choice, counted-none, counted-next, counted-all}
 use Rattle.flow.proofs.Falls.{counts_falls}
@@ -10,6 +10,9 @@ count-returns-in-Skip g t c = rw (c.in-Skip.is, code_view-Skip) (counts_none _ _
 
 pub count-returns-in-Does : goal.count-returns-in-Does
 count-returns-in-Does g t c = rw (c.in-Does.is, code_view-Does) (counts_none _ _ _ refl refl)
+
+pub count-returns-in-Alone : goal.count-returns-in-Alone
+count-returns-in-Alone g t c = rw (c.in-Alone.is, code_view-Alone) (counts_none _ _ _ refl refl)
 
 pub count-returns-in-Leave : goal.count-returns-in-Leave
 count-returns-in-Leave g t c = rw (c.in-Leave.is, code_view-Leave) (counts_none _ _ _ refl refl)

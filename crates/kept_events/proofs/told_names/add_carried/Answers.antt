@@ -30,4 +30,4 @@ pub returns-in_default : goal.returns-in_default
 returns-in_default c =
     adds_none_of _ _
     (ap (carried_fields (seen_view c.args.here.around.seen.now) (map body_view c.args.here.around.bodies.now))
-    (no_given (seen_view c.args.here.around.seen.now) c.args.mark c.in_default.not-OfFields c.in_default.not-Returns))
+    (no_given (seen_view c.args.here.around.seen.now) c.args.mark.now c.in_default.not-OfFields c.in_default.not-Returns))

@@ -9,7 +9,7 @@ pub returns : goal.returns
 returns c =
     let seen = seen_view c.args.here.around.seen.now in
     let bodies = map body_view c.args.here.around.bodies.now in
-    let mark = mark_view c.args.mark in
+    let mark = mark_view c.args.mark.now in
     let names : List (Bor (List ℕ)) → List (List ℕ) = λ ns. map (λ (n : Bor (List ℕ)). n.now) ns in
     let carried : List (List ℕ) = carried_fields seen bodies (given_elements seen mark) in
     ok_then c.add_carried.result (names c.args.names.now.items) (names c.add_keeps.new.names.items)

@@ -13,4 +13,4 @@ pub returns-in-None : goal.returns-in-None
 returns-in-None c =
     adds_none_of _ _
     (sym (seen_no_names c.args.file.seen.now c.requires.sees (rw c.in-None.is at c.requires.keeps)
-    (map body_view c.args.bodies.now) (mark_view c.args.mark)))
+    (map body_view c.args.bodies.now) (mark_view c.args.mark.now)))

@@ -15,4 +15,4 @@ returns-in-OfFields c =
 
 pub returns-in_default : goal.returns-in_default
 returns-in_default c =
-    adds_none_of _ _ (no_obtained (seen_view c.args.here.around.seen.now) c.args.mark c.in_default.not-OfFields)
+    adds_none_of _ _ (no_obtained (seen_view c.args.here.around.seen.now) c.args.mark.now c.in_default.not-OfFields)

@@ -10,7 +10,7 @@ pub returns-in-Some : goal.returns-in-Some
 returns-in-Some c =
     let seen = seen_view c.args.at.seen.now in
     subst (λ o. IfOk c.entry_outcome.result (λ event. Gives c.args.faults.now.items c.entry_outcome.new.faults.items event o))
-    (entry_same seen (map body_view c.args.at.bodies.now) (mention_view c.args.at.mention) (entry_view c.in-Some.entry) _
+    (entry_same seen (map body_view c.args.at.bodies.now) (mention_view c.args.at.mention.now) (entry_view c.in-Some.entry) _
     (sym (ap (option_map entry_view) c.in-Some.is) ∙ c.entry.ensures
     ∙ ap (λ n. option_map (entry_of seen) (found seen n)) c.variable_of.ensures))
     c.entry_outcome.ensures
