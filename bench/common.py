@@ -1,5 +1,5 @@
-"""What bench/lexer, bench/parser, bench/check, bench/damaged and bench/hostile share: Go texts, packages, and how programs
-are built and timed."""
+"""What bench/lexer, bench/parser, bench/check, bench/damaged and bench/hostile share: Go texts, packages, and how
+programs are built and timed."""
 
 import os
 import random
@@ -12,6 +12,8 @@ import time
 ROOT = os.path.dirname(os.path.dirname(os.path.abspath(__file__)))
 LIMIT = 1_048_576
 TURNS = 9
+# Turns of what takes longer.
+FEW = 3
 
 WORDS = "ctx cancel err result value index count buffer request response handler server client config".split()
 PROSE = "the a of it is to and returns waits for until if was closed before an error value".split() + WORDS
@@ -120,7 +122,16 @@ def write(folder, name, data):
 
 def built(program):
     """The path of a program of the repository, as its script starts it. It is built first, where it must be."""
-    where = subprocess.run([os.path.join(ROOT, "scripts", "where"), program], stdout=subprocess.PIPE, text=True)
+    return where_is(program, [os.path.join(ROOT, "scripts", "where"), program])
+
+
+def tool(name):
+    """The path of the program of a tool, tools/NAME. It is made first, where it must be."""
+    return where_is(name, [os.path.join(ROOT, "tools", name, "run"), "--where"])
+
+
+def where_is(program, words):
+    where = subprocess.run(words, stdout=subprocess.PIPE, text=True)
     if where.returncode != 0:
         sys.exit(f"{sys.argv[0]}: {program} could not be built")
     return where.stdout.strip()
@@ -150,6 +161,17 @@ def run(words):
 def best(words):
     """As `run`, with the shortest time of some turns."""
     return min(run(words) for _ in range(TURNS))
+
+
+def timed(words, **how):
+    """The shortest of some turns in seconds, what was printed, and the last status."""
+    best = None
+    for _ in range(FEW):
+        start = time.perf_counter()
+        done = subprocess.run(words, stdout=subprocess.PIPE, stderr=subprocess.PIPE, text=True, **how)
+        spent = time.perf_counter() - start
+        best = spent if best is None else min(best, spent)
+    return best, done.stdout, done.returncode
 
 
 def counts(out):

@@ -1,9 +1,9 @@
-"""The crates of this repository, and runs of `rt ci` over some of them: what scripts/build, bench/gate and bench/planted
-share.
+"""The crates of this repository, and runs of `rt ci` over some of them: what scripts/build, bench/gate and
+bench/planted share.
 
 Such a run has a folder of its own with copies of crates, which stands for a repository. So it takes nothing from the
-checkout and leaves nothing in it. Where the toolchain keeps what the gate passed (`rattle-kit-13f` does), what it proves
-is kept there, by the sums of all that a proof reads. There the gate finds it, and a later run here.
+checkout and leaves nothing in it. Where the toolchain keeps what the gate passed (`rattle-kit-13f` does), what it
+proves is kept there, by the sums of all that a proof reads. There the gate finds it, and a later run here.
 """
 import errno
 import os
@@ -19,9 +19,8 @@ PROVED = ("src", "specs", "proofs")
 RUN_ON = ("args", "data", "status", "stdin", "stdout")
 # Seconds that a proof takes which docs/GATE.md doesn't know.
 USUAL_COST = 90
-# A chain of crates is nearly the longest where it takes 88 of 100 of that one's time: with this the program and its tools,
-# which end the run, count among those.
-NEARLY = 0.88
+# The free memory, in kB, from which on rt shares the processors out by itself (see rt_jobs).
+PLENTY = 20_000_000
 # Where a control group's share of the processors stands: so much time, in so much.
 GROUPS = (
     ("/sys/fs/cgroup/cpu.max",),
@@ -81,31 +80,14 @@ def copy(names, room):
 
 
 def costs():
-    """For each crate the processor seconds of its proof and of its tests, as the table of docs/GATE.md has them."""
+    """For each crate the processor seconds of its proof, of its tests and of its must-fail edits, as the table of
+    docs/GATE.md has them."""
     try:
         with open(f"{ROOT}/docs/GATE.md", encoding="utf-8") as lines:
-            rows = re.findall(r"^(\w+) +(\d+) +(\d+)(?: +\d+){3}", lines.read(), re.M)
+            rows = re.findall(r"^(\w+) +(\d+) +(\d+) +(\d+)(?: +\d+){2}$", lines.read(), re.M)
     except OSError:
         rows = []
-    return {name: (int(proof), int(tests)) for name, proof, tests in rows}
-
-
-def on_long_chains():
-    """The checks on which the longest chains wait: the crates of those chains, each on the one before, whose proofs take
-    nearly as long as those of the longest, with the tests at its end; and the crates whose tests these are."""
-    crates, known = listed(), costs()
-    cost = {name: known.get(name, (0, 0))[0] or USUAL_COST for name in crates}
-    tests = {name: known.get(name, (0, 0))[1] for name in crates}
-    before, after = dict.fromkeys(crates, 0), dict.fromkeys(crates, 0)
-    for name, needs in crates.items():
-        before[name] = max((before[one] + cost[one] for one in needs if one in crates), default=0)
-    for name in reversed(crates):
-        for one in crates[name]:
-            if one in crates:
-                after[one] = max(after[one], cost[name] + after[name], tests[name])
-    longest = max((before[name] + max(cost[name], tests[name]) for name in crates), default=0)
-    proofs = {name for name in crates if before[name] + cost[name] + after[name] >= NEARLY * longest}
-    return proofs, {name for name in crates if tests[name] and before[name] + tests[name] >= NEARLY * longest}
+    return {name: tuple(map(int, seconds)) for name, *seconds in rows}
 
 
 def words_of(path):
@@ -125,7 +107,7 @@ def share(quota, period):
 
 
 def processors():
-    """How many processors there are for this run: those that it may run on, or fewer where its control group has less."""
+    """How many processors there are for this run: those that it may run on, or its control group's share."""
     found = len(os.sched_getaffinity(0))
     for paths in GROUPS:
         words = [word for path in paths for word in words_of(path)]
@@ -134,27 +116,35 @@ def processors():
     return found
 
 
+def free_memory():
+    """The free memory in kB."""
+    with open("/proc/meminfo", encoding="utf-8") as lines:
+        return next(int(line.split()[1]) for line in lines if line.startswith("MemAvailable:"))
+
+
 def jobs():
     """As many checks side by side as there are processors, where each finds 4 GB of memory."""
-    with open("/proc/meminfo", encoding="utf-8") as lines:
-        free = next(int(line.split()[1]) for line in lines if line.startswith("MemAvailable:"))
-    return max(1, min(processors(), free // 4_000_000))
+    return max(1, min(processors(), free_memory() // 4_000_000))
 
 
-def start(room, thrifty):
-    """Starts `rt ci` in this folder; what it prints comes line by line. It leads its own processes, so that Ctrl-C
-    reaches only its caller, which then calls `end`.
+def rt_jobs():
+    """What RT_JOBS is to be for `rt ci`: so many checks side by side, each in one process; or nothing, where there is
+    so much memory that rt does better by itself.
 
-    Thrifty, each check has one job: this takes the least of the processors, and suits where much is to be checked. Else
-    a check is given what others leave idle, so the longest chain of crates takes less time on the clock: a check in
-    several jobs reads the libraries below it several times, which costs a sixth more.
+    Then rt gives a check the processors that others leave idle, and so shortens the longest chain of crates. But it
+    reckons with some twice the memory that a check of these crates takes, and with less runs too few side by side.
     """
+    return "" if free_memory() >= PLENTY else str(jobs())
+
+
+def start(room):
+    """Starts `rt ci` in this folder; what it prints comes line by line. It leads its own processes, so that Ctrl-C
+    reaches only its caller, which then calls `end`."""
     if not shutil.which("rt"):
         raise FileNotFoundError(errno.ENOENT, os.strerror(errno.ENOENT), "rt")
     return subprocess.Popen(
         [f"{ROOT}/scripts/rt-ci"],
         cwd=room,
-        env=dict(os.environ, RT_JOBS=str(jobs()) if thrifty else ""),
         stdin=subprocess.DEVNULL,
         stdout=subprocess.PIPE,
         stderr=subprocess.STDOUT,

@@ -1,18 +1,19 @@
 """What `check` may have found in a package that is yes by certificates, whoever wrote these.
 
 Both commands read the same texts, and know the same of signatures and declared facts. So they say alike what hangs on
-nothing else: faults of a whole package, and uses (LC01, LC02, LC03, LC09, LC11, LC12, LC14, LC15, and LC06 of a use). The
-rest hangs on the literals that are relied on: for `check` all that settle a variable, for `verify` those whose own
-certificate does. These may be fewer, which is fair, and is how a certificate can be weaker. Then
+nothing else: faults of a whole package, and uses (LC01, LC02, LC03, LC09, LC11, LC12, LC14, LC15, and LC06 of a use).
+The rest hangs on the literals that are relied on: for `check` all that settle a variable, for `verify` those whose
+own certificate does. These may be fewer, which is fair, and is how a certificate can be weaker. Then
 
 - a cancel function that `check` has as pending in a group of the caller stays open, and so is left to another group
   that is waited for: no LC10 where the function returns, and no LC04 where it is bound again;
-- so a literal may settle a variable that it does not settle for `check`, and a function may call a parameter. For `check`
-  it is then open where it is used (LC04, LC05), and a pass to the function is LC06;
+- so a literal may settle a variable that it does not settle for `check`, and a function may call a parameter. For
+  `check` it is then open where it is used (LC04, LC05), and a pass to the function is LC06;
 - packages that import one of these have LC13.
 
-Of groups it is otherwise: whoever relies on more literals finds fewer of them live. So LC07 and LC08 of `check` are faults
-by certificates too. Where no package has a literal, nothing is relied on, and a yes by certificates is one of `check`.
+Of groups it is otherwise: whoever relies on more literals finds fewer of them live. So LC07 and LC08 of `check` are
+faults by certificates too. Where no package has a literal, nothing is relied on, and a yes by certificates is one of
+`check`.
 """
 
 import re

@@ -12,7 +12,8 @@ import struct
 import subprocess
 import time
 
-HERE = os.path.dirname(os.path.abspath(__file__))
+from hostility import shim
+
 # Seconds of a processor, and seconds by the clock, after which a run counts as one that doesn't end.
 LONGEST = 120
 LONGEST_WAIT = 900
@@ -75,10 +76,10 @@ FINDING = re.compile(
     "|".join(rf"[^\n]+:[1-9]\d*:[1-9]\d*: {code} \S+ (?:{text})" for code, text in TEXTS.items()).encode()
 )
 
-# What shim.c counts: calls of each kind, how many of them were refused, and how often half as much was asked for next.
-Counts = collections.namedtuple(
-    "Counts", "memory threads files writes refused_memory refused_threads refused_files refused_writes halved_memory"
-)
+# What shim.c counts: calls of each kind, how many of them were refused, how often half as much was asked for next, and
+# how often two threads met.
+KINDS = "memory threads files writes syncs renames".split()
+Counts = collections.namedtuple("Counts", [*KINDS, *(f"refused_{kind}" for kind in KINDS), "halved_memory", "met"])
 
 
 class End:
@@ -149,18 +150,9 @@ class Bench:
         self.program, self.folder = program, folder
         self.case = os.path.join(folder, "case")
         self.kept = 0
-        self.shim = self.built_shim()
+        self.shim = shim.built(folder)
         os.chmod(folder, 0o755)
         self.empty_case()
-
-    def built_shim(self):
-        """The shim's path, or None where it can't be built."""
-        compiler = shutil.which("cc")
-        if compiler is None:
-            return None
-        path = os.path.join(self.folder, "shim.so")
-        words = [compiler, "-O2", "-shared", "-fPIC", "-o", path, os.path.join(HERE, "shim.c"), "-ldl"]
-        return path if subprocess.run(words).returncode == 0 else None
 
     def empty_case(self):
         """Empties the folder in which the files of a run lie."""
@@ -228,7 +220,8 @@ def read_file(path):
 
 def read_counts(path):
     data = read_file(path) if os.path.exists(path) else b""
-    return Counts(*struct.unpack("=9Q", data)) if len(data) == 72 else Counts(*[0] * 9)
+    form = struct.Struct(f"={len(Counts._fields)}Q")
+    return Counts(*form.unpack(data)) if len(data) == form.size else Counts(*[0] * len(Counts._fields))
 
 
 def shown_command(settings, command):

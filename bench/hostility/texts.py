@@ -1,14 +1,11 @@
 """Go sources that are cut, damaged or of a hostile form."""
 
-import os
 import re
 
-from common import LIMIT, ROOT
+from common import LIMIT
 from hostility.runs import Section, trouble_of_form
 from hostility.worked import DEFERRED, GROUP, HEAD, WORKED, report_of, words_of
 
-MARK = re.compile(rb"/\* want (.*?) \*/", re.S)
-ROWS = os.path.join(ROOT, "crates", "inspect", "data", "rows")
 REPLACEMENTS = (0, ord('"'), ord("{"), 255)
 UNEXPECTED = "LC02 - unexpected token"
 
@@ -33,7 +30,6 @@ def sources(bench, long):
         cut_at_each_byte(section, text.encode())
     for text in (DEFERRED, GROUP):
         each_byte_replaced(section, text.encode())
-    rows(section)
     long_texts(section)
     return section
 
@@ -106,30 +102,6 @@ def each_byte_replaced(section, text):
             line, column = place(text, offset)
             wanted = named(section, f"{line}:{column}: {known[byte]}") if byte in known else None
             section.note(end, unlike(end, wanted) if wanted else trouble_of_form(end))
-
-
-def rows(section):
-    """The marked sources of `inspect`: the report has what the marks want, at the places behind them, and no more."""
-    for name in sorted(os.listdir(ROWS)):
-        with open(os.path.join(ROWS, name), "rb") as file:
-            text = file.read()
-        section.bench.empty_case()
-        end = check(section, text)
-        section.note(end, trouble_of_form(end) or trouble_of_row(name, text, end))
-
-
-def trouble_of_row(name, text, end):
-    """What a row wants and its report doesn't have, or the other way round."""
-    found = {((int(one[1]), int(one[2])), one[3]) for one in re.finditer(rb"a\.go:(\d+):(\d+): ([^\n]*)", end.out)}
-    meant = {(place(text, behind_marks(text, mark.end())), mark[1]) for mark in MARK.finditer(text)}
-    return None if found == meant else f"{name}: {end.out[:300]!r}"
-
-
-def behind_marks(text, offset):
-    """The offset behind the marks that stand together at this one: all of them are of that place."""
-    while mark := MARK.match(text, offset):
-        offset = mark.end()
-    return offset
 
 
 # What is repeated up to 1 MiB, in `package a`, and what the report begins with; None where any finding will do.

@@ -1,5 +1,6 @@
-"""What becomes of a unit, as the go command has packages judged one at a time, that is refused memory, whose calls on files
-and streams fail at each place, or that is killed. What it keeps for others is written before its lines are printed."""
+"""What becomes of a unit, as the go command has packages judged one at a time, that is refused memory, whose calls on
+files and streams fail at each place, or that is killed. What it keeps for others is written before its lines are
+printed."""
 
 import json
 import os
@@ -48,9 +49,11 @@ class Unit(Command):
 
 
 def put_unit(bench, name, path, told, output, is_silent=False):
-    """The file of a unit of the package of this path, which is told of its imports by these files."""
+    """The file of a unit of the package of this path, with all files of its folder, which is told of its imports by these
+    files."""
+    files = [bench.at(f"{path}/{file}") for file in sorted(os.listdir(bench.at(path)))]
     unit = {
-        "ID": path, "Dir": bench.at(path), "ImportPath": path, "GoFiles": [bench.at(f"{path}/{path}.go")],
+        "ID": path, "Dir": bench.at(path), "ImportPath": path, "GoFiles": files,
         "ImportMap": {each: each for each in ("context", *told)}, "PackageVetx": told,
         "VetxOnly": is_silent, "VetxOutput": bench.at(output),
     }
@@ -86,6 +89,7 @@ def units(bench, long):
             kills(section, unit)
         if unit.ample.out:
             closed_streams(section, unit)
+    cut_files(section)
     return section
 
 
@@ -148,3 +152,19 @@ def closed_streams(section, unit):
         end = unit.run(None, actions=actions)
         told = end.says() == (2, b"", UNWRITTEN)
         section.note(end, unit.trouble(end, True) if told else f"the write does not fail: {end.says()!r}"[:400])
+
+
+def cut_files(section):
+    """The file of a unit, and the one that tells of its import, are cut at each byte: nothing is kept for others then."""
+    bench = section.bench
+    of_import = b"vetx is not JSON: %s" % bench.at("a.vetx").encode()
+    for name, fault in (("b.cfg", b"unit is not JSON"), ("a.vetx", of_import)):
+        whole = bench.read(name)
+        wanted = (2, b"", b"ctxvet: %s\n" % fault)
+        for length in range(len(whole)):
+            bench.put(name, whole[:length])
+            bench.put(OUT, OLD)
+            end = bench.run([bench.at("b.cfg")])
+            is_well = end.says() == wanted and bench.read(OUT) == OLD
+            section.note(end, None if is_well else f"{name} cut to {length} bytes: {end.says()!r}"[:400])
+        bench.put(name, whole)

@@ -4,6 +4,5 @@ mod ListedPackages
 mod ReadGiven
 mod WrittenParts
 mod UnitFaults
-mod UnitImports
 mod TakenImports
 mod CallFaults

@@ -1,6 +1,5 @@
 -- Sources that are read, and faults of what is read and judged.
-use Rattle.std.proofs.Common.{◌≡◌, inl, inr, ℕ, List, [], ◌∷◌, IfErr, IsErrAnd, Result, Ok, Err, sym, subst}
-use Rattle.std.proofs.lemmas.Result.{err_from_is_err_and}
+use Rattle.std.proofs.Common.{inl, inr, ℕ, List, [], ◌∷◌, IfErr, Result, Ok, Err}
 use Rattle.command_line.specs.Words.{option_texts, texts_of}
 use Rattle.command_line.specs.declared.words.Sources.{Sources}
 use Rattle.load.specs.declared.packages.GivenPackage.{GivenPackage}
@@ -15,13 +14,6 @@ use Rattle.driver.specs.DeclaredFacts.{AreDeclaredBy}
 use Rattle.driver.specs.PackageLists.{IsReadSourcesFault}
 use Rattle.driver.specs.Packages.{edition_of_lists, edition_of_words, AddListed, AreListedBy, AreNamed, AreRead, AreReadFor}
 use Rattle.driver.specs.Faults.{HasBadSource, HasBadWord, IsCheckFault, IsGivenFault, IsSharedReportFault, IsWordsFault}
-
--- a fault that `?` hands on as it is
-pub handed_on : {T : Type 0} (r : Result T Fault) (fault : Fault) (P : Fault → Type 0) → IsErrAnd r (λ told. told ≡ fault)
-    → P fault
-    → IfErr r P
-handed_on r fault P h holds =
-    let told = err_from_is_err_and r h in subst (λ x. IfErr x P) (sym told.1) (subst P (sym told.2) holds)
 
 -- whatever the fault is
 pub on_err : {T : Type 0} (r : Result T Fault) {P : Fault → Type 0} → ((fault : Fault) → P fault) → IfErr r P

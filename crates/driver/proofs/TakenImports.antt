@@ -3,8 +3,9 @@ use Rattle.std.proofs.Common.{◌≡◌, ℕ, Bool, true, false, if◌then◌els
 use Rattle.std.specs.List.{AllZip}
 use Rattle.std.proofs.lemmas.List.{append_assoc, append-nil}
 use Rattle.judge.specs.declared.units.ImportedUnit.{ImportedUnit}
-use Rattle.driver.specs.UnitRuns.{counts_in, AreCounted, AreCountedSoFar, IsCounted}
-use Rattle.driver.specs.declared.vetx_input.ToldImport.{ToldImport}
+use Rattle.unit_reading.specs.ToldImports.{counts_in}
+use Rattle.unit_reading.specs.declared.vetx_input.ToldImport.{ToldImport}
+use Rattle.driver.specs.UnitRuns.{AreCounted, AreCountedSoFar, IsCounted}
 
 one_more : (xs : List ToldImport) (x : ToldImport) (us : List ImportedUnit) (u : ImportedUnit) → AllZip IsCounted xs us
     → IsCounted x u

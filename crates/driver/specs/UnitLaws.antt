@@ -5,11 +5,11 @@ use Rattle.folders.specs.ReadFiles.{bytes_read}
 use Rattle.folders.specs.WrittenFiles.{text_of}
 use Rattle.folders.specs.declared.whole_files.WrittenFile.{WrittenFile}
 use Rattle.unit_config.specs.UnitValues.{UnitEntry}
+use Rattle.unit_reading.specs.ToldImports.{IsTold}
+use Rattle.unit_reading.specs.declared.vetx_input.ToldImport.{ToldImport}
 use Rattle.vetx_json.specs.KeptUnits.{vetx_of, IsInOrder}
 use Rattle.vetx_json.specs.declared.vetx.Vetx.{Vetx}
 use Rattle.driver.specs.UnitRuns.{HoldsKept}
-use Rattle.driver.specs.UnitsRead.{IsTold}
-use Rattle.driver.specs.declared.vetx_input.ToldImport.{ToldImport}
 
 abbrev pub KeptFilesReadBack : Type 0
 KeptFilesReadBack = (unit importer : UnitEntry) (kept : Vetx) (file : WrittenFile) (edition : ℕ) (digest : List ℕ)

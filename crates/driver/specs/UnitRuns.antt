@@ -1,9 +1,8 @@
 -- What a call of the go command has written when it ends, and with which fault: a list of flags; a line that tells
 -- which program this is; or the diagnostics of a unit, after what is kept of it was written to the file that it names.
-use Rattle.std.specs.Prelude.{◌≡◌, ◌⊎◌, ⊤, ℕ, Bool, true, false, ◌&&◌, not, if◌then◌else◌, List, [], ◌++◌, Option, codes, filter, string_bytes}
+use Rattle.std.specs.Prelude.{◌≡◌, ◌⊎◌, ⊤, ℕ, Bool, true, false, if◌then◌else◌, List, [], ◌++◌, Option, codes, filter, string_bytes}
 use Rattle.std.specs.Io.KnownBytes.{Appends}
 use Rattle.std.specs.List.{AllZip}
-use Rattle.std.specs.Str.{bytes_eq}
 use Rattle.command_line.specs.VetViews.{flags_of}
 use Rattle.command_line.specs.VetWords.{Flags, VetCall, asks_flags, asks_version, asks_unit, has_wrong}
 use Rattle.command_line.specs.Words.{edition_number}
@@ -24,6 +23,10 @@ use Rattle.judge.specs.declared.units.UnitForm.{UnitForm}
 use Rattle.judge.specs.declared.units.UnitForm.TheVariants.{Text, Explained, Json}
 use Rattle.judge.specs.declared.units.UnitReport.{UnitReport}
 use Rattle.unit_config.specs.UnitValues.{unit_of, UnitEntry}
+use Rattle.unit_reading.specs.ToldImports.{counts_in}
+use Rattle.unit_reading.specs.UnitsTold.{without_suffix, IsUnitFileFault, IsUnitRead}
+use Rattle.unit_reading.specs.declared.unit_file.UnitRead.{UnitRead}
+use Rattle.unit_reading.specs.declared.vetx_input.ToldImport.{ToldImport}
 use Rattle.vetx_json.specs.KeptUnits.{vetx_of}
 use Rattle.vetx_json.specs.VetxTexts.{IsWrittenText}
 use Rattle.vetx_json.specs.declared.vetx.Vetx.{Vetx}
@@ -31,23 +34,13 @@ use Rattle.driver.specs.Digests.{digest_text}
 use Rattle.driver.specs.Faults.{fault_of_load}
 use Rattle.driver.specs.Printing.{is_of_writing, AppendsFront}
 use Rattle.driver.specs.Statuses.{status_of}
-use Rattle.driver.specs.UnitsRead.{edition_of_unit, without_suffix, IsInputFaultOf, IsInputOf, IsUnitFileFault, IsUnitRead}
+use Rattle.driver.specs.UnitsRead.{edition_of_unit, IsInputFaultOf, IsInputOf}
 use Rattle.driver.specs.declared.status.Status.{Status}
 use Rattle.driver.specs.declared.status.Status.TheVariants.{Fine, Faulty}
-use Rattle.driver.specs.declared.unit_file.UnitRead.{UnitRead}
 use Rattle.driver.specs.declared.unit_input.UnitInput.{UnitInput}
 use Rattle.driver.specs.declared.unit_report.JudgedUnit.{JudgedUnit}
-use Rattle.driver.specs.declared.vetx_input.ToldImport.{ToldImport}
 
 -- Which imports count
-
--- An import counts that means the package of just that path: one that go takes from a folder `vendor` has another path,
--- by which no package is imported. And a package that has a fault as a whole counts only inside its own module. Of any
--- other import it is as if nothing were known.
-abbrev pub counts_in : List ℕ → ToldImport → Bool
-counts_in module_path told =
-    bytes_eq told.import.now (string_bytes told.kept.path)
-    && not (told.kept.has_whole_fault && not (bytes_eq (string_bytes told.kept.module_path) module_path))
 
 -- what is kept of the package that is imported so
 pub record IsCounted (told : ToldImport) (one : ImportedUnit) : Type 0 where

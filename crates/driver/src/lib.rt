@@ -17,13 +17,11 @@ mod printing;
 mod program;
 mod reports;
 mod status;
-mod unit_file;
 mod unit_input;
 mod unit_laws;
 mod unit_report;
 mod verify;
 mod vet;
-mod vetx_input;
 mod writers;
 
 pub use folders::{Fault, Surroundings, words_fault};

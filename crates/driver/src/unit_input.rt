@@ -9,8 +9,6 @@ ghost use Rattle.driver.specs.UnitsRead.{edition_of_unit, IsInputFaultOf, IsInpu
 use crate::digests::digest_in;
 use crate::facts_input::read_facts;
 use crate::input::edition_or;
-use crate::unit_file::without_suffix;
-use crate::vetx_input::{JudgedBy, ToldImport, read_told};
 use command_line::UnitFlags;
 use declared_json::DeclaredPackages;
 use folders::{Fault, ReadFile, module_above, picked_files, read_files};
@@ -18,6 +16,7 @@ use load::GivenPackage;
 use std::rt::Files;
 use tree::Edition;
 use unit_config::Unit;
+use unit_reading::{JudgedBy, ToldImport, read_told, without_suffix};
 
 /// What was read for a unit: the file of declared facts, if one is named, what is declared, and the digest of that
 /// file; what is kept of imported packages; the path of its module; and its package.

@@ -3,13 +3,11 @@
 ghost use Rattle.std.specs.Prelude.{◌≡◌, IfErr, IfOk, string_bytes};
 ghost use Rattle.judge.specs.declared.one_unit.UnitReportFault.{UnitReportFault};
 ghost use Rattle.unit_config.specs.UnitValues.{unit_of};
-ghost use Rattle.driver.specs.UnitRuns.{counts_in, AreCounted, IsFormOf, IsJudgedSo, IsJudgingFault, IsToldAs};
+ghost use Rattle.driver.specs.UnitRuns.{AreCounted, IsFormOf, IsJudgedSo, IsJudgingFault, IsToldAs};
 
 use crate::input::edition_or;
 use crate::reports::fault_of_load;
-use crate::unit_file::without_suffix;
 use crate::unit_input::{UnitInput, number_of};
-use crate::vetx_input::ToldImport;
 use command_line::UnitFlags;
 use folders::{Fault, escaped};
 use judge::{ImportedUnit, UnitForm, UnitReportFault, report_of_unit};
@@ -17,6 +15,7 @@ use load::Leave;
 use std::alloc::{AllocError, Global};
 use tree::Edition;
 use unit_config::Unit;
+use unit_reading::{ToldImport, counts_in, without_suffix};
 use vetx_json::Vetx;
 
 /// The text of a unit's report, and what is to be kept of it.
@@ -24,15 +23,6 @@ use vetx_json::Vetx;
 pub struct JudgedUnit {
     pub text: Vec<u8>,
     pub kept: Vetx,
-}
-
-/// Whether what is kept of an imported package counts in this module. The import has to mean the package of just that
-/// path. Where this has a fault as a whole, its own module alone is told of it.
-fn counts_in(module_path: &str, told: &ToldImport<'_>) -> bool
-    ensures { result ≡ counts_in module_path.now told.now }
-{
-    told.import == told.kept.path.as_str()
-        && !(told.kept.has_whole_fault && told.kept.module_path.as_str() != module_path)
 }
 
 /// What the unit is told of the packages that it imports, in this module.

@@ -12,7 +12,6 @@ ghost use Rattle.driver.specs.UnitRuns.{said_of, unit_status, version_line, Does
 use crate::digests::digest_text;
 use crate::printing::print;
 use crate::status::Status;
-use crate::unit_file::read_unit_file;
 use crate::unit_input::read_unit_input;
 use crate::unit_report::{JudgedUnit, judge_unit};
 use crate::writers::Refusals;
@@ -24,6 +23,7 @@ use load::Leave;
 use std::io::Write;
 use std::rt::Files;
 use unit_config::Unit;
+use unit_reading::read_unit_file;
 use vetx_json::{Vetx, to_json};
 
 /// How a unit ended, and the file that what is kept of it was written to.

@@ -1,4 +1,3 @@
-mod SamePackages
 pub mod QuietYes
 pub mod LoadedPackages
 pub mod SourcePlaces
@@ -28,7 +27,6 @@ mod FullCredits
 mod WrittenNumbers
 mod AlikePackages
 mod GivenReports
-mod SameMentions
 pub mod UnitImports
 pub mod UnitReports
 pub mod UnitTexts

@@ -1,5 +1,3 @@
--- To be trusted: which packages mention cancel functions with a cause.
-pub mod CauseMentions
 -- For a reader of the contracts: the report of given packages.
 pub mod QuietYes
 pub mod SourcePlaces

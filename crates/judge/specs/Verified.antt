@@ -2,7 +2,7 @@
 use Rattle.std.specs.Prelude.{◌≡◌, ℕ, List, Option, None, Some, string_bytes}
 use Rattle.all_packages.specs.Reports.{TellsReportBy}
 use Rattle.all_packages.specs.declared.reports.Report.{Report}
-use Rattle.judge.specs.CauseMentions.{first_with_causes}
+use Rattle.cause_mentions.specs.CauseMentions.{first_with_causes}
 use Rattle.certificate_json.specs.Certificates.{packages_of}
 use Rattle.certificate_json.specs.declared.certificates.Certificates.{Certificates}
 use Rattle.judge.specs.Reports.{IsReportBy}

@@ -8,7 +8,6 @@ mod check_fault;
 mod explained;
 mod first;
 mod laws;
-mod mentioned;
 mod one_unit;
 mod reports;
 mod units;

@@ -13,8 +13,9 @@ use Rattle.meaning.specs.KeepingFields.{filled_in, keeping_beside, fields_in_fil
 use Rattle.meaning_reports.specs.Loaded.{seen_from}
 use Rattle.meaning_reports.specs.MethodNames.{methods_in, but_methods}
 use Rattle.keeping.specs.declared.files.Told.{Told}
-use Rattle.keeping.specs.Notes.{Note, is_called, is_put, is_spoiled, is_filled, is_method, notes_in, puts_it}
-use Rattle.keeping.specs.Keeping.{notes_if, notes_by, is_of_put, some_put, kept_by, filled_by, PutNothing}
+use Rattle.keeping.specs.Notes.{notes_in, puts_it}
+use Rattle.noted_fields.specs.NotedFields.{Note, is_called, is_put, is_spoiled, is_filled, is_method, is_of_put, some_put, kept_by, filled_by}
+use Rattle.keeping.specs.Keeping.{notes_if, notes_by, PutNothing}
 use Rattle.keeping.specs.ToldFiles.{told_notes, told_puts}
 use Rattle.keeping.proofs.KeptFields.{flat_more, file_puts, nothing_keeps, all_kept}
 use Rattle.keeping.proofs.FilledNames.{all_filled}

@@ -8,8 +8,8 @@ use Rattle.meaning.specs.Uses.{Seen, is_outside}
 use Rattle.meaning.specs.Kept.{role_fields, is_key}
 use Rattle.meaning.specs.KeepingFields.{holds_after, may_keep, filled_there as filled_by_mark, filled_in}
 use Rattle.meaning_reports.specs.MethodNames.{method_named, methods_in, has_method}
-use Rattle.keeping.specs.Notes.{Note, is_called, is_put, is_spoiled, is_filled, is_method, element_notes, notes_there, notes_in}
-use Rattle.keeping.specs.Keeping.{is_among, filled_there, filled_by, methods_by}
+use Rattle.keeping.specs.Notes.{element_notes, notes_there, notes_in}
+use Rattle.noted_fields.specs.NotedFields.{Note, is_called, is_put, is_spoiled, is_filled, is_method, is_among, filled_there, filled_by, methods_by}
 use Rattle.keeping.proofs.KeptFields.{flat_flat, no_method_name}
 use Rattle.keeping.proofs.NamelessNotes.{elements_none, given_none, items_none, written_none, called_none}
 use Rattle.keeping.proofs.MethodNotes.{all_methods}

@@ -12,8 +12,8 @@ use Rattle.meaning.specs.Uses.{Seen, is_outside}
 use Rattle.meaning.specs.Kept.{Element, Gift, named_gift, element_gift, gifts, role_fields, own_cancel, field_value, is_key, some_bare}
 use Rattle.meaning.specs.KeepingFields.{called_there, called_fields, value_at, is_own_or_nil, is_by_giver, holds_after, may_keep, spoils, gift_elements, item_elements, is_put_by, puts, in_some_file, does_keep, keeping_fields}
 use Rattle.meaning_reports.specs.MethodNames.{method_named}
-use Rattle.keeping.specs.Notes.{Note, is_called, is_put, is_spoiled, is_filled, is_method, one_note, element_notes, gift_notes, given_notes, written_note, notes_there, notes_in, puts_it, spoils_it}
-use Rattle.keeping.specs.Keeping.{put_name, put_by, is_among, keeps, kept_there, kept_by}
+use Rattle.keeping.specs.Notes.{one_note, element_notes, gift_notes, given_notes, written_note, notes_there, notes_in, puts_it}
+use Rattle.noted_fields.specs.NotedFields.{Note, is_called, is_put, is_spoiled, is_filled, is_method, spoils_it, put_name, put_by, is_among, keeps, kept_there, kept_by}
 
 -- Lists
 

@@ -7,8 +7,9 @@ use Rattle.mentions.specs.declared.mark.Role.{Role as KeptRole}
 use Rattle.mentions.specs.declared.mark.Role.TheVariants.{Key}
 use Rattle.mentions.specs.MarkViews.{mention_view, role_view}
 use Rattle.meaning.specs.Kept.{is_key}
-use Rattle.keeping.specs.declared.note.Note.{Note as KeptNote}
-use Rattle.keeping.specs.Notes.{Note, note_view, is_filled, key_notes}
+use Rattle.noted_fields.specs.declared.note.Note.{Note as KeptNote}
+use Rattle.keeping.specs.Notes.{key_notes}
+use Rattle.noted_fields.specs.NotedFields.{Note, note_view, is_filled}
 
 no_key : (role : KeptRole) → (role ≡ Key → ⊥) → is_key (role_view role) ≡ false
 no_key Key not = absurd (not refl)

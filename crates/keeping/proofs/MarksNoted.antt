@@ -9,7 +9,7 @@ use Rattle.mentions.specs.MarkViews.{body_view, mark_view, marks_view}
 use Rattle.meaning.specs.Mentions.{BodyPlace, Mark, mentions, of_fields, defers_literal, returns, opens, closes}
 use Rattle.meaning.specs.Tracked.{outer, Placed, placed}
 use Rattle.tracked.specs.LocalViews.{bodies_at}
-use Rattle.keeping.specs.Notes.{Note}
+use Rattle.noted_fields.specs.NotedFields.{Note}
 
 -- by what a mark says in the bodies around it
 abbrev pub there : (List BodyPlace → Mark → List Note) → List BodyPlace → List Mark → List Note

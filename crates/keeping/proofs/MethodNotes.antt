@@ -7,8 +7,8 @@ use Rattle.meaning.specs.Uses.{Seen, is_outside}
 use Rattle.meaning.specs.Kept.{role_fields, is_key}
 use Rattle.meaning.specs.KeepingFields.{holds_after, may_keep}
 use Rattle.meaning_reports.specs.MethodNames.{method_named, methods_there, methods_in}
-use Rattle.keeping.specs.Notes.{Note, is_filled, is_method, element_notes, notes_there, notes_in}
-use Rattle.keeping.specs.Keeping.{method_name, methods_by}
+use Rattle.keeping.specs.Notes.{element_notes, notes_there, notes_in}
+use Rattle.noted_fields.specs.NotedFields.{Note, is_filled, is_method, method_name, methods_by}
 use Rattle.keeping.proofs.KeptFields.{flat_flat}
 use Rattle.keeping.proofs.NamelessNotes.{elements_none, given_none, items_none, written_none, called_none}
 

@@ -6,7 +6,8 @@ use Rattle.tree.specs.Syntax.{Expression, missing_expression}
 use Rattle.meaning.specs.Mentions.{BodyPlace, FieldLeft}
 use Rattle.meaning.specs.Uses.{Seen}
 use Rattle.meaning.specs.Kept.{Element, Gift, named_gift, element_gift, gifts, field_value}
-use Rattle.keeping.specs.Notes.{Note, is_called, is_put, is_spoiled, one_note, element_notes, gift_notes, given_notes}
+use Rattle.keeping.specs.Notes.{one_note, element_notes, gift_notes, given_notes}
+use Rattle.noted_fields.specs.NotedFields.{Note, is_called, is_put, is_spoiled}
 use Rattle.keeping.proofs.KeptFields.{flat_flat, nothing}
 
 module _ (g : Note → List (List ℕ)) (put : (f : List ℕ) → g (is_put f) ≡ [])

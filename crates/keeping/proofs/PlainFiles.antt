@@ -19,7 +19,8 @@ use Rattle.silent_files.proofs.SilentFiles.{neither_first, neither_second, not_b
 use Rattle.tracked_rows.specs.declared.known.Known.{Known as KeptKnown}
 use Rattle.tracked_rows.specs.RowViews.{known_view}
 use Rattle.keeping.specs.Keeping.{each_known}
-use Rattle.keeping.specs.Notes.{Note, is_put, is_spoiled, is_filled, one_note, element_notes, gift_notes, given_notes, written_note, key_notes, notes_there, notes_in}
+use Rattle.keeping.specs.Notes.{one_note, element_notes, gift_notes, given_notes, written_note, key_notes, notes_there, notes_in}
+use Rattle.noted_fields.specs.NotedFields.{Note, is_put, is_spoiled, is_filled}
 use Rattle.keeping.specs.PlainFiles.{row_gives, assigned_gives, mark_gives, cancels, has_number, may_be_put, element_may_put, gift_may_put, given_may_put, assigned_may_put, mark_may_put, may_put, is_nil_value, plain_written_note, plain_notes, plain_notes_in}
 use Rattle.keeping.proofs.KeptFields.{never, or_nothing}
 use Rattle.keeping.proofs.OwnCancels.{no_some, never_put}

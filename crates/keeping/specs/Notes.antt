@@ -10,23 +10,7 @@ use Rattle.meaning.specs.Uses.{Seen, is_outside}
 use Rattle.meaning.specs.Kept.{Element, Gift, named_gift, element_gift, gifts, is_key, field_value, role_fields}
 use Rattle.meaning.specs.KeepingFields.{holds_after, may_keep}
 use Rattle.meaning_reports.specs.MethodNames.{method_named}
-use Rattle.keeping.specs.declared.note.Note.{Note as KeptNote}
-use Rattle.keeping.specs.declared.note.Note.TheVariants.{Called, Put, Spoiled, Filled, Method}
-
--- of the fields of that name
-pub data Note : Type 0 where
-  is_called : List ℕ → Note
-  is_put : List ℕ → Note
-  is_spoiled : List ℕ → Note
-  is_filled : List ℕ → Note
-  is_method : List ℕ → Note
-
-abbrev pub note_view : KeptNote → Note
-note_view (Called f) = is_called f.now
-note_view (Put f) = is_put f.now
-note_view (Spoiled f) = is_spoiled f.now
-note_view (Filled f) = is_filled f.now
-note_view (Method f) = is_method f.now
+use Rattle.noted_fields.specs.NotedFields.{Note, is_called, is_put, is_spoiled, is_filled, is_method}
 
 abbrev pub one_note : Option Note → List Note
 one_note None = []
@@ -87,10 +71,3 @@ puts_it f (is_put g) = bytes_eq g f
 puts_it f (is_spoiled g) = false
 puts_it f (is_filled g) = false
 puts_it f (is_method g) = false
-
-abbrev pub spoils_it : List ℕ → Note → Bool
-spoils_it f (is_called g) = false
-spoils_it f (is_put g) = false
-spoils_it f (is_spoiled g) = bytes_eq g f
-spoils_it f (is_filled g) = false
-spoils_it f (is_method g) = false

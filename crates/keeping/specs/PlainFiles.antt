@@ -11,7 +11,8 @@ use Rattle.meaning.specs.Tracked.{Known, variable_of, only_call, call_giving, ro
 use Rattle.meaning.specs.Objects.{local_named}
 use Rattle.meaning.specs.Kept.{Element, Gift, named_gift, element_gift, gifts, role_fields, some_bare}
 use Rattle.meaning.specs.KeepingFields.{value_at}
-use Rattle.keeping.specs.Notes.{Note, is_spoiled, is_filled, one_note, called_note, key_notes, method_notes}
+use Rattle.keeping.specs.Notes.{one_note, called_note, key_notes, method_notes}
+use Rattle.noted_fields.specs.NotedFields.{Note, is_spoiled, is_filled}
 
 -- Calls of makers and givers
 

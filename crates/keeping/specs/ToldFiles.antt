@@ -6,8 +6,8 @@ use Rattle.meaning.specs.Tracked.{Known}
 use Rattle.meaning.specs.BodyEvents.{seen_file}
 use Rattle.keeping.specs.declared.files.Told.{Told}
 use Rattle.keeping.specs.declared.files.Told.TheVariants.{Noted, Unread}
-use Rattle.keeping.specs.Notes.{Note, note_view, notes_in}
-use Rattle.keeping.specs.Keeping.{some_put}
+use Rattle.keeping.specs.Notes.{notes_in}
+use Rattle.noted_fields.specs.NotedFields.{Note, note_view, some_put}
 
 -- what was said puts a cancel function into a field
 abbrev pub told_puts : Told → Bool

@@ -2,8 +2,9 @@
 
 ghost use Rattle.std.specs.Prelude.{◌≡◌, ◌++◌, IfOk, OnOk, flat_map, map};
 ghost use Rattle.std.specs.List.{list_any};
-ghost use Rattle.keeping.specs.Keeping.{each_known, notes_by, notes_if, some_put};
-ghost use Rattle.keeping.specs.Notes.{note_view, notes_in};
+ghost use Rattle.keeping.specs.Keeping.{each_known, notes_by, notes_if};
+ghost use Rattle.noted_fields.specs.NotedFields.{some_put, note_view};
+ghost use Rattle.keeping.specs.Notes.{notes_in};
 ghost use Rattle.keeping.specs.ToldFiles.{told_notes, told_puts};
 ghost use Rattle.meaning.specs.BodyEvents.{seen_file};
 ghost use Rattle.meaning_reports.specs.Loaded.{seen_from};
@@ -13,12 +14,12 @@ ghost use Rattle.tracked_rows.specs.RowViews.{known_view};
 ghost use Rattle.tree.specs.View.{file_syntax};
 
 use crate::may_put::may_put;
-use crate::note::Note;
 use crate::noted::add_notes;
 use crate::plain::add_all_plainly;
 use bumpalo::Bump;
 use marks::file_marks;
 use mentions::BodyPlace;
+use noted_fields::Note;
 use objects::see;
 use std::alloc::{AllocError, Global};
 use tracked::{Seen, enter};

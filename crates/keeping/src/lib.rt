@@ -6,7 +6,6 @@ mod cancels;
 mod fields;
 mod files;
 mod may_put;
-mod note;
 mod noted;
 mod plain;
 mod putting;

@@ -3,7 +3,7 @@
 ghost use Rattle.std.specs.Prelude.{◌≡◌, IfOk, is_some, map, option_map};
 ghost use Rattle.std.specs.List.{list_any};
 ghost use Rattle.keeping.specs.PlainFiles.{assigned_may_put, element_may_put, field_may_put, gift_may_put, given_may_put, mark_may_put, may_be_put, may_put, role_may_put};
-ghost use Rattle.kept.specs.KeptViews.{element_view, gift_view};
+ghost use Rattle.kept_forms.specs.FormViews.{element_view, gift_view};
 ghost use Rattle.meaning.specs.Mentions.{as_bare};
 ghost use Rattle.mentions.specs.MarkViews.{assigned_view, field_mark_view, mark_view, marks_view, named_view, role_view};
 ghost use Rattle.tracked_rows.specs.RowViews.{known_view};
@@ -11,7 +11,7 @@ ghost use Rattle.tree.specs.View.{expression_syntax};
 
 use crate::cancels::{cancels, has, some_gives};
 use crate::values::{bare, value_at};
-use kept::{Element, Gift, gifts, role_fields};
+use kept_forms::{Element, Gift, gifts, role_fields};
 use mentions::{Assigned, FieldMark, Mark, Named, Role, as_bare};
 use objects::local_named;
 use std::alloc::{AllocError, Global};

@@ -1,16 +1,18 @@
 //! What each mark says of fields.
 
 ghost use Rattle.std.specs.Prelude.{◌≡◌, ◌++◌, OnOk, flat_map, map, option_map};
-ghost use Rattle.keeping.specs.Notes.{called_note, element_notes, field_notes, gift_notes, given_notes, key_notes, method_notes, note_view, notes_there, one_note, written_note};
-ghost use Rattle.kept.specs.KeptViews.{element_view, gift_view};
+ghost use Rattle.keeping.specs.Notes.{called_note, element_notes, field_notes, gift_notes, given_notes, key_notes, method_notes, notes_there, one_note, written_note};
+ghost use Rattle.noted_fields.specs.NotedFields.{note_view};
+ghost use Rattle.kept_forms.specs.FormViews.{element_view, gift_view};
 ghost use Rattle.mentions.specs.MarkViews.{assigned_view, body_view, field_left_view, field_mark_view, mark_view, mention_view};
 ghost use Rattle.tracked.specs.LocalViews.{seen_view, Sees};
 ghost use Rattle.tree.specs.View.{expression_syntax};
 
-use crate::note::Note;
 use crate::values::{holds_after, may_keep};
-use kept::{Element, Gift, field_value, gifts, role_fields};
+use kept::field_value;
+use kept_forms::{Element, Gift, gifts, role_fields};
 use mentions::{Assigned, BodyPlace, FieldLeft, FieldMark, Mark, Mention, Role};
+use noted_fields::Note;
 use std::alloc::{AllocError, Global};
 use tracked::Seen;
 use tree::Expr;

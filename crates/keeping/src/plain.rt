@@ -1,15 +1,15 @@
 //! What the marks of a file say of fields where none of them may put a cancel function into one.
 
 ghost use Rattle.std.specs.Prelude.{◌≡◌, ◌++◌, OnOk, map, option_map};
-ghost use Rattle.keeping.specs.Notes.{note_view};
+ghost use Rattle.noted_fields.specs.NotedFields.{note_view};
 ghost use Rattle.keeping.specs.PlainFiles.{is_set_to_nil, plain_field_notes, plain_notes, plain_notes_in, plain_written_note};
 ghost use Rattle.mentions.specs.MarkViews.{assigned_view, body_view, field_left_view, field_mark_view, mark_view, marks_view};
 ghost use Rattle.tracked_rows.specs.RowViews.{known_view};
 
-use crate::note::Note;
 use crate::noted::{add_key, add_method, add_note, called_note};
 use crate::values::{is_nil_value, value_at};
 use mentions::{Assigned, BodyPlace, FieldLeft, FieldMark, Mark};
+use noted_fields::Note;
 use std::alloc::{AllocError, Global};
 use tracked::enter;
 use tracked_rows::Known;

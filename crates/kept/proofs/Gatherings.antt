@@ -21,7 +21,7 @@ use Rattle.tracked.specs.LocalViews.{SeenLocal, bodies_at, entry_of, tracked_kin
 use Rattle.kept.specs.declared.row.Keep.{Keep as KeptKeep}
 use Rattle.kept.specs.declared.gathered.Gathered.{Gathered}
 use Rattle.kept.specs.KeptViews.{element_keeps, is_carried, owned_entry, field_keeps, is_there, keep_view, write_view, writes_there, keeps_among, writes_among, AddsKeeps, GathersMark, Gathers}
-use Rattle.kept.proofs.AddedParts.{adds_none_of, adds_next, all_there}
+use Rattle.kept_forms.proofs.AddedParts.{adds_none_of, adds_next, all_there}
 
 -- Own cancel variables
 

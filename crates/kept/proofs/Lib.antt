@@ -1,7 +1,4 @@
-pub mod AddedParts
-pub mod LiteralForms
-pub mod DeclaredForms
-pub mod GiftForms
+pub mod AssignedForms
 pub mod Gatherings
 pub mod Belonging
 pub mod RowsTogether

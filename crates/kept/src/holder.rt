@@ -2,7 +2,8 @@
 
 ghost use Rattle.std.specs.Prelude.{◌≡◌, ◌==◌, Some, IfOk, map};
 ghost use Rattle.std.specs.List.{list_any};
-ghost use Rattle.kept.specs.KeptViews.{field_places, gift_view, gives_at, gives_there, is_name_at};
+ghost use Rattle.kept.specs.KeptViews.{field_places, gives_at, gives_there, is_name_at};
+ghost use Rattle.kept_forms.specs.FormViews.{gift_view};
 ghost use Rattle.meaning.specs.Kept.{holder, is_given_at, is_place_given, places_given, points_elsewhere};
 ghost use Rattle.mentions.specs.MarkViews.{body_view, field_mark_view, mark_view, marks_view};
 ghost use Rattle.tracked.specs.LocalViews.{seen_view, Sees};
@@ -10,8 +11,7 @@ ghost use Rattle.tracked_rows.specs.RowViews.{known_view};
 ghost use Rattle.tree.specs.View.{expression_syntax};
 
 use crate::around::is_declared_in;
-use crate::gift::{Gift, gifts};
-use crate::takers::takes_it;
+use kept_forms::{Gift, gifts, takes_it};
 use mentions::{BodyPlace, FieldMark, Mark};
 use objects::{is_value_in, points_to};
 use std::alloc::{AllocError, Global};

@@ -3,13 +3,14 @@
 ghost use Rattle.std.specs.Prelude.{◌≡◌, Some, map, option_map};
 ghost use Rattle.std.specs.List.{list_any};
 ghost use Rattle.std.specs.Str.{bytes_eq};
-ghost use Rattle.kept.specs.KeptViews.{brings_names, element_view, owned_entry};
+ghost use Rattle.kept.specs.KeptViews.{brings_names, owned_entry};
+ghost use Rattle.kept_forms.specs.FormViews.{element_view};
 ghost use Rattle.meaning.specs.Kept.{carried, field_value, is_field_meant, is_undeclared, is_of_import, may_be_exported, may_be_imported, universe_values, is_block_role, own_cancel, owned};
 ghost use Rattle.meaning.specs.Uses.{found, is_cancel, tracked_kind};
 ghost use Rattle.mentions.specs.MarkViews.{body_view, field_mark_view, mark_view, marks_view, named_view};
 ghost use Rattle.tracked.specs.LocalViews.{entry_view, local_role_view, seen_view, Sees};
 
-use crate::element::Element;
+use kept_forms::Element;
 use mentions::{BodyPlace, FieldMark, Mark, Named, is_body};
 use names::NameMeaning;
 use objects::local_named;

@@ -2,7 +2,8 @@
 
 ghost use Rattle.std.specs.Prelude.{◌≡◌, ◌∷◌, [], IfOk, OnOk, map, option_map};
 ghost use Rattle.std.specs.List.{filter, list_any};
-ghost use Rattle.kept.specs.KeptViews.{element_keeps, element_view, field_keeps, keep_view, is_carried, listed_keep, stored_keeps_by, is_there, AddsKeeps, AddsThere, SeesKeeping};
+ghost use Rattle.kept.specs.KeptViews.{element_keeps, field_keeps, keep_view, is_carried, listed_keep, stored_keeps_by, is_there, AddsKeeps, AddsThere, SeesKeeping};
+ghost use Rattle.kept_forms.specs.FormViews.{element_view};
 ghost use Rattle.meaning.specs.Kept.{holder, kept_element, keeps_there};
 ghost use Rattle.meaning.specs.Mentions.{mentions};
 ghost use Rattle.meaning.specs.Tracked.{declared_by};
@@ -11,12 +12,11 @@ ghost use Rattle.tracked.specs.LocalViews.{seen_view};
 ghost use Rattle.tracked_rows.specs.RowViews.{known_view};
 
 use crate::around::Around;
-use crate::element::Element;
-use crate::elements::role_fields;
 use crate::holder::holder;
 use crate::own::carried;
 use crate::row::{Keep, kept_in};
 use crate::stored::stored;
+use kept_forms::{Element, role_fields};
 use mentions::mark::{Assigned, FieldLeft, FieldMark};
 use mentions::{Mark, Mention};
 use objects::object_in;

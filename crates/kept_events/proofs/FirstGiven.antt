@@ -9,8 +9,9 @@ use Rattle.meaning.specs.Uses.{Seen, found, Event}
 use Rattle.meaning.specs.Kept.{Keep, kept_of, is_of_body, give_all, literal_gifts, mentioned_in, in_order_of_place, first_mentions}
 use Rattle.kept.specs.KeptViews.{is_declared_in}
 use Rattle.tracked.proofs.Numbers.{either_way, keeps_all, keeps_both}
-use Rattle.kept_events.specs.KeptEventViews.{is_among, gives_first, gives_left, mention_at_view}
-use Rattle.kept_events.specs.declared.mentioned.MentionAt.{MentionAt as KeptMention}
+use Rattle.kept_events.specs.KeptEventViews.{is_among, gives_first, gives_left}
+use Rattle.literal_mentions.specs.LiteralViews.{mention_at_view}
+use Rattle.literal_mentions.specs.declared.mentioned.MentionAt.{MentionAt as KeptMention}
 use Rattle.tree.proofs.Depths.{drop_item}
 
 among-append : (xs : List ℕ) (x n : ℕ) → is_among (xs ++ x ∷ []) n ≡ (is_among xs n || (x == n))

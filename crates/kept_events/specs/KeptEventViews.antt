@@ -8,7 +8,6 @@ use Rattle.kept.specs.declared.of_file.Kept.{Kept}
 use Rattle.kept.specs.KeptViews.{KnowsKept, SeesKeeping}
 use Rattle.kept_events.specs.declared.file.FileKept.{FileKept}
 use Rattle.kept_events.specs.declared.here.Here.{Here}
-use Rattle.kept_events.specs.declared.mentioned.MentionAt.{MentionAt as KeptMention}
 use Rattle.tracked.specs.declared.seen.Seen.{Seen as KeptSeen}
 use Rattle.tracked.specs.LocalViews.{seen_view, Sees}
 use Rattle.tracked_rows.specs.declared.event.Event.{Event as KeptEvent}
@@ -18,7 +17,7 @@ use Rattle.meaning.specs.Mentions.{Call, BodyPlace, FieldLeft, Assigned, FieldMa
 use Rattle.meaning.specs.Tracked.{Known, some_keep, ObjectLeft, row_obtains}
 use Rattle.meaning.specs.Uses.{Seen, found, row_binds, Event, return_event, Handed}
 use Rattle.meaning.specs.BodyEvents.{handed_on}
-use Rattle.meaning.specs.Kept.{Gift, named_gift, element_gift, gifts, Keep, MentionAt, belongs, object_kind_of, has_arguments_of, keep_event, kept_there, give_all, mentioned_there, obtained_event, object_events, field_events}
+use Rattle.meaning.specs.Kept.{Gift, named_gift, element_gift, gifts, Keep, belongs, object_kind_of, has_arguments_of, keep_event, kept_there, give_all, obtained_event, object_events, field_events}
 use Rattle.meaning.specs.KeepingFields.{is_obtained_in, gift_elements, carried_field, carried_fields}
 
 -- What is known of a file
@@ -88,18 +87,7 @@ return_part seen bodies mark = []
 abbrev pub kept_part : Seen → List BodyPlace → Mark → List Event
 kept_part seen bodies mark = return_part seen bodies mark ++ object_part seen bodies mark
 
--- Mentions in literals
-
-abbrev pub mention_at_view : KeptMention → MentionAt
-mention_at_view m = record { at = m.at; number = m.number }
-
-abbrev pub AddsMentions : List KeptMention → List KeptMention → List MentionAt → Type 0
-AddsMentions before after ms = map mention_at_view after ≡ map mention_at_view before ++ ms
-
--- the local that a mark mentions, if the literal at that offset is one of these bodies
-abbrev pub mentioned_if : Known → ℕ → List BodyPlace → Mark → List MentionAt
-mentioned_if known literal bodies mark =
-    if list_any (λ b. b.at == literal) bodies then mentioned_there known mark else []
+-- What literals give
 
 abbrev pub is_among : List ℕ → ℕ → Bool
 is_among ns n = list_any (λ m. m == n) ns

@@ -1,7 +1,8 @@
 //! What is given to others.
 
 ghost use Rattle.std.specs.Prelude.{OnOk, flat_map, map};
-ghost use Rattle.kept.specs.KeptViews.{gift_view, keep_view};
+ghost use Rattle.kept.specs.KeptViews.{keep_view};
+ghost use Rattle.kept_forms.specs.FormViews.{gift_view};
 ghost use Rattle.kept_events.specs.KeptEventViews.{AddsEvents, KnowsHere};
 ghost use Rattle.meaning.specs.Kept.{gift_events, gifts, give_all, given_field};
 ghost use Rattle.mentions.specs.MarkViews.{body_view};
@@ -10,7 +11,8 @@ ghost use Rattle.tree.specs.Syntax.{missing_expression};
 ghost use Rattle.tree.specs.View.{expression_syntax};
 
 use crate::here::{Here, kept_there};
-use kept::{Gift, Keep, carried, gifts};
+use kept::{Keep, carried};
+use kept_forms::{Gift, gifts};
 use objects::local_named;
 use std::alloc::{AllocError, Global};
 use tracked_rows::Event;

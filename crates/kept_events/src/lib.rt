@@ -9,7 +9,6 @@ mod file;
 mod gives;
 mod here;
 mod literals;
-mod mentioned;
 mod returned;
 mod told_names;
 mod written;

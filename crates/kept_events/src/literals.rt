@@ -1,14 +1,15 @@
 //! Literals that are given to others, with what they mention.
 
 ghost use Rattle.std.specs.Prelude.{◌≡◌, OnOk, flat_map, map};
-ghost use Rattle.kept_events.specs.KeptEventViews.{gives_first, is_among, mention_at_view, AddsEvents, AddsFirst, KnowsHere};
+ghost use Rattle.kept_events.specs.KeptEventViews.{gives_first, is_among, AddsEvents, AddsFirst, KnowsHere};
+ghost use Rattle.literal_mentions.specs.LiteralViews.{mention_at_view};
 ghost use Rattle.meaning.specs.Kept.{first_mentions, literal_gifts};
 ghost use Rattle.mentions.specs.MarkViews.{body_view};
 ghost use Rattle.tracked.specs.LocalViews.{seen_view};
 
 use crate::gives::give_all;
 use crate::here::{Here, kept_there};
-use crate::mentioned::{MentionAt, mentioned_in_order};
+use literal_mentions::{MentionAt, mentioned_in_order};
 use std::alloc::{AllocError, Global};
 use tracked_rows::Event;
 

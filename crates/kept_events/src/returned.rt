@@ -2,7 +2,8 @@
 
 ghost use Rattle.std.specs.Prelude.{◌≡◌, OnOk, flat_map, map};
 ghost use Rattle.facts.specs.FactViews.{cancel_result_view};
-ghost use Rattle.kept.specs.KeptViews.{gift_view, keep_view};
+ghost use Rattle.kept.specs.KeptViews.{keep_view};
+ghost use Rattle.kept_forms.specs.FormViews.{gift_view};
 ghost use Rattle.kept_events.specs.KeptEventViews.{handed_keeps, AddsHanded, KnowsHere};
 ghost use Rattle.meaning.specs.BodyEvents.{handed_at, handed_item, item_variable};
 ghost use Rattle.meaning.specs.Kept.{handed_field, handed_gift, handed_in_fields};
@@ -15,7 +16,8 @@ ghost use Rattle.tree.specs.View.{expression_syntax};
 use crate::here::{Here, kept_there};
 use allowed_uses::is_given_as;
 use facts::{CancelResult, VariableKind};
-use kept::{Gift, Keep, carried, gifts};
+use kept::{Keep, carried};
+use kept_forms::{Gift, gifts};
 use mentions::as_bare;
 use objects::local_named;
 use std::alloc::{AllocError, Global};

@@ -1,7 +1,8 @@
 //! The fields in which a file keeps what it obtained, or gives it to others.
 
 ghost use Rattle.std.specs.Prelude.{◌≡◌, ℕ, OnOk, map, option_map};
-ghost use Rattle.kept.specs.KeptViews.{element_view, gift_view, keep_view};
+ghost use Rattle.kept.specs.KeptViews.{keep_view};
+ghost use Rattle.kept_forms.specs.FormViews.{element_view, gift_view};
 ghost use Rattle.kept_events.specs.KeptEventViews.{assigned_names, gift_name, gift_names, is_told, kept_name, kept_names, value_names, left_name, AddsNames, KnowsFile, KnowsHere};
 ghost use Rattle.meaning.specs.Kept.{belongs, gifts};
 ghost use Rattle.meaning.specs.KeepingFields.{carried_field, carried_fields, field_of_obtained, fields_kept_there, gift_elements, given_elements, kept_variables, obtained_fields};
@@ -14,7 +15,8 @@ ghost use Rattle.tree.specs.View.{expression_syntax};
 
 use crate::file::FileKept;
 use crate::here::Here;
-use kept::{Around, Element, Gift, Keep, carried, gifts, keeps_there, takes_it};
+use kept::{Around, Keep, carried, keeps_there};
+use kept_forms::{Element, Gift, gifts, takes_it};
 use mentions::mark::{Assigned, FieldLeft, FieldMark, Taker};
 use mentions::{BodyPlace, Mark};
 use std::alloc::{AllocError, Global};

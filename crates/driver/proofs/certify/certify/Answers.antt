@@ -4,10 +4,11 @@ use Rattle.folders.specs.declared.fault.Fault.TheVariants.{CannotWrite}
 use Rattle.judge.specs.Certified.{IsCertifiedReport}
 use Rattle.declared_json.specs.DeclaredPackages.{packages_of}
 use Rattle.workers.specs.Counts.{count_of}
+use Rattle.unit_reading.proofs.HandedOn.{handed_on}
 use Rattle.driver.specs.Faults.{is_of_output, IsCertifyFault}
 use Rattle.driver.specs.Printing.{AppendsFront}
 use Rattle.driver.proofs.FaultsOfCommands.{none_refused, of_check}
-use Rattle.driver.proofs.ReadGiven.{handed_on, of_report, on_err, read_words}
+use Rattle.driver.proofs.ReadGiven.{of_report, on_err, read_words}
 use Rattle.driver.proofs.certify.certify.Goals as goal
 
 pub returns-in_err-input-clause-fault : goal.returns-in_err-input-clause-fault

@@ -2,10 +2,11 @@ use Rattle.std.proofs.Common.{◌≡◌, false, true≢false, IsErrAnd, refl, ru
 use Rattle.std.specs.Io.KnownBytes.{Appends}
 use Rattle.folders.specs.declared.fault.Fault.TheVariants.{CannotWrite}
 use Rattle.workers.specs.Counts.{count_of}
+use Rattle.unit_reading.proofs.HandedOn.{handed_on}
 use Rattle.driver.specs.Faults.{is_of_output, IsCheckFault}
 use Rattle.driver.specs.Printing.{AppendsFront}
 use Rattle.driver.proofs.FaultsOfCommands.{none_refused}
-use Rattle.driver.proofs.ReadGiven.{handed_on, of_report, on_err, read_words}
+use Rattle.driver.proofs.ReadGiven.{of_report, on_err, read_words}
 use Rattle.driver.proofs.check.check.Goals as goal
 
 pub returns-in_err-input-clause-fault : goal.returns-in_err-input-clause-fault

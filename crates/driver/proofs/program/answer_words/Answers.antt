@@ -1,10 +1,10 @@
 use Rattle.std.proofs.Common.{inl, inr, map, subst}
 use Rattle.command_line.specs.Words.{IsAsked}
 use Rattle.folders.specs.WrittenFiles.{text_of}
+use Rattle.unit_reading.proofs.HandedOn.{handed_on}
 use Rattle.driver.specs.Faults.{IsFaultOfCertify, IsFaultOfCheck, IsFaultOfVerify, IsRunFault}
 use Rattle.driver.specs.WrittenReport.{IsBegun, IsWritten, LeavesBegun, LeavesWhole, OfCertify, OfCheck, OfExplain, OfVerify}
 use Rattle.driver.proofs.AskedReports.{ends_so}
-use Rattle.driver.proofs.ReadGiven.{handed_on}
 use Rattle.driver.proofs.program.answer_words.Goals as goal
 
 pub returns-in_err-done-in-Check-clause-fault : goal.returns-in_err-done-in-Check-clause-fault

@@ -2,9 +2,10 @@ use Rattle.std.proofs.Common.{◌≡◌, rules, string_bytes, subst}
 use Rattle.command_line.specs.Words.{edition_number}
 use Rattle.folders.specs.GoModules.{IsModulePath}
 use Rattle.unit_config.specs.UnitValues.{unit_of}
+use Rattle.unit_reading.specs.ToldImports.{AreTold}
+use Rattle.unit_reading.proofs.HandedOn.{handed_on}
 use Rattle.driver.specs.Digests.{digest_in}
-use Rattle.driver.specs.UnitsRead.{edition_of_unit, AreTold, IsInputFaultOf}
-use Rattle.driver.proofs.ReadGiven.{handed_on}
+use Rattle.driver.specs.UnitsRead.{edition_of_unit, IsInputFaultOf}
 use Rattle.driver.proofs.UnitFaults.{of_told_by}
 use Rattle.driver.proofs.unit_input.read_unit_input.Goals as goal
 

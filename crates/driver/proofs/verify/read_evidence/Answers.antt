@@ -1,6 +1,7 @@
+use Rattle.unit_reading.proofs.HandedOn.{handed_on}
 use Rattle.driver.specs.Faults.{IsReadingFault}
 use Rattle.driver.proofs.FaultsOfCommands.{of_input, of_sources}
-use Rattle.driver.proofs.ReadGiven.{handed_on, none_bad}
+use Rattle.driver.proofs.ReadGiven.{none_bad}
 use Rattle.command_line.specs.Words.{texts_of}
 use Rattle.std.proofs.Common.{subst, sym}
 use Rattle.driver.specs.Packages.{AreNamed}

@@ -1,10 +1,11 @@
 use Rattle.std.proofs.Common.{◌≡◌, IsErrAnd, refl, rules, subst}
 use Rattle.std.specs.Io.KnownBytes.{Appends}
 use Rattle.folders.specs.declared.fault.Fault.TheVariants.{CannotWrite}
+use Rattle.unit_reading.proofs.HandedOn.{handed_on}
 use Rattle.driver.specs.Faults.{IsVerificationFault}
 use Rattle.driver.specs.Printing.{AppendsFront}
 use Rattle.driver.proofs.FaultsOfCommands.{of_verdict}
-use Rattle.driver.proofs.ReadGiven.{handed_on, on_err, read_words}
+use Rattle.driver.proofs.ReadGiven.{on_err, read_words}
 use Rattle.driver.proofs.verify.verify.Goals as goal
 
 pub returns-in_err-report-clause-fault : goal.returns-in_err-report-clause-fault

@@ -1,9 +1,10 @@
 use Rattle.std.proofs.Common.{inl, inr, subst}
 use Rattle.std.specs.Io.KnownBytes.{Appends}
 use Rattle.unit_config.specs.UnitValues.{unit_of}
+use Rattle.unit_reading.proofs.HandedOn.{handed_on}
 use Rattle.driver.specs.Printing.{AppendsFront}
 use Rattle.driver.specs.UnitRuns.{IsFaultFor}
-use Rattle.driver.proofs.ReadGiven.{handed_on, on_err}
+use Rattle.driver.proofs.ReadGiven.{on_err}
 use Rattle.driver.proofs.vet.run_unit.Goals as goal
 
 pub returns-in_err-judged-clause-fault : goal.returns-in_err-judged-clause-fault

@@ -1,7 +1,7 @@
 use Rattle.std.proofs.Common.{◌≡◌, inr}
 use Rattle.folders.specs.declared.fault.Fault.TheVariants.{CannotWrite}
+use Rattle.unit_reading.proofs.HandedOn.{handed_on}
 use Rattle.driver.specs.UnitRuns.{IsPrintBegun, IsUnitRunFault, OfUnit}
-use Rattle.driver.proofs.ReadGiven.{handed_on}
 use Rattle.driver.proofs.vet.vet_unit.Goals as goal
 
 pub returns-in_err-done-clause-fault : goal.returns-in_err-done-clause-fault

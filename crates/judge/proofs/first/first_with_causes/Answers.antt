@@ -1,7 +1,7 @@
 use Rattle.std.proofs.Common.{◌≡◌, ◌∙◌, ap}
 use Rattle.std.proofs.lemmas.Result.{IfOk-weaker}
-use Rattle.judge.specs.CauseMentions.{first_kept}
-use Rattle.judge.proofs.SamePackages.{first_same}
+use Rattle.cause_mentions.specs.CauseMentions.{first_kept}
+use Rattle.cause_mentions.proofs.SamePackages.{first_same}
 use Rattle.judge.proofs.first.first_with_causes.Goals as goal
 use Rattle.meaning.specs.OuterBlocks.{PackageNames}
 use Rattle.meaning_reports.specs.Loaded.{package_names}

@@ -4,8 +4,8 @@ use Rattle.std.specs.List.{list_any}
 use Rattle.meaning.specs.Tracked.{these_fields}
 use Rattle.silent_files.specs.WalkedFiles.{is_walked}
 use Rattle.tree.specs.View.{file_syntax}
-use Rattle.keeping.specs.Keeping.{each_known, filled_by, kept_by}
-use Rattle.keeping.specs.Notes.{note_view}
+use Rattle.keeping.specs.Keeping.{each_known}
+use Rattle.noted_fields.specs.NotedFields.{filled_by, kept_by, note_view}
 use Rattle.keeping.specs.ToldFiles.{told_notes, told_puts}
 use Rattle.keeping.proofs.FilesNoted.{none_keep, none_in_all, some_in_all}
 use Rattle.keeping.proofs.TextNames.{no_text, some_text}

@@ -1,5 +1,5 @@
 use Rattle.std.proofs.Common.{◌≡◌, ◌++◌, drop, map}
-use Rattle.keeping.specs.Notes.{note_view}
+use Rattle.noted_fields.specs.NotedFields.{note_view}
 use Rattle.keeping.proofs.files.add_again.Given as goal
 
 -- what was added, with what is left, is the whole

@@ -1,7 +1,8 @@
 use Rattle.std.proofs.Common.{◌++◌, ◌∙◌, [], ap, map, refl}
 use Rattle.mentions.specs.MarkViews.{body_view, marks_view}
 use Rattle.tracked.specs.LocalViews.{seen_view}
-use Rattle.keeping.specs.Notes.{note_view, notes_there}
+use Rattle.keeping.specs.Notes.{notes_there}
+use Rattle.noted_fields.specs.NotedFields.{note_view}
 use Rattle.keeping.proofs.MarksNoted.{there, more_notes, all_noted}
 use Rattle.keeping.proofs.files.add_all.Goals as goal
 

@@ -5,7 +5,7 @@ use Rattle.tracked.specs.LocalViews.{seen_view}
 use Rattle.tracked_rows.specs.RowViews.{known_view}
 use Rattle.tree.specs.View.{file_syntax}
 use Rattle.keeping.specs.Keeping.{each_known}
-use Rattle.keeping.specs.Notes.{note_view}
+use Rattle.noted_fields.specs.NotedFields.{note_view}
 use Rattle.keeping.specs.PlainFiles.{may_put}
 use Rattle.keeping.proofs.FilesNoted.{file_noted}
 use Rattle.keeping.proofs.PlainFiles.{file_said}

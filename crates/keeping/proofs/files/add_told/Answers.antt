@@ -1,7 +1,7 @@
 use Rattle.std.proofs.Common.{map}
 use Rattle.keeping.specs.declared.files.Told.TheVariants.{Unread}
 use Rattle.keeping.specs.Keeping.{each_known}
-use Rattle.keeping.specs.Notes.{note_view}
+use Rattle.noted_fields.specs.NotedFields.{note_view}
 use Rattle.keeping.proofs.FilesNoted.{told_so}
 use Rattle.keeping.proofs.files.add_told.Goals as goal
 

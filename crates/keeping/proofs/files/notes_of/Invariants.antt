@@ -1,6 +1,6 @@
 use Rattle.std.proofs.Common.{◌≡◌, ◌++◌, drop, map}
 use Rattle.std.specs.Prelude.{flat_map}
-use Rattle.keeping.specs.Notes.{note_view}
+use Rattle.noted_fields.specs.NotedFields.{note_view}
 use Rattle.keeping.specs.Keeping.{each_known}
 use Rattle.keeping.specs.ToldFiles.{told_notes}
 use Rattle.keeping.proofs.files.notes_of.Given as goal

@@ -5,7 +5,8 @@ use Rattle.meaning_reports.specs.Loaded.{seen_from}
 use Rattle.silent_files.specs.WalkedFiles.{is_walked}
 use Rattle.tree.specs.View.{file_syntax}
 use Rattle.keeping.specs.Notes.{notes_in}
-use Rattle.keeping.specs.Keeping.{each_known, notes_by, some_put}
+use Rattle.keeping.specs.Keeping.{each_known, notes_by}
+use Rattle.noted_fields.specs.NotedFields.{some_put}
 use Rattle.keeping.specs.ToldFiles.{told_notes, told_puts}
 use Rattle.keeping.proofs.files.told_files.Given as goal
 

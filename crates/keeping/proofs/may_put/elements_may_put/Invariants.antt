@@ -1,6 +1,6 @@
 use Rattle.std.proofs.Common.{◌≡◌, drop, map}
 use Rattle.std.specs.List.{list_any}
-use Rattle.kept.specs.KeptViews.{element_view}
+use Rattle.kept_forms.specs.FormViews.{element_view}
 use Rattle.tracked_rows.specs.RowViews.{known_view}
 use Rattle.keeping.specs.PlainFiles.{element_may_put}
 use Rattle.keeping.proofs.may_put.elements_may_put.Given as goal

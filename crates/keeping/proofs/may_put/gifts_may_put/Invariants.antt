@@ -1,6 +1,6 @@
 use Rattle.std.proofs.Common.{◌≡◌, drop, map}
 use Rattle.std.specs.List.{list_any}
-use Rattle.kept.specs.KeptViews.{gift_view}
+use Rattle.kept_forms.specs.FormViews.{gift_view}
 use Rattle.tracked_rows.specs.RowViews.{known_view}
 use Rattle.keeping.specs.PlainFiles.{gift_may_put}
 use Rattle.keeping.proofs.may_put.gifts_may_put.Given as goal

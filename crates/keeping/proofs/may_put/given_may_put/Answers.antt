@@ -1,6 +1,6 @@
 use Rattle.std.proofs.Common.{map, ap, ◌∙◌}
 use Rattle.std.specs.List.{list_any}
-use Rattle.kept.specs.KeptViews.{gift_view}
+use Rattle.kept_forms.specs.FormViews.{gift_view}
 use Rattle.tracked_rows.specs.RowViews.{known_view}
 use Rattle.tree.specs.View.{expression_syntax}
 use Rattle.keeping.specs.PlainFiles.{gift_may_put}

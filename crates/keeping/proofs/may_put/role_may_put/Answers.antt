@@ -1,6 +1,6 @@
 use Rattle.std.proofs.Common.{map, ap, ◌∙◌}
 use Rattle.std.specs.List.{list_any}
-use Rattle.kept.specs.KeptViews.{element_view}
+use Rattle.kept_forms.specs.FormViews.{element_view}
 use Rattle.tracked_rows.specs.RowViews.{known_view}
 use Rattle.keeping.specs.PlainFiles.{element_may_put}
 use Rattle.keeping.proofs.may_put.role_may_put.Goals as goal

@@ -1,10 +1,11 @@
 use Rattle.std.proofs.Common.{◌++◌, map, ap, ◌∙◌}
 use Rattle.std.specs.Prelude.{flat_map}
 use Rattle.facts.proofs.FactParts.{on_ok}
-use Rattle.kept.specs.KeptViews.{gift_view}
+use Rattle.kept_forms.specs.FormViews.{gift_view}
 use Rattle.mentions.specs.MarkViews.{body_view}
 use Rattle.tracked.specs.LocalViews.{seen_view}
-use Rattle.keeping.specs.Notes.{note_view, gift_notes}
+use Rattle.keeping.specs.Notes.{gift_notes}
+use Rattle.noted_fields.specs.NotedFields.{note_view}
 use Rattle.keeping.proofs.noted.add_given.Goals as goal
 
 pub returns : goal.returns

@@ -3,7 +3,8 @@ use Rattle.std.specs.Prelude.{flat_map}
 use Rattle.mentions.specs.MarkViews.{body_view}
 use Rattle.tracked.specs.LocalViews.{seen_view}
 use Rattle.tree.specs.View.{expression_syntax}
-use Rattle.keeping.specs.Notes.{note_view, given_notes}
+use Rattle.keeping.specs.Notes.{given_notes}
+use Rattle.noted_fields.specs.NotedFields.{note_view}
 use Rattle.keeping.proofs.noted.add_items.Given as goal
 
 -- what was added, with what is left, is the whole

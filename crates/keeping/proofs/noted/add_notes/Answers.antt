@@ -2,10 +2,11 @@ use Rattle.std.proofs.Common.{◌++◌, map, sym, ap, ◌∙◌, append_assoc}
 use Rattle.std.specs.Prelude.{flat_map}
 use Rattle.facts.proofs.FactParts.{on_ok}
 use Rattle.facts.proofs.ListedItems.{listed-map}
-use Rattle.kept.specs.KeptViews.{element_view}
+use Rattle.kept_forms.specs.FormViews.{element_view}
 use Rattle.mentions.specs.MarkViews.{body_view, mark_view, mention_view}
 use Rattle.tracked.specs.LocalViews.{seen_view}
-use Rattle.keeping.specs.Notes.{note_view, element_notes, given_notes, key_notes, notes_there}
+use Rattle.keeping.specs.Notes.{element_notes, given_notes, key_notes, notes_there}
+use Rattle.noted_fields.specs.NotedFields.{note_view}
 use Rattle.keeping.proofs.noted.add_notes.Goals as goal
 
 pub returns-in_ok-elements-in-Mentions : goal.returns-in_ok-elements-in-Mentions

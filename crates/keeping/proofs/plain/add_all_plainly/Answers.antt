@@ -1,7 +1,7 @@
 use Rattle.std.proofs.Common.{map, refl}
 use Rattle.mentions.specs.MarkViews.{body_view}
 use Rattle.tracked_rows.specs.RowViews.{known_view}
-use Rattle.keeping.specs.Notes.{note_view}
+use Rattle.noted_fields.specs.NotedFields.{note_view}
 use Rattle.keeping.specs.PlainFiles.{plain_notes}
 use Rattle.keeping.proofs.MarksNoted.{more_notes, all_noted}
 use Rattle.keeping.proofs.plain.add_all_plainly.Goals as goal

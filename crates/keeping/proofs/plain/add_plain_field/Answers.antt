@@ -3,7 +3,8 @@ use Rattle.facts.proofs.FactParts.{on_ok}
 use Rattle.mentions.specs.MarkViews.{assigned_view, body_view, field_left_view, field_mark_view}
 use Rattle.std.specs.Prelude.{option_map}
 use Rattle.tracked_rows.specs.RowViews.{known_view}
-use Rattle.keeping.specs.Notes.{Note, is_filled, note_view, one_note}
+use Rattle.keeping.specs.Notes.{one_note}
+use Rattle.noted_fields.specs.NotedFields.{Note, is_filled, note_view}
 use Rattle.keeping.specs.PlainFiles.{plain_written_note, plain_field_notes}
 use Rattle.keeping.proofs.Keys.{then_noted}
 use Rattle.keeping.proofs.plain.add_plain_field.Goals as goal

@@ -5,7 +5,7 @@ use Rattle.mentions.specs.MarkViews.{body_view, field_left_view, field_mark_view
 use Rattle.tracked.specs.LocalViews.{seen_view}
 use Rattle.meaning.specs.Mentions.{of_fields}
 use Rattle.kept.specs.KeptViews.{field_keeps, is_there, written_by, writes_there}
-use Rattle.kept.proofs.AddedParts.{adds_same}
+use Rattle.kept_forms.proofs.AddedParts.{adds_same}
 use Rattle.kept.proofs.Gatherings.{fields_keep, no_write}
 use Rattle.kept.proofs.gathered.gather_field.Goals as goal
 

@@ -1,6 +1,7 @@
 use Rattle.std.proofs.Common.{map, ap, ◌∙◌}
 use Rattle.std.specs.List.{list_any}
-use Rattle.kept.specs.KeptViews.{gift_view, is_name_at}
+use Rattle.kept.specs.KeptViews.{is_name_at}
+use Rattle.kept_forms.specs.FormViews.{gift_view}
 use Rattle.kept.proofs.holder.gives_at.Goals as goal
 
 pub returns : goal.returns

@@ -4,8 +4,9 @@ use Rattle.mentions.specs.MarkViews.{body_view, mention_view}
 use Rattle.tracked.specs.LocalViews.{seen_view}
 use Rattle.meaning.specs.Kept.{holder, kept_element}
 use Rattle.meaning.specs.Tracked.{declared_by}
-use Rattle.kept.specs.KeptViews.{element_view, is_there}
-use Rattle.kept.proofs.AddedParts.{ok_same}
+use Rattle.kept.specs.KeptViews.{is_there}
+use Rattle.kept_forms.specs.FormViews.{element_view}
+use Rattle.kept_forms.proofs.AddedParts.{ok_same}
 use Rattle.kept.proofs.Gatherings.{elements_keep}
 use Rattle.kept.proofs.rows.add_declared.Goals as goal
 

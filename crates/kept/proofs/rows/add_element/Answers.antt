@@ -3,8 +3,9 @@ use Rattle.std.specs.List.{filter}
 use Rattle.mentions.specs.MarkViews.{body_view}
 use Rattle.tracked.specs.LocalViews.{seen_view}
 use Rattle.meaning.specs.Kept.{kept_in}
-use Rattle.kept.specs.KeptViews.{element_view, is_there}
-use Rattle.kept.proofs.AddedParts.{ok_same}
+use Rattle.kept.specs.KeptViews.{is_there}
+use Rattle.kept_forms.specs.FormViews.{element_view}
+use Rattle.kept_forms.proofs.AddedParts.{ok_same}
 use Rattle.kept.proofs.Gatherings.{carried_kept}
 use Rattle.kept.proofs.rows.add_element.Goals as goal
 

@@ -1,7 +1,8 @@
 use Rattle.std.proofs.Common.{◌≡◌, ◌++◌, drop, map}
 use Rattle.mentions.specs.MarkViews.{body_view}
 use Rattle.tracked.specs.LocalViews.{seen_view}
-use Rattle.kept.specs.KeptViews.{element_keeps, element_view, keep_view}
+use Rattle.kept.specs.KeptViews.{element_keeps, keep_view}
+use Rattle.kept_forms.specs.FormViews.{element_view}
 use Rattle.kept.proofs.rows.add_elements.Given as goal
 
 -- what was added, with what is left, is the whole

@@ -3,8 +3,9 @@ use Rattle.mentions.specs.MarkViews.{body_view, mention_view}
 use Rattle.tracked.specs.LocalViews.{seen_view}
 use Rattle.meaning.specs.Kept.{holder}
 use Rattle.meaning.specs.Tracked.{declared_by}
-use Rattle.kept.specs.KeptViews.{element_keeps, element_view}
-use Rattle.kept.proofs.AddedParts.{ok_same, adds_none_of}
+use Rattle.kept.specs.KeptViews.{element_keeps}
+use Rattle.kept_forms.specs.FormViews.{element_view}
+use Rattle.kept_forms.proofs.AddedParts.{ok_same, adds_none_of}
 use Rattle.kept.proofs.Gatherings.{none_carried}
 use Rattle.kept.proofs.rows.add_held.Goals as goal
 

@@ -4,7 +4,7 @@ use Rattle.mentions.specs.MarkViews.{body_view, field_mark_view, mark_view}
 use Rattle.tracked.specs.LocalViews.{seen_view}
 use Rattle.meaning.specs.Kept.{keeps_there}
 use Rattle.kept.specs.KeptViews.{is_there}
-use Rattle.kept.proofs.AddedParts.{ok_same, adds_none_of}
+use Rattle.kept_forms.proofs.AddedParts.{ok_same, adds_none_of}
 use Rattle.kept.proofs.Gatherings.{fields_keep, nothing_kept}
 use Rattle.kept.proofs.rows.add_keeps.Goals as goal
 

@@ -3,7 +3,7 @@ use Rattle.std.specs.List.{filter}
 use Rattle.mentions.specs.MarkViews.{body_view, field_mark_view}
 use Rattle.tracked.specs.LocalViews.{seen_view}
 use Rattle.kept.specs.KeptViews.{field_keeps, is_there}
-use Rattle.kept.proofs.AddedParts.{ok_same, adds_none_of}
+use Rattle.kept_forms.proofs.AddedParts.{ok_same, adds_none_of}
 use Rattle.kept.proofs.Gatherings.{nothing_stored}
 use Rattle.kept.proofs.rows.add_stored.Goals as goal
 

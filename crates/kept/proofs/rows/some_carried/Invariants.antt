@@ -2,7 +2,8 @@ use Rattle.std.proofs.Common.{◌≡◌, drop, map}
 use Rattle.std.specs.List.{list_any}
 use Rattle.mentions.specs.MarkViews.{body_view}
 use Rattle.tracked.specs.LocalViews.{seen_view}
-use Rattle.kept.specs.KeptViews.{element_view, is_carried}
+use Rattle.kept.specs.KeptViews.{is_carried}
+use Rattle.kept_forms.specs.FormViews.{element_view}
 use Rattle.kept.proofs.rows.some_carried.Given as goal
 
 -- what is told of those that are left is told of all

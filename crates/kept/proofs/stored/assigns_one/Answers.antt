@@ -1,7 +1,7 @@
 use Rattle.std.proofs.Common.{sym, ap, ◌∙◌}
 use Rattle.mentions.specs.MarkViews.{form_view}
 use Rattle.kept.specs.KeptViews.{assigns_one}
-use Rattle.kept.proofs.DeclaredForms.{one_assigned}
+use Rattle.kept.proofs.AssignedForms.{one_assigned}
 use Rattle.kept.proofs.stored.assigns_one.Goals as goal
 
 pub returns-in-Assigns : goal.returns-in-Assigns

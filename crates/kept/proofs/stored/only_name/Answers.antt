@@ -1,7 +1,7 @@
 use Rattle.std.proofs.Common.{ap, ◌∙◌}
 use Rattle.meaning.specs.Kept.{some_bare}
 use Rattle.tree.specs.View.{expressions_syntax}
-use Rattle.kept.proofs.DeclaredForms.{same_only}
+use Rattle.kept_forms.proofs.DeclaredForms.{same_only}
 use Rattle.kept.proofs.stored.only_name.Goals as goal
 
 pub returns-in-Some : goal.returns-in-Some

@@ -1,7 +1,7 @@
 use Rattle.std.proofs.Common.{None, if◌then◌else◌, sym, ap, ◌∙◌}
 use Rattle.mentions.specs.MarkViews.{row_view}
 use Rattle.meaning.specs.Kept.{only_value_of, some_bare}
-use Rattle.kept.proofs.DeclaredForms.{stored_if}
+use Rattle.kept.proofs.AssignedForms.{stored_if}
 use Rattle.kept.proofs.stored.stored_name.Goals as goal
 
 pub returns-then-assigns_one : goal.returns-then-assigns_one

@@ -2,7 +2,7 @@ use Rattle.std.proofs.Common.{ℕ, List, Option, option_map, map, flat_map, sym,
 use Rattle.mentions.specs.MarkViews.{body_view, call_view, mention_view}
 use Rattle.tracked.specs.LocalViews.{seen_view}
 use Rattle.meaning.specs.Kept.{field_call, field_calls, kept_there}
-use Rattle.kept.proofs.AddedParts.{ok_same}
+use Rattle.kept_forms.proofs.AddedParts.{ok_same}
 use Rattle.kept_events.proofs.called.add_called.Goals as goal
 
 pub returns-in-Some : goal.returns-in-Some

@@ -2,7 +2,7 @@ use Rattle.std.proofs.Common.{map, ap}
 use Rattle.mentions.specs.MarkViews.{body_view}
 use Rattle.tracked.specs.LocalViews.{seen_view}
 use Rattle.meaning.specs.Kept.{kept_there, renew_all}
-use Rattle.kept.proofs.AddedParts.{adds_same, ok_then}
+use Rattle.kept_forms.proofs.AddedParts.{adds_same, ok_then}
 use Rattle.kept_events.proofs.declared.add_declared.Goals as goal
 
 pub returns : goal.returns

@@ -2,7 +2,7 @@ use Rattle.std.proofs.Common.{map, ap, ◌∙◌}
 use Rattle.mentions.specs.MarkViews.{body_view}
 use Rattle.tracked.specs.LocalViews.{seen_view}
 use Rattle.kept.specs.KeptViews.{keep_view}
-use Rattle.kept.proofs.AddedParts.{ok_same}
+use Rattle.kept_forms.proofs.AddedParts.{ok_same}
 use Rattle.kept_events.specs.KeptEventViews.{kept_events}
 use Rattle.kept_events.proofs.KeptParts.{all_kept}
 use Rattle.kept_events.proofs.declared.add_keeps.Goals as goal

@@ -3,7 +3,7 @@ use Rattle.mentions.specs.MarkViews.{body_view}
 use Rattle.tracked.specs.LocalViews.{seen_view}
 use Rattle.meaning.specs.Kept.{keep_event, object_kind_of}
 use Rattle.kept.specs.KeptViews.{keep_view}
-use Rattle.kept.proofs.AddedParts.{ok_same, adds_none_of}
+use Rattle.kept_forms.proofs.AddedParts.{ok_same, adds_none_of}
 use Rattle.kept_events.proofs.declared.add_kept.Goals as goal
 
 pub returns-then-not-belongs : goal.returns-then-not-belongs

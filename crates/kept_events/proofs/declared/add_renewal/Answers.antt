@@ -1,6 +1,6 @@
 use Rattle.std.proofs.Common.{ap}
 use Rattle.meaning.specs.Kept.{renew_all}
-use Rattle.kept.proofs.AddedParts.{ok_same}
+use Rattle.kept_forms.proofs.AddedParts.{ok_same}
 use Rattle.kept_events.proofs.declared.add_renewal.Goals as goal
 
 pub returns : goal.returns

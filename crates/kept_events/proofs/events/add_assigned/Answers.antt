@@ -4,7 +4,7 @@ use Rattle.mentions.specs.MarkViews.{assigned_view, body_view, field_left_view}
 use Rattle.tracked.specs.LocalViews.{seen_view}
 use Rattle.meaning.specs.Mentions.{of_fields, writes_field}
 use Rattle.meaning.specs.Kept.{field_events}
-use Rattle.kept.proofs.AddedParts.{adds_same, adds_none_of}
+use Rattle.kept_forms.proofs.AddedParts.{adds_same, adds_none_of}
 use Rattle.kept_events.proofs.events.add_assigned.Goals as goal
 
 pub returns-in-Some : goal.returns-in-Some

@@ -4,7 +4,7 @@ use Rattle.mentions.specs.MarkViews.{body_view, field_mark_view}
 use Rattle.tracked.specs.LocalViews.{seen_view}
 use Rattle.meaning.specs.Mentions.{of_fields}
 use Rattle.meaning.specs.Kept.{field_events}
-use Rattle.kept.proofs.AddedParts.{adds_same, adds_none_of}
+use Rattle.kept_forms.proofs.AddedParts.{adds_same, adds_none_of}
 use Rattle.kept_events.proofs.events.add_field.Goals as goal
 
 pub returns-in-CallsField : goal.returns-in-CallsField

@@ -1,7 +1,7 @@
 use Rattle.std.proofs.Common.{map, sym}
 use Rattle.mentions.specs.MarkViews.{body_view}
 use Rattle.tree.specs.View.{expression_syntax}
-use Rattle.kept.proofs.AddedParts.{adds_none_of}
+use Rattle.kept_forms.proofs.AddedParts.{adds_none_of}
 use Rattle.kept_events.proofs.NoKeeping.{seen_no_handed}
 use Rattle.kept_events.proofs.events.add_item_fields.Goals as goal
 

@@ -2,7 +2,7 @@ use Rattle.std.proofs.Common.{map}
 use Rattle.facts.proofs.FactParts.{on_ok}
 use Rattle.mentions.specs.MarkViews.{body_view}
 use Rattle.tracked.specs.LocalViews.{seen_view}
-use Rattle.kept.proofs.AddedParts.{adds_none_of}
+use Rattle.kept_forms.proofs.AddedParts.{adds_none_of}
 use Rattle.kept_events.proofs.KeptParts.{fields_added, no_object}
 use Rattle.kept_events.proofs.events.add_mark.Goals as goal
 

@@ -1,4 +1,4 @@
-use Rattle.kept.proofs.AddedParts.{ok_then}
+use Rattle.kept_forms.proofs.AddedParts.{ok_then}
 use Rattle.kept_events.proofs.events.add_mark_events.Goals as goal
 
 pub returns : goal.returns

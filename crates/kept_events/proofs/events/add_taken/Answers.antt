@@ -5,7 +5,7 @@ use Rattle.tracked.specs.LocalViews.{seen_view}
 use Rattle.tree.specs.Syntax.{missing_expression}
 use Rattle.tree.specs.View.{expression_syntax}
 use Rattle.meaning.specs.Kept.{gift_events, gifts}
-use Rattle.kept.proofs.AddedParts.{adds_same, adds_none_of}
+use Rattle.kept_forms.proofs.AddedParts.{adds_same, adds_none_of}
 use Rattle.kept_events.proofs.events.add_taken.Goals as goal
 
 pub returns-then-not-takes_it : goal.returns-then-not-takes_it

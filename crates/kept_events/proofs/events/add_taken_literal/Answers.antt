@@ -3,7 +3,7 @@ use Rattle.facts.proofs.FactParts.{on_ok}
 use Rattle.mentions.specs.MarkViews.{body_view}
 use Rattle.tracked.specs.LocalViews.{seen_view}
 use Rattle.meaning.specs.Kept.{literal_gifts}
-use Rattle.kept.proofs.AddedParts.{adds_same, adds_none_of}
+use Rattle.kept_forms.proofs.AddedParts.{adds_same, adds_none_of}
 use Rattle.kept_events.proofs.events.add_taken_literal.Goals as goal
 
 pub returns-then-not-takes_it : goal.returns-then-not-takes_it

@@ -5,7 +5,7 @@ use Rattle.facts.specs.FactViews.{cancel_result_view}
 use Rattle.mentions.specs.MarkViews.{body_view}
 use Rattle.tracked.specs.LocalViews.{seen_view}
 use Rattle.meaning.specs.BodyEvents.{handed_item, handed_on}
-use Rattle.kept.proofs.AddedParts.{adds_same, adds_then, adds_next}
+use Rattle.kept_forms.proofs.AddedParts.{adds_same, adds_then, adds_next}
 use Rattle.kept_events.proofs.KeptParts.{handed_first}
 use Rattle.kept_events.proofs.events.handed_on.Goals as goal
 

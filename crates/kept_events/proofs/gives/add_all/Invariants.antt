@@ -3,7 +3,7 @@ use Rattle.mentions.specs.MarkViews.{body_view}
 use Rattle.tracked.specs.LocalViews.{seen_view}
 use Rattle.tracked_rows.specs.EventViews.{event_view}
 use Rattle.meaning.specs.Kept.{gift_events}
-use Rattle.kept.specs.KeptViews.{gift_view}
+use Rattle.kept_forms.specs.FormViews.{gift_view}
 use Rattle.kept_events.proofs.gives.add_all.Given as goal
 
 -- what was added, with what is left, is the whole

@@ -2,8 +2,8 @@ use Rattle.std.proofs.Common.{map, sym, ap, ◌∙◌}
 use Rattle.mentions.specs.MarkViews.{body_view}
 use Rattle.tracked.specs.LocalViews.{seen_view}
 use Rattle.meaning.specs.Kept.{gift_events, give_all, given_field, kept_there}
-use Rattle.kept.specs.KeptViews.{gift_view}
-use Rattle.kept.proofs.AddedParts.{ok_same}
+use Rattle.kept_forms.specs.FormViews.{gift_view}
+use Rattle.kept_forms.proofs.AddedParts.{ok_same}
 use Rattle.kept_events.proofs.gives.add_gift.Goals as goal
 
 pub returns-in-Named : goal.returns-in-Named

@@ -2,8 +2,9 @@ use Rattle.std.proofs.Common.{map, flat_map, sym, ap, ◌∙◌}
 use Rattle.mentions.specs.MarkViews.{body_view}
 use Rattle.tracked.specs.LocalViews.{seen_view}
 use Rattle.meaning.specs.Kept.{first_mentions}
-use Rattle.kept.proofs.AddedParts.{ok_same, adds_none_of}
-use Rattle.kept_events.specs.KeptEventViews.{gives_first, mention_at_view}
+use Rattle.kept_forms.proofs.AddedParts.{ok_same, adds_none_of}
+use Rattle.kept_events.specs.KeptEventViews.{gives_first}
+use Rattle.literal_mentions.specs.LiteralViews.{mention_at_view}
 use Rattle.kept_events.proofs.FirstGiven.{literal_gives_nothing}
 use Rattle.kept_events.proofs.literals.add_literal.Goals as goal
 

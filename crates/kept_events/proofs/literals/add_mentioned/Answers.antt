@@ -4,7 +4,8 @@ use Rattle.mentions.specs.MarkViews.{body_view}
 use Rattle.tracked.specs.LocalViews.{seen_view}
 use Rattle.tracked_rows.specs.EventViews.{event_view}
 use Rattle.meaning.specs.Kept.{first_mentions}
-use Rattle.kept_events.specs.KeptEventViews.{gives_left, mention_at_view}
+use Rattle.kept_events.specs.KeptEventViews.{gives_left}
+use Rattle.literal_mentions.specs.LiteralViews.{mention_at_view}
 use Rattle.kept_events.proofs.FirstGiven.{none_given_yet, next_given}
 use Rattle.kept_events.proofs.literals.add_mentioned.Goals as goal
 

@@ -3,7 +3,8 @@ use Rattle.mentions.specs.MarkViews.{body_view}
 use Rattle.tracked.specs.LocalViews.{seen_view}
 use Rattle.tracked_rows.specs.EventViews.{event_view}
 use Rattle.meaning.specs.Kept.{first_mentions}
-use Rattle.kept_events.specs.KeptEventViews.{gives_first, gives_left, mention_at_view}
+use Rattle.kept_events.specs.KeptEventViews.{gives_first, gives_left}
+use Rattle.literal_mentions.specs.LiteralViews.{mention_at_view}
 use Rattle.kept_events.proofs.literals.add_mentioned.Given as goal
 
 -- what was added, with what those that are left give for the first time, is the whole

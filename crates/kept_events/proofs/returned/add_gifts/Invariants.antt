@@ -3,7 +3,7 @@ use Rattle.mentions.specs.MarkViews.{body_view}
 use Rattle.tracked.specs.LocalViews.{seen_view}
 use Rattle.tracked_rows.specs.EventViews.{handed_view}
 use Rattle.meaning.specs.Kept.{handed_gift}
-use Rattle.kept.specs.KeptViews.{gift_view}
+use Rattle.kept_forms.specs.FormViews.{gift_view}
 use Rattle.kept_events.proofs.returned.add_gifts.Given as goal
 
 -- what was added, with what is left, is the whole

@@ -2,8 +2,8 @@ use Rattle.std.proofs.Common.{map, flat_map, ap, ◌∙◌}
 use Rattle.mentions.specs.MarkViews.{body_view}
 use Rattle.tracked.specs.LocalViews.{seen_view}
 use Rattle.meaning.specs.Kept.{handed_gift}
-use Rattle.kept.specs.KeptViews.{gift_view}
-use Rattle.kept.proofs.AddedParts.{ok_same}
+use Rattle.kept_forms.specs.FormViews.{gift_view}
+use Rattle.kept_forms.proofs.AddedParts.{ok_same}
 use Rattle.kept_events.proofs.returned.add_in_fields.Goals as goal
 
 pub returns : goal.returns

@@ -4,7 +4,7 @@ use Rattle.facts.proofs.ListedItems.{listed-map}
 use Rattle.mentions.specs.MarkViews.{body_view, mark_view}
 use Rattle.tracked.specs.LocalViews.{seen_view}
 use Rattle.meaning.specs.KeepingFields.{carried_fields, given_elements, item_elements}
-use Rattle.kept.proofs.AddedParts.{adds_same, ok_same, adds_none_of}
+use Rattle.kept_forms.proofs.AddedParts.{adds_same, ok_same, adds_none_of}
 use Rattle.kept_events.proofs.KeptParts.{all_values, no_given}
 use Rattle.kept_events.proofs.told_names.add_carried.Goals as goal
 

@@ -1,8 +1,8 @@
 use Rattle.std.proofs.Common.{ap}
 use Rattle.tracked.specs.LocalViews.{seen_view}
 use Rattle.meaning.specs.KeepingFields.{field_of_obtained}
-use Rattle.kept.specs.KeptViews.{element_view}
-use Rattle.kept.proofs.AddedParts.{ok_same}
+use Rattle.kept_forms.specs.FormViews.{element_view}
+use Rattle.kept_forms.proofs.AddedParts.{ok_same}
 use Rattle.kept_events.proofs.told_names.add_element.Goals as goal
 
 pub returns : goal.returns

@@ -1,7 +1,7 @@
 use Rattle.std.proofs.Common.{◌≡◌, ℕ, List, ◌++◌, drop, map, Bor}
 use Rattle.mentions.specs.MarkViews.{body_view}
 use Rattle.tracked.specs.LocalViews.{seen_view}
-use Rattle.kept.specs.KeptViews.{gift_view}
+use Rattle.kept_forms.specs.FormViews.{gift_view}
 use Rattle.kept_events.specs.KeptEventViews.{gift_names}
 use Rattle.kept_events.proofs.told_names.add_gifts.Given as goal
 

@@ -5,7 +5,7 @@ use Rattle.mentions.specs.MarkViews.{body_view, field_mark_view}
 use Rattle.tracked.specs.LocalViews.{seen_view}
 use Rattle.meaning.specs.Mentions.{of_fields}
 use Rattle.meaning.specs.KeepingFields.{carried_fields, given_elements}
-use Rattle.kept.proofs.AddedParts.{adds_none_of}
+use Rattle.kept_forms.proofs.AddedParts.{adds_none_of}
 use Rattle.kept_events.specs.KeptEventViews.{AddsNames}
 use Rattle.kept_events.proofs.KeptParts.{no_field_given}
 use Rattle.kept_events.proofs.told_names.add_given.Goals as goal

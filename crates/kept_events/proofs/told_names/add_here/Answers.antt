@@ -2,7 +2,7 @@ use Rattle.std.proofs.Common.{ℕ, List, ◌++◌, map, Bor}
 use Rattle.mentions.specs.MarkViews.{body_view, mark_view}
 use Rattle.tracked.specs.LocalViews.{seen_view}
 use Rattle.meaning.specs.KeepingFields.{carried_fields, given_elements, kept_variables, obtained_fields}
-use Rattle.kept.proofs.AddedParts.{ok_then}
+use Rattle.kept_forms.proofs.AddedParts.{ok_then}
 use Rattle.kept_events.proofs.told_names.add_here.Goals as goal
 
 pub returns : goal.returns

@@ -1,7 +1,7 @@
 use Rattle.std.proofs.Common.{map, ap, ◌∙◌}
 use Rattle.tracked.specs.LocalViews.{seen_view}
 use Rattle.kept.specs.KeptViews.{keep_view}
-use Rattle.kept.proofs.AddedParts.{ok_same}
+use Rattle.kept_forms.proofs.AddedParts.{ok_same}
 use Rattle.kept_events.specs.KeptEventViews.{kept_names}
 use Rattle.kept_events.proofs.KeptParts.{all_names}
 use Rattle.kept_events.proofs.told_names.add_keeps.Goals as goal

@@ -1,6 +1,6 @@
 use Rattle.std.proofs.Common.{map, sym}
 use Rattle.mentions.specs.MarkViews.{body_view, mark_view}
-use Rattle.kept.proofs.AddedParts.{adds_none_of}
+use Rattle.kept_forms.proofs.AddedParts.{adds_none_of}
 use Rattle.kept_events.proofs.NoKeeping.{seen_no_names}
 use Rattle.kept_events.proofs.told_names.add_names.Goals as goal
 

@@ -2,7 +2,7 @@ use Rattle.std.proofs.Common.{sym, ap, ◌∙◌}
 use Rattle.mentions.specs.MarkViews.{mark_view}
 use Rattle.meaning.specs.KeepingFields.{obtained_fields}
 use Rattle.tracked.specs.LocalViews.{seen_view}
-use Rattle.kept.proofs.AddedParts.{ok_same, adds_none_of}
+use Rattle.kept_forms.proofs.AddedParts.{ok_same, adds_none_of}
 use Rattle.kept_events.proofs.KeptParts.{field_names, no_obtained}
 use Rattle.kept_events.proofs.told_names.add_obtained.Goals as goal
 

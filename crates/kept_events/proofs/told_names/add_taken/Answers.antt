@@ -6,7 +6,7 @@ use Rattle.tree.specs.Syntax.{missing_expression}
 use Rattle.tree.specs.View.{expression_syntax}
 use Rattle.meaning.specs.Kept.{gifts}
 use Rattle.meaning.specs.KeepingFields.{carried_fields, gift_elements}
-use Rattle.kept.proofs.AddedParts.{adds_same, adds_none_of}
+use Rattle.kept_forms.proofs.AddedParts.{adds_same, adds_none_of}
 use Rattle.kept_events.proofs.told_names.add_taken.Goals as goal
 
 pub returns-then-not-takes_it : goal.returns-then-not-takes_it

@@ -3,7 +3,7 @@ use Rattle.mentions.specs.MarkViews.{assigned_view, body_view, field_left_view}
 use Rattle.tracked.specs.LocalViews.{seen_view}
 use Rattle.tracked_rows.specs.RowViews.{object_left_view}
 use Rattle.kept.specs.KeptViews.{keep_view}
-use Rattle.kept.proofs.AddedParts.{ok_same}
+use Rattle.kept_forms.proofs.AddedParts.{ok_same}
 use Rattle.kept_events.proofs.KeptParts.{kept_written, obtained_written}
 use Rattle.kept_events.proofs.written.add_keep.Goals as goal
 

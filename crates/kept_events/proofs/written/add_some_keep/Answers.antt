@@ -2,7 +2,7 @@ use Rattle.std.proofs.Common.{map, sym, ap, ◌∙◌}
 use Rattle.mentions.specs.MarkViews.{assigned_view, body_view, field_left_view}
 use Rattle.tracked.specs.LocalViews.{seen_view}
 use Rattle.kept.specs.KeptViews.{listed_keep}
-use Rattle.kept.proofs.AddedParts.{adds_none_of}
+use Rattle.kept_forms.proofs.AddedParts.{adds_none_of}
 use Rattle.kept_events.specs.KeptEventViews.{written_all}
 use Rattle.kept_events.proofs.KeptParts.{none_written}
 use Rattle.kept_events.proofs.written.add_some_keep.Goals as goal

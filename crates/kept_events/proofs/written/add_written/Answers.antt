@@ -2,7 +2,7 @@ use Rattle.std.proofs.Common.{map}
 use Rattle.facts.proofs.FactParts.{on_ok}
 use Rattle.mentions.specs.MarkViews.{assigned_view, body_view, field_left_view}
 use Rattle.tracked.specs.LocalViews.{seen_view}
-use Rattle.kept.proofs.AddedParts.{adds_same}
+use Rattle.kept_forms.proofs.AddedParts.{adds_same}
 use Rattle.kept_events.proofs.KeptParts.{all_written}
 use Rattle.kept_events.proofs.written.add_written.Goals as goal
 

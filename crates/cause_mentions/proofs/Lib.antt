@@ -1,0 +1,2 @@
+pub mod SamePackages
+mod SameMentions

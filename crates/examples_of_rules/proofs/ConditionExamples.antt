@@ -1,0 +1,34 @@
+-- What conditions tell is computed.
+use Rattle.std.proofs.Common.{refl}
+use Rattle.meaning.specs.Scopes.{expression_names, expression_form_names, expressions_names, optional_names, signature_names, parameters_names, fields_names, statement_names, statement_form_names, statements_names, optional_statement_names, cases_names, communications_names, declaration_names, specs_names}
+use Rattle.meaning.specs.Declarations.{first_locals, innermost}
+use Rattle.meaning.specs.Mentions.{expression_marks, form_marks, expressions_marks, optional_marks, arguments_marks, items_marks, lefts_marks, ranged_marks, names_type_marks, signature_marks, parameters_marks, fields_marks, statement_marks, statement_form_marks, statements_marks, optional_statement_marks, cases_marks, communications_marks, declaration_marks, specs_marks}
+use Rattle.meaning.specs.Tracked.{placed, locals_of}
+use Rattle.meaning.specs.Uses.{may_be_a_local}
+use Rattle.meaning.specs.Kept.{gifts, form_gifts, elements_gifts}
+use Rattle.meaning.specs.Jumps.{statement_parts, form_parts, parts_of, optional_parts, cases_parts, communications_parts}
+use Rattle.examples_of_rules.specs.ConditionExamples.{ConditionsTell}
+
+pub conditions_tell : ConditionsTell
+unfolding expression_names expression_form_names expressions_names optional_names signature_names parameters_names
+    fields_names statement_names statement_form_names statements_names optional_statement_names cases_names
+    communications_names declaration_names specs_names first_locals innermost expression_marks form_marks
+    expressions_marks optional_marks arguments_marks items_marks lefts_marks ranged_marks names_type_marks
+    signature_marks parameters_marks fields_marks statement_marks statement_form_marks statements_marks
+    optional_statement_marks cases_marks communications_marks declaration_marks specs_marks placed locals_of
+    may_be_a_local gifts form_gifts elements_gifts statement_parts form_parts parts_of optional_parts cases_parts
+    communications_parts
+conditions_tell = record {
+  in_the_block = refl;
+  in_it_it_is_called = refl;
+  past_the_block = refl;
+  is_read = refl;
+  tells_nothing_in_the_first = refl;
+  is_a_fault_in_the_first = refl;
+  gives_or_fails = refl;
+  gives_in_the_first = refl;
+  giver_gives = refl;
+  where_it_failed = refl;
+  where_it_did_not = refl;
+  fails_in_the_first = refl;
+}

@@ -1,0 +1,9 @@
+pub mod TokenExamples
+pub mod ScopeExamples
+pub mod MarkExamples
+pub mod CodeExamples
+pub mod CancelExamples
+pub mod GroupExamples
+pub mod ConditionExamples
+pub mod SignatureExamples
+pub mod ClassExamples

@@ -1,3 +1,0 @@
-package a
-
-var greeting = /* want LC01 - string not ended */"hello

@@ -1,8 +1,0 @@
-package a
-
-func f() {
-again:
-	if more() {
-		/* want LC02 - left out: goto */goto again
-	}
-}

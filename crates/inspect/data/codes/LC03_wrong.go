@@ -1,8 +1,0 @@
-package a
-
-import "context"
-
-func f(p context.Context) {
-	/* want LC03 WithCancel cancel function discarded */ctx, _ := context.WithCancel(p)
-	use(ctx)
-}

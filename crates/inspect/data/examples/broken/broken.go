@@ -1,7 +1,0 @@
-package broken
-
-import "context"
-
-func log(ctx context.Context) {
-	print(ctx, "log)
-}

@@ -1,7 +1,0 @@
-package a
-
-import "context"
-
-func f(p context.Context) {
-	_, c := context.WithCancel(p)
-/* want LC05 c may not have been called at this return */}

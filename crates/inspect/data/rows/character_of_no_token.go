@@ -1,1 +1,0 @@
-﻿package a/* want LC01 - character of no token */#

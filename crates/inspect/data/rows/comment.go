@@ -1,2 +1,0 @@
-// a
-/* want LC02 - unexpected token */

@@ -1,3 +1,0 @@
-package a
-
-import /* want LC02 - left out: dot import */. "context"

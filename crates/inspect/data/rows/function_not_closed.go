@@ -1,4 +1,0 @@
-package a
-
-func f() {
-	return/* want LC02 - unexpected token */

@@ -1,5 +1,0 @@
-package a
-
-func f() {
-	/* want LC02 - left out: goto */goto x
-}

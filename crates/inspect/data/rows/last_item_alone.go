@@ -1,3 +1,0 @@
-package a
-
-func f(a int, b/* want LC02 - unexpected token */) {}

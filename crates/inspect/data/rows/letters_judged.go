@@ -1,9 +1,0 @@
-package a
-
-import "context"
-
-// Größe is judged as any other name.
-func Größe(été context.Context) {
-	ctx, 取消 := context.WithCancel(été) /* not yet called */
-	use(ctx)
-/* want LC05 取消 may not have been called at this return */}

@@ -1,8 +1,0 @@
-package a
-
-import c "context"
-
-func f(p c.Context) {
-	ctx, stop := c.WithTimeout(p, second)
-	use(ctx)
-/* want LC05 stop may not have been called at this return */}

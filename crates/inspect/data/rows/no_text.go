@@ -1,1 +1,0 @@
-/* want LC02 - unexpected token */

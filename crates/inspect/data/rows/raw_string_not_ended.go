@@ -1,4 +1,0 @@
-package a
-
-var s = /* want LC01 - string not ended */`x
-

@@ -1,7 +1,0 @@
-package a
-
-func f() {
-	defer func() {
-		/* want LC02 - left out: recover */recover()
-	}()
-}

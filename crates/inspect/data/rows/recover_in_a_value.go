@@ -1,3 +1,0 @@
-package a
-
-var handler = /* want LC02 - left out: recover */recover

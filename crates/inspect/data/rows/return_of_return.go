@@ -1,5 +1,0 @@
-package a
-
-import "context"
-
-func f() { return /* want LC02 - unexpected token */return }

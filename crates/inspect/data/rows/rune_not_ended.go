@@ -1,2 +1,0 @@
-package a
-	var c = /* want LC01 - rune not ended */'x

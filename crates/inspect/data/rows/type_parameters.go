@@ -1,3 +1,0 @@
-package a
-
-func f/* want LC02 - left out: type parameters */[T any]() {}

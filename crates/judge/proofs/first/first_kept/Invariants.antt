@@ -1,9 +1,0 @@
-use Rattle.std.proofs.Common.{◌≡◌, drop}
-use Rattle.judge.specs.CauseMentions.{first_kept}
-use Rattle.judge.proofs.first.first_kept.Given as goal
-use Rattle.names.specs.Answers.{names_by_path}
-
--- the first of those that are left is the first of all
-abbrev pub invariant-loop-loaded : goal.invariant-loop-loaded
-invariant-loop-loaded l =
-    first_kept (names_by_path l.names) (drop l.loaded-index l.packages) ≡ first_kept (names_by_path l.names) l.packages

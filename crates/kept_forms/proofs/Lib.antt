@@ -1,0 +1,4 @@
+pub mod AddedParts
+pub mod LiteralForms
+pub mod DeclaredForms
+pub mod GiftForms

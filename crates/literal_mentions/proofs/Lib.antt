@@ -1,0 +1,2 @@
+pub mod LiteralMentions
+pub mod StableOrder

@@ -1,0 +1,12 @@
+use Rattle.std.proofs.Common.{◌≡◌, ◌++◌, drop, map}
+use Rattle.std.specs.Prelude.{flat_map}
+use Rattle.imports.specs.Views.{text_views}
+use Rattle.noted_fields.specs.NotedFields.{note_view, filled_by, filled_there, methods_by}
+use Rattle.noted_fields.proofs.by_notes.filled_names.Given as goal
+
+-- what was added, with what is left, is the whole
+abbrev pub invariant-loop-note : goal.invariant-loop-note
+invariant-loop-note l =
+    text_views l.names.items
+    ++ flat_map (filled_there (methods_by (map note_view l.notes))) (map note_view (drop l.note-index l.notes))
+    ≡ filled_by (map note_view l.notes)

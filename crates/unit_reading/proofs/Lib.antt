@@ -1,0 +1,3 @@
+pub mod HandedOn
+mod UnitFaults
+mod UnitImports

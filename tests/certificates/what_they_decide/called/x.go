@@ -1,0 +1,8 @@
+package a
+
+import "context"
+
+func fetch(parent context.Context) {
+	_, cancel := context.WithCancel(parent)
+	defer cancel()
+}

@@ -1,0 +1,8 @@
+package a
+
+func f() {
+again:
+	if more() {
+		goto again
+	}
+}

@@ -1,0 +1,9 @@
+package a
+
+import "x/run"
+
+func f() {
+	ctx, cancel := run.Start()
+	cancel(nil)
+	use(ctx)
+}

@@ -1,0 +1,7 @@
+package a
+
+import "x/run"
+
+func f(stop func()) {
+	run.Close(stop)
+}

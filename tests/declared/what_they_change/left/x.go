@@ -1,0 +1,12 @@
+package a
+
+import (
+	"golang.org/x/sync/errgroup"
+	"x/run"
+)
+
+func f() error {
+	var g errgroup.Group
+	run.Work(&g)
+	return nil
+}

@@ -1,0 +1,11 @@
+package a
+
+import (
+	"context"
+	"os/signal"
+)
+
+func f(p context.Context) {
+	stop := signal.NotifyContext(p)
+	defer stop()
+}

@@ -1,0 +1,12 @@
+package b
+
+import (
+	"context"
+	"x/other"
+)
+
+func f(p context.Context) {
+	_, cancel := context.WithCancel(p)
+	other.Do(cancel)
+	cancel()
+}

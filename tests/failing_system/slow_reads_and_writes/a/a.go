@@ -1,0 +1,9 @@
+package a
+
+import "context"
+
+func f(p context.Context) {
+	ctx, cancel := context.WithCancel(p)
+	defer cancel()
+	use(ctx)
+}

@@ -1,0 +1,8 @@
+package b
+
+import "context"
+
+func f(p context.Context) {
+	ctx, cancel := context.WithCancel(p)
+	use(ctx)
+}

@@ -1,0 +1,8 @@
+package a
+
+import "context"
+
+func f(p context.Context) {
+	_, cancel := context.WithCancelCause(p)
+	cancel(nil)
+}

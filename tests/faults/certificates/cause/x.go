@@ -1,0 +1,5 @@
+package a
+
+import c "context"
+
+type stop c.CancelCauseFunc

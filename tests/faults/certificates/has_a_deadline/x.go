@@ -1,0 +1,5 @@
+package a
+
+import "context"
+
+var maker = context.WithDeadlineCause

@@ -1,0 +1,7 @@
+package a
+
+import "context"
+
+func f(context int) {
+	context.WithCancelCause()
+}

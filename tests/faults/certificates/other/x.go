@@ -1,0 +1,7 @@
+package a
+
+import "example.org/context"
+
+type stop context.CancelCauseFunc
+
+type CancelCauseFunc int

@@ -1,0 +1,5 @@
+package a
+
+import "context"
+
+type stop context.CancelCauseFunc

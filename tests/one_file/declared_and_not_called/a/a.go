@@ -1,0 +1,8 @@
+package a
+
+import "context"
+
+func f() {
+	var c context.CancelFunc
+	use(c)
+}

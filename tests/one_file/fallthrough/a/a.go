@@ -1,0 +1,9 @@
+package a
+
+func f(x T) {
+	switch x {
+	case x:
+		fallthrough
+	default:
+	}
+}

@@ -1,0 +1,6 @@
+package a
+
+func f() {
+	goto x
+	x y
+}

@@ -1,0 +1,6 @@
+package a
+
+func f(x T) {
+	if x == T{} {
+	}
+}

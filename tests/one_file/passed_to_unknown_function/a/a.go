@@ -1,0 +1,5 @@
+package a
+
+import "context"
+
+func f(p context.Context) { a, b := context.WithCancel(p); g(b) }

@@ -1,0 +1,4 @@
+package a
+
+var s = `x
+

@@ -1,0 +1,9 @@
+package a
+
+type options struct {
+	recover bool
+}
+
+func f() options {
+	return options{recover: true}
+}

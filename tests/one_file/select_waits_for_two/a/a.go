@@ -1,0 +1,7 @@
+package a
+
+func f(x T) {
+	select {
+	case y := x, 1:
+	}
+}

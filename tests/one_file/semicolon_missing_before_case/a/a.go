@@ -1,0 +1,7 @@
+package a
+
+func f(x T) {
+	switch x {
+	case x: f(x) case y:
+	}
+}

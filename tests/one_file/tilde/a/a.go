@@ -1,0 +1,5 @@
+package a
+
+type N interface {
+	~int
+}

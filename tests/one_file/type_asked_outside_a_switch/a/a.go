@@ -1,0 +1,5 @@
+package a
+
+func f(x T) {
+	x.(type)
+}

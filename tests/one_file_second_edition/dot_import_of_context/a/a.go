@@ -1,0 +1,8 @@
+package a
+
+import . "context"
+
+func f(p Context) {
+	_, cancel := WithCancel(p)
+	use(cancel)
+}

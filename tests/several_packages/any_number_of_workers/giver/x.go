@@ -1,0 +1,7 @@
+package giver
+
+import "context"
+
+func With(p context.Context) (context.Context, context.CancelFunc) {
+	return context.WithCancel(p)
+}

@@ -1,0 +1,3 @@
+package one
+
+import "two"

@@ -1,0 +1,3 @@
+package over
+
+import "round"

@@ -1,0 +1,3 @@
+package round
+
+import "turn"

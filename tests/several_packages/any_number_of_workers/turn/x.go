@@ -1,0 +1,3 @@
+package turn
+
+import "round"

@@ -1,0 +1,6 @@
+package twice
+
+import (
+	"bad"
+	b "bad"
+)

@@ -1,0 +1,7 @@
+package b
+
+import "context"
+
+func f(p context.Context) {
+	_, cancel := context.WithCancel(p)
+}

@@ -1,0 +1,3 @@
+package above
+
+import "low"

@@ -1,0 +1,3 @@
+package a
+
+type T[P *5, Q any] int

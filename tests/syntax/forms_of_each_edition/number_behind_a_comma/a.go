@@ -1,0 +1,3 @@
+package a
+
+type T[P any, Q 5] int

@@ -1,0 +1,3 @@
+package a
+
+type T[P *C|~5] int

@@ -1,0 +1,3 @@
+package a
+
+type T[P *[]int|5 x] int

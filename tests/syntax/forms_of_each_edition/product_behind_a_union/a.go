@@ -1,0 +1,3 @@
+package a
+
+type T [P *[]int | a * b] int

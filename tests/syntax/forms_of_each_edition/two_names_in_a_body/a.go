@@ -1,0 +1,3 @@
+package a
+
+type T[P *func() { x y }, Q any] int

@@ -1,0 +1,3 @@
+package native
+
+const most = 1000
