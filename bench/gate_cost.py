@@ -99,8 +99,10 @@ def lines(revision, by_crate):
     cost = {name: sum(seconds) for name, seconds in parts.items()}
     yield from of_whole(parts)
     yield from of_crates(parts)
-    chain = longest_chain(cost)
-    yield f"the longest chain: {minutes(sum(map(cost.get, chain)))} minutes: " + (
-        ", ".join(f"{name} {cost[name] / 60:.1f}" for name in chain)
+    # No crate waits for the edits of another.
+    made = {name: proof + tests for name, (proof, tests, _) in parts.items()}
+    chain = longest_chain(made)
+    yield f"the longest chain: {minutes(sum(map(made.get, chain)))} minutes: " + (
+        ", ".join(f"{name} {made[name] / 60:.1f}" for name in chain)
     )
     yield from of_changes(cost_of_changes(cost), cost, revision, by_crate)
